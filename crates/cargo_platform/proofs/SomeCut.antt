@@ -1,0 +1,308 @@
+-- Each text has a cut.
+use Rattle.std.proofs.Common.{◌≡◌, refl, sym, ap, subst, ◌∙◌, ℕ, zero, suc, ◌+◌, ◌-◌, ◌<◌, ◌≤◌, Bool, true, false, not, ◌&&◌, ◌||◌, List, [], ◌∷◌, ◌++◌, codes, inl, inr, ◌⊎◌, true≢false, append_assoc, arith, length, take, drop, get_or, length-drop, length-append, drop_of_length-le, lit≤}
+use Rattle.std.proofs.Math.Seq.{take-append_seam, drop-append_seam}
+use Rattle.std.specs.Prelude.{IsUtf8, bytes_eq, ◌==◌}
+use Rattle.std.specs.List.{list_all}
+use Rattle.std.specs.Char.{encode_utf8}
+use Rattle.std.specs.Str.{IsCharBoundary}
+use Rattle.std.proofs.lemmas.Str.{encode_ascii, IsUtf8-past_char, IsUtf8-take, IsUtf8-drop, IsCharBoundary-before_ascii}
+use Rattle.std.proofs.lemmas.Slice.Eq.{bytes_eq-Decides}
+use Rattle.std.proofs.lemmas.List.{drop-drop}
+use Rattle.std.proofs.lemmas.Bool.{eqb-true, leb-true}
+use Rattle.std.proofs.Math.Dec.{leb}
+use Rattle.std.specs.Int.{is_in_range}
+use Rattle.cargo_platform.specs.declared.tokens.TokenFaultKind.TheVariants.{UnterminatedString, UnexpectedChar, MissingIdentifier}
+use Rattle.cargo_platform.specs.Chars.{is_identifier_start, is_identifier_rest, is_space, is_quote, is_number_sign, is_mark, is_known_start, starts, BeginsWith}
+use Rattle.cargo_platform.specs.Tokens.{Lexeme, LeftParen, RightParen, Ident, Comma, Equals, String, written, IsWellWritten, Placed}
+use Rattle.cargo_platform.specs.Cut.{IsPiece, AreSpaces, EndsBefore, IsTail, IsCutFrom, IsCut}
+use Rattle.cargo_platform.proofs.OneCut.{either, never, both_first, both_second, start_is_ascii}
+use lib.Utf8.{scalars, scalar, encodes}
+
+ascii_rest : (b : ℕ) (bs : List ℕ) → b < 128 → IsUtf8 (b ∷ bs) → IsUtf8 bs
+ascii_rest b bs lt u = IsUtf8-past_char (b ∷ bs) bs b u (sym (ap (λ (z : List ℕ). z ++ bs) (encode_ascii b lt)))
+
+-- a test that only ASCII characters pass
+abbrev IsAsciiTest : (ℕ → Bool) → Type 0
+IsAsciiTest p = (b : ℕ) → p b ≡ true → b < 128
+
+record Run (p : ℕ → Bool) (text : List ℕ) : Type 0 where
+  xs : List ℕ
+  rest : List ℕ
+  parts : text ≡ xs ++ rest
+  pass : list_all p xs ≡ true
+  stops : starts p rest ≡ false
+  utf8 : IsUtf8 rest
+
+-- the longest run of such characters
+run : (p : ℕ → Bool) → IsAsciiTest p → (text : List ℕ) → IsUtf8 text → Run p text
+run p ascii [] u = record { xs = []; rest = []; parts = refl; pass = refl; stops = refl; utf8 = u }
+run p ascii (b ∷ bs) u =
+    elim (p b) as (λ v. p b ≡ v → Run p (b ∷ bs)) [
+      | true ↦ λ h.
+          let t = run p ascii bs (ascii_rest b bs (ascii b h) u) in
+          record { xs = b ∷ t.xs; rest = t.rest; parts = ap (λ (z : List ℕ). b ∷ z) t.parts; pass = ap (λ v. v && list_all p t.xs) h ∙ t.pass; stops = t.stops; utf8 = t.utf8 }
+      | false ↦ λ h. record { xs = []; rest = b ∷ bs; parts = refl; pass = refl; stops = h; utf8 = u }
+    ] refl
+
+-- the first quote
+abbrev is_inner : ℕ → Bool
+is_inner c = not (is_quote c)
+
+Quoted : List ℕ → Type 0
+Quoted text = (v : List ℕ) × (rest : List ℕ) × (text ≡ v ++ (0x22 ∷ rest)) × (list_all is_inner v ≡ true)
+
+quoted : (text : List ℕ) → Quoted text ⊎ (list_all is_inner text ≡ true)
+unfolding Quoted
+quoted [] = inr refl
+quoted (b ∷ bs) =
+    elim (is_quote b) as (λ v. is_quote b ≡ v → Quoted (b ∷ bs) ⊎ (list_all is_inner (b ∷ bs) ≡ true)) [
+      | true ↦ λ h. inl ([], bs, ap (λ (z : ℕ). z ∷ bs) (eqb-true b 0x22 h), refl)
+      | false ↦ λ h. elim (quoted bs) [
+        | inl q ↦ inl (b ∷ q.0, q.1, ap (λ (z : List ℕ). b ∷ z) q.2, ap (λ v. not v && list_all is_inner q.0) h ∙ q.3)
+        | inr a ↦ inr (ap (λ v. not v && list_all is_inner bs) h ∙ a)
+      ]
+    ] refl
+
+seam : (v rest : List ℕ) → get_or (v ++ (0x22 ∷ rest)) (length v) 0 ≡ 0x22
+seam [] rest = refl
+seam (x ∷ v) rest = seam v rest
+
+-- both sides of a quote are text
+quote_sides : (text v rest : List ℕ) → IsUtf8 text → text ≡ v ++ (0x22 ∷ rest) → IsUtf8 v × IsUtf8 rest
+quote_sides text v rest u h =
+    let P : List ℕ → Type 0 = λ z. IsUtf8 z in
+    let w : IsUtf8 (v ++ (0x22 ∷ rest)) = subst P h u in
+    let b : IsCharBoundary (v ++ (0x22 ∷ rest)) (length v) =
+    IsCharBoundary-before_ascii (v ++ (0x22 ∷ rest)) (length v) (omega (arith, length-append v (0x22 ∷ rest))) (omega (arith, seam v rest)) in (
+      subst P (take-append_seam v (0x22 ∷ rest)) (IsUtf8-take (v ++ (0x22 ∷ rest)) (length v) w b),
+      ascii_rest 0x22 rest (lit≤ tt) (subst P (drop-append_seam v (0x22 ∷ rest)) (IsUtf8-drop (v ++ (0x22 ∷ rest)) (length v) w b)),
+    )
+
+-- the first character
+first_char : (b : ℕ) (bs : List ℕ) → IsUtf8 (b ∷ bs) → (c : ℕ) × (rest : List ℕ) × BeginsWith (b ∷ bs) c rest
+first_char b bs ([], (s, e)) = absurd cc
+first_char b bs (c ∷ cs, (s, e)) = (c, encodes cs, record { scalar = both_first (scalar c) (scalars cs) s; parts = sym e })
+
+-- a test of ASCII characters sees the first byte
+char_fails : (p : ℕ → Bool) → IsAsciiTest p → (b : ℕ) (bs : List ℕ) (c : ℕ) (rest : List ℕ) → b ∷ bs ≡ encode_utf8 c ++ rest → p b ≡ false → p c ≡ false
+char_fails p ascii b bs c rest h f = never (p c) (λ passes.
+    let lt : c < 128 = ascii c passes in
+    let e : b ∷ bs ≡ c ∷ rest = h ∙ ap (λ (z : List ℕ). z ++ rest) (encode_ascii c lt) in
+    let is : b ≡ c = cc in
+    true≢false (sym passes ∙ sym (ap p is) ∙ f))
+
+-- ---- one token, or the tail
+
+record Lexed (text : List ℕ) : Type 0 where
+  token : Lexeme
+  rest : List ℕ
+  parts : text ≡ written token ++ rest
+  well : IsWellWritten token
+  ends : EndsBefore token rest
+  utf8 : IsUtf8 rest
+
+abbrev Outcome : List ℕ → Type 0
+Outcome text = IsTail text ⊎ Lexed text
+
+rest_is_ascii : IsAsciiTest is_identifier_rest
+rest_is_ascii c h =
+    elim (either (is_identifier_start c) (is_in_range 48 57 c) h) [
+      | inl e ↦ start_is_ascii c e
+      | inr e ↦ omega (arith, leb-true c 57 (both_second (leb 48 c) (leb c 57) e))
+    ]
+
+space_is_ascii : IsAsciiTest is_space
+space_is_ascii c h = omega (arith, eqb-true c 0x20 h)
+
+known_is_ascii : IsAsciiTest is_known_start
+known_is_ascii c h =
+    elim (either (is_space c || is_mark c || is_quote c) (is_identifier_start c) h) [
+      | inr e ↦ start_is_ascii c e
+      | inl e ↦ elim (either (is_space c || is_mark c) (is_quote c) e) [
+        | inr f ↦ omega (arith, eqb-true c 0x22 f)
+        | inl f ↦ elim (either (is_space c) (is_mark c) f) [
+          | inl g ↦ space_is_ascii c g
+          | inr g ↦ elim (either (c == 0x28 || c == 0x29 || c == 0x2C) (c == 0x3D) g) [
+            | inr k ↦ omega (arith, eqb-true c 0x3D k)
+            | inl k ↦ elim (either (c == 0x28 || c == 0x29) (c == 0x2C) k) [
+              | inr l ↦ omega (arith, eqb-true c 0x2C l)
+              | inl l ↦ elim (either (c == 0x28) (c == 0x29) l) [
+                | inl m ↦ omega (arith, eqb-true c 0x28 m)
+                | inr m ↦ omega (arith, eqb-true c 0x29 m)
+              ]
+            ]
+          ]
+        ]
+      ]
+    ]
+
+-- behind `r#`
+marked : (after : List ℕ) → IsUtf8 after → Outcome (codes "r#" ++ after)
+marked [] u = inl (inr (MissingIdentifier, refl))
+marked (d ∷ ds) u =
+    elim (is_identifier_start d) as (λ v. is_identifier_start d ≡ v → Outcome (codes "r#" ++ (d ∷ ds))) [
+      | true ↦ λ h.
+          let r = run is_identifier_rest rest_is_ascii ds (ascii_rest d ds (start_is_ascii d h) u) in
+          inr (record { token = Ident true (d ∷ r.xs); rest = r.rest; parts = ap (λ (z : List ℕ). 0x72 ∷ 0x23 ∷ d ∷ z) r.parts; well = (h, r.pass); ends = (r.stops, refl); utf8 = r.utf8 })
+      | false ↦ λ h.
+          let c = first_char d ds u in
+          inl (inr (UnexpectedChar c.0, inl (d ∷ ds, c.1, refl, c.2, char_fails is_identifier_start start_is_ascii d ds c.0 c.1 c.2.parts h)))
+    ] refl
+
+number_sign : (rest : List ℕ) → starts is_number_sign rest ≡ true → (after : List ℕ) × (rest ≡ 0x23 ∷ after)
+number_sign [] h = absurd (true≢false (sym h))
+number_sign (b ∷ bs) h = (bs, ap (λ (z : ℕ). z ∷ bs) (eqb-true b 0x23 h))
+
+-- at an identifier start
+name : (b : ℕ) (bs : List ℕ) → IsUtf8 (b ∷ bs) → is_identifier_start b ≡ true → Outcome (b ∷ bs)
+name b bs u h =
+    let r = run is_identifier_rest rest_is_ascii bs (ascii_rest b bs (start_is_ascii b h) u) in
+    let parts : b ∷ bs ≡ (b ∷ r.xs) ++ r.rest = ap (λ (z : List ℕ). b ∷ z) r.parts in
+    let test = bytes_eq (b ∷ r.xs) (codes "r") && starts is_number_sign r.rest in
+    elim test as (λ v. (bytes_eq (b ∷ r.xs) (codes "r") && starts is_number_sign r.rest) ≡ v → Outcome (b ∷ bs)) [
+      | false ↦ λ f. inr (record { token = Ident false (b ∷ r.xs); rest = r.rest; parts = parts; well = (h, r.pass); ends = (r.stops, f); utf8 = r.utf8 })
+      | true ↦ λ t.
+          let is : b ∷ r.xs ≡ codes "r" = (bytes_eq-Decides (b ∷ r.xs) (codes "r")).0 (both_first (bytes_eq (b ∷ r.xs) (codes "r")) (starts is_number_sign r.rest) t) in
+          let after = number_sign r.rest (both_second (bytes_eq (b ∷ r.xs) (codes "r")) (starts is_number_sign r.rest) t) in
+          let P : List ℕ → Type 0 = λ z. IsUtf8 z in
+          let Q : List ℕ → Type 0 = λ z. Outcome z in
+          let whole : codes "r#" ++ after.0 ≡ b ∷ bs = sym (parts ∙ (λ i. is i ++ after.1 i)) in
+          subst Q whole (marked after.0 (ascii_rest 0x23 after.0 (lit≤ tt) (subst P after.1 r.utf8)))
+    ] refl
+
+-- at a quote
+string : (bs : List ℕ) → IsUtf8 bs → Outcome (0x22 ∷ bs)
+unfolding Quoted
+string bs u =
+    elim (quoted bs) [
+      | inl q ↦
+          let sides = quote_sides bs q.0 q.1 u q.2 in
+          inr (record { token = String q.0; rest = q.1; parts = ap (λ (z : List ℕ). 0x22 ∷ z) (q.2 ∙ sym (append_assoc q.0 (codes "\"") q.1)); well = (sides.0, q.3); ends = tt; utf8 = sides.1 })
+      | inr a ↦ inl (inr (UnterminatedString, (bs, record { scalar = refl; parts = sym (ap (λ (z : List ℕ). z ++ bs) (encode_ascii 0x22 (lit≤ tt))) }, a)))
+    ]
+
+-- at a byte that is one of the marks
+single : (t : Lexeme) (b m : ℕ) (bs : List ℕ) → IsWellWritten t → EndsBefore t bs → written t ++ bs ≡ m ∷ bs → (b == m) ≡ true → m < 128 → IsUtf8 (b ∷ bs) → Outcome (b ∷ bs)
+single t b m bs w e parts h lt u =
+    let is : b ≡ m = eqb-true b m h in
+    inr (record { token = t; rest = bs; parts = ap (λ (z : ℕ). z ∷ bs) is ∙ sym parts; well = w; ends = e; utf8 = ascii_rest b bs (omega (arith, is, lt)) u })
+
+-- what no token begins
+other : (b : ℕ) (bs : List ℕ) → IsUtf8 (b ∷ bs) → is_known_start b ≡ false → Outcome (b ∷ bs)
+other b bs u h =
+    let c = first_char b bs u in
+    inl (inr (UnexpectedChar c.0, inr (c.1, c.2, char_fails is_known_start known_is_ascii b bs c.0 c.1 c.2.parts h)))
+
+-- a token or the tail, where no space stands
+lex : (text : List ℕ) → IsUtf8 text → starts is_space text ≡ false → Outcome text
+lex [] u h = inl (inl refl)
+lex (b ∷ bs) u h =
+    elim (is_identifier_start b) as (λ v. is_identifier_start b ≡ v → Outcome (b ∷ bs)) [
+      | true ↦ λ e. name b bs u e
+      | false ↦ λ e.
+          elim (is_quote b) as (λ v. is_quote b ≡ v → Outcome (b ∷ bs)) [
+            | true ↦ λ q.
+                let P : List ℕ → Type 0 = λ z. Outcome z in
+                let is : b ≡ 0x22 = eqb-true b 0x22 q in
+                subst P (sym (ap (λ (z : ℕ). z ∷ bs) is)) (string bs (ascii_rest b bs (omega (arith, is)) u))
+            | false ↦ λ q.
+                elim (b == 0x28) as (λ v. (b == 0x28) ≡ v → Outcome (b ∷ bs)) [
+                  | true ↦ λ m. single LeftParen b 0x28 bs tt tt refl m (lit≤ tt) u
+                  | false ↦ λ m0.
+                      elim (b == 0x29) as (λ v. (b == 0x29) ≡ v → Outcome (b ∷ bs)) [
+                        | true ↦ λ m. single RightParen b 0x29 bs tt tt refl m (lit≤ tt) u
+                        | false ↦ λ m1.
+                            elim (b == 0x2C) as (λ v. (b == 0x2C) ≡ v → Outcome (b ∷ bs)) [
+                              | true ↦ λ m. single Comma b 0x2C bs tt tt refl m (lit≤ tt) u
+                              | false ↦ λ m2.
+                                  elim (b == 0x3D) as (λ v. (b == 0x3D) ≡ v → Outcome (b ∷ bs)) [
+                                    | true ↦ λ m. single Equals b 0x3D bs tt tt refl m (lit≤ tt) u
+                                    | false ↦ λ m3. other b bs u (λ i. h i || (m0 i || m1 i || m2 i || m3 i) || q i || e i)
+                                  ] refl
+                            ] refl
+                      ] refl
+                ] refl
+          ] refl
+    ] refl
+
+-- ---- the cut
+
+pub written_length : (t : Lexeme) → IsWellWritten t → 0 < length (written t)
+written_length LeftParen w = lit≤ tt
+written_length RightParen w = lit≤ tt
+written_length Comma w = lit≤ tt
+written_length Equals w = lit≤ tt
+written_length (String v) w = omega arith
+written_length (Ident true n) w = omega arith
+written_length (Ident false []) w = absurd w
+written_length (Ident false (c ∷ cs)) w = omega arith
+
+pub piece_at : (text : List ℕ) (i : ℕ) (p q : List ℕ) → i ≤ length text → drop i text ≡ p ++ q → IsPiece text i (i + length p) p
+piece_at text i p q le h =
+    let len : length (drop i text) ≡ length p + length q = ap length h ∙ length-append p q in
+    let wide : i + length p - i ≡ length p = omega arith in
+    record {
+      ordered = omega arith;
+      inside = omega (arith, le, len, length-drop i text);
+      bytes = ap (λ k. take k (drop i text)) wide ∙ ap (take (length p)) h ∙ take-append_seam p q;
+    }
+
+pub rest_at : (text : List ℕ) (i : ℕ) (p q : List ℕ) → drop i text ≡ p ++ q → drop (i + length p) text ≡ q
+rest_at text i p q h = sym (drop-drop (length p) i text) ∙ ap (drop (length p)) h ∙ drop-append_seam p q
+
+pub take_none : (k : ℕ) → take {A = ℕ} k [] ≡ []
+take_none zero = refl
+take_none (suc k) = refl
+
+pub record SomeCut (text : List ℕ) (from : ℕ) : Type 0 where
+  pub ts : List Placed
+  pub tail : ℕ
+  pub cut : IsCutFrom text from ts tail
+
+pub cut_from : (n : ℕ) (text : List ℕ) (from : ℕ) → from ≤ length text → IsUtf8 (drop from text) → length text ≤ from + n → SomeCut text from
+cut_from zero text from le u enough =
+    let over : drop from text ≡ [] = drop_of_length-le text (omega (arith, enough)) in
+    record {
+      ts = [];
+      tail = from;
+      cut = record {
+        written = tt;
+        whole = tt;
+        rest = inl over;
+        apart = ([], record { ordered = omega arith; inside = le; bytes = ap (take (from - from)) over ∙ take_none (from - from) }, refl);
+      };
+    }
+cut_from (suc n) text from le u enough =
+    let r = run is_space space_is_ascii (drop from text) u in
+    let at = from + length r.xs in
+    let spaces : AreSpaces text from at = (r.xs, piece_at text from r.xs r.rest le r.parts, r.pass) in
+    let left : drop at text ≡ r.rest = rest_at text from r.xs r.rest r.parts in
+    elim (lex r.rest r.utf8 r.stops) [
+      | inl tail ↦
+          let P : List ℕ → Type 0 = λ z. IsTail z in
+          record { ts = []; tail = at; cut = record { written = tt; whole = tt; rest = subst P (sym left) tail; apart = spaces } }
+      | inr x ↦
+          let end = at + length (written x.token) in
+          let here : drop at text ≡ written x.token ++ x.rest = left ∙ x.parts in
+          let piece : IsPiece text at end (written x.token) = piece_at text at (written x.token) x.rest spaces.1.inside here in
+          let behind : drop end text ≡ x.rest = rest_at text at (written x.token) x.rest here in
+          let P : List ℕ → Type 0 = λ z. IsUtf8 z in
+          let E : List ℕ → Type 0 = λ z. EndsBefore x.token z in
+          let others = cut_from n text end piece.inside (subst P (sym behind) x.utf8) (omega (arith, enough, written_length x.token x.well)) in
+          record {
+            ts = record { token = x.token; start = at; end = end } ∷ others.ts;
+            tail = others.tail;
+            cut = record {
+              written = ((x.well, piece), others.cut.written);
+              apart = (spaces, others.cut.apart);
+              whole = (subst E (sym behind) x.ends, others.cut.whole);
+              rest = others.cut.rest;
+            };
+          }
+    ]
+
+-- each text has a cut
+pub some_cut : (text : List ℕ) → IsUtf8 text → (ts : List Placed) × (tail : ℕ) × IsCut text ts tail
+some_cut text u =
+    let c = cut_from (length text) text 0 (omega arith) u (omega arith) in
+    (c.ts, c.tail, c.cut)

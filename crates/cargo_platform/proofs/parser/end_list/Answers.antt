@@ -1,0 +1,18 @@
+use Rattle.std.proofs.Common.{◌≡◌, sym, ap, subst, ◌∙◌, List, ◌∷◌, map}
+use Rattle.cargo_platform.specs.Tokens.{RightParen}
+use Rattle.cargo_platform.specs.Trees.{Tree, tree_of}
+use Rattle.cargo_platform.specs.Parsing.{Opening, Listed, opening, stack, is_all, list_tree, Wants, Has, Reads}
+use Rattle.cargo_platform.proofs.Parsing.{reads_taken, wants_close}
+use Rattle.cargo_platform.proofs.parser.end_list.Goals as goal
+
+pub returns-else-not-eat-clause-closed : goal.returns-else-not-eat-clause-closed
+returns-else-not-eat-clause-closed c =
+    let l = c.args.reader.now in
+    let m = c.eat.new.self in
+    let gs = stack c.pop.new.self in
+    let all = is_all c.in-Some-List.word in
+    let es = map tree_of c.in-Some-List.members.items in
+    let was : stack c.args.groups.now ≡ Listed all es ∷ gs = c.in-Some-List.ensures ∙ ap (λ z. opening z ∷ gs) c.in-Some-List.field-0-is in
+    let W : List Opening → Type 0 = λ z. Reads l m (Wants z) (Has gs (list_tree all es) m.item) in
+    let R : Tree → Type 0 = λ z. Reads l m (Wants (stack c.args.groups.now)) (Has gs z m.item) in
+    subst R (sym c.close_list.ensures) (subst W (sym was) (reads_taken l m RightParen (Wants (Listed all es ∷ gs)) (Has gs (list_tree all es) m.item) (c.eat.ensures.taken c.if-not-eat.false) (λ ts p. wants_close gs all es m.item ts p)))

@@ -1,0 +1,92 @@
+-- For proofs: what a reader has ahead of it, and how it goes on from one token to the next.
+use Rattle.std.specs.Prelude.{◌≡◌, ℕ, ◌+◌, ◌-◌, ◌*◌, ◌≤◌, ◌<◌, ◌^◌, Bool, true, false, List, [], ◌∷◌, length, drop, Option, Some, None, Result, Ok, Err, IsUtf8}
+use Rattle.std.specs.Str.{IsCharBoundary}
+use Rattle.cargo_platform.specs.declared.tokens.Spanned.{Spanned}
+use Rattle.cargo_platform.specs.declared.tokens.TokenFault.{TokenFault}
+use Rattle.cargo_platform.specs.declared.tokens.TokenFaultKind.{TokenFaultKind}
+use Rattle.cargo_platform.specs.Tokens.{Placed, placed}
+use Rattle.cargo_platform.specs.Cut.{AreSpaces, IsWrittenAt, IsWhole, BeginsFault, IsCutFrom}
+use Rattle.cargo_platform.specs.Reading.{Progress, BeginsCharacter, characters_from, credit, end_cost}
+use Rattle.cargo_platform.specs.Faults.{Next, Unfit, Broken, End}
+
+-- what a tokenizer gives: a token, the fault of the tail, or nothing more
+pub data Item : Type 0 where
+  Token : (t : Placed) → Item
+  Fault : (kind : TokenFaultKind) (at : ℕ) → Item
+  Nothing : Item
+
+abbrev pub item_of : Option (Result Spanned TokenFault) → Item
+item_of None = Nothing
+item_of (Some (Ok s)) = Token (placed s)
+item_of (Some (Err f)) = Fault f.kind f.at
+
+-- the item ahead, and the place from which the text goes on behind it
+pub record Ahead : Type 0 where
+  pub text : List ℕ
+  pub place : ℕ
+  pub item : Item
+
+abbrev pub ahead_of : Progress → Option (Result Spanned TokenFault) → Ahead
+ahead_of p r = record { text = p.text; place = p.place; item = item_of r }
+
+-- from a place on the item comes next, and the text goes on behind it from another place
+abbrev pub Comes : List ℕ → ℕ → Item → ℕ → Type 0
+Comes text from (Token t) to = AreSpaces text from t.start × IsWrittenAt text t × IsWhole text t × (to ≡ t.end)
+Comes text from (Fault kind at) to = AreSpaces text from at × BeginsFault (drop at text) kind × (to ≡ at)
+Comes text from Nothing to = AreSpaces text from (length text) × (to ≡ length text)
+
+-- the next item is ahead
+pub record GoesOn (old new : Ahead) : Type 0 where
+  pub same_text : new.text ≡ old.text
+  pub comes : Comes old.text old.place new.item new.place
+
+-- the tokens were ahead, one after another
+abbrev pub Path : Ahead → List Placed → Ahead → Type 0
+Path old [] new = new ≡ old
+Path old (t ∷ ts) new = (mid : Ahead) × (old.item ≡ Token t) × GoesOn old mid × Path mid ts new
+
+-- what comes next, with the text from there on
+abbrev pub next_of : List ℕ → Item → Next
+next_of text (Token t) = Unfit t.token (drop t.start text)
+next_of text (Fault kind at) = Broken kind (drop at text)
+next_of text Nothing = End
+
+-- these tokens are left, up to the tail
+abbrev pub ItemIsLeft : List ℕ → ℕ → Item → List Placed → ℕ → Type 0
+ItemIsLeft text place (Token t) ts tail = (us : List Placed) × (ts ≡ t ∷ us) × IsCutFrom text place us tail
+ItemIsLeft text place (Fault kind at) ts tail = (ts ≡ []) × (tail ≡ at) × BeginsFault (drop at text) kind
+ItemIsLeft text place Nothing ts tail = (ts ≡ []) × (tail ≡ length text)
+
+abbrev pub IsLeft : Ahead → List Placed → ℕ → Type 0
+IsLeft l ts tail = ItemIsLeft l.text l.place l.item ts tail
+
+abbrev pub item_count : Item → ℕ
+item_count (Token t) = 1
+item_count (Fault kind at) = 0
+item_count Nothing = 0
+
+-- at most so many items may come yet
+abbrev pub items_left : Ahead → ℕ
+items_left l = item_count l.item + (length l.text - l.place)
+
+-- ---- what a reader keeps
+
+-- behind a token the tokenizer goes on, and nothing comes at the end of the text
+abbrev pub IsItem : Progress → Option (Result Spanned TokenFault) → Type 0
+IsItem p None = p.place ≡ length p.text
+IsItem p (Some (Ok s)) = p.failed ≡ false
+IsItem p (Some (Err f)) = Unit {0}
+
+-- each character before the place, and at the end the end, was looked at
+abbrev pub HasSeen : Progress → Option (Result Spanned TokenFault) → Type 0
+HasSeen p None = characters_from p.text 0 + 1 ≤ p.looks
+HasSeen p (Some (Ok s)) = characters_from p.text 0 ≤ p.looks + characters_from p.text p.place
+HasSeen p (Some (Err f)) = Unit {0}
+
+pub record IsReading (p : Progress) (ahead : Option (Result Spanned TokenFault)) : Type 0 where
+  pub short : characters_from p.text 0 < 2 ^ 64
+  pub reached : IsCharBoundary p.text p.place
+  pub begins : BeginsCharacter p.text ahead
+  pub item : IsItem p ahead
+  pub cost : credit p ≤ 3 * characters_from p.text 0 + end_cost ahead
+  pub seen : HasSeen p ahead

@@ -1,0 +1,67 @@
+-- How a text is cut into tokens, and what is left that no token begins.
+use Rattle.std.specs.Prelude.{◌≡◌, ◌⊎◌, ℕ, ◌≤◌, List, [], ◌∷◌, ◌++◌, map, length, drop, slice_range, codes, IsTrue, IsFalse, not, ◌&&◌, bytes_eq}
+use Rattle.std.specs.List.{list_all, AllByRecursion}
+use Rattle.cargo_platform.specs.declared.tokens.TokenFaultKind.{TokenFaultKind}
+use Rattle.cargo_platform.specs.declared.tokens.TokenFaultKind.TheVariants.{UnterminatedString, UnexpectedChar, MissingIdentifier}
+use Rattle.cargo_platform.specs.Chars.{is_identifier_start, is_identifier_rest, is_space, is_quote, is_number_sign, is_known_start, starts, BeginsWith}
+use Rattle.cargo_platform.specs.Tokens.{Lexeme, LeftParen, RightParen, Ident, Comma, Equals, String, Placed, written, IsWellWritten}
+
+-- a piece of the text from one place up to another
+pub record IsPiece (text : List ℕ) (start end : ℕ) (piece : List ℕ) : Type 0 where
+  pub ordered : start ≤ end
+  pub inside : end ≤ length text
+  pub bytes : slice_range text start end ≡ piece
+
+-- the token is well written, and the bytes from its start to its end are its written form
+abbrev pub IsWrittenAt : List ℕ → Placed → Type 0
+IsWrittenAt text t = IsWellWritten t.token × IsPiece text t.start t.end (written t.token)
+
+-- only spaces stand from one place up to another
+abbrev pub AreSpaces : List ℕ → ℕ → ℕ → Type 0
+AreSpaces text start end = (spaces : List ℕ) × IsPiece text start end spaces × IsTrue (list_all is_space spaces)
+
+-- the tokens follow one another from a place on, and only spaces stand before, between and after them, up to the tail
+abbrev pub AreApart : List ℕ → ℕ → List Placed → ℕ → Type 0
+AreApart text from [] tail = AreSpaces text from tail
+AreApart text from (t ∷ ts) tail = AreSpaces text from t.start × AreApart text t.end ts tail
+
+-- what follows does not go on with the token: no rest character follows an identifier, and no `#` an unmarked `r`
+abbrev pub EndsBefore : Lexeme → List ℕ → Type 0
+EndsBefore (Ident raw name) rest = IsFalse (starts is_identifier_rest rest) × IsFalse (not raw && bytes_eq name (codes "r") && starts is_number_sign rest)
+EndsBefore LeftParen rest = Unit {0}
+EndsBefore RightParen rest = Unit {0}
+EndsBefore Comma rest = Unit {0}
+EndsBefore Equals rest = Unit {0}
+EndsBefore (String value) rest = Unit {0}
+
+abbrev pub IsWhole : List ℕ → Placed → Type 0
+IsWhole text t = EndsBefore t.token (drop t.end text)
+
+-- the text begins a lexical fault
+abbrev pub BeginsFault : List ℕ → TokenFaultKind → Type 0
+-- a `"` that no second `"` follows
+BeginsFault text UnterminatedString = (rest : List ℕ) × BeginsWith text 0x22 rest × IsTrue (list_all (λ c. not (is_quote c)) rest)
+-- `r#` at the end of the text
+BeginsFault text MissingIdentifier = text ≡ codes "r#"
+-- `r#` and a character that is no identifier start, or another character that begins no token
+BeginsFault text (UnexpectedChar c) =
+    ((after rest : List ℕ) × (text ≡ codes "r#" ++ after) × BeginsWith after c rest × IsFalse (is_identifier_start c))
+    ⊎ ((rest : List ℕ) × BeginsWith text c rest × IsFalse (is_known_start c))
+
+-- the rest of a text in which no token begins: it is empty, or begins a lexical fault
+abbrev pub IsTail : List ℕ → Type 0
+IsTail rest = (rest ≡ []) ⊎ ((fault : TokenFaultKind) × BeginsFault rest fault)
+
+-- What is left of a text from a place on: its tokens in their order, and the place at which its tail begins.
+pub record IsCutFrom (text : List ℕ) (from : ℕ) (ts : List Placed) (tail : ℕ) : Type 0 where
+  pub written : AllByRecursion (IsWrittenAt text) ts
+  pub apart : AreApart text from ts tail
+  pub whole : AllByRecursion (IsWhole text) ts
+  pub rest : IsTail (drop tail text)
+
+-- the cut of a text
+abbrev pub IsCut : List ℕ → List Placed → ℕ → Type 0
+IsCut text ts tail = IsCutFrom text 0 ts tail
+
+abbrev pub lexemes : List Placed → List Lexeme
+lexemes ts = map (λ t. t.token) ts

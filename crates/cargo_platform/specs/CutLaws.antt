@@ -1,0 +1,32 @@
+-- Laws of the cut of a text, and of how a tokenizer goes through it.
+use Rattle.std.specs.Prelude.{◌≡◌, ◌↔◌, ℕ, List, Option, None, Result}
+use Rattle.cargo_platform.specs.declared.tokens.Spanned.{Spanned}
+use Rattle.cargo_platform.specs.declared.tokens.TokenFault.{TokenFault}
+use Rattle.cargo_platform.specs.declared.tokens.TokenFaultKind.{TokenFaultKind}
+use Rattle.cargo_platform.specs.Tokens.{Placed}
+use Rattle.cargo_platform.specs.Cut.{IsCut}
+use Rattle.cargo_platform.specs.Reading.{Progress, Reads, NextGives, GivesNothing, GivesFault}
+
+-- a text has a cut, and no other
+abbrev pub HasOneCut : List ℕ → Type 0
+HasOneCut text = (ts : List Placed) × (tail : ℕ) × IsCut text ts tail × ((us : List Placed) (end : ℕ) → IsCut text us end → (us ≡ ts) × (end ≡ tail))
+
+-- calls from the start of a text give the tokens of its cut in order, and then its tail
+abbrev pub CutsAreRead : List ℕ → Type 0
+CutsAreRead text = (ts : List Placed) (tail : ℕ) → Reads text ts tail ↔ IsCut text ts tail
+
+-- they give no other tokens, and come to no other tail
+abbrev pub IsReadAlike : List ℕ → Type 0
+IsReadAlike text = (ts us : List Placed) (tail end : ℕ) → IsCut text ts tail → Reads text us end → (us ≡ ts) × (end ≡ tail)
+
+-- whatever a call gives at this progress, it is nothing
+abbrev pub GivesNoMore : Progress → Type 0
+GivesNoMore p = (r : Option (Result Spanned TokenFault)) (new : Progress) → NextGives p r new → r ≡ None
+
+-- once a call gave nothing, no call gives more
+abbrev pub EndsForGood : Progress → Progress → Type 0
+EndsForGood old new = GivesNothing old new → GivesNoMore new
+
+-- after the fault of a tail no call gives more
+abbrev pub FailsOnce : Progress → Progress → Type 0
+FailsOnce old new = (fault : TokenFaultKind) (at : ℕ) → GivesFault old new fault at → GivesNoMore new

@@ -1,0 +1,35 @@
+-- What an error says, apart from where it lies in memory.
+use Rattle.std.specs.Prelude.{ℕ, List, map, String, Vec, string_bytes, Result, Ok, Err}
+use Rattle.std.specs.declared.alloc.Global.{Global}
+use Rattle.cargo_platform.specs.declared.error.ParseErrorKind.{ParseErrorKind}
+use Rattle.cargo_platform.specs.declared.error.ParseErrorKind.TheVariants as kind
+use Rattle.cargo_platform.specs.declared.error.ParseError.{ParseError}
+use Rattle.cargo_platform.specs.declared.error.ReadError.{ReadError}
+use Rattle.cargo_platform.specs.declared.error.ReadError.TheVariants as errors
+use Rattle.cargo_platform.specs.Faults.{Fault, UnterminatedString, UnexpectedChar, UnexpectedToken, IncompleteExpr, UnterminatedExpression, InvalidTarget}
+
+-- what a kind stands for
+abbrev pub fault_meant : ParseErrorKind → Fault
+fault_meant kind.UnterminatedString = UnterminatedString
+fault_meant (kind.UnexpectedChar c) = UnexpectedChar c
+fault_meant (kind.UnexpectedToken expected found) = UnexpectedToken expected.now found.now
+fault_meant (kind.IncompleteExpr expected) = IncompleteExpr expected.now
+fault_meant (kind.UnterminatedExpression s) = UnterminatedExpression (string_bytes s)
+fault_meant (kind.InvalidTarget s) = InvalidTarget (string_bytes s)
+
+-- the text that the error is of, and why
+abbrev pub orig_of : ParseError → List ℕ
+orig_of e = string_bytes e.orig
+
+abbrev pub fault_in : ParseError → Fault
+fault_in e = fault_meant e.kind
+
+-- what is said of a refusal, where it is no want of memory
+abbrev pub IfParse : {A : Type 0} → Result A ReadError → (ParseError → Type 0) → Type 0
+IfParse (Ok a) P = Unit {0}
+IfParse (Err (errors.Parse e)) P = P e
+IfParse (Err (errors.Memory e)) P = Unit {0}
+
+-- the texts that a list of strings holds
+abbrev pub texts : Vec (String Global) Global → List (List ℕ)
+texts v = map (λ s. string_bytes s) v.items

@@ -1,0 +1,35 @@
+-- What a look at a place of a text gives, and what looks cost.
+use Rattle.std.specs.Prelude.{◌≡◌, ℕ, ◌+◌, ◌-◌, ◌<◌, ◌≤◌, ◌^◌, List, ◌∷◌, ◌++◌, length, drop, slice_index, encode_utf8}
+use Rattle.std.specs.Char.{IsScalar, len_utf8}
+use Rattle.std.specs.Str.{IsCharBoundary, chars}
+use Rattle.cargo_platform.specs.declared.source.Look.{Look}
+use Rattle.cargo_platform.specs.declared.source.Look.TheVariants.{End, Ascii, Wide}
+use Rattle.cargo_platform.specs.Reading.{characters_from}
+
+-- the character c begins at the place
+pub record IsCharAt (text : List ℕ) (at c : ℕ) : Type 0 where
+  pub scalar : IsScalar c
+  pub within : at < length text
+  pub fits : at + len_utf8 c ≤ length text
+  pub boundary : IsCharBoundary text (at + len_utf8 c)
+  -- a byte below 128 is a character, and the other way round
+  pub byte : slice_index text at < 128 → c ≡ slice_index text at
+  pub inside : (i : ℕ) → at ≤ i → i < at + len_utf8 c → slice_index text i < 128 → c ≡ slice_index text i
+  pub ascii : c < 128 → slice_index text at ≡ c
+  pub bytes : drop at text ≡ encode_utf8 c ++ drop (at + len_utf8 c) text
+  pub chars : chars (drop at text) ≡ c ∷ chars (drop (at + len_utf8 c) text)
+  pub fewer : characters_from text at ≡ characters_from text (at + len_utf8 c) + 1
+
+-- what a look at a place tells: the end of the text, or the character that begins there
+abbrev pub Sees : List ℕ → ℕ → Look → Type 0
+Sees text at End = at ≡ length text
+Sees text at (Ascii byte) = (byte < 128) × IsCharAt text at byte
+Sees text at (Wide c) = (128 ≤ c) × IsCharAt text at c
+
+-- from the one place to the other each character was looked at, and `least` to `most` looks were made beside
+pub record Costs (text : List ℕ) (from to least most old new : ℕ) : Type 0 where
+  pub forward : characters_from text to ≤ characters_from text from
+  pub grows : old ≤ new
+  pub at_most : new + characters_from text to ≤ old + characters_from text from + most
+  -- below the greatest count
+  pub at_least : new < 2 ^ 128 - 1 → old + characters_from text from + least ≤ new + characters_from text to
