@@ -1,17 +1,14 @@
--- The longest front that is completable, and a refused text in full.
-use Rattle.std.proofs.Common.{◌≡◌, refl, sym, ap, subst, ◌∙◌, ℕ, ◌≤◌, zero-le, suc-le-suc, Bool, true, false, List, [], ◌∷◌, ◌++◌, Some, None, codes, inl, inr, ◌⊎◌, true≢false, append_assoc, length, length-append, arith, lit≤, slice_range}
-use Rattle.std.specs.Prelude.{IsTrue}
-use Rattle.std.specs.List.{list_all}
-use Rattle.std.specs.Char.{encode_utf8}
-use Rattle.cargo_platform.specs.declared.tokens.TokenFaultKind.TheVariants as lexical
-use Rattle.cargo_platform.specs.Chars.{is_space}
-use Rattle.cargo_platform.specs.Tokens.{Lexeme, LeftParen, Placed, plain, written, IsWellWritten}
-use Rattle.cargo_platform.specs.Cut.{IsWrittenAt, AreSpaces, IsCut, lexemes}
+-- The longest front that is completable.
+use Rattle.std.proofs.Common.{◌≡◌, refl, sym, ap, subst, ◌∙◌, ℕ, ◌≤◌, zero-le, suc-le-suc, List, [], ◌∷◌, ◌++◌, Option, Some, None, inl, inr, ◌⊎◌, append_assoc, length, length-append, arith}
+use Rattle.std.specs.List.{last_or}
+use Rattle.cargo_platform.specs.Tokens.{Lexeme, Placed}
+use Rattle.cargo_platform.specs.Cut.{IsCut, lexemes}
 use Rattle.cargo_platform.specs.Spelling.{Grammar, IsAccepted, Expressions}
-use Rattle.cargo_platform.specs.Faults.{IsCompletable, Unfit, IsRefused, UnexpectedToken}
-use Rattle.cargo_platform.specs.Walk.{Word, Several, Named, walk}
-use Rattle.cargo_platform.proofs.Walk.{accepted_walks, stopped, ended}
-use Rattle.cargo_platform.proofs.Spellings.{front_completable}
+use Rattle.cargo_platform.specs.Faults.{IsCompletable, Next, Follows, Fault, fault_of, IsRefused}
+use Rattle.cargo_platform.specs.Walk.{State, after, walk}
+use Rattle.cargo_platform.specs.Parsing.{is_whole}
+use Rattle.cargo_platform.proofs.Walk.{walk_on, stopped}
+use Rattle.cargo_platform.proofs.Completing.{walked_completes, whole_accepted, accepted_whole}
 
 pub lexemes-append : (ts us : List Placed) → lexemes (ts ++ us) ≡ lexemes ts ++ lexemes us
 lexemes-append [] us = refl
@@ -58,54 +55,31 @@ longest_at front rest t stops longer others h p =
     first : {a b : Placed} {s t : List Placed} → a ∷ s ≡ b ∷ t → a ≡ b
     first h = cc
 
--- a list whose walk ends with a word open is not accepted
-not_accepted : (ts : List Lexeme) (w : Word) (ws : List Word) → walk ts ≡ Some (Named (w ∷ ws)) → IsAccepted Expressions ts → ⊥
-not_accepted ts w ws h p = let r = accepted_walks ts p in differ r.0 (sym h ∙ r.1)
-  where
-    differ : (n : Bool) → Some (Named (w ∷ ws)) ≡ Some (ended n []) → ⊥
-    differ true e = absurd cc
-    differ false e = absurd cc
+-- the next token does not go on with the tokens that lead to the state
+abbrev pub goes_on : State → List Placed → Option State
+goes_on s [] = None
+goes_on s (t ∷ ts) = after s t.token
 
--- ---- `all(a b "`
-abbrev text : List ℕ
-text = codes "all(a b \""
-
-abbrev at : Lexeme → ℕ → ℕ → Placed
-at t i j = record { token = t; start = i; end = j }
-
-word : (i j : ℕ) (t : Lexeme) → i ≤ j → j ≤ length text → slice_range text i j ≡ written t → IsWellWritten t → IsWrittenAt text (at t i j)
-word i j t a b e w = (w, record { ordered = a; inside = b; bytes = e })
-
-blank : (i j : ℕ) → i ≤ j → j ≤ length text → IsTrue (list_all is_space (slice_range text i j)) → AreSpaces text i j
-blank i j a b h = (slice_range text i j, record { ordered = a; inside = b; bytes = refl }, h)
-
-abbrev front : List Placed
-front = at (plain (codes "all")) 0 3 ∷ at LeftParen 3 4 ∷ at (plain (codes "a")) 4 5 ∷ []
-
-abbrev next : Placed
-next = at (plain (codes "b")) 6 7
-
-is_cut : IsCut text (front ++ (next ∷ [])) 8
-unfolding encode_utf8
-is_cut = record {
-  written = (word _ _ (plain (codes "all")) (lit≤ tt) (lit≤ tt) refl (refl, refl), (word _ _ LeftParen (lit≤ tt) (lit≤ tt) refl tt, (word _ _ (plain (codes "a")) (lit≤ tt) (lit≤ tt) refl (refl, refl), (word _ _ (plain (codes "b")) (lit≤ tt) (lit≤ tt) refl (refl, refl), tt))));
-  apart = (blank _ _ (lit≤ tt) (lit≤ tt) refl, (blank _ _ (lit≤ tt) (lit≤ tt) refl, (blank _ _ (lit≤ tt) (lit≤ tt) refl, (blank _ _ (lit≤ tt) (lit≤ tt) refl, blank _ _ (lit≤ tt) (lit≤ tt) refl))));
-  whole = ((refl, refl), (tt, ((refl, refl), ((refl, refl), tt))));
-  rest = inr (lexical.UnterminatedString, ([], record { scalar = refl; parts = refl }, refl));
-}
-
--- the bad token comes before the string that does not end
-refused : IsRefused Expressions text (UnexpectedToken (codes "`)`") (codes "an identifier"))
-refused = record {
-  ts = front ++ (next ∷ []);
-  tail = 8;
-  cut = is_cut;
+-- where a front is walked, and what follows does not go on with it, the text is refused
+pub refused_walked : (text : List ℕ) (ts front behind : List Placed) (tail : ℕ) (s : State) (next : Next) (fault : Fault) → IsCut text ts tail → ts ≡ front ++ behind → walk (lexemes front) ≡ Some s → goes_on s behind ≡ None → Follows text behind tail next → fault_of Expressions (is_whole s) (last_or None (lexemes front)) next ≡ Some fault → IsRefused Expressions text fault
+refused_walked text ts front behind tail s next fault cut parts walked stops follows table = record {
+  ts = ts;
+  tail = tail;
+  cut = cut;
   front = front;
-  after = next ∷ [];
-  is_front = record { parts = refl; completable = front_completable; longest = longest_at front [] next refl };
-  next = Unfit (plain (codes "b")) (codes "b \"");
-  follows = refl;
-  accepted = false;
-  is_accepted = (λ h. absurd (true≢false (sym h)), λ p. absurd (not_accepted (lexemes front) Several [] refl p));
-  is_fault = refl;
+  after = behind;
+  is_front = record {
+    parts = parts;
+    completable = walked_completes (lexemes front) s walked;
+    longest = λ longer others h p. no_longer front behind s walked stops longer others (sym parts ∙ h) p;
+  };
+  next = next;
+  follows = follows;
+  accepted = is_whole s;
+  is_accepted = (λ h. whole_accepted s (lexemes front) h walked, λ p. accepted_whole s (lexemes front) walked p);
+  is_fault = table;
 }
+  where
+    no_longer : (front behind : List Placed) (s : State) → walk (lexemes front) ≡ Some s → goes_on s behind ≡ None → (longer others : List Placed) → front ++ behind ≡ longer ++ others → IsCompletable Expressions (lexemes longer) → length longer ≤ length front
+    no_longer front [] s walked stops longer others h p = omega (arith, ap length h, length-append longer others, length-append front [])
+    no_longer front (t ∷ rest) s walked stops longer others h p = longest_at front rest t (walk_on (lexemes front) (t.token ∷ []) s walked ∙ stops) longer others h p

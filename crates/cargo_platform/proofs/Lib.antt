@@ -6,7 +6,6 @@ pub mod Stepping
 pub mod Runs
 pub mod OneTree
 pub mod TreeViews
-pub mod Spellings
 pub mod OneValue
 pub mod WellFormedness
 pub mod Walk
@@ -14,10 +13,20 @@ pub mod Completing
 pub mod Fronts
 pub mod Refused
 pub mod ValueFaults
-pub mod Characters
+pub mod Completable
+pub mod Expecting
+pub mod PrintedSpells
+pub mod PrintedMembers
+pub mod ReadsBack
 pub mod Readings
 pub mod Paths
 pub mod Parsing
 pub mod ValueReading
 pub mod Refusing
 pub mod ReaderAnswers
+mod CutTests
+mod TokenRows
+mod CutRows
+mod SpellingRows
+mod FaultRows
+mod ValueFaultRows

@@ -1,5 +1,5 @@
 -- A list of tokens, and a text, spells at most one value.
-use Rattle.std.proofs.Common.{◌≡◌, refl, sym, ap, ◌∙◌, ℕ, subst, List, [], ◌∷◌, ◌++◌, length, append-nil}
+use Rattle.std.proofs.Common.{◌≡◌, refl, sym, ap, ◌∙◌, ℕ, subst, List, [], ◌++◌, length}
 use Rattle.cargo_platform.specs.Tokens.{Lexeme, Placed}
 use Rattle.cargo_platform.specs.Cut.{lexemes}
 use Rattle.cargo_platform.specs.Trees.{CfgValue}

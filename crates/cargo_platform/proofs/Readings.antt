@@ -6,7 +6,7 @@ use Rattle.cargo_platform.specs.declared.tokens.TokenFault.{TokenFault}
 use Rattle.cargo_platform.specs.Reading.{Progress, NextGives, BeginsCharacter, characters_from, credit, end_cost, SeesAll, Next}
 use Rattle.cargo_platform.specs.Tokens.{Placed}
 use Rattle.cargo_platform.specs.Ahead.{Nothing, Token, item_of, Comes, IsItem, HasSeen, IsReading, ahead_of, GoesOn}
-use Rattle.cargo_platform.proofs.Characters.{characters_at_end}
+use Rattle.cargo_platform.proofs.Looking.{characters_end}
 
 -- what a call of `next` gives before a fault, as an item that comes
 pub gives_comes : (p q : Progress) (r : Option (Result Spanned TokenFault)) → p.failed ≡ false → NextGives p r q → (q.text ≡ p.text) × Comes p.text p.place (item_of r) q.place × IsItem q r
@@ -30,7 +30,7 @@ end_cost_small (Some (Ok s)) = omega arith
 end_cost_small (Some (Err f)) = omega arith
 
 seen_on : (n : ℕ) (p q : Progress) (r : Option (Result Spanned TokenFault)) → n ≡ characters_from q.text 0 → n ≤ p.looks + characters_from p.text p.place → IsItem q r → SeesAll p r q → HasSeen q r
-seen_on n p q None is before item s = omega (arith, is, before, s, characters_at_end q.text q.place item)
+seen_on n p q None is before item s = omega (arith, is, before, s, characters_end q.text q.place item)
 seen_on n p q (Some (Ok t)) is before item s = omega (arith, is, before, s)
 seen_on n p q (Some (Err f)) is before item s = tt
 

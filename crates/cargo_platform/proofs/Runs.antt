@@ -43,12 +43,16 @@ abbrev moves : (p : Progress) (place : ℕ) (failed : Bool) → MovesTo p (moved
 moves p place failed = record { same_text = refl; place_is = refl; failed_is = refl }
 
 cut_read : (p : Progress) → p.failed ≡ false → (ts : List Placed) (tail : ℕ) → IsCutFrom p.text p.place ts tail → (last : Progress) × ReadsTo p ts last × EndsAt last tail
-cut_read p going [] tail cut = (p, refl, elim cut.rest [
-  | inr f ↦ inl (f.0, moved p tail true, record { going = going; apart = cut.apart; begins = f.1; moves = moves p tail true })
-  | inl none ↦
-      let end : tail ≡ length p.text = omega (arith, cut.apart.1.inside, ap length none, length-drop tail p.text) in
-      inr (end, moved p (length p.text) false, record { going = going; apart = subst (AreSpaces p.text p.place) end cut.apart; moves = moves p (length p.text) false })
-])
+cut_read p going [] tail cut = (
+  p,
+  refl,
+  elim cut.rest [
+    | inr f ↦ inl (f.0, moved p tail true, record { going = going; apart = cut.apart; begins = f.1; moves = moves p tail true })
+    | inl none ↦
+        let end : tail ≡ length p.text = omega (arith, cut.apart.1.inside, ap length none, length-drop tail p.text) in
+        inr (end, moved p (length p.text) false, record { going = going; apart = subst (AreSpaces p.text p.place) end cut.apart; moves = moves p (length p.text) false })
+  ],
+)
 cut_read p going (t ∷ ts) tail cut =
     let behind = moved p t.end false in
     let left = cut_read behind refl ts tail (record { written = cut.written.1; apart = cut.apart.1; whole = cut.whole.1; rest = cut.rest }) in
@@ -62,11 +66,11 @@ reads_cut text ts tail r =
 
 pub cuts_are_read : (text : List ℕ) → CutsAreRead text
 cuts_are_read text = λ ts tail. (
-    reads_cut text ts tail,
-    λ cut.
-        let first : Progress = record { text = text; place = 0; failed = false; looks = 0 } in
-        let r = cut_read first refl ts tail cut in
-        record { first = first; last = r.0; starts = moves first 0 false; tokens = r.1; ends = r.2 },
+  reads_cut text ts tail,
+  λ cut.
+      let first : Progress = record { text = text; place = 0; failed = false; looks = 0 } in
+      let r = cut_read first refl ts tail cut in
+      record { first = first; last = r.0; starts = moves first 0 false; tokens = r.1; ends = r.2 },
 )
 
 pub read_alike : (text : List ℕ) → IsReadAlike text

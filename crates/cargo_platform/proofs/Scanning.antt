@@ -53,9 +53,9 @@ no_spaces text at inside = ([], record { ordered = omega arith; inside = inside;
 
 pub only_spaces : (text : List ℕ) (from to : ℕ) → from ≤ to → to ≤ length text → ((i : ℕ) → from ≤ i → i < to → slice_index text i ≡ 0x20) → AreSpaces text from to
 only_spaces text from to ordered inside each = (
-    slice_range text from to,
-    record { ordered = ordered; inside = inside; bytes = refl },
-    all_between is_space text from to inside (λ i above below. ap is_space (each i above below)),
+  slice_range text from to,
+  record { ordered = ordered; inside = inside; bytes = refl },
+  all_between is_space text from to inside (λ i above below. ap is_space (each i above below)),
 )
 
 -- ---- tokens
@@ -64,15 +64,15 @@ pub string_stands : (text value : List ℕ) (start quote : ℕ) → slice_index 
 string_stands text value start quote opens closes ordered within is utf8 inside = record {
   forward = omega arith;
   written = (
-      (utf8, ap (list_all (λ c. not (is_quote c))) is ∙ all_between (λ c. not (is_quote c)) text (start + 1) quote (omega arith) (λ i above below. no_quote (slice_index text i) (inside i above below))),
-      record {
-        ordered = omega arith;
-        inside = omega arith;
-        bytes =
-            first_between text start (quote + 1) (omega arith) (omega arith)
-            ∙ ap (λ x. x ∷ between (start + 1) (quote + 1) text) opens
-            ∙ ap (λ l. 0x22 ∷ l) (between_more text (start + 1) quote 0 ordered within ∙ ap (λ x. between (start + 1) quote text ++ x ∷ []) closes ∙ ap (λ l. l ++ 0x22 ∷ []) (sym is));
-      },
+    (utf8, ap (list_all (λ c. not (is_quote c))) is ∙ all_between (λ c. not (is_quote c)) text (start + 1) quote (omega arith) (λ i above below. no_quote (slice_index text i) (inside i above below))),
+    record {
+      ordered = omega arith;
+      inside = omega arith;
+      bytes =
+          first_between text start (quote + 1) (omega arith) (omega arith)
+          ∙ ap (λ x. x ∷ between (start + 1) (quote + 1) text) opens
+          ∙ ap (λ l. 0x22 ∷ l) (between_more text (start + 1) quote 0 ordered within ∙ ap (λ x. between (start + 1) quote text ++ x ∷ []) closes ∙ ap (λ l. l ++ 0x22 ∷ []) (sym is));
+    },
   );
   whole = tt;
 }
@@ -88,10 +88,13 @@ name_written text name from end ordered inside is start rest =
 -- an identifier ends where no rest character follows; a lone unmarked `r` is not followed by `#`
 name_ends : (text name : List ℕ) (raw : Bool) (end : ℕ) → is_identifier_rest (slice_index text end) ≡ false → (raw ≡ false → name ≡ codes "r" → slice_index text end ≢ 0x23) → EndsBefore (Ident raw name) (drop end text)
 name_ends text name true end rest plain = (starts_at is_identifier_rest text end rest, refl)
-name_ends text name false end rest plain = (starts_at is_identifier_rest text end rest, never (bytes_eq name (codes "r") && starts is_number_sign (drop end text)) (λ both.
-    let is : name ≡ codes "r" = (bytes_eq-Decides name (codes "r")).0 (both_first (bytes_eq name (codes "r")) (starts is_number_sign (drop end text)) both) in
-    let sign = starts_at is_number_sign text end (ne_eqb (slice_index text end) 0x23 (plain refl is)) in
-    true≢false (sym (both_second (bytes_eq name (codes "r")) (starts is_number_sign (drop end text)) both) ∙ sign)))
+name_ends text name false end rest plain = (
+  starts_at is_identifier_rest text end rest,
+  never (bytes_eq name (codes "r") && starts is_number_sign (drop end text)) (λ both.
+      let is : name ≡ codes "r" = (bytes_eq-Decides name (codes "r")).0 (both_first (bytes_eq name (codes "r")) (starts is_number_sign (drop end text)) both) in
+      let sign = starts_at is_number_sign text end (ne_eqb (slice_index text end) 0x23 (plain refl is)) in
+      true≢false (sym (both_second (bytes_eq name (codes "r")) (starts is_number_sign (drop end text)) both) ∙ sign)),
+)
 
 pub plain_stands : (text name : List ℕ) (start end : ℕ) → is_identifier_start (slice_index text start) ≡ true → start + 1 ≤ end → end ≤ length text → name ≡ slice_range text start end → ((i : ℕ) → start + 1 ≤ i → i < end → is_identifier_rest (slice_index text i) ≡ true) → is_identifier_rest (slice_index text end) ≡ false → (slice_index text start ≡ 0x72 → slice_index text (start + 1) ≢ 0x23) → Stands text (Ident false name) start end
 plain_stands text name start end begins ordered inside is rest ends plain =
@@ -99,8 +102,8 @@ plain_stands text name start end begins ordered inside is rest ends plain =
     record {
       forward = omega arith;
       written = (
-          name_written text name start end (omega arith) inside is begins rest,
-          record { ordered = omega arith; inside = inside; bytes = sym is },
+        name_written text name start end (omega arith) inside is begins rest,
+        record { ordered = omega arith; inside = inside; bytes = sym is },
       );
       whole = name_ends text name false end ends (λ _ r sign.
           let short : end ≡ start + 1 = omega (arith, ap length r) in
@@ -115,15 +118,15 @@ pub marked_stands : (text name : List ℕ) (start end : ℕ) → slice_index tex
 marked_stands text name start end r sign begins ordered inside is rest ends = record {
   forward = omega arith;
   written = (
-      name_written text name (start + 2) end (omega arith) inside is begins (λ i above below. rest i (omega arith) below),
-      record {
-        ordered = omega arith;
-        inside = inside;
-        bytes =
-            first_between text start end (omega arith) (omega arith)
-            ∙ ap (λ x. x ∷ between (start + 1) end text) r
-            ∙ ap (λ l. 0x72 ∷ l) (first_between text (start + 1) end (omega arith) (omega arith) ∙ ap (λ x. x ∷ between (start + 1 + 1) end text) sign ∙ ap (λ n. 0x23 ∷ between n end text) (omega arith) ∙ ap (λ l. 0x23 ∷ l) (sym is));
-      },
+    name_written text name (start + 2) end (omega arith) inside is begins (λ i above below. rest i (omega arith) below),
+    record {
+      ordered = omega arith;
+      inside = inside;
+      bytes =
+          first_between text start end (omega arith) (omega arith)
+          ∙ ap (λ x. x ∷ between (start + 1) end text) r
+          ∙ ap (λ l. 0x72 ∷ l) (first_between text (start + 1) end (omega arith) (omega arith) ∙ ap (λ x. x ∷ between (start + 1 + 1) end text) sign ∙ ap (λ n. 0x23 ∷ between n end text) (omega arith) ∙ ap (λ l. 0x23 ∷ l) (sym is));
+    },
   );
   whole = name_ends text name true end ends (λ raw. absurd cc);
 }
@@ -132,7 +135,7 @@ marked_stands text name start end r sign begins ordered inside is rest ends = re
 
 pub unterminated : (text : List ℕ) (start : ℕ) → IsCharAt text start 0x22 → ((i : ℕ) → start + 1 ≤ i → slice_index text i ≢ 0x22) → BeginsFault (drop start text) UnterminatedString
 unterminated text start opens none = (
-    drop (start + 1) text,
-    record { scalar = opens.scalar; parts = opens.bytes },
-    all_from (λ c. not (is_quote c)) text (start + 1) (λ i above _. no_quote (slice_index text i) (none i above)),
+  drop (start + 1) text,
+  record { scalar = opens.scalar; parts = opens.bytes },
+  all_from (λ c. not (is_quote c)) text (start + 1) (λ i above _. no_quote (slice_index text i) (none i above)),
 )

@@ -1,5 +1,5 @@
 -- What an error says, apart from where it lies in memory.
-use Rattle.std.specs.Prelude.{ℕ, List, map, String, Vec, string_bytes, Result, Ok, Err}
+use Rattle.std.specs.Prelude.{ℕ, List, map, String, Vec, string_bytes, Option, Some, None, Result, Ok, Err}
 use Rattle.std.specs.declared.alloc.Global.{Global}
 use Rattle.cargo_platform.specs.declared.error.ParseErrorKind.{ParseErrorKind}
 use Rattle.cargo_platform.specs.declared.error.ParseErrorKind.TheVariants as kind
@@ -7,6 +7,7 @@ use Rattle.cargo_platform.specs.declared.error.ParseError.{ParseError}
 use Rattle.cargo_platform.specs.declared.error.ReadError.{ReadError}
 use Rattle.cargo_platform.specs.declared.error.ReadError.TheVariants as errors
 use Rattle.cargo_platform.specs.Faults.{Fault, UnterminatedString, UnexpectedChar, UnexpectedToken, IncompleteExpr, UnterminatedExpression, InvalidTarget}
+use Rattle.cargo_platform.specs.Print.{print_error}
 
 -- what a kind stands for
 abbrev pub fault_meant : ParseErrorKind → Fault
@@ -33,3 +34,8 @@ IfParse (Err (errors.Memory e)) P = Unit {0}
 -- the texts that a list of strings holds
 abbrev pub texts : Vec (String Global) Global → List (List ℕ)
 texts v = map (λ s. string_bytes s) v.items
+
+-- what a refusal prints: a parse error its text; of want of memory nothing is said
+abbrev pub print_refusal : ReadError → Option (List ℕ)
+print_refusal (errors.Parse e) = Some (print_error (orig_of e) (fault_in e))
+print_refusal (errors.Memory e) = None

@@ -1,11 +1,9 @@
 //! Names, pairs and expressions.
 
-use crate::Looks;
 use crate::error::ReadError;
-use crate::parser;
 use crate::reader::Reader;
+use crate::{Looks, parser};
 use std::alloc::Global;
-
 
 #[derive(Debug, Drop)]
 pub struct Ident {

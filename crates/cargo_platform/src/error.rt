@@ -3,6 +3,7 @@
 ghost use Rattle.std.specs.Prelude.{◌≡◌, IfOk};
 
 use std::alloc::{AllocError, Global};
+use std::fmt;
 
 /// What is wrong with a text.
 #[derive(Debug, Drop)]
@@ -59,4 +60,61 @@ pub enum ReadError {
     Parse(ParseError),
     /// Memory was refused.
     Memory(AllocError),
+}
+
+impl fmt::Display for ParseErrorKind {
+    ghost use Rattle.std.specs.Prelude.{Some};
+    ghost use Rattle.cargo_platform.specs.Print.{print_fault};
+    ghost use Rattle.cargo_platform.specs.Errors.{fault_meant};
+
+    ghost output = { λ k. Some (print_fault (fault_meant k)) };
+
+    fn fmt<W: fmt::Write>(&self, f: &mut fmt::Formatter<W>) -> fmt::Result {
+        match self {
+            ParseErrorKind::UnterminatedString => f.write_str("unterminated string in cfg"),
+            ParseErrorKind::UnexpectedChar(c) => write!(
+                f,
+                "unexpected character `{c}` in cfg, expected parens, a comma, an identifier, or a string"
+            ),
+            ParseErrorKind::UnexpectedToken { expected, found } => {
+                write!(f, "expected {expected}, found {found}")
+            }
+            ParseErrorKind::IncompleteExpr(expected) => {
+                write!(f, "expected {expected}, but cfg expression ended")
+            }
+            ParseErrorKind::UnterminatedExpression(s) => {
+                write!(f, "unexpected content `{s}` found after cfg expression")
+            }
+            ParseErrorKind::InvalidTarget(s) => write!(f, "invalid target specifier: {s}"),
+        }
+    }
+}
+
+impl fmt::Display for ParseError {
+    ghost use Rattle.std.specs.Prelude.{Some};
+    ghost use Rattle.cargo_platform.specs.Print.{print_error};
+    ghost use Rattle.cargo_platform.specs.Errors.{fault_in, orig_of};
+
+    ghost output = { λ e. Some (print_error (orig_of e) (fault_in e)) };
+
+    fn fmt<W: fmt::Write>(&self, f: &mut fmt::Formatter<W>) -> fmt::Result {
+        let orig = &self.orig;
+        let kind = &self.kind;
+        write!(f, "failed to parse `{orig}` as a cfg expression: {kind}")
+    }
+}
+
+impl std::error::Error for ParseError {}
+
+impl fmt::Display for ReadError {
+    ghost use Rattle.cargo_platform.specs.Errors.{print_refusal};
+
+    ghost output = { λ e. print_refusal e };
+
+    fn fmt<W: fmt::Write>(&self, f: &mut fmt::Formatter<W>) -> fmt::Result {
+        match self {
+            ReadError::Parse(error) => write!(f, "{error}"),
+            ReadError::Memory(error) => write!(f, "{error}"),
+        }
+    }
 }

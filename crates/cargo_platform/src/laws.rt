@@ -1,8 +1,15 @@
 //! Laws over the definitions. The functions do nothing: each contract is a law.
 
-ghost use Rattle.std.specs.Prelude.{ℕ, List, IsUtf8};
+ghost use Rattle.std.specs.Prelude.{ℕ, List, [], IsUtf8};
+ghost use Rattle.cargo_platform.specs.Tokens.{Lexeme, Placed};
 ghost use Rattle.cargo_platform.specs.Reading.{Progress};
+ghost use Rattle.cargo_platform.specs.Trees.{CfgValue, Tree};
+ghost use Rattle.cargo_platform.specs.Spelling.{Grammar};
+ghost use Rattle.cargo_platform.specs.Faults.{IsCompletable, Fault};
 ghost use Rattle.cargo_platform.specs.CutLaws.{HasOneCut, CutsAreRead, IsReadAlike, EndsForGood, FailsOnce};
+ghost use Rattle.cargo_platform.specs.GrammarLaws.{HasOneTree, IsOneTreeText, HasOneValue, IsOneValueText, SpellsWellFormed, IsWellFormedText};
+ghost use Rattle.cargo_platform.specs.FaultLaws.{FrontsAreCompletable, IsCompletedShortly, IsWalkedIffCompletable, IsKeptByWalk, IsFrontCompletable, IsStoppedByNext, IsExpectedToFollow, NamesWhatCanFollow};
+ghost use Rattle.cargo_platform.specs.PrintLaws.{PrintSpells, PrintsApart, PrintSpellsValue, PrintsApartValues};
 
 /// Every text has exactly one cut.
 pub fn one_cut()
@@ -27,4 +34,88 @@ pub fn ends_for_good()
 /// After a fault comes `None`.
 pub fn fails_once()
     ensures { (old new : Progress) → FailsOnce old new }
+{}
+
+/// Tokens spell at most one name or pair.
+pub fn one_value()
+    ensures { (ts : List Lexeme) → HasOneValue ts }
+{}
+
+/// A text spells at most one name or pair.
+pub fn one_value_text()
+    ensures { (text : List ℕ) → IsOneValueText text }
+{}
+
+/// Tokens spell at most one expression.
+pub fn one_tree()
+    ensures { (ts : List Lexeme) → HasOneTree ts }
+{}
+
+/// A text spells at most one expression.
+pub fn one_tree_text()
+    ensures { (text : List ℕ) → IsOneTreeText text }
+{}
+
+/// Well-written tokens spell only well-formed values and trees.
+pub fn well_formed()
+    ensures { (ts : List Lexeme) → SpellsWellFormed ts }
+{}
+
+/// A text spells only well-formed values and trees.
+pub fn well_formed_text()
+    ensures { (text : List ℕ) → IsWellFormedText text }
+{}
+
+/// A front of tokens that can be completed can be completed, and so can no tokens at all.
+pub fn fronts_completable()
+    ensures fronts { (g : Grammar) (front after : List Lexeme) → FrontsAreCompletable g front after }
+    ensures none { (g : Grammar) → IsCompletable g [] }
+{}
+
+/// Tokens that can be completed as an expression need at most three tokens more than they have `(`.
+pub fn completed_shortly()
+    ensures { (ts : List Lexeme) → IsCompletedShortly ts }
+{}
+
+/// The words that are open and the last token tell whether tokens can be completed as an expression.
+pub fn walked_iff_completable()
+    ensures { (ts : List Lexeme) → IsWalkedIffCompletable ts }
+{}
+
+/// The words that are open and the last token tell which next tokens keep an expression completable.
+pub fn kept_by_walk()
+    ensures { (ts : List Lexeme) (t : Lexeme) → IsKeptByWalk ts t }
+{}
+
+/// Where a text goes wrong: the tokens before that place can be completed, with the next one they can't, and what is
+/// expected there could have come.
+pub fn fault_front()
+    ensures completable { (g : Grammar) (ts front after : List Placed) → IsFrontCompletable g ts front after }
+    ensures stopped { (g : Grammar) (ts front after : List Placed) → IsStoppedByNext g ts front after }
+    ensures expected { (g : Grammar) (ts front after : List Placed) → IsExpectedToFollow g ts front after }
+{}
+
+/// What the fault of a text names as expected could have come where the text goes wrong.
+pub fn named_can_follow()
+    ensures { (g : Grammar) (text : List ℕ) (fault : Fault) → NamesWhatCanFollow g text fault }
+{}
+
+/// The print of a well-formed name or pair spells it.
+pub fn print_spells_value()
+    ensures { (c : CfgValue) → PrintSpellsValue c }
+{}
+
+/// The print of a well-formed expression spells it.
+pub fn print_spells()
+    ensures { (e : Tree) → PrintSpells e }
+{}
+
+/// Two well-formed names or pairs print alike only if they are the same.
+pub fn prints_apart_values()
+    ensures { (c d : CfgValue) → PrintsApartValues c d }
+{}
+
+/// Two well-formed expressions print alike only if they are the same.
+pub fn prints_apart()
+    ensures { (d e : Tree) → PrintsApart d e }
 {}

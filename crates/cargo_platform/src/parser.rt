@@ -131,7 +131,11 @@ fn read_value<'a>(
 }
 
 /// Reads the `(` behind a group's word.
-fn open_group<'a>(reader: &mut Reader<'a>, groups: &mut OpenGroups, group: Group) -> Result<(), Refusal<'a>>
+fn open_group<'a>(
+    reader: &mut Reader<'a>,
+    groups: &mut OpenGroups,
+    group: Group,
+) -> Result<(), Refusal<'a>>
     ensures same_text { reader.new.text ≡ reader.old.text }
     ensures opened { OnOk result (Reads reader.old reader.new (HasWord (stack groups.old) (opening group)) (Wants (stack groups.new))) }
     ensures refused { IfErr result (Stops reader.old (HasWord (stack groups.old) (opening group))) }
@@ -286,10 +290,7 @@ fn go_on<'a>(
 }
 
 /// Reads the expression that the tokens spell.
-pub fn read_expression<'a>(
-    alloc: Global,
-    reader: &mut Reader<'a>,
-) -> Result<CfgExpr, Refusal<'a>>
+pub fn read_expression<'a>(alloc: Global, reader: &mut Reader<'a>) -> Result<CfgExpr, Refusal<'a>>
     ensures same_text { reader.new.text ≡ reader.old.text }
     ensures tree { IfOk result (λ e. Reads reader.old reader.new (λ ts. ts ≡ []) (Has [] (tree_of e) reader.new.item)) }
     ensures ended { OnOk result (reader.new.item ≡ ahead.Nothing) }

@@ -238,11 +238,7 @@ impl<'a> Reader<'a> {
 }
 
 /// The refusal of what comes next, where nothing ended.
-pub fn refuse<'a>(
-    reader: &Reader<'a>,
-    expected: &'static str,
-    at_end: &'static str,
-) -> Refusal<'a>
+pub fn refuse<'a>(reader: &Reader<'a>, expected: &'static str, at_end: &'static str) -> Refusal<'a>
     ensures { RefusesNext reader.now expected.now at_end.now result }
 {
     match reader.peek() {

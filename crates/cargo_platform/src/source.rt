@@ -105,7 +105,7 @@ impl<'a> Source<'a> {
         Looks { count: looks }
     }
 
-    /// The same text with the same count, to look ahead in.
+    /// The same text with the same count, to look ahead in; its looks are not counted here.
     pub fn copied(&self) -> Source<'a>
         ensures { result ≡ self.now }
     {

@@ -2,8 +2,8 @@
 //!
 //! Between tokens only the space U+0020 is skipped. An identifier is one `_` or ASCII letter and all such characters
 //! and ASCII digits that follow it; `r#` directly before it marks it as raw. A string runs from `"` to the next `"`,
-//! with no escapes. See "Configuration predicates" in the Rust reference's chapter on conditional compilation, and
-//! `[target]` in the chapter "Specifying dependencies" of Cargo's reference.
+//! with no escapes. Where such conditions stand: "Platform specific dependencies" in Cargo's reference, and
+//! "Conditional compilation" in the Rust reference.
 
 ghost use Rattle.std.specs.Prelude.{◌≡◌, ◌≢◌, ℕ, ◌+◌, ◌≤◌, ◌<◌, length, drop, slice_index, IfSome, IfNone, IfOk, IfErr, OnErr, OnOk, MatchOption, IsTrue, true, false};
 ghost use Rattle.std.specs.Str.{IsCharBoundary};

@@ -9,8 +9,8 @@ abbrev pub invariant-rest : goal.invariant-rest
 invariant-rest l = record {
   same : l.source.text ≡ l.fn.source.text;
   order : l.from ≤ l.at;
-  boundary : IsCharBoundary l.source.text.now l.at;
-  rest : (i : ℕ) → l.from ≤ i → i < l.at → is_identifier_rest (slice_index l.source.text.now i) ≡ true;
+  boundary : IsCharBoundary l.fn.source.text.now l.at;
+  rest : (i : ℕ) → l.from ≤ i → i < l.at → is_identifier_rest (slice_index l.fn.source.text.now i) ≡ true;
   cost : Costs l.source.text.now l.from l.at 0 0 l.fn.source.looks l.source.looks;
 }
 

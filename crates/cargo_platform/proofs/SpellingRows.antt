@@ -1,0 +1,164 @@
+-- What some lists of tokens and some texts spell, and that others spell nothing.
+use Rattle.std.proofs.Common.{◌≡◌, refl, sym, ap, subst, ℕ, Bool, true, false, true≢false, List, [], ◌∷◌, None, codes, inl, inr, append-nil, arith, length}
+use Rattle.std.specs.Prelude.{IsTrue, IsFalse}
+use Rattle.cargo_platform.specs.Tokens.{Lexeme, LeftParen, RightParen, Ident, Comma, Equals, String, plain}
+use Rattle.cargo_platform.specs.Trees.{Name, CfgValue, Alone, KeyPair, Tree, Not, All, Any, Value, True, False, none, tree, trees_of}
+use Rattle.cargo_platform.specs.Spelling.{SpellsValue, is_group_word, is_literal_word, MayStand, group, joined, IsMemberList, Spells, SpellEach, Values, Expressions, IsAccepted, IsValueText, IsTreeText}
+use Rattle.cargo_platform.specs.Walk.{walk}
+use Rattle.cargo_platform.proofs.OneCut.{one_cut_from}
+use Rattle.cargo_platform.proofs.Walk.{stopped}
+use Rattle.cargo_platform.proofs.Completing.{accepted_whole}
+use Rattle.cargo_platform.proofs.CutRows.{late_mark, comma_behind, lone_a}
+
+abbrev name : List ℕ → Name
+name s = record { raw = false; name = s }
+
+abbrev marked : List ℕ → Name
+marked s = record { raw = true; name = s }
+
+abbrev a : Tree
+a = Value (Alone (name (codes "a")))
+
+abbrev word_a : Lexeme
+word_a = plain (codes "a")
+
+-- ---- names and pairs
+
+raw_spelled : SpellsValue (Alone (marked (codes "a"))) (Ident true (codes "a") ∷ [])
+raw_spelled = refl
+
+pair_spelled : SpellsValue (KeyPair (name (codes "all")) (codes "x")) (plain (codes "all") ∷ Equals ∷ String (codes "x") ∷ [])
+pair_spelled = refl
+
+is_raw : List Lexeme → Bool
+is_raw (Ident raw name ∷ ts) = raw
+is_raw ts = false
+
+-- the mark is a part of the name
+mark_kept : SpellsValue (Alone (marked (codes "a"))) (plain (codes "a") ∷ []) → ⊥
+unfolding is_raw
+mark_kept p = true≢false (sym (ap is_raw p))
+
+two_names : IsAccepted Values (word_a ∷ plain (codes "b") ∷ []) → ⊥
+two_names (Alone n, p) = absurd (omega (arith, ap length p))
+two_names (KeyPair k v, p) = absurd (omega (arith, ap length p))
+
+group_words : IsTrue (is_group_word (name (codes "all"))) × IsTrue (is_group_word (name (codes "any"))) × IsTrue (is_group_word (name (codes "not")))
+group_words = (refl, refl, refl)
+
+no_group_words : IsFalse (is_group_word (marked (codes "all"))) × IsFalse (is_group_word (name (codes "al"))) × IsFalse (is_group_word (name (codes "true")))
+no_group_words = (refl, refl, refl)
+
+literal_words : IsTrue (is_literal_word (name (codes "true"))) × IsTrue (is_literal_word (marked (codes "false"))) × IsFalse (is_literal_word (name (codes "True")))
+literal_words = (refl, refl, refl)
+
+may_stand : MayStand (Alone (marked (codes "any"))) × MayStand (KeyPair (name (codes "true")) [])
+may_stand = ((refl, refl), refl)
+
+no_word_alone : MayStand (Alone (name (codes "any"))) → ⊥
+no_word_alone p = true≢false p.0
+
+no_literal_alone : MayStand (Alone (marked (codes "true"))) → ⊥
+no_literal_alone p = true≢false p.1
+
+no_word_as_key : MayStand (KeyPair (name (codes "not")) (codes "x")) → ⊥
+no_word_as_key p = true≢false p
+
+-- ---- expressions
+
+a_spelled : Spells a (word_a ∷ [])
+a_spelled = (refl, (refl, refl))
+
+-- `all()`
+none_spelled : Spells (All none) (group (codes "all") [])
+none_spelled = ([], [], tt, refl, refl)
+
+-- `all(a, )`
+all_a_spelled : Spells (All (tree a none)) (plain (codes "all") ∷ LeftParen ∷ word_a ∷ Comma ∷ RightParen ∷ [])
+all_a_spelled = ((word_a ∷ []) ∷ [], word_a ∷ Comma ∷ [], (a_spelled, tt), inr refl, refl)
+
+-- `any(a, not(r#true), b = "1")`
+any_spelled : Spells (Any (trees_of (a ∷ Not True ∷ Value (KeyPair (name (codes "b")) (codes "1")) ∷ []))) (plain (codes "any") ∷ LeftParen ∷ word_a ∷ Comma ∷ plain (codes "not") ∷ LeftParen ∷ Ident true (codes "true") ∷ RightParen ∷ Comma ∷ plain (codes "b") ∷ Equals ∷ String (codes "1") ∷ RightParen ∷ [])
+any_spelled = (
+  (word_a ∷ []) ∷ group (codes "not") (Ident true (codes "true") ∷ []) ∷ (plain (codes "b") ∷ Equals ∷ String (codes "1") ∷ []) ∷ [],
+  word_a ∷ Comma ∷ plain (codes "not") ∷ LeftParen ∷ Ident true (codes "true") ∷ RightParen ∷ Comma ∷ plain (codes "b") ∷ Equals ∷ String (codes "1") ∷ [],
+  (a_spelled, ((Ident true (codes "true") ∷ [], (true, refl), refl), ((refl, refl), tt))),
+  inl refl,
+  refl,
+)
+
+false_spelled : Spells False (plain (codes "false") ∷ [])
+false_spelled = (false, refl)
+
+-- a literal is no value
+literal_is_no_value : Spells (Value (Alone (name (codes "true")))) (plain (codes "true") ∷ []) → ⊥
+literal_is_no_value p = true≢false p.1.1
+
+-- as many lists as trees
+no_list_left : SpellEach none ((word_a ∷ []) ∷ []) → ⊥
+no_list_left p = p
+
+joined_two : joined ((word_a ∷ []) ∷ (plain (codes "b") ∷ []) ∷ []) ≡ word_a ∷ Comma ∷ plain (codes "b") ∷ []
+joined_two = refl
+
+comma_of_none : IsMemberList [] (Comma ∷ []) → ⊥
+comma_of_none p = absurd (omega (arith, ap length p))
+
+two_commas : IsMemberList ((word_a ∷ []) ∷ []) (word_a ∷ Comma ∷ Comma ∷ []) → ⊥
+two_commas (inl p) = absurd (omega (arith, ap length p))
+two_commas (inr p) = absurd (omega (arith, ap length p))
+
+-- where no walk is, nothing is spelled
+unwalked : (ts : List Lexeme) → walk ts ≡ None → IsAccepted Expressions ts → ⊥
+unwalked ts h p = let A : List Lexeme → Type 0 = λ z. IsAccepted Expressions z in stopped ts [] h (subst A (sym (append-nil ts)) p)
+
+no_tokens : IsAccepted Expressions [] → ⊥
+no_tokens p = true≢false (sym (accepted_whole _ [] refl p))
+
+-- `all(,)`
+lone_comma : IsAccepted Expressions (group (codes "all") (Comma ∷ [])) → ⊥
+lone_comma p = unwalked _ refl p
+
+-- `all(a,,)`
+comma_twice : IsAccepted Expressions (group (codes "all") (word_a ∷ Comma ∷ Comma ∷ [])) → ⊥
+comma_twice p = unwalked _ refl p
+
+-- `all(a b)`
+no_comma : IsAccepted Expressions (group (codes "all") (word_a ∷ plain (codes "b") ∷ [])) → ⊥
+no_comma p = unwalked _ refl p
+
+-- `not()`
+empty_negation : IsAccepted Expressions (group (codes "not") []) → ⊥
+empty_negation p = unwalked _ refl p
+
+-- `not(a,)`
+comma_in_negation : IsAccepted Expressions (group (codes "not") (word_a ∷ Comma ∷ [])) → ⊥
+comma_in_negation p = unwalked _ refl p
+
+-- `r#all()`
+marked_group : IsAccepted Expressions (Ident true (codes "all") ∷ LeftParen ∷ RightParen ∷ []) → ⊥
+marked_group p = unwalked _ refl p
+
+-- `all = "x"`, which is a pair of the other grammar
+word_as_key : IsAccepted Expressions (plain (codes "all") ∷ Equals ∷ String (codes "x") ∷ []) → ⊥
+word_as_key p = unwalked _ refl p
+
+-- `all(a`
+open_group : IsAccepted Expressions (plain (codes "all") ∷ LeftParen ∷ word_a ∷ []) → ⊥
+open_group p = true≢false (sym (accepted_whole _ _ refl p))
+
+-- `a =`
+key_alone : IsAccepted Expressions (word_a ∷ Equals ∷ []) → ⊥
+key_alone p = true≢false (sym (accepted_whole _ _ refl p))
+
+-- ---- texts
+
+text_of_name : IsValueText (codes "a") (Alone (name (codes "a")))
+text_of_name = (_, lone_a, refl)
+
+text_of_group : IsTreeText (codes "all(a, )") (All (tree a none))
+text_of_group = (_, comma_behind, all_a_spelled)
+
+-- a text whose tail is not empty spells nothing, whatever stands before it
+text_with_tail : (c : CfgValue) → IsValueText (codes "ar#") c → ⊥
+text_with_tail c p = absurd (omega (arith, (one_cut_from (codes "ar#") _ _ 0 3 2 p.1 late_mark).1))

@@ -1,0 +1,5 @@
+use Rattle.cargo_platform.proofs.OneValue.{one_value}
+use Rattle.cargo_platform.proofs.laws.one_value.Goals as goal
+
+pub returns : goal.returns
+returns c = λ ts c d p q. one_value c d ts p q

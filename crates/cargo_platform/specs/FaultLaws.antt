@@ -1,0 +1,63 @@
+-- Laws of completion and of the fault front.
+use Rattle.std.specs.Prelude.{◌≡◌, ◌⊎◌, ◌↔◌, ◌≤◌, ◌+◌, ◌++◌, ℕ, Bool, true, false, List, [], ◌∷◌, Some, None, codes, length}
+use Rattle.std.specs.List.{AllByRecursion, count_by, last_or}
+use Rattle.cargo_platform.specs.Tokens.{Lexeme, LeftParen, RightParen, Ident, Comma, Equals, String, Placed, IsWellWritten}
+use Rattle.cargo_platform.specs.Cut.{lexemes}
+use Rattle.cargo_platform.specs.Spelling.{Grammar, Expressions, IsAccepted}
+use Rattle.cargo_platform.specs.Faults.{IsCompletable, IsFaultFront, End, Fault, UnexpectedToken, IncompleteExpr, expected_token, expected_end, IsRefused}
+use Rattle.cargo_platform.specs.Walk.{State, after, walk}
+
+-- whether a list can be completed as an expression is told by its walk
+abbrev pub IsWalkedIffCompletable : List Lexeme → Type 0
+IsWalkedIffCompletable ts = IsCompletable Expressions ts ↔ ((s : State) × (walk ts ≡ Some s))
+
+-- a front of a completable list is completable
+abbrev pub FrontsAreCompletable : Grammar → List Lexeme → List Lexeme → Type 0
+FrontsAreCompletable g front after = AllByRecursion IsWellWritten (front ++ after) → IsCompletable g (front ++ after) → IsCompletable g front
+
+-- which tokens keep a list completable as an expression is told by the state that its walk leads to
+abbrev pub IsKeptByWalk : List Lexeme → Lexeme → Type 0
+IsKeptByWalk ts t = (s : State) → walk ts ≡ Some s → (IsCompletable Expressions (ts ++ t ∷ []) ↔ ((next : State) × (after s t ≡ Some next)))
+
+abbrev pub is_left_paren : Lexeme → Bool
+is_left_paren LeftParen = true
+is_left_paren t = false
+
+-- at most three tokens more than the list has `(` complete it as an expression
+abbrev pub IsCompletedShortly : List Lexeme → Type 0
+IsCompletedShortly ts = IsCompletable Expressions ts → (more : List Lexeme) × AllByRecursion IsWellWritten more × IsAccepted Expressions (ts ++ more) × (length more ≤ count_by is_left_paren ts + 3)
+
+-- the token is one of those that a fault names so
+abbrev pub IsOfClass : List ℕ → Lexeme → Type 0
+IsOfClass class (Ident raw name) = (class ≡ codes "identifier") ⊎ (class ≡ codes "start of a cfg expression")
+IsOfClass class (String value) = class ≡ codes "a string"
+IsOfClass class LeftParen = class ≡ codes "`(`"
+IsOfClass class RightParen = class ≡ codes "`)`"
+IsOfClass class Comma = ⊥
+IsOfClass class Equals = ⊥
+
+-- the list with some token of the class added is completable
+abbrev pub CanFollow : Grammar → List Lexeme → List ℕ → Type 0
+CanFollow g ts class = (t : Lexeme) × IsOfClass class t × IsWellWritten t × IsCompletable g (ts ++ t ∷ [])
+
+-- the fault front is completable
+abbrev pub IsFrontCompletable : Grammar → List Placed → List Placed → List Placed → Type 0
+IsFrontCompletable g ts front after = IsFaultFront g ts front after → IsCompletable g (lexemes front)
+
+-- the fault front with the next token is not completable
+abbrev pub IsStoppedByNext : Grammar → List Placed → List Placed → List Placed → Type 0
+IsStoppedByNext g ts front after = IsFaultFront g ts front after → (next : Placed) (others : List Placed) → after ≡ next ∷ others → IsCompletable g (lexemes (front ++ next ∷ [])) → ⊥
+
+-- what is expected behind a fault front that is not accepted can follow it
+abbrev pub IsExpectedToFollow : Grammar → List Placed → List Placed → List Placed → Type 0
+IsExpectedToFollow g ts front after =
+    IsFaultFront g ts front after → (IsAccepted g (lexemes front) → ⊥) →
+    CanFollow g (lexemes front) (expected_token g (last_or None (lexemes front))) × CanFollow g (lexemes front) (expected_end g (last_or None (lexemes front)))
+
+-- the fault names the class as expected, at a token or at the end
+abbrev pub Names : {g : Grammar} {text : List ℕ} {fault : Fault} → IsRefused g text fault → List ℕ → Type 0
+Names {fault = fault} r class = ((found : List ℕ) × (fault ≡ UnexpectedToken class found)) ⊎ ((fault ≡ IncompleteExpr class) × (r.next ≡ End))
+
+-- what the fault of a refused text names as expected can follow its fault front
+abbrev pub NamesWhatCanFollow : Grammar → List ℕ → Fault → Type 0
+NamesWhatCanFollow g text fault = (r : IsRefused g text fault) (class : List ℕ) → Names r class → CanFollow g (lexemes r.front) class
