@@ -30,3 +30,7 @@ mod CutRows
 mod SpellingRows
 mod FaultRows
 mod ValueFaultRows
+pub mod FactSets
+pub mod FactTruths
+pub mod FactIndexes
+pub mod Members

@@ -16,7 +16,11 @@ pub mod PrintLaws
 pub mod Platforms
 pub mod Errors
 pub mod Readers
+pub mod Facts
 pub mod Key
+pub mod OrderLaws
+pub mod Hashing
+pub mod FactLaws
 pub mod Looking
 pub mod Scanning
 pub mod Ahead

@@ -28,13 +28,20 @@ pub enum CfgExpr {
 }
 
 impl Ident {
-    ghost use Rattle.std.specs.Prelude.{◌≡◌, string_bytes};
+    ghost use Rattle.std.specs.Prelude.{◌≡◌, ◌↔◌, IsTrue, string_bytes};
 
     /// The name, without the raw mark.
     pub fn as_str(&self) -> &str
         ensures { result.now ≡ string_bytes self.now.name }
     {
         &self.name
+    }
+
+    /// Whether the name equals the text. The raw mark plays no part.
+    pub fn eq_text(&self, text: &str) -> bool
+        ensures { IsTrue result ↔ (string_bytes self.now.name ≡ text.now) }
+    {
+        self.as_str() == text
     }
 }
 

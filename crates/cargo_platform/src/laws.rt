@@ -1,15 +1,19 @@
 //! Laws over the definitions. The functions do nothing: each contract is a law.
 
-ghost use Rattle.std.specs.Prelude.{ℕ, List, [], IsUtf8};
+ghost use Rattle.std.specs.Prelude.{◌≡◌, true, false, ℕ, List, [], IsUtf8};
 ghost use Rattle.cargo_platform.specs.Tokens.{Lexeme, Placed};
 ghost use Rattle.cargo_platform.specs.Reading.{Progress};
-ghost use Rattle.cargo_platform.specs.Trees.{CfgValue, Tree};
+ghost use Rattle.cargo_platform.specs.Trees.{Name, CfgValue, Tree, All, Any, Trees, none};
 ghost use Rattle.cargo_platform.specs.Spelling.{Grammar};
 ghost use Rattle.cargo_platform.specs.Faults.{IsCompletable, Fault};
 ghost use Rattle.cargo_platform.specs.CutLaws.{HasOneCut, CutsAreRead, IsReadAlike, EndsForGood, FailsOnce};
 ghost use Rattle.cargo_platform.specs.GrammarLaws.{HasOneTree, IsOneTreeText, HasOneValue, IsOneValueText, SpellsWellFormed, IsWellFormedText};
 ghost use Rattle.cargo_platform.specs.FaultLaws.{FrontsAreCompletable, IsCompletedShortly, IsWalkedIffCompletable, IsKeptByWalk, IsFrontCompletable, IsStoppedByNext, IsExpectedToFollow, NamesWhatCanFollow};
 ghost use Rattle.cargo_platform.specs.PrintLaws.{PrintSpells, PrintsApart, PrintSpellsValue, PrintsApartValues};
+ghost use Rattle.cargo_platform.specs.Facts.{Pair, FactSet, fact_set, truth};
+ghost use Rattle.cargo_platform.specs.FactLaws.{IsInWhereListed, HaveSamePairs, HaveSameFacts, IsMonotone, IsNotAllAnyNot, IsOrderOfKeys};
+ghost use Rattle.cargo_platform.specs.Key.{name_key, value_key, key, condition_key, name_cmp, value_cmp, tree_cmp, condition_cmp};
+ghost use Rattle.cargo_platform.specs.Hashing.{name_hash, value_hash, tree_hash};
 
 /// Every text has exactly one cut.
 pub fn one_cut()
@@ -118,4 +122,44 @@ pub fn prints_apart_values()
 /// Two well-formed expressions print alike only if they are the same.
 pub fn prints_apart()
     ensures { (d e : Tree) → PrintsApart d e }
+{}
+
+/// The fact set of a list holds the pairs of its members, so that order, repeats and raw marks play no part.
+pub fn facts_are_pairs_of_members()
+    ensures { (cs : List CfgValue) (p : Pair) → IsInWhereListed cs p }
+{}
+
+/// Truth depends on the set of facts alone.
+pub fn truth_is_of_facts()
+    ensures sets { (s t : FactSet) (e : Tree) → HaveSameFacts s t → truth s e ≡ truth t e }
+    ensures lists { (cs ds : List CfgValue) (e : Tree) → HaveSamePairs cs ds → truth (fact_set cs) e ≡ truth (fact_set ds) e }
+{}
+
+/// In a tree with no `Not`, more facts never turn truth into falsehood.
+pub fn truth_is_monotone()
+    ensures { (fewer more : FactSet) (e : Tree) → IsMonotone fewer more e }
+{}
+
+pub fn not_all_is_any_not()
+    ensures { (facts : FactSet) (es : Trees) → IsNotAllAnyNot facts es }
+{}
+
+pub fn groups_of_none()
+    ensures all { (facts : FactSet) → truth facts (All none) ≡ true }
+    ensures any { (facts : FactSet) → truth facts (Any none) ≡ false }
+{}
+
+/// Keys are totally ordered, and `Equal` holds exactly where keys are equal.
+pub fn keys_are_ordered()
+    ensures names { IsOrderOfKeys name_key name_cmp }
+    ensures values { IsOrderOfKeys value_key value_cmp }
+    ensures trees { IsOrderOfKeys key tree_cmp }
+    ensures conditions { IsOrderOfKeys condition_key condition_cmp }
+{}
+
+/// A hasher is fed the same by a value and by its key.
+pub fn hashes_are_of_keys()
+    ensures names { (n : Name) → name_hash (name_key n) ≡ name_hash n }
+    ensures values { (c : CfgValue) → value_hash (value_key c) ≡ value_hash c }
+    ensures trees { (e : Tree) → tree_hash (key e) ≡ tree_hash e }
 {}

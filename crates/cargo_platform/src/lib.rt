@@ -2,18 +2,23 @@
 #![tactic(auto)]
 
 pub mod cfg;
+mod clone;
 mod display;
 #[cfg(test)]
 mod display_tests;
 pub mod error;
+mod facts;
 pub mod laws;
+mod order;
 mod parser;
 mod reader;
 mod source;
 pub mod tokens;
+mod tree_order;
 
 pub use cfg::{Cfg, CfgExpr, Ident};
 pub use error::{ParseError, ParseErrorKind, ReadError};
+pub use facts::{FactIndex, Facts, Listed};
 pub use source::Looks;
 pub use tokens::{Spanned, Token, TokenFault, TokenFaultKind, Tokenizer};
 

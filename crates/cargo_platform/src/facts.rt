@@ -1,0 +1,101 @@
+//! Facts, and the truth of an expression over them.
+
+ghost use Rattle.std.specs.Prelude.{◌≡◌, map, IfOk};
+ghost use Rattle.std.specs.FinSet.{contains};
+ghost use Rattle.cargo_platform.specs.Trees.{value_of, tree_of};
+ghost use Rattle.cargo_platform.specs.Facts.{FactSet, pair_of, fact_set, truth};
+
+use crate::cfg::{Cfg, CfgExpr};
+use std::alloc::{AllocError, Global};
+use std::collections::BTreeSet;
+
+/// A set of facts, however it is kept.
+pub trait Facts {
+    // The finite set of pairs that the holder means.
+    ghost meant: { Self → FactSet };
+
+    /// Whether the pair of `c`, its name or its key and value without the raw mark, is in the set that is meant.
+    fn holds(&self, c: &Cfg) -> bool
+        ensures { result ≡ contains (meant self.now) (pair_of (value_of c.now)) };
+}
+
+/// A list of facts, which means the set of its members' pairs. Order, repeats and raw marks play no part.
+#[derive(Drop)]
+pub struct Listed<'a>(pub &'a [Cfg]);
+
+impl<'a> Facts for Listed<'a> {
+    ghost meant = { λ facts. fact_set (map value_of facts.0.now) };
+
+    fn holds(&self, c: &Cfg) -> bool {
+        self.0.contains(c)
+    }
+}
+
+/// Facts kept in order, so that asking for one goes over few of them. It means the set of the pairs of the values that
+/// it was made of.
+#[derive(Drop)]
+pub struct FactIndex {
+    facts: BTreeSet<Cfg>,
+}
+
+impl FactIndex {
+    /// An index of copies of the facts in `cfg`. It refuses only where memory is refused.
+    pub fn new(alloc: Global, cfg: &[Cfg]) -> Result<FactIndex, AllocError>
+        ensures { IfOk result (λ index. ⟦<FactIndex as Facts>⟧.meant index ≡ fact_set (map value_of cfg.now)) }
+    {
+        let mut facts = BTreeSet::new(alloc);
+        for c in cfg {
+            facts.insert(c.clone(alloc)?)?;
+        }
+        Ok(FactIndex { facts })
+    }
+}
+
+impl Facts for FactIndex {
+    ghost meant = { λ index. fact_set (map value_of index.facts.keys) };
+
+    fn holds(&self, c: &Cfg) -> bool {
+        self.facts.contains(c)
+    }
+}
+
+impl CfgExpr {
+    /// Whether the expression is true over the facts in `cfg`.
+    ///
+    /// A name or a pair is true where it is one of the facts, whatever the raw marks of both; `not` is negation, `all`
+    /// asks for every member and `any` for some member, so that `all()` is true and `any()` is false. This is the
+    /// conditional compilation of the Rust reference, as Cargo's reference uses it to select dependencies by platform.
+    pub fn matches(&self, cfg: &[Cfg]) -> bool
+        ensures { result ≡ truth (fact_set (map value_of cfg.now)) (tree_of self.now) }
+    {
+        self.matches_in(&Listed(cfg))
+    }
+
+    /// Whether the expression is true over the set of facts that the holder means.
+    pub fn matches_in<F: Facts>(&self, facts: &F) -> bool
+        ensures { result ≡ truth (F.meant facts.now) (tree_of self.now) }
+    {
+        match self {
+            CfgExpr::Not(e) => !e.matches_in(facts),
+            CfgExpr::All(es) => {
+                for e in es {
+                    if !e.matches_in(facts) {
+                        return false;
+                    }
+                }
+                true
+            }
+            CfgExpr::Any(es) => {
+                for e in es {
+                    if e.matches_in(facts) {
+                        return true;
+                    }
+                }
+                false
+            }
+            CfgExpr::Value(c) => facts.holds(c),
+            CfgExpr::True => true,
+            CfgExpr::False => false,
+        }
+    }
+}
