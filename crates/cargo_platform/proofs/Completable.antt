@@ -3,6 +3,7 @@ use Rattle.std.proofs.Common.{◌≡◌, refl, sym, ap, subst, ◌∙◌, ℕ, �
 use Rattle.std.specs.Prelude.{◌↔◌, if◌then◌else◌, bytes_eq}
 use Rattle.std.specs.List.{AllByRecursion, count_by, last_or}
 use Rattle.std.proofs.lemmas.List.Sums.{sum_by-cons}
+use Rattle.std.proofs.lemmas.Option.{same_Some}
 use Rattle.cargo_platform.specs.declared.tokens.TokenFaultKind.TheVariants as lexical
 use Rattle.cargo_platform.specs.Tokens.{Lexeme, LeftParen, RightParen, Ident, Comma, Equals, String, Placed, plain, IsWellWritten}
 use Rattle.cargo_platform.specs.Cut.{lexemes}
@@ -13,7 +14,7 @@ use Rattle.cargo_platform.specs.Walk.{Word, Several, Negation, State, Wanted, Me
 use Rattle.cargo_platform.specs.Parsing.{is_whole, expects, expects_end}
 use Rattle.cargo_platform.specs.FaultLaws.{is_left_paren, IsCompletedShortly, IsOfClass, CanFollow, Names}
 use Rattle.cargo_platform.proofs.OneCut.{never}
-use Rattle.cargo_platform.proofs.Walk.{walk_from-None, walk_on, completable_walks}
+use Rattle.cargo_platform.proofs.Walk.{none_some, walk_from-None, walk_on, completable_walks}
 use Rattle.cargo_platform.proofs.Completing.{needed, walked_completes_within, walked_completes, whole_accepted}
 use Rattle.cargo_platform.proofs.Expecting.{walk_matches}
 use Rattle.cargo_platform.proofs.ValueFaults.{is_value_front, completable_values}
@@ -40,12 +41,6 @@ none_completable Values = (completable_values []).1 refl
 none_completable Expressions = walked_completes [] (Wanted []) refl
 
 -- ---- how many tokens complete a list
-
-none_some : {A : Type 0} {t : State} → None ≡ Some t → A
-none_some h = absurd cc
-
-some_is : {s t : State} → Some s ≡ Some t → s ≡ t
-some_is h = cc
 
 -- how many groups are open
 depth : State → ℕ
@@ -85,7 +80,7 @@ abbrev Opens : State → Lexeme → State → Type 0
 Opens s t st = depth st ≤ depth s + opened t
 
 moved : (s u : State) (t : Lexeme) (st : State) → Some u ≡ Some st → Opens s t u → Opens s t st
-moved s u t st h o = let P : State → Type 0 = λ z. Opens s t z in subst P (some_is h) o
+moved s u t st h o = let P : State → Type 0 = λ z. Opens s t z in subst P (same_Some _ _ h) o
 
 ended_opens : (s : State) (ws : List Word) (t : Lexeme) (st : State) → depth s ≡ length ws → after_expression ws t ≡ Some st → Opens s t st
 unfolding depth opened
@@ -115,7 +110,7 @@ unfolding opened
 counted t ts = sum_by-cons (λ x. cond (is_left_paren x) 1 0) t ts
 
 walk_opens : (ts : List Lexeme) (s st : State) → walk_from (Some s) ts ≡ Some st → depth st ≤ depth s + count_by is_left_paren ts
-walk_opens [] s st h = omega (arith, ap depth (some_is h))
+walk_opens [] s st h = omega (arith, ap depth (same_Some _ _ h))
 walk_opens (t ∷ ts) s st h =
     elim (after s t) as (λ z. after s t ≡ z → walk_from z ts ≡ Some st → depth st ≤ depth s + count_by is_left_paren (t ∷ ts)) [
       | None ↦ λ _ stops. none_some (sym (walk_from-None ts) ∙ stops)

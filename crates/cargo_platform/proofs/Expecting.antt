@@ -2,12 +2,13 @@
 use Rattle.std.proofs.Common.{◌≡◌, refl, sym, subst, ◌∙◌, ℕ, Bool, true, false, not, ◌&&◌, ◌||◌, List, [], ◌∷◌, Option, Some, None, codes}
 use Rattle.std.specs.Prelude.{if◌then◌else◌, bytes_eq}
 use Rattle.std.specs.List.{last_or}
+use Rattle.std.proofs.lemmas.Option.{same_Some}
 use Rattle.cargo_platform.specs.Tokens.{Lexeme, LeftParen, RightParen, Ident, Comma, Equals, String}
 use Rattle.cargo_platform.specs.Spelling.{Expressions}
 use Rattle.cargo_platform.specs.Faults.{expected_token, expected_end}
 use Rattle.cargo_platform.specs.Walk.{Word, Several, Negation, State, Wanted, Member, Behind, Named, Keyed, Ended, after, after_name, after_expression, walk_from}
 use Rattle.cargo_platform.specs.Parsing.{expects, expects_end}
-use Rattle.cargo_platform.proofs.Walk.{walk_from-None}
+use Rattle.cargo_platform.proofs.Walk.{none_some, walk_from-None}
 
 -- the last token and the state expect the same
 abbrev pub Matches : Option Lexeme → State → Type 0
@@ -28,14 +29,8 @@ picks false false false false ws = (refl, refl)
 named_matches : (raw : Bool) (name : List ℕ) (ws : List Word) → Matches (Some (Ident raw name)) (after_name raw name ws)
 named_matches raw name ws = picks raw (bytes_eq name (codes "all")) (bytes_eq name (codes "any")) (bytes_eq name (codes "not")) ws
 
-some_is : {s t : State} → Some s ≡ Some t → s ≡ t
-some_is h = cc
-
 moved : (o : Option Lexeme) (s t : State) → Some s ≡ Some t → Matches o s → Matches o t
-moved o s t h m = let P : State → Type 0 = λ z. Matches o z in subst P (some_is h) m
-
-none_some : {A : Type 0} {t : State} → None ≡ Some t → A
-none_some h = absurd cc
+moved o s t h m = let P : State → Type 0 = λ z. Matches o z in subst P (same_Some _ _ h) m
 
 ended_matches : (ws : List Word) (t : Lexeme) (st : State) → after_expression ws t ≡ Some st → Matches (Some t) st
 ended_matches (w ∷ ws) RightParen st h = moved (Some RightParen) (Ended ws) st h (refl, refl)

@@ -56,9 +56,9 @@ by_pairs (k ∷ ks) = ap (λ s. insert s (pair k)) (by_pairs ks)
 inserted : (k : Cfg) (ks : List Cfg) → from_list {R = pair_cmp} (map pair (insert_key order ks k)) ≡ insert (from_list (map pair ks)) (pair k)
 inserted k ks =
     same_set pairs_total pair_tie (from_list (map pair (insert_key order ks k))) (insert (from_list (map pair ks)) (pair k))
-      (λ q. contains-from_list pairs_total (map pair (insert_key order ks k)) q
-        ∙ put_in q k ks
-        ∙ sym (contains-insert pairs_total (from_list (map pair ks)) (pair k) q ∙ ap (λ b. eq_by_cmp pair_cmp q (pair k) || b) (contains-from_list pairs_total (map pair ks) q)))
+    (λ q. contains-from_list pairs_total (map pair (insert_key order ks k)) q
+    ∙ put_in q k ks
+    ∙ sym (contains-insert pairs_total (from_list (map pair ks)) (pair k) q ∙ ap (λ b. eq_by_cmp pair_cmp q (pair k) || b) (contains-from_list pairs_total (map pair ks) q)))
 
 appended : (cs : List Cfg) (c : Cfg) → from_list {R = pair_cmp} (map pair (cs ++ c ∷ [])) ≡ insert (from_list (map pair cs)) (pair c)
 appended cs c = ap (from_list {R = pair_cmp}) (map-append pair cs (c ∷ [])) ∙ from_list_push pairs_total pair_tie (map pair cs) (pair c)

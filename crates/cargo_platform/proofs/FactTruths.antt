@@ -29,9 +29,10 @@ pair_tie p q h =
 
 pub listed : (cs : List CfgValue) (p : Pair) → IsInWhereListed cs p
 listed cs p =
-    let by_test = contains-from_list pairs_total (map pair_of cs) p in
-    ( λ inside. Contains-from_any (λ x y same. pair_tie x y ((Equal-is (pair_cmp x y)).0 same)) p (map pair_of cs) (sym by_test ∙ inside)
-    , λ member. by_test ∙ list_any-from_Contains (eq_by_cmp_equiv pairs_total) p (map pair_of cs) member )
+    let by_test = contains-from_list pairs_total (map pair_of cs) p in (
+      λ inside. Contains-from_any (λ x y same. pair_tie x y ((Equal-is (pair_cmp x y)).0 same)) p (map pair_of cs) (sym by_test ∙ inside),
+      λ member. by_test ∙ list_any-from_Contains (eq_by_cmp_equiv pairs_total) p (map pair_of cs) member,
+    )
 
 pub same_facts_truth : (s t : FactSet) (e : Tree) → HaveSameFacts s t → truth s e ≡ truth t e
 same_facts_truth s t e same = ap (λ facts. truth facts e) (same_set pairs_total pair_tie s t same)

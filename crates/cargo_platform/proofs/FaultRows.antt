@@ -10,10 +10,11 @@ use Rattle.cargo_platform.specs.Spelling.{Values, Expressions}
 use Rattle.cargo_platform.specs.Faults.{IsCompletable, IsFaultFront, Next, Broken, End, Follows, Fault, UnterminatedString, UnexpectedChar, UnexpectedToken, IncompleteExpr, UnterminatedExpression, expected_token, expected_end, lexical_fault, fault_of, IsRefused}
 use Rattle.cargo_platform.specs.Walk.{Several, State, Named, walk}
 use Rattle.cargo_platform.specs.Parsing.{is_whole}
-use Rattle.cargo_platform.proofs.Walk.{completable_walks}
+use Rattle.cargo_platform.proofs.Walk.{none_some, completable_walks}
 use Rattle.cargo_platform.proofs.Completing.{walked_completes}
 use Rattle.cargo_platform.proofs.Fronts.{goes_on, refused_walked}
 use Rattle.cargo_platform.proofs.Refused.{refused_spells_none}
+use Rattle.cargo_platform.proofs.OneFault.{one_fault}
 use Rattle.cargo_platform.proofs.ValueFaults.{completable_values}
 use Rattle.cargo_platform.proofs.CutTests.{is_cut_from, cut_by}
 use Rattle.cargo_platform.proofs.CutRows.{at, word, lone_a}
@@ -33,9 +34,6 @@ key = (completable_values (word_a ∷ Equals ∷ [])).1 refl
 
 unwalked : (ts : List Lexeme) → walk ts ≡ None → IsCompletable Expressions ts → ⊥
 unwalked ts h p = none_some (sym h ∙ (completable_walks ts p).1)
-  where
-    none_some : {s : State} → None ≡ Some s → ⊥
-    none_some e = absurd cc
 
 two_names : IsCompletable Expressions (word_a ∷ plain (codes "b") ∷ []) → ⊥
 two_names p = unwalked (word_a ∷ plain (codes "b") ∷ []) refl p
@@ -171,6 +169,10 @@ mark_behind_word = row _ (word (codes "all") 0 3 ∷ []) [] 4 _ (Broken lexical.
 
 mark_behind_name : IsRefused Expressions (codes "a r#") (UnterminatedExpression (codes "r#"))
 mark_behind_name = row _ (word (codes "a") 0 1 ∷ []) [] 2 _ (Broken lexical.MissingIdentifier (codes "r#")) _ refl (inr (lexical.MissingIdentifier, refl)) refl refl (refl, refl) refl
+
+-- a text has no second fault
+no_other_fault : (rest : List ℕ) → IsRefused Expressions (codes "all(a b \"") (UnterminatedExpression rest) → ⊥
+no_other_fault rest r = let same = one_fault Expressions _ _ _ token_before_string r in absurd cc
 
 -- a text that spells a tree has no fault
 whole_is_not_refused : (fault : Fault) → IsRefused Expressions (codes "a") fault → ⊥

@@ -7,6 +7,7 @@ use Rattle.cargo_platform.specs.Spelling.{Grammar, IsAccepted, Expressions}
 use Rattle.cargo_platform.specs.Faults.{IsCompletable, Next, Follows, Fault, fault_of, IsRefused}
 use Rattle.cargo_platform.specs.Walk.{State, after, walk}
 use Rattle.cargo_platform.specs.Parsing.{is_whole}
+use Rattle.cargo_platform.proofs.OneTree.{head_is, tail_is}
 use Rattle.cargo_platform.proofs.Walk.{walk_on, stopped}
 use Rattle.cargo_platform.proofs.Completing.{walked_completes, whole_accepted, accepted_whole}
 
@@ -17,21 +18,12 @@ lexemes-append (t ∷ ts) us = ap (λ z. t.token ∷ z) (lexemes-append ts us)
 -- of two fronts of one list, the second is no longer, or goes on with the next token
 longer_or : (front others longer rest : List Placed) (t : Placed) → front ++ (t ∷ rest) ≡ longer ++ others → (length longer ≤ length front) ⊎ ((more : List Placed) × (longer ≡ front ++ (t ∷ more)))
 longer_or front others [] rest t h = inl (zero-le)
-longer_or [] others (u ∷ us) rest t h = inr (us, λ i. sym (first h) i ∷ us)
-  where
-    first : {a b : Placed} {s t : List Placed} → a ∷ s ≡ b ∷ t → a ≡ b
-    first h = cc
+longer_or [] others (u ∷ us) rest t h = inr (us, λ i. sym (head_is h) i ∷ us)
 longer_or (f ∷ fs) others (u ∷ us) rest t h =
-    elim (longer_or fs others us rest t (second h)) [
+    elim (longer_or fs others us rest t (tail_is h)) [
       | inl le ↦ inl (suc-le-suc le)
-      | inr m ↦ inr (m.0, λ i. sym (first h) i ∷ m.1 i)
+      | inr m ↦ inr (m.0, λ i. sym (head_is h) i ∷ m.1 i)
     ]
-  where
-    first : {a b : Placed} {s t : List Placed} → a ∷ s ≡ b ∷ t → a ≡ b
-    first h = cc
-
-    second : {a b : Placed} {s t : List Placed} → a ∷ s ≡ b ∷ t → s ≡ t
-    second h = cc
 
 -- where the front with the next token is the front of no completable list, no longer front is completable
 pub longest_where : (g : Grammar) (front after : List Placed) → ((t : Placed) (us : List Placed) → after ≡ t ∷ us → (more : List Lexeme) → IsCompletable g (lexemes front ++ (t.token ∷ more)) → ⊥) → (longer others : List Placed) → front ++ after ≡ longer ++ others → IsCompletable g (lexemes longer) → length longer ≤ length front
@@ -49,11 +41,8 @@ pub longest_at : (front rest : List Placed) (t : Placed) → walk (lexemes front
 longest_at front rest t stops longer others h p =
     longest_where Expressions front (t ∷ rest) (λ u us e more c.
     let Q : List Lexeme → Type 0 = λ z. IsAccepted Expressions z in
-    let same : walk (lexemes front ++ (u.token ∷ [])) ≡ None = ap (λ (z : Placed). walk (lexemes front ++ (z.token ∷ []))) (sym (first e)) ∙ stops in
+    let same : walk (lexemes front ++ (u.token ∷ [])) ≡ None = ap (λ (z : Placed). walk (lexemes front ++ (z.token ∷ []))) (sym (head_is e)) ∙ stops in
     stopped (lexemes front ++ (u.token ∷ [])) (more ++ c.0) same (subst Q (append_assoc (lexemes front) (u.token ∷ more) c.0 ∙ sym (append_assoc (lexemes front) (u.token ∷ []) (more ++ c.0))) c.2)) longer others h p
-  where
-    first : {a b : Placed} {s t : List Placed} → a ∷ s ≡ b ∷ t → a ≡ b
-    first h = cc
 
 -- the next token does not go on with the tokens that lead to the state
 abbrev pub goes_on : State → List Placed → Option State

@@ -15,6 +15,7 @@ pub mod Refused
 pub mod ValueFaults
 pub mod Completable
 pub mod Expecting
+pub mod OneFault
 pub mod PrintedSpells
 pub mod PrintedMembers
 pub mod ReadsBack

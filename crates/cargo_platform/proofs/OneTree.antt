@@ -11,10 +11,10 @@ use Rattle.cargo_platform.proofs.OneCut.{one_cut_from}
 
 -- ---- lists
 
-pub head_is : {a b : Lexeme} {s t : List Lexeme} → a ∷ s ≡ b ∷ t → a ≡ b
+pub head_is : {A : Type 0} {a b : A} {s t : List A} → a ∷ s ≡ b ∷ t → a ≡ b
 head_is h = cc
 
-pub tail_is : {a b : Lexeme} {s t : List Lexeme} → a ∷ s ≡ b ∷ t → s ≡ t
+pub tail_is : {A : Type 0} {a b : A} {s t : List A} → a ∷ s ≡ b ∷ t → s ≡ t
 tail_is h = cc
 
 -- the next token is `=`

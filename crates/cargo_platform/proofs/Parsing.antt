@@ -14,14 +14,11 @@ use Rattle.cargo_platform.specs.Ahead.{Item, Nothing, Ahead, Comes, Path, next_o
 use Rattle.cargo_platform.specs.Ahead as ahead
 use Rattle.cargo_platform.specs.Parsing.{Opening, Negated, Listed, list_word, list_tree, opening_word, IsFresh, kind, kinds, is_list, finished, begins, ends, Wants, Has, HasName, HasKey, HasWord, is_equals, is_equals_next, Reads, TakesToken, LacksMark, LacksName, LacksString, is_whole, expects, expects_end, IsFaultAt, IsStop, IsStuck, IfFault, StopsAt, Stops, RefusesNext, RefusesMore}
 use Rattle.cargo_platform.specs.Misfits.{misfit, IsSurplus}
-use Rattle.cargo_platform.proofs.Walk.{walk_from-append, named}
+use Rattle.cargo_platform.proofs.Walk.{walk_on, named}
 use Rattle.cargo_platform.proofs.Completing.{finished_snoc, list_snoc, list_finished}
 use Rattle.cargo_platform.proofs.Fronts.{lexemes-append}
 use Rattle.cargo_platform.proofs.SomeCut.{written_length}
 use Rattle.std.proofs.lemmas.List.Edits.{length-between}
-
-pub walk_on : (ts us : List Lexeme) (s : State) → walk ts ≡ Some s → walk (ts ++ us) ≡ walk_from (Some s) us
-walk_on ts us s h = walk_from-append (Some (Wanted [])) ts us ∙ ap (λ o. walk_from o us) h
 
 -- ---- reading
 

@@ -24,12 +24,12 @@ no_more front (t ∷ after) h = absurd (omega (arith, length-append front (t ∷
 none_some : {A : Type 0} {f : Fault} → None ≡ Some f → A
 none_some h = absurd cc
 
-no_char : (c : ℕ) (rest : List ℕ) → [] ≡ encode_utf8 c ++ rest → ⊥
+pub no_char : (c : ℕ) (rest : List ℕ) → [] ≡ encode_utf8 c ++ rest → ⊥
 unfolding encode_utf8
 no_char c rest h = absurd (omega (arith, ap length h, length-append (encode_utf8 c) rest, length-encode c, (len_utf8_bounds c).0))
 
 -- at the end of the text no lexical fault begins
-no_fault : (k : TokenFaultKind) → BeginsFault [] k → ⊥
+pub no_fault : (k : TokenFaultKind) → BeginsFault [] k → ⊥
 no_fault lexical.UnterminatedString p = no_char 0x22 p.0 p.1.parts
 no_fault lexical.MissingIdentifier p = absurd cc
 no_fault (lexical.UnexpectedChar c) (inl p) = absurd (let h = p.2 in cc)

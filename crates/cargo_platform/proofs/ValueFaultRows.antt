@@ -9,6 +9,7 @@ use Rattle.cargo_platform.specs.Trees.{Alone}
 use Rattle.cargo_platform.specs.Spelling.{Values}
 use Rattle.cargo_platform.specs.Faults.{Next, Broken, End, Follows, Fault, UnterminatedString, UnexpectedChar, UnexpectedToken, IncompleteExpr, UnterminatedExpression, IsRefused}
 use Rattle.cargo_platform.specs.Misfits.{IsIdentifier, IsString, LacksFirst, misfit, IsSurplus}
+use Rattle.cargo_platform.proofs.OneTree.{head_is}
 use Rattle.cargo_platform.proofs.Refused.{refused_spells_no_value}
 use Rattle.cargo_platform.proofs.ValueFaults.{refused_at_start, refused_behind_name, refused_behind_key, refused_behind_pair}
 use Rattle.cargo_platform.proofs.CutTests.{is_cut_from, cut_by}
@@ -18,10 +19,7 @@ lacks_none : (P : Lexeme → Type 0) → LacksFirst P []
 lacks_none P t us h = absurd cc
 
 lacks_this : (P : Lexeme → Type 0) (t : Placed) (us : List Placed) → (P t.token → ⊥) → LacksFirst P (t ∷ us)
-lacks_this P t us not_so u vs h = let Q : Placed → Type 0 = λ z. P z.token → ⊥ in subst Q (first h) not_so
-  where
-    first : {a b : Placed} {s t : List Placed} → a ∷ s ≡ b ∷ t → a ≡ b
-    first h = cc
+lacks_this P t us not_so u vs h = let Q : Placed → Type 0 = λ z. P z.token → ⊥ in subst Q (head_is h) not_so
 
 abbrev Begins : List ℕ → List Placed → ℕ → Type 0
 Begins text ts tail = IsTrue (is_cut_from text 0 ts tail) × IsTail (drop tail text)

@@ -61,3 +61,7 @@ Names {fault = fault} r class = ((found : List ℕ) × (fault ≡ UnexpectedToke
 -- what the fault of a refused text names as expected can follow its fault front
 abbrev pub NamesWhatCanFollow : Grammar → List ℕ → Fault → Type 0
 NamesWhatCanFollow g text fault = (r : IsRefused g text fault) (class : List ℕ) → Names r class → CanFollow g (lexemes r.front) class
+
+-- a text has at most one fault
+abbrev pub HasOneFault : Grammar → List ℕ → Type 0
+HasOneFault g text = (e f : Fault) → IsRefused g text e → IsRefused g text f → e ≡ f

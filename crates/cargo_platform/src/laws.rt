@@ -8,7 +8,7 @@ ghost use Rattle.cargo_platform.specs.Spelling.{Grammar};
 ghost use Rattle.cargo_platform.specs.Faults.{IsCompletable, Fault};
 ghost use Rattle.cargo_platform.specs.CutLaws.{HasOneCut, CutsAreRead, IsReadAlike, EndsForGood, FailsOnce};
 ghost use Rattle.cargo_platform.specs.GrammarLaws.{HasOneTree, IsOneTreeText, HasOneValue, IsOneValueText, SpellsWellFormed, IsWellFormedText};
-ghost use Rattle.cargo_platform.specs.FaultLaws.{FrontsAreCompletable, IsCompletedShortly, IsWalkedIffCompletable, IsKeptByWalk, IsFrontCompletable, IsStoppedByNext, IsExpectedToFollow, NamesWhatCanFollow};
+ghost use Rattle.cargo_platform.specs.FaultLaws.{FrontsAreCompletable, IsCompletedShortly, IsWalkedIffCompletable, IsKeptByWalk, IsFrontCompletable, IsStoppedByNext, IsExpectedToFollow, NamesWhatCanFollow, HasOneFault};
 ghost use Rattle.cargo_platform.specs.PrintLaws.{PrintSpells, PrintsApart, PrintSpellsValue, PrintsApartValues};
 ghost use Rattle.cargo_platform.specs.Facts.{Pair, FactSet, fact_set, truth};
 ghost use Rattle.cargo_platform.specs.FactLaws.{IsInWhereListed, HaveSamePairs, HaveSameFacts, IsMonotone, IsNotAllAnyNot, IsOrderOfKeys};
@@ -102,6 +102,11 @@ pub fn fault_front()
 /// What the fault of a text names as expected could have come where the text goes wrong.
 pub fn named_can_follow()
     ensures { (g : Grammar) (text : List ℕ) (fault : Fault) → NamesWhatCanFollow g text fault }
+{}
+
+/// A text has at most one fault as a name or a pair, and at most one as an expression.
+pub fn one_fault()
+    ensures { (g : Grammar) (text : List ℕ) → HasOneFault g text }
 {}
 
 /// The print of a well-formed name or pair spells it.

@@ -16,6 +16,6 @@ loop-c-preserved c =
     let item = c.c-item.result in
     let taken = take-suc cfg i item c.loop-c-test.true in
     rw add-one (ap facts_of c.in_ok-insert.ensures.keys
-      ∙ one_more c.loop-c.facts.keys (take i cfg) c.in_ok-clone.field-0 item c.loop-c.invariant c.in_ok-clone.ensures
-      ∙ ap (λ (x : Cfg). facts_of (take i cfg ++ x ∷ [])) c.c-item.is
-      ∙ sym (ap facts_of taken))
+    ∙ one_more c.loop-c.facts.keys (take i cfg) c.in_ok-clone.field-0 item c.loop-c.invariant c.in_ok-clone.ensures
+    ∙ ap (λ (x : Cfg). facts_of (take i cfg ++ x ∷ [])) c.c-item.is
+    ∙ sym (ap facts_of taken))
