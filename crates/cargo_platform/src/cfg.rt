@@ -1,27 +1,45 @@
-//! Names, pairs and expressions.
+//! Names, pairs and expressions, and how they are read from text.
+//!
+//! A fact, as `rustc --print cfg` prints one a line, is a name (`unix`) or a key and its value
+//! (`target_os = "linux"`). An expression joins such names and pairs by `all(..)`, `any(..)` and `not(..)`, and has the
+//! literals `true` and `false`. The grammar is that of configuration predicates in the Rust reference's chapter on
+//! conditional compilation, as Cargo uses it for `[target.'cfg(..)'.dependencies]` (Cargo's reference, "Platform
+//! specific dependencies"); members of `all` and `any` may end with one comma.
 
 use crate::error::ReadError;
 use crate::reader::Reader;
 use crate::{Looks, parser};
 use std::alloc::Global;
 
+/// An identifier. Of those that are read the name is one `_` or ASCII letter, and such characters or ASCII digits behind
+/// it. Equality, order and hash see the name alone; printing and copies keep the raw mark.
 #[derive(Debug, Drop)]
 pub struct Ident {
+    /// The name, without the raw mark.
     pub name: String,
+    /// Whether it is marked as raw: written `r#name`.
     pub raw: bool,
 }
 
+/// A fact, or what an expression asks for: a name, or a key and its value.
 #[derive(Debug, Drop)]
 pub enum Cfg {
+    /// A name alone, as `unix`.
     Name(Ident),
+    /// A key and the value between its quotes, as `target_os = "linux"`.
     KeyPair(Ident, String),
 }
 
+/// An expression over facts.
 #[derive(Debug, Drop)]
 pub enum CfgExpr {
+    /// True where the expression inside is false.
     Not(Box<CfgExpr>),
+    /// True where each member is; so is `all()`.
     All(Vec<CfgExpr>),
+    /// True where some member is; `any()` is false.
     Any(Vec<CfgExpr>),
+    /// True where the name or the pair is a fact.
     Value(Cfg),
     True,
     False,
@@ -48,7 +66,11 @@ impl Ident {
 impl Cfg {
     ghost use Rattle.cargo_platform.specs.Readers.{ReadsValue};
 
-    /// Reads a name or a pair.
+    /// Reads a name, or a key, `=` and a string. Spaces may stand before, between and behind them; `all`, `any`, `not`,
+    /// `true` and `false` are ordinary names here.
+    ///
+    /// `ReadError::Parse` exactly where the text is no such text, with the first fault: what can't follow the longest
+    /// front of its tokens that some tokens would complete. `ReadError::Memory` where memory is refused.
     pub fn from_str(alloc: Global, s: &str) -> Result<Cfg, ReadError>
         ensures { ReadsValue s.now result }
     {
@@ -65,14 +87,19 @@ impl CfgExpr {
     ghost use Rattle.std.specs.Str.{chars};
     ghost use Rattle.cargo_platform.specs.Readers.{ReadsExpression};
 
-    /// Reads an expression.
+    /// Reads an expression: a name, a pair, a literal, or `all(..)`, `any(..)` or `not(..)` of expressions, to any depth.
+    /// A name that is marked as raw opens no group, and `true` and `false` alone are the literals, marked or not.
+    ///
+    /// `ReadError::Parse` exactly where the text is no such text, with the first fault: what can't follow the longest
+    /// front of its tokens that some tokens would complete. `ReadError::Memory` where memory is refused.
     pub fn from_str(alloc: Global, s: &str) -> Result<CfgExpr, ReadError>
         ensures { ReadsExpression s.now result }
     {
         CfgExpr::from_str_counted(alloc, s).0
     }
 
-    /// Reads an expression, and counts the looks.
+    /// Reads an expression as `from_str` does, and tells how often the reader asked its source for a character, or whether
+    /// the text ends: at most three times for each character of the text and once more, whatever it answers.
     pub fn from_str_counted(alloc: Global, s: &str) -> (Result<CfgExpr, ReadError>, Looks)
         ensures reads { ReadsExpression s.now result.0 }
         ensures at_most { result.1 ≤ 12 * (length (chars s.now) + 1) }

@@ -5,17 +5,24 @@ ghost use Rattle.std.specs.Prelude.{◌≡◌, IfOk};
 use std::alloc::{AllocError, Global};
 use std::fmt;
 
-/// What is wrong with a text.
+/// What is wrong with a text. A text is read up to its first fault: the longest front of its tokens that some tokens
+/// would complete, and what follows that front.
 #[derive(Debug, Drop)]
 pub enum ParseErrorKind {
+    /// A `"` follows that no second `"` closes.
     UnterminatedString,
+    /// This character follows, and begins no token.
     UnexpectedChar(char),
+    /// A token of the class `found` follows, where one of the class `expected` could have.
     UnexpectedToken {
         expected: &'static str,
         found: &'static str,
     },
+    /// The text ends, or ends with an empty `r#`, where this was expected.
     IncompleteExpr(&'static str),
+    /// The front is a whole value or expression, and this text is left behind it.
     UnterminatedExpression(String),
+    /// The text is no target name, which this message explains.
     InvalidTarget(String),
 }
 

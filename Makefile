@@ -1,0 +1,28 @@
+# make run    builds the program and runs it on its sample input
+# make build  leaves the program, and says where
+# make test   the gate: everything proved from nothing, the must-fail edits, the tests, the programs
+# make quick  the checks alone, over kept work
+# make fmt    lays out the files
+.PHONY: run build test quick fmt rt
+
+PROGRAM := crates/platform_check
+
+rt:
+	@command -v rt >/dev/null || { echo "make: rt, Rattle's command, is not on the PATH" >&2; exit 1; }
+
+# `rt run` proves the program and builds it. Its status is the program's own: 0 where the condition matches.
+run: rt
+	cd $(PROGRAM) && rt run < stdin
+
+build: rt
+	cd $(PROGRAM) && rt run < stdin > /dev/null; test -x out/platform_check
+	@echo "the program is $(PROGRAM)/out/platform_check"
+
+test: rt
+	rt ci
+
+quick: rt
+	rt all check
+
+fmt: rt
+	for crate in crates/*/; do (cd $$crate && rt fmt) || exit 1; done
