@@ -19,6 +19,7 @@ pub mod OneFault
 pub mod PrintedSpells
 pub mod PrintedMembers
 pub mod ReadsBack
+pub mod JsonAnswers
 pub mod Readings
 pub mod Paths
 pub mod Parsing
@@ -35,3 +36,7 @@ pub mod FactSets
 pub mod FactTruths
 pub mod FactIndexes
 pub mod Members
+pub mod TargetNames
+pub mod Conditions
+pub mod ConditionAnswers
+pub mod WarningWalks

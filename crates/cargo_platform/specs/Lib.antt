@@ -14,13 +14,16 @@ pub mod FaultLaws
 pub mod Print
 pub mod PrintLaws
 pub mod Platforms
+pub mod PlatformLaws
 pub mod Errors
 pub mod Readers
+pub mod Json
 pub mod Facts
 pub mod Key
 pub mod OrderLaws
 pub mod Hashing
 pub mod FactLaws
+pub mod Warnings
 pub mod Looking
 pub mod Scanning
 pub mod Ahead

@@ -3,17 +3,18 @@
 ghost use Rattle.std.specs.Prelude.{◌≡◌, true, false, ℕ, List, [], IsUtf8};
 ghost use Rattle.cargo_platform.specs.Tokens.{Lexeme, Placed};
 ghost use Rattle.cargo_platform.specs.Reading.{Progress};
-ghost use Rattle.cargo_platform.specs.Trees.{Name, CfgValue, Tree, All, Any, Trees, none};
+ghost use Rattle.cargo_platform.specs.Trees.{Name, CfgValue, Tree, All, Any, Trees, none, Condition};
 ghost use Rattle.cargo_platform.specs.Spelling.{Grammar};
 ghost use Rattle.cargo_platform.specs.Faults.{IsCompletable, Fault};
 ghost use Rattle.cargo_platform.specs.CutLaws.{HasOneCut, CutsAreRead, IsReadAlike, EndsForGood, FailsOnce};
 ghost use Rattle.cargo_platform.specs.GrammarLaws.{HasOneTree, IsOneTreeText, HasOneValue, IsOneValueText, SpellsWellFormed, IsWellFormedText};
 ghost use Rattle.cargo_platform.specs.FaultLaws.{FrontsAreCompletable, IsCompletedShortly, IsWalkedIffCompletable, IsKeptByWalk, IsFrontCompletable, IsStoppedByNext, IsExpectedToFollow, NamesWhatCanFollow, HasOneFault};
 ghost use Rattle.cargo_platform.specs.PrintLaws.{PrintSpells, PrintsApart, PrintSpellsValue, PrintsApartValues};
+ghost use Rattle.cargo_platform.specs.PlatformLaws.{IsOneConditionText, SpellsWellFormedConditions, PrintSpellsCondition, PrintsApartConditions};
 ghost use Rattle.cargo_platform.specs.Facts.{Pair, FactSet, fact_set, truth};
 ghost use Rattle.cargo_platform.specs.FactLaws.{IsInWhereListed, HaveSamePairs, HaveSameFacts, IsMonotone, IsNotAllAnyNot, IsOrderOfKeys};
 ghost use Rattle.cargo_platform.specs.Key.{name_key, value_key, key, condition_key, name_cmp, value_cmp, tree_cmp, condition_cmp};
-ghost use Rattle.cargo_platform.specs.Hashing.{name_hash, value_hash, tree_hash};
+ghost use Rattle.cargo_platform.specs.Hashing.{name_hash, value_hash, tree_hash, condition_hash};
 
 /// Every text has exactly one cut.
 pub fn one_cut()
@@ -129,6 +130,26 @@ pub fn prints_apart()
     ensures { (d e : Tree) → PrintsApart d e }
 {}
 
+/// A text spells at most one condition.
+pub fn one_condition_text()
+    ensures { (text : List ℕ) → IsOneConditionText text }
+{}
+
+/// A text spells only well-formed conditions.
+pub fn well_formed_conditions()
+    ensures { (text : List ℕ) → SpellsWellFormedConditions text }
+{}
+
+/// The print of a well-formed condition spells it.
+pub fn print_spells_condition()
+    ensures { (p : Condition) → PrintSpellsCondition p }
+{}
+
+/// Two well-formed conditions print alike only if they are the same.
+pub fn prints_apart_conditions()
+    ensures { (p q : Condition) → PrintsApartConditions p q }
+{}
+
 /// The fact set of a list holds the pairs of its members, so that order, repeats and raw marks play no part.
 pub fn facts_are_pairs_of_members()
     ensures { (cs : List CfgValue) (p : Pair) → IsInWhereListed cs p }
@@ -167,4 +188,5 @@ pub fn hashes_are_of_keys()
     ensures names { (n : Name) → name_hash (name_key n) ≡ name_hash n }
     ensures values { (c : CfgValue) → value_hash (value_key c) ≡ value_hash c }
     ensures trees { (e : Tree) → tree_hash (key e) ≡ tree_hash e }
+    ensures conditions { (p : Condition) → condition_hash (condition_key p) ≡ condition_hash p }
 {}

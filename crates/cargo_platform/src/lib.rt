@@ -8,17 +8,22 @@ mod display;
 mod display_tests;
 pub mod error;
 mod facts;
+mod json;
 pub mod laws;
 mod order;
 mod parser;
+mod platform_order;
+mod platforms;
 mod reader;
 mod source;
 pub mod tokens;
 mod tree_order;
+mod warnings;
 
 pub use cfg::{Cfg, CfgExpr, Ident};
 pub use error::{ParseError, ParseErrorKind, ReadError};
 pub use facts::{FactIndex, Facts, Listed};
+pub use json::JsonError;
 pub use source::Looks;
 pub use tokens::{Spanned, Token, TokenFault, TokenFaultKind, Tokenizer};
 

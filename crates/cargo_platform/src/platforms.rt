@@ -1,0 +1,136 @@
+//! The condition of a dependency, read from text, and whether it holds for a target.
+//!
+//! A condition is the name of a target or a `cfg(..)` expression. See "Platform specific dependencies" in the chapter
+//! "Specifying dependencies" of Cargo's reference, and "Configuration predicates" in the Rust reference's chapter on
+//! conditional compilation.
+
+ghost use Rattle.std.specs.Prelude.{◌≡◌, ◌↔◌, ℕ, List, false, IsTrue, IfOk, MatchOption, map, string_bytes};
+ghost use Rattle.unicode.specs.GeneralCategory.{general_category};
+ghost use Rattle.cargo_platform.specs.Trees.{Tree, Expression, value_of, condition_of};
+ghost use Rattle.cargo_platform.specs.Facts.{fact_set, truth, IsTrueCondition};
+ghost use Rattle.cargo_platform.specs.Faults.{InvalidTarget};
+ghost use Rattle.cargo_platform.specs.Platforms.{is_number_category, is_target_char, IsTargetName, IsFirstRefused, IsTargetMessage, IsCfgOf, IsBare, IsConditionText};
+ghost use Rattle.cargo_platform.specs.Errors.{orig_of, fault_in};
+ghost use Rattle.cargo_platform.specs.Readers.{ReadsCondition};
+
+use crate::{Cfg, CfgExpr, ParseError, ParseErrorKind, Platform, ReadError};
+use std::alloc::{AllocError, Global};
+use unicode::properties::{GeneralCategory, is_alphabetic};
+
+impl Platform {
+    /// Reads a condition.
+    ///
+    /// A text that begins with `cfg(` and ends with `)` is the expression between the two, and where that is refused,
+    /// the error is the one of the text between. Every other text is the name of a target, of alphabetic characters,
+    /// numbers, `_`, `-` and `.`; nothing is trimmed, and the empty text is a name too. A text with any other character
+    /// is refused with `InvalidTarget`, which tells of a `(` where one stands anywhere in the text, and else of the
+    /// first such character. Alphabetic are the characters with that property of Unicode, and numbers those of the
+    /// general categories Nd, Nl and No.
+    pub fn from_str(alloc: Global, s: &str) -> Result<Platform, ReadError>
+        ensures { ReadsCondition s.now result }
+    {
+        if let Some(inner) = inside_cfg(s) {
+            return match CfgExpr::from_str(alloc, inner) {
+                Ok(expression) => Ok(Platform::Cfg(expression)),
+                Err(error) => Err(error),
+            };
+        }
+        match first_refused(s) {
+            None => match String::from_str(alloc, s) {
+                Ok(name) => Ok(Platform::Name(name)),
+                Err(error) => Err(ReadError::Memory(error)),
+            },
+            Some(refused) => match target_error(alloc, s, refused) {
+                Ok(error) => Err(ReadError::Parse(error)),
+                Err(error) => Err(ReadError::Memory(error)),
+            },
+        }
+    }
+
+    /// Whether the condition holds for a target with this name and these facts: a name where it is the target's name,
+    /// and an expression where it is true over the facts, whatever the name.
+    pub fn matches(&self, name: &str, cfg: &[Cfg]) -> bool
+        ensures { IsTrue result ↔ IsTrueCondition name.now (fact_set (map value_of cfg.now)) (condition_of self.now) }
+    {
+        match self {
+            Platform::Name(target) => target.as_str() == name,
+            Platform::Cfg(expression) => expression.matches(cfg),
+        }
+    }
+}
+
+impl CfgExpr {
+    /// Whether `key` reads as a `cfg(..)` condition whose expression is true over the facts in `cfg`. It is false for
+    /// every other key: an expression that is not true, the name of a target, and a text that is refused. Want of
+    /// memory is the only error, and is never taken for false.
+    pub fn matches_key(alloc: Global, key: &str, cfg: &[Cfg]) -> Result<bool, AllocError>
+        // The key spells a tree that is true over the facts.
+        ensures yes { IfOk result (λ answer. IsTrue answer → (e : Tree) × IsConditionText key.now (Expression e) × IsTrue (truth (fact_set (map value_of cfg.now)) e)) }
+        // No tree that the key spells is.
+        ensures otherwise { IfOk result (λ answer. answer ≡ false → (e : Tree) → IsConditionText key.now (Expression e) → truth (fact_set (map value_of cfg.now)) e ≡ false) }
+    {
+        match Platform::from_str(alloc, key) {
+            Ok(Platform::Cfg(expression)) => Ok(expression.matches(cfg)),
+            Ok(Platform::Name(_)) => Ok(false),
+            Err(ReadError::Parse(_)) => Ok(false),
+            Err(ReadError::Memory(error)) => Err(error),
+        }
+    }
+}
+
+// The text between `cfg(` and `)`, where the text begins and ends with these.
+fn inside_cfg(text: &str) -> Option<&str>
+    ensures { MatchOption result (IsBare text.now) (λ inner. IsCfgOf text.now inner.now) }
+{
+    text.strip_prefix("cfg(")?.strip_suffix(")")
+}
+
+// The first character that no target name may hold.
+fn first_refused(name: &str) -> Option<char>
+    ensures { MatchOption result (IsTargetName name.now) (λ c. IsFirstRefused name.now c) }
+{
+    name.chars().find(|c| !is_target_char(*c))
+}
+
+// Whether a target name may hold the character.
+fn is_target_char(c: char) -> bool
+    ensures { result ≡ is_target_char c }
+{
+    is_alphabetic(c) || is_number(c) || c == '_' || c == '-' || c == '.'
+}
+
+// Whether the character is a number of any kind: a decimal digit, one that is a letter too, or another.
+fn is_number(c: char) -> bool
+    ensures { result ≡ is_number_category (general_category c) }
+{
+    matches!(
+        GeneralCategory::for_char(c),
+        GeneralCategory::DecimalNumber
+            | GeneralCategory::LetterNumber
+            | GeneralCategory::OtherNumber
+    )
+}
+
+// The error of a target name, whose first refused character is given.
+fn target_error(alloc: Global, name: &str, refused: char) -> Result<ParseError, AllocError>
+    requires { IsFirstRefused name.now refused }
+    ensures of { IfOk result (λ e. orig_of e ≡ name.now) }
+    ensures why { IfOk result (λ e. (message : List ℕ) × IsTargetMessage name.now message × (fault_in e ≡ InvalidTarget message)) }
+{
+    let message = target_message(alloc, name, refused)?;
+    ParseError::new(alloc, name, ParseErrorKind::InvalidTarget(message))
+}
+
+// What is said of a target name, whose first refused character is given.
+fn target_message(alloc: Global, name: &str, refused: char) -> Result<String, AllocError>
+    requires { IsFirstRefused name.now refused }
+    ensures { IfOk result (λ message. IsTargetMessage name.now (string_bytes message)) }
+{
+    if name.contains('(') {
+        return String::from_str(
+            alloc,
+            "unexpected `(` character, cfg expressions must start with `cfg(`",
+        );
+    }
+    format!(in alloc; "unexpected character {refused} in target name")
+}

@@ -1,0 +1,188 @@
+//! Warnings on conditions that are read without a fault, but do not select dependencies as their writer may expect.
+
+ghost use Rattle.std.specs.Prelude.{◌≡◌, ◌++◌, List, [], ◌∷◌, ℕ, IfOk, OnOk, OnErr, MatchOption, flat_map, map, string_bytes, not, ◌&&◌};
+ghost use Rattle.cargo_platform.specs.Trees.{CfgValue, name_of, value_of, tree_of, trees_of, condition_of};
+ghost use Rattle.cargo_platform.specs.Spelling.{is_literal_word};
+ghost use Rattle.cargo_platform.specs.Errors.{texts};
+ghost use Rattle.cargo_platform.specs.Warnings.{values, members_values, attribute_warning, attribute_warnings, keyword_warning, keyword_warning_of, keyword_warnings, condition_values, is_unsupported_name, unsupported_name, unsupported_feature, IsLonger};
+
+use crate::{Cfg, CfgExpr, Ident, Platform};
+use std::alloc::{AllocError, Global};
+
+impl Platform {
+    /// Appends a warning for each name or pair of the expression that is not supported for selecting dependencies, in
+    /// their order from left to right: the names `test`, `debug_assertions` and `proc_macro`, and pairs with the key
+    /// `feature`, marked as raw or not. The name of a target gives none. See "Platform specific dependencies" in
+    /// Cargo's reference.
+    ///
+    /// It refuses only where memory is refused, and the list then holds what it held.
+    pub fn check_cfg_attributes(
+        &self,
+        alloc: Global,
+        warnings: &mut Vec<String>,
+    ) -> Result<(), AllocError>
+        ensures ok { OnOk result (texts warnings.new ≡ texts warnings.old ++ attribute_warnings (condition_of self.now)) }
+        ensures err { OnErr result (texts warnings.new ≡ texts warnings.old) }
+    {
+        warn(self, alloc, &Attributes, warnings)
+    }
+
+    /// Appends a warning for each name or pair of the expression whose name or key is `true` or `false` without the raw
+    /// mark, in their order from left to right. The name of a target gives none. `path` names the manifest, and stands
+    /// in each warning as it is given.
+    ///
+    /// It refuses only where memory is refused, and the list then holds what it held.
+    pub fn check_cfg_keywords(
+        &self,
+        alloc: Global,
+        warnings: &mut Vec<String>,
+        path: &str,
+    ) -> Result<(), AllocError>
+        ensures ok { OnOk result (texts warnings.new ≡ texts warnings.old ++ keyword_warnings path.now (condition_of self.now)) }
+        ensures err { OnErr result (texts warnings.new ≡ texts warnings.old) }
+    {
+        warn(self, alloc, &Keywords(path), warnings)
+    }
+}
+
+// A kind of warning on single values.
+trait Lint {
+    // The texts of the warnings on a value, none or one.
+    ghost warnings: { Self → CfgValue → List (List ℕ) };
+
+    fn warning(&self, alloc: Global, c: &Cfg) -> Result<Option<String>, AllocError>
+        ensures { IfOk result (λ w. MatchOption w (warnings self.now (value_of c.now) ≡ []) (λ s. warnings self.now (value_of c.now) ≡ string_bytes s ∷ [])) };
+}
+
+// Names and keys that are not supported for selecting dependencies.
+#[derive(Drop)]
+struct Attributes;
+
+impl Lint for Attributes {
+    ghost warnings = { λ _ c. attribute_warning c };
+
+    fn warning(&self, alloc: Global, c: &Cfg) -> Result<Option<String>, AllocError> {
+        match c {
+            Cfg::Name(name) if is_unsupported(name) => Ok(Some(name_text(alloc, name)?)),
+            Cfg::KeyPair(key, _) if key.as_str() == "feature" => Ok(Some(feature_text(alloc)?)),
+            _ => Ok(None),
+        }
+    }
+}
+
+fn is_unsupported(name: &Ident) -> bool
+    ensures { result ≡ is_unsupported_name (name_of name.now) }
+{
+    matches!(name.as_str(), "test" | "debug_assertions" | "proc_macro")
+}
+
+fn name_text(alloc: Global, name: &Ident) -> Result<String, AllocError>
+    ensures { IfOk result (λ s. string_bytes s ≡ unsupported_name (name_of name.now)) }
+{
+    format!(in alloc;
+        "Found `{name}` in `target.'cfg(...)'.dependencies`. This value is not supported for selecting dependencies and will not work as expected. To learn more visit https://doc.rust-lang.org/cargo/reference/specifying-dependencies.html#platform-specific-dependencies"
+    )
+}
+
+fn feature_text(alloc: Global) -> Result<String, AllocError>
+    ensures { IfOk result (λ s. string_bytes s ≡ unsupported_feature) }
+{
+    String::from_str(
+        alloc,
+        "Found `feature = ...` in `target.'cfg(...)'.dependencies`. This key is not supported for selecting dependencies and will not work as expected. Use the [features] section instead: https://doc.rust-lang.org/cargo/reference/features.html",
+    )
+}
+
+// Keywords in the place of an identifier, in the manifest at a path.
+#[derive(Drop)]
+struct Keywords<'a>(&'a str);
+
+impl<'a> Lint for Keywords<'a> {
+    ghost warnings = { λ k c. keyword_warning_of k.0.now c };
+
+    fn warning(&self, alloc: Global, c: &Cfg) -> Result<Option<String>, AllocError> {
+        match c {
+            Cfg::Name(name) | Cfg::KeyPair(name, _) if is_keyword(name) => {
+                Ok(Some(keyword_text(alloc, self.0, c, name.as_str())?))
+            }
+            _ => Ok(None),
+        }
+    }
+}
+
+fn is_keyword(name: &Ident) -> bool
+    ensures { result ≡ (not name.now.raw && is_literal_word (name_of name.now)) }
+{
+    !name.raw && matches!(name.as_str(), "true" | "false")
+}
+
+fn keyword_text(alloc: Global, path: &str, c: &Cfg, word: &str) -> Result<String, AllocError>
+    ensures { IfOk result (λ s. string_bytes s ≡ keyword_warning path.now (value_of c.now) word.now) }
+{
+    format!(in alloc;
+        "[{path}] future-incompatibility: `cfg({c})` is deprecated as `{word}` is a keyword and not an identifier and should not have have been accepted in this position.\n | this was previously accepted by Cargo but is being phased out; it will become a hard error in a future release!\n |\n | help: use raw-idents instead: `cfg(r#{word})`"
+    )
+}
+
+// Appends all warnings of a kind, or takes back those that were appended before memory was refused.
+fn warn<L: Lint>(
+    platform: &Platform,
+    alloc: Global,
+    lint: &L,
+    warnings: &mut Vec<String>,
+) -> Result<(), AllocError>
+    ensures ok { OnOk result (texts warnings.new ≡ texts warnings.old ++ flat_map (L.warnings lint.now) (condition_values (condition_of platform.now))) }
+    ensures err { OnErr result (texts warnings.new ≡ texts warnings.old) }
+{
+    let Platform::Cfg(e) = platform else {
+        return Ok(());
+    };
+    let held = warnings.len();
+    let result = walk(e, alloc, lint, warnings);
+    if result.is_err() {
+        warnings.truncate(held);
+    }
+    result
+}
+
+// Appends the warnings on the values of an expression, as far as memory is granted.
+#[cycle(walk)]
+fn walk<L: Lint>(
+    e: &CfgExpr,
+    alloc: Global,
+    lint: &L,
+    warnings: &mut Vec<String>,
+) -> Result<(), AllocError>
+    ensures ok { OnOk result (texts warnings.new ≡ texts warnings.old ++ flat_map (L.warnings lint.now) (values (tree_of e.now))) }
+    ensures err { OnErr result (IsLonger (texts warnings.new) (texts warnings.old)) }
+{
+    match e {
+        CfgExpr::Not(inner) => walk(inner, alloc, lint, warnings),
+        CfgExpr::All(members) | CfgExpr::Any(members) => walk_members(
+            members, alloc, lint, warnings,
+        ),
+        CfgExpr::Value(c) => {
+            if let Some(text) = lint.warning(alloc, c)? {
+                warnings.push(text)?;
+            }
+            Ok(())
+        }
+        CfgExpr::True | CfgExpr::False => Ok(()),
+    }
+}
+
+#[cycle(walk)]
+fn walk_members<L: Lint>(
+    members: &[CfgExpr],
+    alloc: Global,
+    lint: &L,
+    warnings: &mut Vec<String>,
+) -> Result<(), AllocError>
+    ensures ok { OnOk result (texts warnings.new ≡ texts warnings.old ++ flat_map (L.warnings lint.now) (members_values (trees_of (map tree_of members.now)))) }
+    ensures err { OnErr result (IsLonger (texts warnings.new) (texts warnings.old)) }
+{
+    for member in members {
+        walk(member, alloc, lint, warnings)?;
+    }
+    Ok(())
+}
