@@ -19,6 +19,7 @@ pub mod Errors
 pub mod Readers
 pub mod Json
 pub mod Facts
+pub mod FactIndexes
 pub mod Key
 pub mod OrderLaws
 pub mod Hashing

@@ -52,7 +52,9 @@ impl FactIndex {
 }
 
 impl Facts for FactIndex {
-    ghost meant = { λ index. fact_set (map value_of index.facts.keys) };
+    ghost use Rattle.cargo_platform.specs.FactIndexes.{indexed};
+
+    ghost meant = { λ index. fact_set (indexed index) };
 
     fn holds(&self, c: &Cfg) -> bool {
         self.facts.contains(c)

@@ -14,21 +14,21 @@ use std::alloc::{AllocError, Global};
 
 /// `all` or `any`.
 #[derive(Clone, Copy)]
-pub enum Listing {
+enum Listing {
     All,
     Any,
 }
 
 /// A group whose `)` was not read yet, with its members so far.
 #[derive(Drop)]
-pub enum Group {
+enum Group {
     Not,
     List(Listing, Vec<CfgExpr>),
 }
 
 /// The open groups, the innermost last.
 #[derive(Drop)]
-pub struct OpenGroups {
+struct OpenGroups {
     groups: Vec<Group>,
 }
 
@@ -290,7 +290,10 @@ fn go_on<'a>(
 }
 
 /// Reads the expression that the tokens spell.
-pub fn read_expression<'a>(alloc: Global, reader: &mut Reader<'a>) -> Result<CfgExpr, Refusal<'a>>
+pub(crate) fn read_expression<'a>(
+    alloc: Global,
+    reader: &mut Reader<'a>,
+) -> Result<CfgExpr, Refusal<'a>>
     ensures same_text { reader.new.text ≡ reader.old.text }
     ensures tree { IfOk result (λ e. Reads reader.old reader.new (λ ts. ts ≡ []) (Has [] (tree_of e) reader.new.item)) }
     ensures ended { OnOk result (reader.new.item ≡ ahead.Nothing) }
@@ -336,7 +339,7 @@ fn behind_cfg_name<'a>(
 }
 
 /// Reads the name or the pair that the tokens spell.
-pub fn read_cfg<'a>(alloc: Global, reader: &mut Reader<'a>) -> Result<Cfg, Refusal<'a>>
+pub(crate) fn read_cfg<'a>(alloc: Global, reader: &mut Reader<'a>) -> Result<Cfg, Refusal<'a>>
     ensures same_text { reader.new.text ≡ reader.old.text }
     ensures value { IfOk result (λ c. HasRead reader.old reader.new (value_spelling (value_of c))) }
     ensures ended { OnOk result (reader.new.item ≡ ahead.Nothing) }

@@ -15,7 +15,7 @@ use std::marker::Model;
 
 /// A tokenizer, and what it gave last.
 #[derive(Drop)]
-pub struct Reader<'a> {
+pub(crate) struct Reader<'a> {
     tokens: Tokenizer<'a>,
     ahead: Option<Result<Spanned<'a>, TokenFault>>,
 }
@@ -85,7 +85,7 @@ impl<'a> Reader<'a> {
 
 /// Why nothing was read.
 #[derive(Drop)]
-pub enum Refusal<'a> {
+pub(crate) enum Refusal<'a> {
     Unexpected {
         expected: &'static str,
         found: &'static str,
@@ -143,7 +143,7 @@ impl<'a> From<AllocError> for Refusal<'a> {
 
 /// A token that is one character.
 #[derive(Clone, Copy, PartialEq, Eq)]
-pub enum Mark {
+pub(crate) enum Mark {
     LeftParen,
     RightParen,
     Comma,
@@ -238,7 +238,11 @@ impl<'a> Reader<'a> {
 }
 
 /// The refusal of what comes next, where nothing ended.
-pub fn refuse<'a>(reader: &Reader<'a>, expected: &'static str, at_end: &'static str) -> Refusal<'a>
+pub(crate) fn refuse<'a>(
+    reader: &Reader<'a>,
+    expected: &'static str,
+    at_end: &'static str,
+) -> Refusal<'a>
     ensures { RefusesNext reader.now expected.now at_end.now result }
 {
     match reader.peek() {
@@ -252,7 +256,7 @@ pub fn refuse<'a>(reader: &Reader<'a>, expected: &'static str, at_end: &'static 
 }
 
 /// Refuses what is left behind a whole value or expression.
-pub fn expect_end<'a>(reader: &Reader<'a>) -> Result<(), Refusal<'a>>
+pub(crate) fn expect_end<'a>(reader: &Reader<'a>) -> Result<(), Refusal<'a>>
     ensures end { OnOk result (reader.now.item ≡ ahead.Nothing) }
     ensures more { IfErr result (RefusesMore reader.now) }
 {

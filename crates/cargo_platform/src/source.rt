@@ -34,7 +34,7 @@ impl Looks {
 
 /// What a look gives: the end of the text, or a character.
 #[derive(Clone, Copy)]
-pub enum Look {
+pub(crate) enum Look {
     End,
     /// A character below 128.
     Ascii(u8),
@@ -44,7 +44,7 @@ pub enum Look {
 
 /// A text, and how often it was looked at.
 #[derive(Drop)]
-pub struct Source<'a> {
+pub(crate) struct Source<'a> {
     text: &'a str,
     looks: u128,
 }
