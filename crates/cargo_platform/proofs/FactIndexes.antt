@@ -1,17 +1,18 @@
 -- The fact set of an ordered set of values, as values are put into it.
-use Rattle.std.proofs.Common.{◌≡◌, refl, sym, ap, ◌∙◌, Bool, false, true, ◌||◌, List, [], ◌∷◌, ◌++◌, map, true≢false}
+use Rattle.std.proofs.Common.{◌≡◌, refl, sym, ap, ◌∙◌, Bool, false, true, ◌||◌, List, [], ◌∷◌, ◌++◌, map, true≢false, ℕ, ◌+◌, ◌<◌, length, take, get_or, add-one}
 use Rattle.std.specs.declared.cmp.Ordering.{Ordering}
 use Rattle.std.specs.declared.cmp.Ordering.TheVariants.{Less, Equal, Greater}
 use Rattle.std.specs.Ordering.{is_eq, eq_by_cmp, on, match_ordering}
 use Rattle.std.specs.List.{list_any}
 use Rattle.std.specs.BTreeSet.{insert_key}
-use Rattle.std.specs.FinSet.{contains, insert, contains-from_list, contains-insert, same_set, from_list, from_list_push}
+use Rattle.std.specs.FinSet.{insert, contains-from_list, contains-insert, same_set, from_list, from_list_push}
 use Rattle.std.specs.Cmp.{Equal-is, alike_right}
+use Rattle.std.proofs.Math.Seq.{take-suc}
 use Rattle.std.proofs.lemmas.List.{map-append}
 use Rattle.cargo_platform.specs.declared.cfg.Cfg.{Cfg}
-use Rattle.cargo_platform.specs.Trees.{CfgValue, value_of}
+use Rattle.cargo_platform.specs.Trees.{value_of}
 use Rattle.cargo_platform.specs.Key.{value_cmp}
-use Rattle.cargo_platform.specs.Facts.{Pair, pair_of, pair_cmp, fact_set}
+use Rattle.cargo_platform.specs.Facts.{Pair, pair_of, pair_cmp, FactSet, fact_set}
 use Rattle.cargo_platform.proofs.FactSets.{pairs_total, same_pair}
 use Rattle.cargo_platform.proofs.FactTruths.{pair_tie}
 
@@ -63,10 +64,18 @@ inserted k ks =
 appended : (cs : List Cfg) (c : Cfg) → from_list {R = pair_cmp} (map pair (cs ++ c ∷ [])) ≡ insert (from_list (map pair cs)) (pair c)
 appended cs c = ap (from_list {R = pair_cmp}) (map-append pair cs (c ∷ [])) ∙ from_list_push pairs_total pair_tie (map pair cs) (pair c)
 
--- one more value on both sides keeps the fact sets the same
-pub one_more : (ks cs : List Cfg) (k c : Cfg) → fact_set (map value_of ks) ≡ fact_set (map value_of cs) → value_of k ≡ value_of c → fact_set (map value_of (insert_key order ks k)) ≡ fact_set (map value_of (cs ++ c ∷ []))
+one_more : (ks cs : List Cfg) (k c : Cfg) → fact_set (map value_of ks) ≡ fact_set (map value_of cs) → value_of k ≡ value_of c → fact_set (map value_of (insert_key order ks k)) ≡ fact_set (map value_of (cs ++ c ∷ []))
 one_more ks cs k c same copy =
     by_pairs (insert_key order ks k)
     ∙ inserted k ks
     ∙ (λ i. insert ((sym (by_pairs ks) ∙ same ∙ by_pairs cs) i) (pair_of (copy i)))
     ∙ sym (by_pairs (cs ++ c ∷ []) ∙ appended cs c)
+
+-- an ordered set that is put a copy of the next value of a list into means one more of the list
+pub one_further : (cfg ks new : List Cfg) (n : ℕ) (k c : Cfg) → new ≡ insert_key order ks k → fact_set (map value_of ks) ≡ fact_set (map value_of (take n cfg)) → value_of k ≡ value_of c → c ≡ get_or cfg n c → n < length cfg → fact_set (map value_of new) ≡ fact_set (map value_of (take (n + 1) cfg))
+one_further cfg ks new n k c put same copy next in_range =
+    let means : List Cfg → FactSet = λ cs. fact_set (map value_of cs) in
+    rw add-one (ap means put
+    ∙ one_more ks (take n cfg) k c same copy
+    ∙ ap (λ (x : Cfg). means (take n cfg ++ x ∷ [])) next
+    ∙ sym (ap means (take-suc cfg n c in_range)))

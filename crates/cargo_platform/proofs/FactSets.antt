@@ -1,5 +1,5 @@
 -- Membership in the fact set of a list.
-use Rattle.std.proofs.Common.{◌≡◌, refl, sym, ap, ◌∙◌, false, ◌||◌, List, [], ◌∷◌, map}
+use Rattle.std.proofs.Common.{◌≡◌, Bool, refl, sym, ap, ◌∙◌, false, ◌||◌, List, [], ◌∷◌, map}
 use Rattle.std.specs.declared.cmp.Ordering.{Ordering}
 use Rattle.std.specs.declared.cmp.Ordering.TheVariants.{Less, Equal, Greater}
 use Rattle.std.specs.Ordering.{ordering_then, is_eq, eq_by_cmp}
@@ -37,10 +37,15 @@ searched : (c : CfgValue) (facts : List Cfg) → list_any (λ f. eq_by_cmp value
 searched c [] = refl
 searched c (f ∷ facts) = λ i. same_pair c (value_of f) i || searched c facts i
 
--- going over a list by equality tells whether the pair is in its fact set
-pub found : (c : CfgValue) (facts : List Cfg) → list_any (λ f. eq_by_cmp value_cmp c (value_of f)) facts ≡ contains (fact_set (map value_of facts)) (pair_of c)
+found : (c : CfgValue) (facts : List Cfg) → list_any (λ f. eq_by_cmp value_cmp c (value_of f)) facts ≡ contains (fact_set (map value_of facts)) (pair_of c)
 found c facts = searched c facts ∙ sym (contains-from_list pairs_total (map pair_of (map value_of facts)) (pair_of c))
 
--- the same, with each fact before the value
-pub found_back : (c : CfgValue) (facts : List Cfg) → list_any (λ f. eq_by_cmp value_cmp (value_of f) c) facts ≡ contains (fact_set (map value_of facts)) (pair_of c)
-found_back c facts = ap (λ test. list_any test facts) (λ i f. (eq_by_cmp_equiv value_total).symm (value_of f) c i) ∙ found c facts
+turned : (c : CfgValue) (facts : List Cfg) → list_any (λ f. eq_by_cmp value_cmp (value_of f) c) facts ≡ list_any (λ f. eq_by_cmp value_cmp c (value_of f)) facts
+turned c facts = ap (λ test. list_any test facts) (λ i f. (eq_by_cmp_equiv value_total).symm (value_of f) c i)
+
+-- whether some fact equals the value is whether the pair is in the fact set: each fact compared with the value, and the other way round
+pub is_listed : (c : CfgValue) (facts : List Cfg) (answer : Bool) → answer ≡ list_any (λ f. eq_by_cmp value_cmp (value_of f) c) facts → answer ≡ contains (fact_set (map value_of facts)) (pair_of c)
+is_listed c facts answer is = is ∙ turned c facts ∙ found c facts
+
+pub is_indexed : (c : CfgValue) (facts : List Cfg) (answer : Bool) → answer ≡ list_any (λ f. eq_by_cmp value_cmp c (value_of f)) facts → answer ≡ contains (fact_set (map value_of facts)) (pair_of c)
+is_indexed c facts answer is = is ∙ found c facts

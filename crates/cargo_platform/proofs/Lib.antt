@@ -40,3 +40,4 @@ pub mod TargetNames
 pub mod Conditions
 pub mod ConditionAnswers
 pub mod WarningWalks
+pub mod Texts

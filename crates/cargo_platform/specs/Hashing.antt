@@ -5,7 +5,7 @@ use Rattle.std.specs.Hash as fed
 use Rattle.std.specs.declared.cmp.Ordering.TheVariants.{Equal}
 use Rattle.cargo_platform.specs.Trees.{Name, CfgValue, Alone, KeyPair, Tree, Not, All, Any, Value, True, False, Trees, none, tree, Condition, Target, Expression}
 use Rattle.cargo_platform.specs.Key.{value_key, key, keys, condition_key, name_cmp, value_cmp, tree_cmp, condition_cmp}
-use Rattle.cargo_platform.specs.OrderLaws.{name_tie, value_tie, tree_tie, condition_equal_iff}
+use Rattle.cargo_platform.specs.OrderLaws.{name_tie, value_tie, tree_tie, condition_tie}
 
 abbrev pub name_hash : Name → fed.HashWrites
 name_hash n = fed.str n.name
@@ -37,7 +37,7 @@ abbrev mutual
 abbrev pub group_hash : Trees → fed.HashWrites
 group_hash es = fed.usize (count es) ++ trees_hash es
 
--- the form, and then the name or the tree
+-- the form, and then the name or the expression
 abbrev pub condition_hash : Condition → fed.HashWrites
 condition_hash (Target name) = fed.u8 0 ++ fed.str name
 condition_hash (Expression e) = fed.u8 1 ++ tree_hash e
@@ -64,10 +64,6 @@ mutual
   keys_hash none = refl
   keys_hash (tree e es) = λ i. key_hash e i ++ keys_hash es i
 
-pub condition_key_hash : (p : Condition) → condition_hash (condition_key p) ≡ condition_hash p
-condition_key_hash (Target name) = refl
-condition_key_hash (Expression e) = ap (λ w. fed.u8 1 ++ w) (key_hash e)
-
 pub name_alike : (m n : Name) → name_cmp m n ≡ Equal → name_hash m ≡ name_hash n
 name_alike m n h = ap name_hash (name_tie m n h)
 
@@ -77,5 +73,9 @@ value_alike c d h = sym (value_key_hash c) ∙ ap value_hash (value_tie c d h) �
 pub tree_alike : (d e : Tree) → tree_cmp d e ≡ Equal → tree_hash d ≡ tree_hash e
 tree_alike d e h = sym (key_hash d) ∙ ap tree_hash (tree_tie d e h) ∙ key_hash e
 
+pub condition_key_hash : (c : Condition) → condition_hash (condition_key c) ≡ condition_hash c
+condition_key_hash (Target name) = refl
+condition_key_hash (Expression e) = ap (λ w. fed.u8 1 ++ w) (key_hash e)
+
 pub condition_alike : (c d : Condition) → condition_cmp c d ≡ Equal → condition_hash c ≡ condition_hash d
-condition_alike c d h = sym (condition_key_hash c) ∙ ap condition_hash ((condition_equal_iff c d).0 h) ∙ condition_key_hash d
+condition_alike c d h = sym (condition_key_hash c) ∙ ap condition_hash (condition_tie c d h) ∙ condition_key_hash d

@@ -203,7 +203,7 @@ mutual
   trees_tie (tree d ds) (tree e es) h =
       λ i. tree (tree_tie d e (first_tied (tree_cmp d e) (trees_cmp ds es) h) i) (trees_tie ds es (second_tied (tree_cmp d e) (trees_cmp ds es) h) i)
 
-condition_tie : (c d : Condition) → condition_cmp c d ≡ Equal → condition_key c ≡ condition_key d
+pub condition_tie : (c d : Condition) → condition_cmp c d ≡ Equal → condition_key c ≡ condition_key d
 condition_tie (Target s) (Target t) h = ap Target (text_tie s t h)
 condition_tie (Target s) (Expression e) h = not_Less _ h
 condition_tie (Expression d) (Target t) h = not_Greater _ h

@@ -26,6 +26,7 @@ pub struct Listed<'a>(pub &'a [Cfg]);
 impl<'a> Facts for Listed<'a> {
     ghost meant = { λ facts. fact_set (map value_of facts.0.now) };
 
+    #[tactic(auto, using(crate::proofs::FactSets::is_listed))]
     fn holds(&self, c: &Cfg) -> bool {
         self.0.contains(c)
     }
@@ -40,6 +41,7 @@ pub struct FactIndex {
 
 impl FactIndex {
     /// An index of copies of the facts in `cfg`. It refuses only where memory is refused.
+    #[tactic(auto, using(crate::proofs::FactIndexes::one_further))]
     pub fn new(alloc: Global, cfg: &[Cfg]) -> Result<FactIndex, AllocError>
         ensures { IfOk result (λ index. ⟦<FactIndex as Facts>⟧.meant index ≡ fact_set (map value_of cfg.now)) }
     {
@@ -56,6 +58,7 @@ impl Facts for FactIndex {
 
     ghost meant = { λ index. fact_set (indexed index) };
 
+    #[tactic(auto, using(crate::proofs::FactSets::is_indexed))]
     fn holds(&self, c: &Cfg) -> bool {
         self.facts.contains(c)
     }

@@ -17,6 +17,7 @@ impl PartialEq for Ident {
 
     ghost laws = { partial_equiv_from_equiv (on_equiv name_of (eq_by_cmp_equiv name_total)) };
 
+    #[tactic(auto, using(crate::proofs::Texts::texts))]
     fn eq(&self, other: &Ident) -> bool {
         self.name == other.name
     }

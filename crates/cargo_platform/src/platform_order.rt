@@ -1,5 +1,4 @@
-//! Equality, order, hash and copies of conditions. A name of a target comes before every expression; expressions
-//! compare by the key, and copies keep the raw marks.
+//! Equality, order, hash and copies of platforms, by the key.
 
 ghost use Rattle.std.specs.Prelude.{◌≡◌, IfOk, refl};
 ghost use Rattle.std.specs.Cmp.{Equal-is, eq_by_cmp_equiv, on_equiv, on_total, partial_equiv_from_equiv, partial_order_from_total};
@@ -15,7 +14,7 @@ use std::cmp::Ordering;
 use std::hash::{Hash, Hasher};
 
 impl Platform {
-    /// A copy of the condition, with its raw marks. It refuses only where memory is refused.
+    /// A copy of the same platform, with the raw marks of its expression. It refuses only where memory is refused.
     pub fn clone(&self, alloc: Global) -> Result<Platform, AllocError>
         ensures { IfOk result (λ copy. condition_of copy ≡ condition_of self.now) }
     {
@@ -31,8 +30,13 @@ impl PartialEq for Platform {
 
     ghost laws = { partial_equiv_from_equiv (on_equiv condition_of (eq_by_cmp_equiv condition_total)) };
 
+    #[tactic(auto, using(crate::proofs::Texts::texts))]
     fn eq(&self, other: &Platform) -> bool {
-        self.cmp(other).is_eq()
+        match (self, other) {
+            (Platform::Name(a), Platform::Name(b)) => a == b,
+            (Platform::Cfg(a), Platform::Cfg(b)) => a == b,
+            (Platform::Name(_), Platform::Cfg(_)) | (Platform::Cfg(_), Platform::Name(_)) => false,
+        }
     }
 }
 
@@ -64,7 +68,7 @@ impl Ord for Platform {
             (Platform::Name(a), Platform::Name(b)) => a.cmp(b),
             (Platform::Name(_), Platform::Cfg(_)) => Ordering::Less,
             (Platform::Cfg(_), Platform::Name(_)) => Ordering::Greater,
-            (Platform::Cfg(d), Platform::Cfg(e)) => d.cmp(e),
+            (Platform::Cfg(a), Platform::Cfg(b)) => a.cmp(b),
         }
     }
 }

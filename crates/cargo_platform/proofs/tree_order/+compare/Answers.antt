@@ -1,4 +1,4 @@
-use Rattle.std.proofs.Common.{rules, ◌≡◌, ℕ, sym, ◌∙◌, length, min}
+use Rattle.std.proofs.Common.{rules, sym, ◌∙◌, length}
 use Rattle.std.proofs.lemmas.Slice.Zip.{zip_end}
 use Rattle.cargo_platform.proofs.Members.{ended}
 use Rattle.cargo_platform.proofs.tree_order.+compare.Goals as goal
