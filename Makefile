@@ -1,9 +1,10 @@
 # make run    builds the program and runs it on its sample input
 # make build  leaves the program, and says where
 # make test   the gate: everything proved from nothing, the must-fail edits, the tests, the programs
+# make refusals   each growth of memory refused in turn, in each call and in the program
 # make quick  the checks alone, over kept work
 # make fmt    lays out the files
-.PHONY: run build test quick fmt rt
+.PHONY: run build test refusals quick fmt rt
 
 PROGRAM := crates/platform_check
 
@@ -19,7 +20,11 @@ build: rt
 	@echo "the program is $(PROGRAM)/out/platform_check"
 
 test: rt
+	.ci/printed-caller
 	rt ci
+
+refusals: rt
+	.ci/refusals
 
 quick: rt
 	rt all check

@@ -1,0 +1,189 @@
+//! Makes the calls that standard input names, and prints their answers.
+//!
+//! The script `.ci/refusals` runs it with each growth of memory refused in turn. The status tells what came of it: 0
+//! after the answers, 9 where a call answered want of memory, 8 where a list of warnings was left changed then, 6 for a
+//! name that stands for no call.
+#![tactic(auto)]
+
+use cargo_platform::{
+    Cfg, CfgExpr, FactIndex, JsonError, ParseError, ParseErrorKind, Platform, ReadError,
+};
+use serde_json::Value;
+use std::alloc::{AllocError, Global};
+use std::fmt::Display;
+use std::io;
+use std::io::Read;
+use std::process::ExitCode;
+
+/// Why there are no answers to print.
+#[derive(Debug, Drop)]
+enum Fault {
+    Memory,
+    Changed,
+    Unknown,
+}
+
+impl From<AllocError> for Fault {
+    fn from(_e: AllocError) -> Fault {
+        Fault::Memory
+    }
+}
+
+const WARNED: &str = "cfg(any(not(feature = \"w\"), r#test, true = \"x\", true))";
+
+/// The printed value, or the printed error of a refused text.
+fn shown<T: Display + Drop>(alloc: Global, read: Result<T, ReadError>) -> Result<String, Fault> {
+    match read {
+        Ok(value) => Ok(format!(in alloc; "{value}\n")?),
+        Err(ReadError::Parse(error)) => Ok(format!(in alloc; "{error}\n")?),
+        Err(ReadError::Memory(_)) => Err(Fault::Memory),
+    }
+}
+
+/// The platform that a text spells, which is known to spell one.
+fn platform(alloc: Global, text: &str) -> Result<Platform, Fault> {
+    match Platform::from_str(alloc, text) {
+        Ok(platform) => Ok(platform),
+        Err(ReadError::Parse(_)) => Err(Fault::Unknown),
+        Err(ReadError::Memory(_)) => Err(Fault::Memory),
+    }
+}
+
+/// One fact, which is marked.
+fn facts(alloc: Global) -> Result<Vec<Cfg>, Fault> {
+    let mut facts = Vec::new(alloc);
+    match Cfg::from_str(alloc, "r#a") {
+        Ok(fact) => facts.push(fact).map_err(AllocError::from)?,
+        Err(ReadError::Parse(_)) => return Err(Fault::Unknown),
+        Err(ReadError::Memory(_)) => return Err(Fault::Memory),
+    }
+    Ok(facts)
+}
+
+fn read(alloc: Global, name: &[u8]) -> Result<String, Fault> {
+    match name {
+        b"pair" => shown(alloc, Cfg::from_str(alloc, "target_os = \"linux\"")),
+        b"refused_pair" => shown(alloc, Cfg::from_str(alloc, "r #foo")),
+        b"expression" => shown(alloc, CfgExpr::from_str(alloc, "any( a ,b = \"1\", )")),
+        b"negation" => shown(alloc, CfgExpr::from_str(alloc, "not(all(r#a))")),
+        b"refused_expression" => shown(alloc, CfgExpr::from_str(alloc, "all(a b)")),
+        b"surplus" => shown(alloc, CfgExpr::from_str(alloc, "a b")),
+        b"counted" => shown(alloc, CfgExpr::from_str_counted(alloc, "any(a, b)").0),
+        b"platform" => shown(alloc, Platform::from_str(alloc, WARNED)),
+        b"target" => shown(alloc, Platform::from_str(alloc, "x86_64-apple-darwin")),
+        b"refused_target" => shown(alloc, Platform::from_str(alloc, "a€b")),
+        b"refused_parenthesis" => shown(alloc, Platform::from_str(alloc, "cfg(")),
+        _ => ask(alloc, name),
+    }
+}
+
+fn ask(alloc: Global, name: &[u8]) -> Result<String, Fault> {
+    match name {
+        b"key" => key(alloc, "cfg(a)"),
+        b"refused_key" => key(alloc, "cfg(a b)"),
+        b"index" => index(alloc),
+        b"error" => error(alloc),
+        b"attributes" => warned(alloc, true),
+        b"keywords" => warned(alloc, false),
+        b"clones" => clones(alloc),
+        b"json" => json(alloc),
+        b"refused_json" => refused_json(alloc),
+        _ => Err(Fault::Unknown),
+    }
+}
+
+fn key(alloc: Global, key: &str) -> Result<String, Fault> {
+    let facts = facts(alloc)?;
+    let matches = CfgExpr::matches_key(alloc, key, &facts)?;
+    Ok(format!(in alloc; "{matches}\n")?)
+}
+
+fn index(alloc: Global) -> Result<String, Fault> {
+    let index = FactIndex::new(alloc, &facts(alloc)?)?;
+    let matches = match CfgExpr::from_str(alloc, "a") {
+        Ok(expression) => expression.matches_in(&index),
+        Err(ReadError::Parse(_)) => return Err(Fault::Unknown),
+        Err(ReadError::Memory(_)) => return Err(Fault::Memory),
+    };
+    Ok(format!(in alloc; "{matches}\n")?)
+}
+
+fn error(alloc: Global) -> Result<String, Fault> {
+    let error = ParseError::new(alloc, "a = \"", ParseErrorKind::UnterminatedString)?;
+    Ok(format!(in alloc; "{error}\n")?)
+}
+
+/// The warnings of a walk behind one that was there. Where memory is refused the list has to hold that one alone.
+fn warned(alloc: Global, attributes: bool) -> Result<String, Fault> {
+    let platform = platform(alloc, WARNED)?;
+    let mut warnings = Vec::new(alloc);
+    warnings
+        .push(String::from_str(alloc, "w")?)
+        .map_err(AllocError::from)?;
+    let walked = if attributes {
+        platform.check_cfg_attributes(alloc, &mut warnings)
+    } else {
+        platform.check_cfg_keywords(alloc, &mut warnings, "-")
+    };
+    if walked.is_err() {
+        let unchanged = match warnings.as_slice() {
+            [only] => only.as_str() == "w",
+            _ => false,
+        };
+        return Err(if unchanged {
+            Fault::Memory
+        } else {
+            Fault::Changed
+        });
+    }
+    let mut text = String::new(alloc);
+    for warning in &warnings {
+        text.push_str(warning)?;
+        text.push('\n')?;
+    }
+    Ok(text)
+}
+
+fn clones(alloc: Global) -> Result<String, Fault> {
+    let Platform::Cfg(expression) = platform(alloc, "cfg(not(all(r#a = \"1\", r#b)))")? else {
+        return Err(Fault::Unknown);
+    };
+    let copy = Platform::Cfg(expression.clone(alloc)?);
+    let platform = copy.clone(alloc)?;
+    Ok(format!(in alloc; "{platform}\n")?)
+}
+
+fn json(alloc: Global) -> Result<String, Fault> {
+    let value = platform(alloc, "cfg( a )")?.to_json(alloc)?;
+    match Platform::from_json(alloc, &value) {
+        Ok(platform) => Ok(format!(in alloc; "{platform}\n")?),
+        Err(JsonError::Memory(_)) => Err(Fault::Memory),
+        Err(JsonError::NotText | JsonError::Parse(_)) => Err(Fault::Unknown),
+    }
+}
+
+fn refused_json(alloc: Global) -> Result<String, Fault> {
+    let value = Value::String(String::from_str(alloc, "!foo")?);
+    match Platform::from_json(alloc, &value) {
+        Ok(_) | Err(JsonError::NotText) => Err(Fault::Unknown),
+        Err(JsonError::Parse(error)) => Ok(format!(in alloc; "{error}\n")?),
+        Err(JsonError::Memory(_)) => Err(Fault::Memory),
+    }
+}
+
+fn main(rt: HostRuntime) -> io::Result<ExitCode> {
+    let mut input = [0u8; 64];
+    let count = rt.stdin().read(&mut input)?;
+    let name = input[..count]
+        .strip_suffix(b"\n")
+        .unwrap_or(&input[..count]);
+    Ok(ExitCode::from(match read(rt.alloc(), name) {
+        Ok(text) => {
+            print!(rt; "{text}")?;
+            0
+        }
+        Err(Fault::Memory) => 9,
+        Err(Fault::Changed) => 8,
+        Err(Fault::Unknown) => 6,
+    }))
+}
