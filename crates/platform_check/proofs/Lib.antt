@@ -1,0 +1,5 @@
+pub mod Facts
+pub mod Lines
+pub mod OneAnswer
+pub mod Outputs
+pub mod TextLines

@@ -1,0 +1,5 @@
+use Rattle.platform_check.proofs.OneAnswer.{one_answer}
+use Rattle.platform_check.proofs.laws.one_answer.Goals as goal
+
+pub returns : goal.returns
+returns c = one_answer

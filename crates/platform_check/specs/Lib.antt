@@ -1,0 +1,7 @@
+pub mod Counts
+pub mod Reading
+pub mod Writing
+pub mod Lines
+pub mod Answering
+pub mod Running
+pub mod Laws

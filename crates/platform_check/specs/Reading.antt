@@ -1,0 +1,25 @@
+-- What the reading of the whole input answers.
+use Rattle.std.specs.Prelude.{ℕ, ◌≡◌, ◌≤◌, ◌<◌, ◌⊎◌, Option, List, length}
+use Rattle.std.specs.Io.KnownBytes.{Consumes, IsAtEnd}
+use Rattle.platform_check.specs.declared.counted.ReadCounts.{ReadCounts}
+use Rattle.platform_check.specs.declared.reading.Gathered.{Gathered}
+use Rattle.platform_check.specs.declared.reading.Gathered.TheVariants.{Whole, TooLong}
+
+-- the input has more bytes than it may have
+abbrev pub IsTooLong : List ℕ → Type 0
+IsTooLong bs = 1_048_576 < length bs
+
+-- the whole input is the bytes that were read, and one that is too long is known by one byte too many
+abbrev pub IsGathered : Gathered → List ℕ → Type 0
+IsGathered (Whole v) bs = (v.items ≡ bs) × (length bs ≤ 1_048_576)
+IsGathered TooLong bs = IsTooLong bs
+
+-- these bytes were read and counted, and the reader stood at its end unless they are too many
+pub record IsInput (old new : Option (List ℕ)) (counts : ReadCounts) (bs : List ℕ) : Type 0 where
+  pub given : Consumes old new bs
+  pub counted : counts.bytes ≡ length bs
+  pub ended : length bs ≤ 1_048_576 → (0 < counts.ends) × IsAtEnd new
+
+-- a read failed otherwise than by an interruption, or all reads were made, and they brought neither the end nor a byte too many
+abbrev pub HasReadFault : ReadCounts → Type 0
+HasReadFault c = (0 < c.failed_reads) ⊎ ((c.reads ≡ 1_048_578) × (c.ends ≡ 0) × (c.bytes ≤ 1_048_576))
