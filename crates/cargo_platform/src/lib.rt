@@ -4,8 +4,6 @@
 pub mod cfg;
 mod clone;
 mod display;
-#[cfg(test)]
-mod display_tests;
 pub mod error;
 mod facts;
 mod json;
