@@ -1,4 +1,9 @@
-//! Cargo's target conditions: names, pairs and `all`, `any` and `not` of them, read from text.
+//! The target conditions of a Cargo manifest: read from text, printed, matched over facts, compared and warned about.
+//!
+//! The key of a `[target.KEY.dependencies]` table is the name of a target, as `x86_64-apple-darwin`, or a `cfg(..)` of an
+//! expression over facts, as `cfg(all(unix, target_os = "linux"))` (Cargo's reference, "Platform specific
+//! dependencies"). The facts of a target are what `rustc --print cfg` prints. What allocates takes the allocator first and
+//! answers a `Result`.
 #![tactic(auto)]
 
 pub mod cfg;
@@ -25,9 +30,11 @@ pub use json::JsonError;
 pub use source::Looks;
 pub use tokens::{Spanned, Token, TokenFault, TokenFaultKind, Tokenizer};
 
-/// The condition of a dependency: the name of a target, or a `cfg(..)` expression.
+/// The condition of a dependency.
 #[derive(Debug, Drop)]
 pub enum Platform {
+    /// The name of a target, as `x86_64-apple-darwin`.
     Name(String),
+    /// An expression, written between `cfg(` and `)`.
     Cfg(CfgExpr),
 }
