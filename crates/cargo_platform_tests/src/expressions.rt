@@ -1,0 +1,266 @@
+//! Expressions, read from text.
+
+use crate::all_short_texts::is_expression;
+use crate::made::{assert_prints, expression, repeated, same};
+use crate::refusals::{Fault, assert_refused};
+use cargo_platform::{Cfg, CfgExpr};
+use std::test::Fail;
+
+/// A text, the tree as `made::expression` takes it, and the printed form.
+pub type Read = (&'static str, &'static str, &'static str);
+
+pub const READ: &[Read] = &[
+    ("foo", "foo", "foo"),
+    (" foo", "foo", "foo"),
+    (" foo  ", "foo", "foo"),
+    ("_bar", "_bar", "_bar"),
+    (" foo  = \"bar\"", "foo=bar", "foo = \"bar\""),
+    ("foo=\"\"", "foo=", "foo = \"\""),
+    (" foo=\"3\"      ", "foo=3", "foo = \"3\""),
+    ("true", "true", "true"),
+    ("false", "false", "false"),
+    ("all()", "all0", "all()"),
+    ("all(a)", "all1 a", "all(a)"),
+    ("all(a, )", "all1 a", "all(a)"),
+    ("all(a, b)", "all2 a b", "all(a, b)"),
+    ("not(a = \"b\")", "not a=b", "not(a = \"b\")"),
+    ("not(all(a))", "not all1 a", "not(all(a))"),
+    ("any( a ,b = \"1\", )", "any2 a b=1", "any(a, b = \"1\")"),
+    ("not ( all ( ) )", "not all0", "not(all())"),
+    ("not(any())", "not any0", "not(any())"),
+    // A mark makes a word an ordinary name; a key may be any word but the three groups' own.
+    (" r#all =\"x\"", "r#all=x", "r#all = \"x\""),
+    ("r#all", "r#all", "r#all"),
+    ("any(r#any, r#not)", "any2 r#any r#not", "any(r#any, r#not)"),
+    ("r#true", "true", "true"),
+    ("r#false", "false", "false"),
+    ("true = \"x\"", "true=x", "true = \"x\""),
+    ("r#false = \"x\"", "r#false=x", "r#false = \"x\""),
+];
+
+#[test]
+fn expressions_are_read(rt: HostRuntime) -> Result<(), Fail> {
+    let alloc = rt.alloc();
+    for (text, tree, printed) in READ {
+        let read = CfgExpr::from_str(alloc, text)?;
+        let wanted = expression(alloc, tree)?;
+        assert!(rt; same(&read, &wanted), "{text}: {read:?}");
+        assert_prints(&rt, alloc, &read, printed)?;
+    }
+    Ok(())
+}
+
+#[test]
+fn a_value_with_a_space(rt: HostRuntime) -> Result<(), Fail> {
+    let read = CfgExpr::from_str(rt.alloc(), "foo = \"3 e\"")?;
+    assert_prints(&rt, rt.alloc(), &read, "foo = \"3 e\"")?;
+    let CfgExpr::Value(Cfg::KeyPair(key, value)) = &read else {
+        return Err(Fail::new("a pair"));
+    };
+    assert!(rt; !key.raw && key.as_str() == "foo" && value.as_str() == "3 e");
+    Ok(())
+}
+
+/// A text, its fault, and what the fault prints.
+type Refused = (&'static str, Fault<'static>, &'static str);
+
+const START: &str = "expected start of a cfg expression, but cfg expression ended";
+
+const UNCLOSED: &str = "expected `)`, but cfg expression ended";
+
+const UNOPENED: &str = "expected `(`, but cfg expression ended";
+
+const NO_STRING: &str = "expected a string, but cfg expression ended";
+
+const COMMA: &str = "expected identifier, found `,`";
+
+const CLOSE: &str = "expected identifier, found `)`";
+
+const NAME: &str = "expected `)`, found an identifier";
+
+const UNTERMINATED: &str = "unterminated string in cfg";
+
+const REFUSED: &[Refused] = &[
+    // Where a start is missing.
+    (
+        "",
+        Fault::IncompleteExpr("start of a cfg expression"),
+        START,
+    ),
+    (
+        " ",
+        Fault::IncompleteExpr("start of a cfg expression"),
+        START,
+    ),
+    (
+        "all(",
+        Fault::IncompleteExpr("start of a cfg expression"),
+        START,
+    ),
+    (
+        "any(a,",
+        Fault::IncompleteExpr("start of a cfg expression"),
+        START,
+    ),
+    ("all(,)", Fault::UnexpectedToken("identifier", "`,`"), COMMA),
+    (
+        "all(a,,)",
+        Fault::UnexpectedToken("identifier", "`,`"),
+        COMMA,
+    ),
+    (")", Fault::UnexpectedToken("identifier", "`)`"), CLOSE),
+    (
+        "all(not())",
+        Fault::UnexpectedToken("identifier", "`)`"),
+        CLOSE,
+    ),
+    // Behind a word, a key and a member.
+    (" all", Fault::IncompleteExpr("`(`"), UNOPENED),
+    ("not", Fault::IncompleteExpr("`(`"), UNOPENED),
+    (
+        "all = \"x\"",
+        Fault::UnexpectedToken("`(`", "`=`"),
+        "expected `(`, found `=`",
+    ),
+    ("a = ", Fault::IncompleteExpr("a string"), NO_STRING),
+    (
+        "a = )",
+        Fault::UnexpectedToken("a string", "`)`"),
+        "expected a string, found `)`",
+    ),
+    ("all(a", Fault::IncompleteExpr("`)`"), UNCLOSED),
+    ("not(a", Fault::IncompleteExpr("`)`"), UNCLOSED),
+    (
+        "all(a b)",
+        Fault::UnexpectedToken("`)`", "an identifier"),
+        NAME,
+    ),
+    (
+        "all(a b \"",
+        Fault::UnexpectedToken("`)`", "an identifier"),
+        NAME,
+    ),
+    (
+        "not(a,)",
+        Fault::UnexpectedToken("`)`", "`,`"),
+        "expected `)`, found `,`",
+    ),
+    (
+        "not(a = \"1\",",
+        Fault::UnexpectedToken("`)`", "`,`"),
+        "expected `)`, found `,`",
+    ),
+    // What begins no token.
+    ("all(a \"", Fault::UnterminatedString, UNTERMINATED),
+    (
+        "all r#",
+        Fault::IncompleteExpr("identifier"),
+        "expected identifier, but cfg expression ended",
+    ),
+    (
+        "any(a, €)",
+        Fault::UnexpectedChar('€'),
+        "unexpected character `€` in cfg, expected parens, a comma, an identifier, or a string",
+    ),
+    // What stands behind a whole expression.
+    (
+        "a b",
+        Fault::UnterminatedExpression("b"),
+        "unexpected content `b` found after cfg expression",
+    ),
+    (
+        "foo(a)",
+        Fault::UnterminatedExpression("(a)"),
+        "unexpected content `(a)` found after cfg expression",
+    ),
+    (
+        "a \"",
+        Fault::UnterminatedExpression("\""),
+        "unexpected content `\"` found after cfg expression",
+    ),
+    (
+        "a b \"",
+        Fault::UnterminatedExpression("b \""),
+        "unexpected content `b \"` found after cfg expression",
+    ),
+    (
+        "a r#",
+        Fault::UnterminatedExpression("r#"),
+        "unexpected content `r#` found after cfg expression",
+    ),
+    (
+        "r#r#a",
+        Fault::UnterminatedExpression("#a"),
+        "unexpected content `#a` found after cfg expression",
+    ),
+    (
+        "r#all()",
+        Fault::UnterminatedExpression("()"),
+        "unexpected content `()` found after cfg expression",
+    ),
+    (
+        "k = \"a\"b\"",
+        Fault::UnterminatedExpression("b\""),
+        "unexpected content `b\"` found after cfg expression",
+    ),
+];
+
+#[test]
+fn other_texts_are_refused(rt: HostRuntime) -> Result<(), Fail> {
+    for (text, fault, message) in REFUSED {
+        let read = CfgExpr::from_str(rt.alloc(), text);
+        assert_refused(&rt, rt.alloc(), read.err(), text, *fault, message)?;
+    }
+    Ok(())
+}
+
+#[test]
+fn a_long_list(rt: HostRuntime) -> Result<(), Fail> {
+    let alloc = rt.alloc();
+    let mut text = String::from_str(alloc, "all(")?;
+    text.push_str(&repeated(alloc, "a,", 100_000)?)?;
+    text.push(')')?;
+    assert!(rt; is_expression(&rt, alloc, &text)?);
+    let (read, looks) = CfgExpr::from_str_counted(alloc, &text);
+    let CfgExpr::All(members) = read? else {
+        return Err(Fail::new("a group"));
+    };
+    assert_eq!(rt; members.len(), 100_000);
+    for member in &members {
+        assert!(rt; same(member, &expression(alloc, "a")?));
+    }
+    let looks = looks.count();
+    assert!(rt; 200_006 <= looks && looks <= 2_400_072, "{looks}");
+    Ok(())
+}
+
+#[test]
+fn a_long_string_without_end(rt: HostRuntime) -> Result<(), Fail> {
+    let alloc = rt.alloc();
+    let mut text = String::from_str(alloc, "a = \"")?;
+    text.push_str(&repeated(alloc, " ", 100_000)?)?;
+    assert!(rt; !is_expression(&rt, alloc, &text)?);
+    let (read, looks) = CfgExpr::from_str_counted(alloc, &text);
+    let fault = Fault::UnterminatedString;
+    assert_refused(&rt, alloc, read.err(), &text, fault, UNTERMINATED)?;
+    let looks = looks.count();
+    assert!(rt; looks <= 1_200_072, "{looks}");
+    Ok(())
+}
+
+#[test]
+fn deep_texts_are_refused(rt: HostRuntime) -> Result<(), Fail> {
+    let alloc = rt.alloc();
+    let open = repeated(alloc, "all(", 500)?;
+    assert!(rt; !is_expression(&rt, alloc, &open)?);
+    let start = Fault::IncompleteExpr("start of a cfg expression");
+    let read = CfgExpr::from_str(alloc, &open);
+    assert_refused(&rt, alloc, read.err(), &open, start, START)?;
+    let mut two = repeated(alloc, "not(", 500)?;
+    two.push_str("a b")?;
+    assert!(rt; !is_expression(&rt, alloc, &two)?);
+    let second = Fault::UnexpectedToken("`)`", "an identifier");
+    let read = CfgExpr::from_str(alloc, &two);
+    assert_refused(&rt, alloc, read.err(), &two, second, NAME)?;
+    Ok(())
+}

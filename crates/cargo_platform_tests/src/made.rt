@@ -1,0 +1,128 @@
+//! Values that the tests make by hand, and comparisons that look at every part.
+
+use cargo_platform::{Cfg, CfgExpr, Ident};
+use std::alloc::{AllocError, Global};
+use std::fmt::Display;
+use std::process::Abort;
+use std::test::Fail;
+
+/// Asserts what a value prints.
+pub fn assert_prints<T: Display>(
+    rt: &impl Abort,
+    alloc: Global,
+    x: &T,
+    printed: &str,
+) -> Result<(), Fail> {
+    let text = x.to_string(alloc)?;
+    assert_eq!(rt; text.as_str(), printed);
+    Ok(())
+}
+
+/// `foo`, or `r#foo` where the name is marked.
+pub fn ident(alloc: Global, text: &str) -> Result<Ident, AllocError> {
+    let (raw, name) = match text.strip_prefix("r#") {
+        Some(name) => (true, name),
+        None => (false, text),
+    };
+    Ok(Ident {
+        name: String::from_str(alloc, name)?,
+        raw,
+    })
+}
+
+/// A name as above, or a key, `=` and the value as it stands, as in `k=1`.
+pub fn value(alloc: Global, text: &str) -> Result<Cfg, AllocError> {
+    match text.split_once('=') {
+        Some((key, value)) => Ok(Cfg::KeyPair(ident(alloc, key)?, String::from_str(alloc, value)?)),
+        None => Ok(Cfg::Name(ident(alloc, text)?)),
+    }
+}
+
+/// Values as above, with spaces between them.
+pub fn values(alloc: Global, text: &str) -> Result<Vec<Cfg>, AllocError> {
+    let mut all = Vec::new(alloc);
+    for word in text.split_whitespace() {
+        all.push(value(alloc, word)?)?;
+    }
+    Ok(all)
+}
+
+/// An expression with each form before its parts, and groups with the number of their members: `any(not(foo), bar)` is
+/// `any2 not foo bar`. All other words are values as above.
+pub fn expression(alloc: Global, text: &str) -> Result<CfgExpr, Fail> {
+    let mut made: Vec<CfgExpr> = Vec::new(alloc);
+    for word in text.split_whitespace().rev() {
+        let e = match word {
+            "true" => CfgExpr::True,
+            "false" => CfgExpr::False,
+            "not" => CfgExpr::Not(Box::new(alloc, made.pop().ok_or("an expression")?)?),
+            "all0" => CfgExpr::All(Vec::new(alloc)),
+            "all1" => CfgExpr::All(members(alloc, &mut made, 1)?),
+            "all2" => CfgExpr::All(members(alloc, &mut made, 2)?),
+            "any0" => CfgExpr::Any(Vec::new(alloc)),
+            "any1" => CfgExpr::Any(members(alloc, &mut made, 1)?),
+            "any2" => CfgExpr::Any(members(alloc, &mut made, 2)?),
+            _ => CfgExpr::Value(value(alloc, word)?),
+        };
+        made.push(e)?;
+    }
+    Ok(made.pop().ok_or("an expression")?)
+}
+
+fn members(alloc: Global, made: &mut Vec<CfgExpr>, count: usize) -> Result<Vec<CfgExpr>, Fail> {
+    let mut all = Vec::new(alloc);
+    for _ in 0..count {
+        all.push(made.pop().ok_or("a member")?)?;
+    }
+    Ok(all)
+}
+
+/// Whether the names and the raw marks are the same.
+pub fn same_ident(a: &Ident, b: &Ident) -> bool {
+    a.raw == b.raw && a.name.as_str() == b.name.as_str()
+}
+
+/// Whether the values are the same, raw marks included.
+pub fn same_value(a: &Cfg, b: &Cfg) -> bool {
+    match (a, b) {
+        (Cfg::Name(a), Cfg::Name(b)) => same_ident(a, b),
+        (Cfg::KeyPair(a, v), Cfg::KeyPair(b, w)) => same_ident(a, b) && v.as_str() == w.as_str(),
+        _ => false,
+    }
+}
+
+/// Whether the trees are the same, raw marks included.
+#[cycle(same)]
+pub fn same(a: &CfgExpr, b: &CfgExpr) -> bool {
+    match (a, b) {
+        (CfgExpr::Not(a), CfgExpr::Not(b)) => same(a, b),
+        (CfgExpr::All(a), CfgExpr::All(b)) => same_members(a, b),
+        (CfgExpr::Any(a), CfgExpr::Any(b)) => same_members(a, b),
+        (CfgExpr::Value(a), CfgExpr::Value(b)) => same_value(a, b),
+        (CfgExpr::True, CfgExpr::True) => true,
+        (CfgExpr::False, CfgExpr::False) => true,
+        _ => false,
+    }
+}
+
+#[cycle(same)]
+fn same_members(a: &[CfgExpr], b: &[CfgExpr]) -> bool {
+    if a.len() != b.len() {
+        return false;
+    }
+    for (i, member) in a.iter().enumerate() {
+        if !same(member, &b[i]) {
+            return false;
+        }
+    }
+    true
+}
+
+/// The text of a number of copies of `piece`.
+pub fn repeated(alloc: Global, piece: &str, count: usize) -> Result<String, AllocError> {
+    let mut text = String::new(alloc);
+    for _ in 0..count {
+        text.push_str(piece)?;
+    }
+    Ok(text)
+}

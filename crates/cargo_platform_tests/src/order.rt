@@ -1,0 +1,207 @@
+//! Equality, order, hash and copies, where raw marks differ.
+
+use crate::made::{assert_prints, expression, ident, same, same_ident, same_value, value, values};
+use cargo_platform::{Cfg, CfgExpr, FactIndex, Facts};
+use std::alloc::{AllocError, Global};
+use std::cmp::Ordering;
+use std::collections::{BTreeMap, HashMap};
+use std::hash::{DefaultHasher, Hash, Hasher};
+use std::process::Abort;
+use std::test::Fail;
+
+fn hash_of<T: Hash>(x: &T) -> u64 {
+    let mut state = DefaultHasher::new();
+    x.hash(&mut state);
+    state.finish()
+}
+
+/// Asserts what all comparisons of two values say, in both directions, and whether their hashes agree.
+pub fn assert_order<T: Ord + Hash>(rt: &impl Abort, a: &T, b: &T, order: Ordering, pair: &str) {
+    assert_eq!(rt; a.cmp(b), order, "{pair}");
+    assert_eq!(rt; b.cmp(a), order.reverse(), "{pair}");
+    assert_eq!(rt; a.partial_cmp(b), Some(order), "{pair}");
+    assert_eq!(rt; a == b, order.is_eq(), "{pair}");
+    assert_eq!(rt; hash_of(a) == hash_of(b), order.is_eq(), "{pair}");
+}
+
+/// Two texts, and how the first stands to the second.
+const EXPRESSIONS: &[(&str, &str, Ordering)] = &[
+    ("foo", "r#foo", Ordering::Equal),
+    ("a", "a = \"\"", Ordering::Less),
+    ("k = \"1\"", "r#k = \"2\"", Ordering::Less),
+    ("not(z)", "all()", Ordering::Less),
+    ("all(a)", "all(a, a)", Ordering::Less),
+    ("all(b)", "all(a, a)", Ordering::Greater),
+    ("r#z", "true", Ordering::Less),
+    ("true", "false", Ordering::Less),
+    ("b", "aa", Ordering::Greater),
+    ("k = \"b\"", "k = \"aa\"", Ordering::Greater),
+    ("any(a)", "all(b)", Ordering::Greater),
+    ("any(a)", "a", Ordering::Less),
+    (
+        "not(all(r#foo, k = \"1\"))",
+        "not(all(foo, r#k = \"1\"))",
+        Ordering::Equal,
+    ),
+    (
+        "not(all(foo, k = \"1\"))",
+        "not(all(foo, k = \"\"))",
+        Ordering::Greater,
+    ),
+];
+
+#[test]
+fn expressions_by_their_keys(rt: HostRuntime) -> Result<(), Fail> {
+    for (first, second, order) in EXPRESSIONS {
+        let a = CfgExpr::from_str(rt.alloc(), first)?;
+        let b = CfgExpr::from_str(rt.alloc(), second)?;
+        let pair = format!(in rt.alloc(); "{first} with {second}")?;
+        assert_order(&rt, &a, &b, *order, &pair);
+    }
+    Ok(())
+}
+
+const VALUES: &[(&str, &str, Ordering)] = &[
+    ("foo", "r#foo", Ordering::Equal),
+    ("z", "a=", Ordering::Less),
+    ("k=1", "r#k=2", Ordering::Less),
+    ("r#k=1", "k=1", Ordering::Equal),
+    ("j=2", "k=1", Ordering::Less),
+    ("Z", "a", Ordering::Less),
+];
+
+#[test]
+fn values_by_their_keys(rt: HostRuntime) -> Result<(), Fail> {
+    for (first, second, order) in VALUES {
+        let a = value(rt.alloc(), first)?;
+        let b = value(rt.alloc(), second)?;
+        let pair = format!(in rt.alloc(); "{first} with {second}")?;
+        assert_order(&rt, &a, &b, *order, &pair);
+    }
+    Ok(())
+}
+
+#[test]
+fn names_without_their_marks(rt: HostRuntime) -> Result<(), Fail> {
+    let plain = ident(rt.alloc(), "foo")?;
+    let marked = ident(rt.alloc(), "r#foo")?;
+    let shorter = ident(rt.alloc(), "fo")?;
+    assert_order(&rt, &plain, &marked, Ordering::Equal, "foo with r#foo");
+    assert_order(&rt, &marked, &shorter, Ordering::Greater, "r#foo with fo");
+    assert_prints(&rt, rt.alloc(), &plain, "foo")?;
+    assert_prints(&rt, rt.alloc(), &marked, "r#foo")?;
+    assert_eq!(rt; marked.as_str(), "foo");
+    assert!(rt; marked.eq_text("foo") && plain.eq_text("foo"));
+    assert!(rt; !marked.eq_text("r#foo") && !shorter.eq_text("foo"));
+    Ok(())
+}
+
+/// Values as keys of both kinds of maps.
+#[derive(Drop)]
+struct Maps {
+    sorted: BTreeMap<Cfg, u32>,
+    hashed: HashMap<Cfg, u32>,
+}
+
+impl Maps {
+    fn insert(&mut self, alloc: Global, text: &str, number: u32) -> Result<(), AllocError> {
+        self.sorted.insert(value(alloc, text)?, number)?;
+        self.hashed.insert(value(alloc, text)?, number)?;
+        Ok(())
+    }
+}
+
+#[test]
+fn keys_of_maps(rt: HostRuntime) -> Result<(), Fail> {
+    let alloc = rt.alloc();
+    let mut maps = Maps {
+        sorted: BTreeMap::new(alloc),
+        hashed: HashMap::new(alloc),
+    };
+    for (text, number) in [("b=1", 1), ("foo", 2), ("r#a", 3), ("r#foo", 4)] {
+        maps.insert(alloc, text, number)?;
+    }
+    assert_eq!(rt; maps.sorted.len(), 3);
+    assert_eq!(rt; maps.hashed.len(), 3);
+    for (text, number) in [
+        ("foo", Some(4)),
+        ("a", Some(3)),
+        ("r#b=1", Some(1)),
+        ("b", None),
+    ] {
+        let key = value(alloc, text)?;
+        assert_eq!(rt; maps.sorted.get(&key).copied(), number, "{text}");
+        assert_eq!(rt; maps.hashed.get(&key).copied(), number, "{text}");
+    }
+    Ok(())
+}
+
+#[test]
+fn names_come_before_pairs_in_a_map(rt: HostRuntime) -> Result<(), Fail> {
+    let alloc = rt.alloc();
+    let mut sorted: BTreeMap<Cfg, u32> = BTreeMap::new(alloc);
+    for text in ["b=1", "foo", "r#a", "b=0"] {
+        sorted.insert(value(alloc, text)?, 0)?;
+    }
+    let mut in_order = String::new(alloc);
+    for key in sorted.keys() {
+        write!(in_order, "{key}; ")?;
+    }
+    assert_eq!(rt; in_order.as_str(), "r#a; foo; b = \"0\"; b = \"1\"; ");
+    Ok(())
+}
+
+#[test]
+fn expressions_as_keys(rt: HostRuntime) -> Result<(), Fail> {
+    let alloc = rt.alloc();
+    let mut sorted: BTreeMap<CfgExpr, u32> = BTreeMap::new(alloc);
+    for (text, number) in [("any(a)", 1), ("not(r#foo)", 2), ("not(foo)", 3)] {
+        sorted.insert(CfgExpr::from_str(alloc, text)?, number)?;
+    }
+    for (text, number) in [("not(foo)", Some(3)), ("any(r#a)", Some(1)), ("a", None)] {
+        let key = CfgExpr::from_str(alloc, text)?;
+        assert_eq!(rt; sorted.get(&key).copied(), number, "{text}");
+    }
+    Ok(())
+}
+
+#[test]
+fn copies_of_values_keep_marks(rt: HostRuntime) -> Result<(), Fail> {
+    let alloc = rt.alloc();
+    for text in ["foo", "r#foo", "r#"] {
+        let copy = ident(alloc, text)?.clone(alloc)?;
+        assert_prints(&rt, alloc, &copy, text)?;
+        assert!(rt; same_ident(&copy, &ident(alloc, text)?), "{text}");
+    }
+    for text in ["r#foo", "foo", "r#k=1", "k="] {
+        let copy = value(alloc, text)?.clone(alloc)?;
+        assert!(rt; same_value(&copy, &value(alloc, text)?), "{text}");
+    }
+    Ok(())
+}
+
+#[test]
+fn copies_of_expressions_keep_marks(rt: HostRuntime) -> Result<(), Fail> {
+    let alloc = rt.alloc();
+    for (text, printed) in [
+        ("not all2 r#foo k=1", "not(all(r#foo, k = \"1\"))"),
+        ("any2 true false", "any(true, false)"),
+        ("any0", "any()"),
+        ("all1 r#k=é", "all(r#k = \"é\")"),
+    ] {
+        let copy = expression(alloc, text)?.clone(alloc)?;
+        assert_prints(&rt, alloc, &copy, printed)?;
+        assert!(rt; same(&copy, &expression(alloc, text)?), "{text}");
+    }
+    Ok(())
+}
+
+#[test]
+fn an_index_of_the_same_name_twice(rt: HostRuntime) -> Result<(), Fail> {
+    let facts = values(rt.alloc(), "foo r#foo")?;
+    let index = FactIndex::new(rt.alloc(), &facts)?;
+    assert!(rt; index.holds(&value(rt.alloc(), "foo")?));
+    assert!(rt; index.holds(&value(rt.alloc(), "r#foo")?));
+    assert!(rt; !index.holds(&value(rt.alloc(), "foo=")?));
+    Ok(())
+}

@@ -1,0 +1,22 @@
+//! Which dependencies a target selects.
+
+ghost use Rattle.std.specs.Prelude.{◌↔◌, IsTrue, IfOk, map};
+ghost use Rattle.cargo_platform.specs.Trees.{Condition, condition_of, value_of};
+ghost use Rattle.cargo_platform.specs.Platforms.{IsConditionText};
+ghost use Rattle.cargo_platform.specs.Facts.{fact_set, IsTrueCondition};
+ghost use Rattle.cargo_platform.specs.Errors.{IfParse};
+
+use cargo_platform::{Cfg, Platform, ReadError};
+use std::alloc::Global;
+
+/// Whether a dependency under this key of a manifest is selected for a target, by its name and facts.
+pub fn is_selected(alloc: Global, key: &str, target: &str, facts: &[Cfg]) -> Result<bool, ReadError>
+    ensures selected { IfOk result (λ yes. (p : Condition) × IsConditionText key.now p
+        × (IsTrue yes ↔ IsTrueCondition target.now (fact_set (map value_of facts.now)) p)) }
+    ensures refused { IfParse result (λ _. (p : Condition) → IsConditionText key.now p → ⊥) }
+{
+    match Platform::from_str(alloc, key) {
+        Ok(platform) => Ok(platform.matches(target, facts)),
+        Err(error) => Err(error),
+    }
+}
