@@ -1,5 +1,5 @@
 -- A reader of expressions, step by step.
-use Rattle.std.proofs.Common.{◌≡◌, refl, sym, ap, subst, ◌∙◌, ℕ, ◌+◌, ◌-◌, ◌≤◌, ◌<◌, Bool, true, false, ◌&&◌, List, [], ◌∷◌, ◌++◌, Some, None, Ok, Err, codes, drop, length, slice_range, append_assoc, append-nil, true≢false, arith, length-append}
+use Rattle.std.proofs.Common.{◌≡◌, refl, sym, ap, subst, ◌∙◌, ℕ, ◌+◌, ◌-◌, ◌≤◌, ◌<◌, Bool, true, false, ◌&&◌, List, [], ◌∷◌, ◌++◌, Some, None, Ok, Err, codes, length, slice_range, append_assoc, append-nil, true≢false, arith}
 use Rattle.std.specs.Prelude.{IsFalse, Result, IfOk, IfErr}
 use Rattle.cargo_platform.specs.declared.reader.Refusal.{Refusal}
 use Rattle.cargo_platform.specs.declared.reader.Refusal.TheVariants as refusal
@@ -9,7 +9,7 @@ use Rattle.cargo_platform.specs.Cut.{lexemes}
 use Rattle.cargo_platform.specs.Trees.{KeyPair, Tree, Not, Value, trees_of}
 use Rattle.cargo_platform.specs.Spelling.{is_group_word, group, IsMemberList, Spells, SpellEach}
 use Rattle.cargo_platform.specs.Faults.{Fault, UnexpectedToken, IncompleteExpr, UnterminatedExpression}
-use Rattle.cargo_platform.specs.Walk.{Word, Several, Negation, State, Wanted, Member, Behind, Named, Keyed, Ended, after, after_name, walk_from, walk}
+use Rattle.cargo_platform.specs.Walk.{Word, Several, Negation, State, Member, Behind, Named, Keyed, Ended, after, after_name, walk_from, walk}
 use Rattle.cargo_platform.specs.Ahead.{Item, Nothing, Ahead, Comes, Path, next_of, items_left, item_count}
 use Rattle.cargo_platform.specs.Ahead as ahead
 use Rattle.cargo_platform.specs.Parsing.{Opening, Negated, Listed, list_word, list_tree, opening_word, IsFresh, kind, kinds, is_list, finished, begins, ends, Wants, Has, HasName, HasKey, HasWord, is_equals, is_equals_next, Reads, TakesToken, LacksMark, LacksName, LacksString, is_whole, expects, expects_end, IsFaultAt, IsStop, IsStuck, IfFault, StopsAt, Stops, RefusesNext, RefusesMore}

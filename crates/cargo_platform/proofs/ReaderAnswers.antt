@@ -1,5 +1,5 @@
 -- What a reader answers, from what it read or where it stopped.
-use Rattle.std.proofs.Common.{◌≡◌, refl, ℕ, List, [], length, Some, Err, subst}
+use Rattle.std.proofs.Common.{◌≡◌, refl, ℕ, List, [], Some, Err, subst}
 use Rattle.std.specs.Prelude.{IsUtf8}
 use Rattle.cargo_platform.specs.declared.error.ParseError.{ParseError}
 use Rattle.cargo_platform.specs.declared.error.ReadError.{ReadError}

@@ -1,5 +1,5 @@
 -- What a reader keeps from one item to the next.
-use Rattle.std.proofs.Common.{◌≡◌, refl, sym, ap, subst, ◌∙◌, ℕ, ◌+◌, ◌*◌, ◌-◌, ◌^◌, ◌≤◌, ◌<◌, Bool, true, false, true≢false, List, Option, Some, None, Result, Ok, Err, inl, inr, length, drop, arith, cond}
+use Rattle.std.proofs.Common.{◌≡◌, sym, ap, subst, ◌∙◌, ℕ, ◌+◌, ◌*◌, ◌-◌, ◌^◌, ◌≤◌, ◌<◌, false, true≢false, List, Option, Some, None, Result, Ok, Err, inl, inr, length, arith}
 use Rattle.std.specs.Prelude.{if◌then◌else◌}
 use Rattle.cargo_platform.specs.declared.tokens.Spanned.{Spanned}
 use Rattle.cargo_platform.specs.declared.tokens.TokenFault.{TokenFault}

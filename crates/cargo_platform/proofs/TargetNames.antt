@@ -1,5 +1,5 @@
 -- Target names: what none of them holds, where a text stops being one, and what is said of it.
-use Rattle.std.proofs.Common.{◌≡◌, refl, sym, ap, ◌∙◌, subst, ℕ, ◌<◌, Bool, true, false, true≢false, not, cond, List, [], ◌∷◌, ◌++◌, length, codes, get_or, Option, Some, None, MatchOption, find, IsTrue, IsFalse, IsUtf8, MatchBool, option_map, inl, inr, ◌==◌, eq-eqb, eqb-true, chars, encode_utf8, encode_utf8_all, append_assoc, length-append, arith}
+use Rattle.std.proofs.Common.{◌≡◌, refl, sym, ap, ◌∙◌, subst, ℕ, Bool, true, false, true≢false, not, cond, List, [], ◌∷◌, ◌++◌, length, codes, get_or, Option, Some, None, MatchOption, find, IsTrue, IsFalse, IsUtf8, MatchBool, option_map, inl, inr, ◌==◌, eq-eqb, eqb-true, chars, encode_utf8, encode_utf8_all, append_assoc, length-append, arith}
 use Rattle.std.specs.Char.{IsScalar}
 use Rattle.std.specs.List.{list_all, list_any}
 use Rattle.std.specs.Str.{all_scalars, NonePass}

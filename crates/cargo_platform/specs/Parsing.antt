@@ -1,6 +1,6 @@
 -- What a reader of expressions has read: the groups that are open with their members so far, and the expression that
 -- stands behind them, if one does.
-use Rattle.std.specs.Prelude.{◌≡◌, ℕ, Bool, true, false, List, [], ◌∷◌, ◌++◌, map, reverse, codes, Option, Some, None, Result, Ok, Err, IsFalse, ◌&&◌}
+use Rattle.std.specs.Prelude.{◌≡◌, ℕ, Bool, true, false, List, [], ◌∷◌, ◌++◌, map, reverse, codes, Option, Some, None, Result, IsFalse, ◌&&◌}
 use Rattle.cargo_platform.specs.declared.tokens.Spanned.{Spanned}
 use Rattle.cargo_platform.specs.declared.tokens.Token.{Token}
 use denote.Ref.{Bor}

@@ -26,9 +26,8 @@ pub struct Listed<'a>(pub &'a [Cfg]);
 impl<'a> Facts for Listed<'a> {
     ghost meant = { λ facts. fact_set (map value_of facts.0.now) };
 
-    #[tactic(auto, using(crate::proofs::FactSets::is_listed))]
     fn holds(&self, c: &Cfg) -> bool {
-        self.0.contains(c)
+        self.0.iter().any(|fact| fact == c)
     }
 }
 

@@ -1,12 +1,11 @@
 -- Facts, and the lines that spell them.
-use Rattle.std.proofs.Common.{◌≡◌, ◌<◌, ◌+◌, ◌-◌, ◌∙◌, ℕ, zero, suc, List, [], ◌∷◌, ◌++◌, length, get_or, take, map, refl, sym, ap, subst, arith, length-drop, length-take}
+use Rattle.std.proofs.Common.{◌≡◌, ◌<◌, ◌+◌, ◌-◌, ◌∙◌, ℕ, zero, suc, List, [], ◌∷◌, ◌++◌, length, get_or, take, map, sym, ap, subst, arith, length-drop, length-take}
 use Rattle.std.specs.Prelude.{slice_range}
 use Rattle.std.proofs.Common.{inl, inr, Result, Ok, Err}
 use Rattle.std.specs.Result.{IfErr, IsErrAnd}
 use Rattle.std.proofs.lemmas.List.{get_or-drop, get_or-take, take_more, take_rest, drop-map}
 use Rattle.cargo_platform.specs.Trees.{CfgValue, Condition}
 use Rattle.cargo_platform.specs.Spelling.{IsValueText}
-use Rattle.cargo_platform.specs.Faults.{Fault}
 use Rattle.cargo_platform.specs.Platforms.{IsConditionText, IsRefusedCondition}
 use Rattle.cargo_platform.specs.Errors.{orig_of, fault_in}
 use Rattle.platform_check.specs.declared.answering.Refusal.{Refusal}

@@ -1,12 +1,12 @@
 -- An input has at most one output.
-use Rattle.std.proofs.Common.{◌≡◌, ◌<◌, ◌≤◌, ℕ, List, [], ◌∷◌, ◌++◌, codes, encode_utf8, encode_utf8_all, Bool, true, false, true≢false, length, IsTrue, IsFalse, refl, sym, ap, ◌∙◌, subst, inl, inr, append_assoc, length-append, arith}
+use Rattle.std.proofs.Common.{◌≡◌, ◌<◌, ℕ, List, [], ◌∷◌, ◌++◌, codes, encode_utf8, encode_utf8_all, Bool, true≢false, length, IsTrue, IsFalse, refl, sym, ap, ◌∙◌, subst, inl, inr, append_assoc, length-append, arith}
 use Rattle.std.specs.List.{list_all}
 use Rattle.std.proofs.lemmas.Bool.{and_parts}
 use Rattle.std.proofs.lemmas.Str.{encode_same, length-encode, len_utf8_bounds}
 use Rattle.cargo_platform.specs.Trees.{CfgValue, Condition}
-use Rattle.cargo_platform.specs.Spelling.{Grammar, Values, Expressions, IsValueText}
+use Rattle.cargo_platform.specs.Spelling.{Values, Expressions}
 use Rattle.cargo_platform.specs.Faults.{Fault, InvalidTarget, IsRefused}
-use Rattle.cargo_platform.specs.Platforms.{is_target_char, IsFirstRefused, IsTargetMessage, IsCfgOf, IsConditionText, IsRefusedCondition}
+use Rattle.cargo_platform.specs.Platforms.{is_target_char, IsFirstRefused, IsTargetMessage, IsRefusedCondition}
 use Rattle.cargo_platform.proofs.Conditions.{one_inner, one_condition}
 use Rattle.cargo_platform.proofs.OneFault.{one_fault}
 use Rattle.cargo_platform.proofs.OneValue.{one_value_text}

@@ -1,4 +1,4 @@
-use Rattle.std.proofs.Common.{sym, ◌∙◌, ap}
+use Rattle.std.proofs.Common.{sym}
 use Rattle.serde_json.specs.View.{view}
 use Rattle.cargo_platform.proofs.JsonAnswers.{text_is, text_refused}
 use Rattle.cargo_platform.proofs.Platform.from_json.Goals as goal

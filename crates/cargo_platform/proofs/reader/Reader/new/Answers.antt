@@ -1,8 +1,7 @@
-use Rattle.std.proofs.Common.{◌≡◌, ◌<◌, ◌^◌, ap, subst, arith, length, false, refl}
+use Rattle.std.proofs.Common.{◌<◌, ◌^◌, subst, arith, false, refl}
 use Rattle.cargo_platform.specs.Reading.{Progress, Next, characters_from}
-use Rattle.cargo_platform.specs.Ahead.{IsReading, item_of, Comes}
 use Rattle.cargo_platform.proofs.Looking.{chars_fit}
-use Rattle.cargo_platform.proofs.Readings.{gives_comes, reading_on}
+use Rattle.cargo_platform.proofs.Readings.{reading_on}
 use Rattle.cargo_platform.proofs.reader.Reader.new.Goals as goal
 
 pub invariant_of-result : goal.invariant_of-result

@@ -1,5 +1,4 @@
-use Rattle.std.proofs.Common.{◌≡◌, ◌+◌, ◌≤◌, ap, sym, subst, ◌∙◌}
-use Rattle.cargo_platform.specs.Reading.{characters_from}
+use Rattle.std.proofs.Common.{ap, ◌∙◌}
 use Rattle.cargo_platform.specs.Ahead.{Ahead}
 use Rattle.cargo_platform.proofs.Readings.{seen_whole}
 use Rattle.cargo_platform.proofs.reader.Reader.spend.Goals as goal
