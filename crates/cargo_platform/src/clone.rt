@@ -1,8 +1,9 @@
-//! Copies of names, pairs and expressions, with their raw marks.
+//! Copies of names, pairs, expressions and platforms, with their raw marks.
 
 ghost use Rattle.std.specs.Prelude.{◌≡◌, map, IfOk};
-ghost use Rattle.cargo_platform.specs.Trees.{name_of, value_of, tree_of};
+ghost use Rattle.cargo_platform.specs.Trees.{name_of, value_of, tree_of, condition_of};
 
+use crate::Platform;
 use crate::cfg::{Cfg, CfgExpr, Ident};
 use std::alloc::{AllocError, Global};
 
@@ -61,5 +62,17 @@ impl CfgExpr {
             copies.push(e.clone(alloc)?)?;
         }
         Ok(copies)
+    }
+}
+
+impl Platform {
+    /// A copy of the same platform, with the raw marks of its expression. It refuses only where memory is refused.
+    pub fn clone(&self, alloc: Global) -> Result<Platform, AllocError>
+        ensures { IfOk result (λ copy. condition_of copy ≡ condition_of self.now) }
+    {
+        match self {
+            Platform::Name(name) => Ok(Platform::Name(String::from_str(alloc, name)?)),
+            Platform::Cfg(e) => Ok(Platform::Cfg(e.clone(alloc)?)),
+        }
     }
 }

@@ -1,6 +1,6 @@
-//! Equality, order, hash and copies of platforms, by the key.
+//! Equality, order and hash of platforms by the key.
 
-ghost use Rattle.std.specs.Prelude.{◌≡◌, IfOk, refl};
+ghost use Rattle.std.specs.Prelude.{refl};
 ghost use Rattle.std.specs.Cmp.{Equal-is, eq_by_cmp_equiv, on_equiv, on_total, partial_equiv_from_equiv, partial_order_from_total};
 ghost use Rattle.std.specs.Ordering.{as_partial_cmp, eq_by_cmp, on};
 ghost use Rattle.cargo_platform.specs.Trees.{condition_of};
@@ -9,21 +9,8 @@ ghost use Rattle.cargo_platform.specs.OrderLaws.{condition_total};
 ghost use Rattle.cargo_platform.specs.Hashing.{condition_hash, condition_alike};
 
 use crate::Platform;
-use std::alloc::{AllocError, Global};
 use std::cmp::Ordering;
 use std::hash::{Hash, Hasher};
-
-impl Platform {
-    /// A copy of the same platform, with the raw marks of its expression. It refuses only where memory is refused.
-    pub fn clone(&self, alloc: Global) -> Result<Platform, AllocError>
-        ensures { IfOk result (λ copy. condition_of copy ≡ condition_of self.now) }
-    {
-        match self {
-            Platform::Name(name) => Ok(Platform::Name(String::from_str(alloc, name)?)),
-            Platform::Cfg(e) => Ok(Platform::Cfg(e.clone(alloc)?)),
-        }
-    }
-}
 
 impl PartialEq for Platform {
     ghost eq = { on condition_of (eq_by_cmp condition_cmp) };
