@@ -12,7 +12,7 @@ use Rattle.cargo_platform.specs.Faults.{Fault, UnexpectedToken, IncompleteExpr, 
 use Rattle.cargo_platform.specs.Walk.{Word, Several, Negation, State, Member, Behind, Named, Keyed, Ended, after, after_name, walk_from, walk}
 use Rattle.cargo_platform.specs.Ahead.{Item, Nothing, Ahead, Comes, Path, next_of, items_left, item_count}
 use Rattle.cargo_platform.specs.Ahead as ahead
-use Rattle.cargo_platform.specs.Parsing.{Opening, Negated, Listed, list_word, list_tree, opening_word, IsFresh, kind, kinds, is_list, finished, begins, ends, Wants, Has, HasName, HasKey, HasWord, is_equals, is_equals_next, Reads, TakesToken, LacksMark, LacksName, LacksString, is_whole, expects, expects_end, IsFaultAt, IsStop, IsStuck, IfFault, StopsAt, Stops, RefusesNext, RefusesMore}
+use Rattle.cargo_platform.specs.Parsing.{Opening, Negated, Listed, list_word, list_tree, opening_word, IsFresh, kind, kinds, is_list, finished, begins, ends, Wants, Has, HasName, HasKey, HasWord, is_equals, is_equals_next, Reads, TakesToken, LacksMark, LacksName, LacksString, is_whole, expects, expects_end, IsFaultAt, IsStop, IsStuck, IfFault, StopsAt, Stops, RefusesNext, RefusesMore, IsNoString, LacksValue}
 use Rattle.cargo_platform.specs.Misfits.{misfit, IsSurplus}
 use Rattle.cargo_platform.proofs.Walk.{walk_on, named}
 use Rattle.cargo_platform.proofs.Completing.{finished_snoc, list_snoc, list_finished}
@@ -114,24 +114,27 @@ stop_is text (ahead.Token t) s u = u t refl
 stop_is text (ahead.Fault kind at) s u = tt
 stop_is text Nothing s u = tt
 
+pub stops_at : (l : Ahead) (P : List Lexeme → Type 0) (expected at_end : List ℕ) (g : Fault) → g ≡ misfit expected at_end (next_of l.text l.item) → ((ts : List Lexeme) → P ts → Refusing l expected at_end ts) → StopsAt l P g
+stops_at l P expected at_end g n f = record {
+  us = [];
+  stop = l;
+  path = refl;
+  stuck = λ ts p.
+      let a = f ts p in
+      let F : Bool → Type 0 = λ b. IsFaultAt b a.s (next_of l.text l.item) g in
+      record {
+        s = a.s;
+        walked = ap walk (append-nil ts) ∙ a.walked;
+        stops = stop_is l.text l.item a.s a.unfit;
+        is = subst F (sym a.unfinished) (n ∙ λ i. misfit (sym a.wants i) (sym a.wants_end i) (next_of l.text l.item));
+      };
+}
+
 pub stops_here : (l : Ahead) (P : List Lexeme → Type 0) (r : Refusal) (expected at_end : List ℕ) → RefusesNext l expected at_end r → ((ts : List Lexeme) → P ts → Refusing l expected at_end ts) → Stops l P r
-stops_here l P r expected at_end h f = if_fault r _ (StopsAt l P) (λ g n. at g n) h
-  where
-    at : (g : Fault) → g ≡ misfit expected at_end (next_of l.text l.item) → StopsAt l P g
-    at g n = record {
-      us = [];
-      stop = l;
-      path = refl;
-      stuck = λ ts p.
-          let a = f ts p in
-          let F : Bool → Type 0 = λ b. IsFaultAt b a.s (next_of l.text l.item) g in
-          record {
-            s = a.s;
-            walked = ap walk (append-nil ts) ∙ a.walked;
-            stops = stop_is l.text l.item a.s a.unfit;
-            is = subst F (sym a.unfinished) (n ∙ λ i. misfit (sym a.wants i) (sym a.wants_end i) (next_of l.text l.item));
-          };
-    }
+stops_here l P r expected at_end h f = if_fault r _ (StopsAt l P) (λ g n. stops_at l P expected at_end g n f) h
+
+pub stops_lacking : (l : Ahead) (P : List Lexeme → Type 0) (r : Refusal) → LacksValue l r → (LacksString l → (ts : List Lexeme) → P ts → Refusing l (codes "a string") (codes "a string") ts) → Stops l P r
+stops_lacking l P r h f = if_fault r (IsNoString l) (StopsAt l P) (λ g n. stops_at l P (codes "a string") (codes "a string") g n.1 (f n.0)) h
 
 -- ---- steps
 

@@ -19,7 +19,7 @@ use Rattle.cargo_platform.specs.Tokens.{Lexeme, LeftParen, RightParen, Ident, Co
 use Rattle.cargo_platform.specs.Cut.{lexemes}
 use Rattle.cargo_platform.specs.Ahead.{Item, Nothing, item_of, Ahead, GoesOn, Path, next_of}
 use Rattle.cargo_platform.specs.Ahead as ahead
-use Rattle.cargo_platform.specs.Trees.{CfgValue, Alone, KeyPair, Tree, All, Any, trees_of, tree_of}
+use Rattle.cargo_platform.specs.Trees.{Name, CfgValue, Alone, KeyPair, Tree, All, Any, trees_of, tree_of}
 use Rattle.cargo_platform.specs.Spelling.{Spells, SpellEach}
 use Rattle.cargo_platform.specs.Faults.{Next, Unfit, Broken, End, Fault, UnexpectedToken, IncompleteExpr, UnterminatedExpression, lexical_fault}
 use Rattle.cargo_platform.specs.Misfits.{IsIdentifier, IsString, misfit, IsSurplus}
@@ -267,11 +267,22 @@ RefusesMore l r = IfFault r (λ fault. IsSurplus (next_of l.text l.item) fault)
 abbrev pub HasRead : Ahead → Ahead → List Lexeme → Type 0
 HasRead old new read = Reads old new (λ ts. ts ≡ []) (λ ts. ts ≡ read)
 
+-- the string ahead is taken, and this is its pair with the key
+abbrev pub TakesValue : Ahead → Ahead → Name → CfgValue → Type 0
+TakesValue old new key value = (v : List ℕ) × TakesToken old new (String v) × (value ≡ KeyPair key v)
+
+-- no string is ahead where one has to be, which is the fault
+abbrev pub IsNoString : Ahead → Fault → Type 0
+IsNoString l fault = LacksString l × (fault ≡ misfit (codes "a string") (codes "a string") (next_of l.text l.item))
+
+abbrev pub LacksValue : Ahead → Refusal → Type 0
+LacksValue l r = IfFault r (IsNoString l)
+
 -- behind these tokens of a name or a pair the item ahead does not fit, which is the fault
 abbrev pub IsValueStop : List Lexeme → Ahead → Fault → Type 0
 IsValueStop [] l fault = LacksName l × (fault ≡ misfit (codes "identifier") (codes "identifier") (next_of l.text l.item))
 IsValueStop (Ident raw name ∷ []) l fault = LacksMark l marks.Equals × IsSurplus (next_of l.text l.item) fault
-IsValueStop (Ident raw name ∷ Equals ∷ []) l fault = LacksString l × (fault ≡ misfit (codes "a string") (codes "a string") (next_of l.text l.item))
+IsValueStop (Ident raw name ∷ Equals ∷ []) l fault = IsNoString l fault
 IsValueStop (Ident raw name ∷ Equals ∷ String value ∷ []) l fault = IsSurplus (next_of l.text l.item) fault
 IsValueStop ts l fault = ⊥
 
@@ -282,7 +293,7 @@ ClearBehind (KeyPair k v) l = Unit {0}
 
 -- behind a key and `=` no string is ahead
 abbrev pub StopsKey : Ahead → Lexeme → Refusal → Type 0
-StopsKey l t r = IfFault r (λ fault. (stop : Ahead) × Reads l stop (λ ts. ts ≡ t ∷ []) (λ ts. ts ≡ t ∷ Equals ∷ []) × LacksString stop × (fault ≡ misfit (codes "a string") (codes "a string") (next_of stop.text stop.item)))
+StopsKey l t r = IfFault r (λ fault. (stop : Ahead) × Reads l stop (λ ts. ts ≡ t ∷ []) (λ ts. ts ≡ t ∷ Equals ∷ []) × IsNoString stop fault)
 
 abbrev pub StopsValue : Ahead → Refusal → Type 0
 StopsValue l r = IfFault r (λ fault. (read : List Lexeme) × (stop : Ahead) × HasRead l stop read × IsValueStop read stop fault)

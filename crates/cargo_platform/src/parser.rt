@@ -6,7 +6,7 @@ ghost use Rattle.cargo_platform.specs.Ahead.{items_left};
 ghost use Rattle.cargo_platform.specs.Ahead as ahead;
 ghost use Rattle.cargo_platform.specs.Trees.{Tree, name_of, value_of, tree_of, Not};
 ghost use Rattle.cargo_platform.specs.Spelling.{is_group_word, value_spelling, Spells};
-ghost use Rattle.cargo_platform.specs.Parsing.{LacksMark, Opening, Negated, Listed, opening, stack, opening_word, IsFresh, is_all, list_tree, Wants, Has, HasName, HasKey, HasWord, Stands, Reads, Stops, HasRead, ClearBehind, StopsKey, StopsValue, kinds, is_list};
+ghost use Rattle.cargo_platform.specs.Parsing.{LacksMark, Opening, Negated, Listed, opening, stack, opening_word, IsFresh, is_all, list_tree, Wants, Has, HasName, HasWord, Stands, Reads, Stops, HasRead, ClearBehind, TakesValue, LacksValue, StopsKey, StopsValue, kinds, is_list};
 
 use crate::cfg::{Cfg, CfgExpr, Ident};
 use crate::reader::{Mark, Reader, Refusal, expect_end, refuse};
@@ -97,18 +97,17 @@ fn read_pair<'a>(
     reader: &mut Reader<'a>,
     raw: bool,
     name: &str,
-) -> Result<CfgExpr, Refusal<'a>>
-    requires { IsFalse (is_group_word (record { raw = raw; name = name.now })) }
+) -> Result<Cfg, Refusal<'a>>
     ensures same_text { reader.new.text ≡ reader.old.text }
-    ensures pair { IfOk result (λ e. (gs : List Opening) → Reads reader.old reader.new (HasKey gs raw name.now) (Has gs (tree_of e) reader.new.item)) }
-    ensures refused { IfErr result (λ r. (gs : List Opening) → Stops reader.old (HasKey gs raw name.now) r) }
+    ensures pair { IfOk result (λ c. TakesValue reader.old reader.new (record { raw = raw; name = name.now }) (value_of c)) }
+    ensures refused { IfErr result (LacksValue reader.old) }
 {
     let Some(value) = reader.eat_string() else {
         return Err(refuse(reader, "a string", "a string"));
     };
     let key = ident(alloc, raw, name)?;
     let value = String::from_str(alloc, value)?;
-    Ok(CfgExpr::Value(Cfg::KeyPair(key, value)))
+    Ok(Cfg::KeyPair(key, value))
 }
 
 /// Reads what follows a name that opens no group.
@@ -124,7 +123,7 @@ fn read_value<'a>(
     ensures refused { IfErr result (λ r. (gs : List Opening) → Stops reader.old (HasName gs raw name.now) r) }
 {
     if reader.eat(Mark::Equals) {
-        read_pair(alloc, reader, raw, name)
+        Ok(CfgExpr::Value(read_pair(alloc, reader, raw, name)?))
     } else {
         Ok(lone(alloc, raw, name)?)
     }
@@ -327,15 +326,11 @@ fn behind_cfg_name<'a>(
     ensures clear { IfOk result (λ c. ClearBehind (value_of c) reader.new) }
     ensures refused { IfErr result (StopsKey reader.old (ident_token raw name.now)) }
 {
-    if !reader.eat(Mark::Equals) {
-        return Ok(Cfg::Name(ident(alloc, raw, name)?));
+    if reader.eat(Mark::Equals) {
+        read_pair(alloc, reader, raw, name)
+    } else {
+        Ok(Cfg::Name(ident(alloc, raw, name)?))
     }
-    let Some(value) = reader.eat_string() else {
-        return Err(refuse(reader, "a string", "a string"));
-    };
-    let key = ident(alloc, raw, name)?;
-    let value = String::from_str(alloc, value)?;
-    Ok(Cfg::KeyPair(key, value))
 }
 
 /// Reads the name or the pair that the tokens spell.

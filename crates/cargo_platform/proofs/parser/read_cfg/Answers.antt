@@ -30,7 +30,7 @@ returns-in_err-cfg-clause-refused c =
       t ∷ Equals ∷ [],
       h.0,
       reads_then l m h.0 Nothing (λ ts. ts ≡ t ∷ []) (λ ts. ts ≡ t ∷ Equals ∷ []) (reads_taken l m t Nothing (λ ts. ts ≡ t ∷ []) c.in-Some.ensures.taken (λ ts p. ap (λ (z : List Lexeme). z ++ t ∷ []) p)) h.1,
-      (h.2, h.3),
+      h.2,
     )) c.in_err-cfg.ensures.refused)
 
 pub returns-in_err-expect_end-clause-refused : goal.returns-in_err-expect_end-clause-refused

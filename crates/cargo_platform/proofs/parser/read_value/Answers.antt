@@ -1,33 +1,42 @@
-use Rattle.std.proofs.Common.{sym, subst}
-use Rattle.cargo_platform.specs.Tokens.{Equals}
-use Rattle.cargo_platform.specs.Trees.{tree_of}
+use Rattle.std.proofs.Common.{◌≡◌, ◌∙◌, ap, sym, subst}
+use Rattle.std.proofs.lemmas.Result.{err_from_is_err_and}
+use Rattle.cargo_platform.specs.Tokens.{Equals, String}
+use Rattle.cargo_platform.specs.Trees.{Tree, Value, KeyPair, tree_of}
+use Rattle.cargo_platform.specs.declared.cfg.CfgExpr.TheVariants as expr
+use Rattle.cargo_platform.proofs.TreeViews.{tree_of-Value}
 use Rattle.cargo_platform.specs.Ahead.{Ahead}
 use Rattle.cargo_platform.specs.Parsing.{Has, HasName, HasKey, Reads}
-use Rattle.cargo_platform.proofs.Parsing.{if_ok, if_err, reads_taken, reads_then, reads_same, stops_then, name_key, name_lone, lacks_equals}
+use Rattle.cargo_platform.proofs.Parsing.{reads_taken, reads_then, reads_same, stops_then, stops_lacking, name_key, key_pair, key_refusing, name_lone, lacks_equals}
 use Rattle.cargo_platform.proofs.parser.read_value.Goals as goal
 
-pub returns-then-eat-clause-value : goal.returns-then-eat-clause-value
-returns-then-eat-clause-value c =
+pub returns-in_ok-read_pair-clause-value : goal.returns-in_ok-read_pair-clause-value
+returns-in_ok-read_pair-clause-value c = λ gs.
     let l = c.args.reader.now in
     let m = c.eat.new.self in
     let n = c.read_pair.new.reader in
     let raw = c.args.raw in
     let name = c.args.name.now in
-    if_ok c.read_pair.result _ _ (λ e a gs.
-    reads_then l m n (HasName gs raw name) (HasKey gs raw name) (Has gs (tree_of e) n.item)
-    (reads_taken l m Equals (HasName gs raw name) (HasKey gs raw name) (c.eat.ensures.taken c.if-eat.true) (λ ts p. name_key gs raw name ts p)) (a gs))
-    c.read_pair.ensures.pair
+    let h = c.in_ok-read_pair.ensures.pair in
+    let pair = KeyPair (record { raw = raw; name = name }) h.0 in
+    let is : tree_of (expr.Value c.in_ok-read_pair.field-0) ≡ Value pair = tree_of-Value c.in_ok-read_pair.field-0 ∙ ap Value h.2 in
+    let H : Tree → Type 0 = λ z. Reads l n (HasName gs raw name) (Has gs z n.item) in
+    subst H (sym is)
+    (reads_then l m n (HasName gs raw name) (HasKey gs raw name) (Has gs (Value pair) n.item)
+    (reads_taken l m Equals (HasName gs raw name) (HasKey gs raw name) (c.eat.ensures.taken c.if-eat.true) (λ ts p. name_key gs raw name ts p))
+    (reads_taken m n (String h.0) (HasKey gs raw name) (Has gs (Value pair) n.item) h.1 (λ ts p. key_pair gs raw name h.0 n.item ts c.requires p)))
 
-pub returns-then-eat-clause-refused : goal.returns-then-eat-clause-refused
-returns-then-eat-clause-refused c =
+pub returns-in_err-read_pair-clause-refused : goal.returns-in_err-read_pair-clause-refused
+returns-in_err-read_pair-clause-refused c =
     let l = c.args.reader.now in
     let m = c.eat.new.self in
     let raw = c.args.raw in
     let name = c.args.name.now in
-    if_err c.read_pair.result _ _ (λ r a gs.
+    let r = c.in_err-read_pair.field-0.0 in
+    let p = err_from_is_err_and c.from_residual.result c.from_residual.ensures.1 in
+    rw (p.1, p.2) (λ gs.
     stops_then l m (HasName gs raw name) (HasKey gs raw name) r
-    (reads_taken l m Equals (HasName gs raw name) (HasKey gs raw name) (c.eat.ensures.taken c.if-eat.true) (λ ts p. name_key gs raw name ts p)) (a gs))
-    c.read_pair.ensures.refused
+    (reads_taken l m Equals (HasName gs raw name) (HasKey gs raw name) (c.eat.ensures.taken c.if-eat.true) (λ ts p. name_key gs raw name ts p))
+    (stops_lacking m (HasKey gs raw name) r c.in_err-read_pair.ensures.refused (λ n ts p. key_refusing m gs raw name ts c.requires n p)))
 
 pub returns-in_ok-lone-clause-value : goal.returns-in_ok-lone-clause-value
 returns-in_ok-lone-clause-value c = λ gs.
