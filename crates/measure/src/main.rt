@@ -71,8 +71,9 @@ fn time_matching(rt: &(impl Print + Clock + AllocGlobal), rounds: u32) -> io::Re
 }
 
 fn main(rt: HostRuntime) -> io::Result<()> {
-    let Some(rounds) = rounds(&rt)? else {
-        return println!(rt; "measure: give the number of rounds");
+    let rounds = match rounds(&rt)? {
+        None | Some(0) => return println!(rt; "measure: give the number of rounds, 1 or more"),
+        Some(rounds) => rounds,
     };
     println!(rt; "| call | text | bytes | answer | nanoseconds | a byte |")?;
     println!(rt; "|---|---|--:|--:|--:|--:|")?;

@@ -130,13 +130,14 @@ fn run_over(
     (ended, input.reads(), output.writes())
 }
 
-/// Runs over a text in memory, and gives how it ended and what was written.
-fn answer_to(alloc: Global, text: &[u8]) -> (Result<Outcome, RunError>, Vec<u8>) {
+/// Runs over a text in memory, which ends so after just this was written.
+fn assert_answers(rt: &impl Abort, alloc: Global, text: &[u8], outcome: Outcome, want: &[u8]) {
     let mut written = Vec::new(alloc);
     let mut input = counted::Input::new(text);
     let mut output = counted::Output::new(&mut written);
     let ended = run(alloc, &mut input, &mut output);
-    (ended, written)
+    assert_eq!(rt; ended, Ok(outcome));
+    assert_eq!(rt; written.as_slice(), want);
 }
 
 /// A target that meets the condition by two of its facts.
@@ -199,9 +200,7 @@ fn conditions_are_met(rt: HostRuntime) {
             b"condition: cfg(a)\nmatch: yes\n".as_slice(),
         ),
     ] {
-        let (ended, written) = answer_to(rt.alloc(), text);
-        assert_eq!(rt; ended, Ok(Outcome::Match));
-        assert_eq!(rt; written.as_slice(), want);
+        assert_answers(&rt, rt.alloc(), text, Outcome::Match, want);
     }
 }
 
@@ -239,9 +238,7 @@ fn conditions_are_not_met(rt: HostRuntime) {
             b"condition: cfg(false)\nmatch: no\n".as_slice(),
         ),
     ] {
-        let (ended, written) = answer_to(rt.alloc(), text);
-        assert_eq!(rt; ended, Ok(Outcome::NoMatch));
-        assert_eq!(rt; written.as_slice(), want);
+        assert_answers(&rt, rt.alloc(), text, Outcome::NoMatch, want);
     }
 }
 
@@ -285,9 +282,7 @@ fn conditions_are_refused(rt: HostRuntime) {
             b"line 1: failed to parse `all` as a cfg expression: expected `(`, but cfg expression ended\n".as_slice(),
         ),
     ] {
-        let (ended, written) = answer_to(rt.alloc(), text);
-        assert_eq!(rt; ended, Ok(Outcome::Refused));
-        assert_eq!(rt; written.as_slice(), want);
+        assert_answers(&rt, rt.alloc(), text, Outcome::Refused, want);
     }
 }
 
@@ -312,9 +307,7 @@ fn facts_are_refused(rt: HostRuntime) {
         ),
         (b"\xff".as_slice(), b"input is not UTF-8\n".as_slice()),
     ] {
-        let (ended, written) = answer_to(rt.alloc(), text);
-        assert_eq!(rt; ended, Ok(Outcome::Refused));
-        assert_eq!(rt; written.as_slice(), want);
+        assert_answers(&rt, rt.alloc(), text, Outcome::Refused, want);
     }
 }
 
@@ -337,9 +330,7 @@ fn conditions_are_warned_of(rt: HostRuntime) {
             Outcome::NoMatch,
         ),
     ] {
-        let (ended, written) = answer_to(rt.alloc(), text);
-        assert_eq!(rt; ended, Ok(outcome));
-        assert_eq!(rt; written.as_slice(), want);
+        assert_answers(&rt, rt.alloc(), text, outcome, want);
     }
 }
 
