@@ -16,7 +16,7 @@ run: rt
 	cd $(PROGRAM) && rt run < stdin
 
 build: rt
-	cd $(PROGRAM) && rt run < stdin > /dev/null; test -x out/platform_check
+	cd $(PROGRAM) && rt run < stdin > /dev/null && test -x out/platform_check
 	@echo "the program is $(PROGRAM)/out/platform_check"
 
 test: rt

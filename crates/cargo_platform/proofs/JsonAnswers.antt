@@ -8,6 +8,7 @@ use Rattle.cargo_platform.specs.declared.json.JsonError.TheVariants as json
 use Rattle.cargo_platform.specs.Trees.{Condition}
 use Rattle.cargo_platform.specs.Platforms.{IsConditionText, IsRefusedCondition}
 use Rattle.cargo_platform.specs.Errors.{orig_of, fault_in}
+use Rattle.cargo_platform.specs.Print.{print_condition}
 use Rattle.cargo_platform.specs.Readers.{ReadsCondition}
 use Rattle.cargo_platform.specs.Json.{ReadsJson}
 
@@ -30,4 +31,5 @@ text_refused value text e is r =
       well_formed = tt;
       refused = λ t h. subst N (same t h) r.refused;
       fault = λ t h. subst F (same t h) r.fault;
+      reads_back = λ c w h. (tt, (r.reads_back c w (same (print_condition c) h)).1);
     }

@@ -8,6 +8,7 @@ use Rattle.cargo_platform.specs.declared.json.JsonError.TheVariants as errors
 use Rattle.cargo_platform.specs.Trees.{Condition, condition_of}
 use Rattle.cargo_platform.specs.Platforms.{IsConditionText, IsRefusedCondition}
 use Rattle.cargo_platform.specs.WellFormed.{IsWellFormedCondition}
+use Rattle.cargo_platform.specs.Print.{print_condition}
 use Rattle.cargo_platform.specs.Errors.{orig_of, fault_in}
 
 -- what is said of the refusal of a text, where it is no want of memory
@@ -31,3 +32,5 @@ pub record ReadsJson (value : Data) (answer : Result Platform JsonError) : Type 
   pub refused : (text : List ℕ) → value ≡ string text → IfJsonParse answer (λ e. (c : Condition) → IsConditionText text c → ⊥)
   -- the error is the fault of the text between `cfg(` and `)`, and else of the whole text
   pub fault : (text : List ℕ) → value ≡ string text → IfJsonParse answer (λ e. IsRefusedCondition text (orig_of e) (fault_in e))
+  -- the JSON text of a well-formed condition is answered by that very condition, and never refused
+  pub reads_back : (c : Condition) → IsWellFormedCondition c → value ≡ string (print_condition c) → IfOk answer (λ p. condition_of p ≡ c) × IfJsonParse answer (λ e. ⊥)

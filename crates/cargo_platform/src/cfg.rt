@@ -11,6 +11,8 @@ use crate::reader::Reader;
 use crate::{Looks, parser};
 use std::alloc::Global;
 
+pub use crate::facts::{FactIndex, Facts, Listed};
+
 /// An identifier. Of those that are read the name is one `_` or ASCII letter, and such characters or ASCII digits behind
 /// it. Equality, order and hash see the name alone; printing and copies keep the raw mark.
 #[derive(Debug, Drop)]
@@ -69,8 +71,9 @@ impl Cfg {
     /// Reads a name, or a key, `=` and a string. Spaces may stand before, between and behind them; `all`, `any`, `not`,
     /// `true` and `false` are ordinary names here.
     ///
-    /// `ReadError::Parse` exactly where the text is no such text, with the first fault: what can't follow the longest
-    /// front of its tokens that some tokens would complete. `ReadError::Memory` where memory is refused.
+    /// Any other text is refused with `ReadError::Parse` of its first fault: what can't follow the longest front of its
+    /// tokens that some tokens would complete. Where memory is refused the answer is `ReadError::Memory`, whatever the
+    /// text.
     pub fn from_str(alloc: Global, s: &str) -> Result<Cfg, ReadError>
         ensures { ReadsValue s.now result }
     {
@@ -90,8 +93,9 @@ impl CfgExpr {
     /// Reads an expression: a name, a pair, a literal, or `all(..)`, `any(..)` or `not(..)` of expressions, to any depth.
     /// A name that is marked as raw opens no group, and `true` and `false` alone are the literals, marked or not.
     ///
-    /// `ReadError::Parse` exactly where the text is no such text, with the first fault: what can't follow the longest
-    /// front of its tokens that some tokens would complete. `ReadError::Memory` where memory is refused.
+    /// Any other text is refused with `ReadError::Parse` of its first fault: what can't follow the longest front of its
+    /// tokens that some tokens would complete. Where memory is refused the answer is `ReadError::Memory`, whatever the
+    /// text.
     pub fn from_str(alloc: Global, s: &str) -> Result<CfgExpr, ReadError>
         ensures { ReadsExpression s.now result }
     {

@@ -18,7 +18,7 @@ pub enum ParseErrorKind {
         expected: &'static str,
         found: &'static str,
     },
-    /// The text ends, or ends with an empty `r#`, where this was expected.
+    /// The text ends where this was expected; or it ends with an empty `r#`, behind which an identifier was expected.
     IncompleteExpr(&'static str),
     /// The front is a whole value or expression, and this text is left behind it.
     UnterminatedExpression(String),

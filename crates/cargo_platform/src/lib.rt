@@ -23,12 +23,10 @@ pub mod tokens;
 mod tree_order;
 mod warnings;
 
-pub use cfg::{Cfg, CfgExpr, Ident};
+pub use cfg::{Cfg, CfgExpr, FactIndex, Facts, Ident, Listed};
 pub use error::{ParseError, ParseErrorKind, ReadError};
-pub use facts::{FactIndex, Facts, Listed};
 pub use json::JsonError;
-pub use source::Looks;
-pub use tokens::{Spanned, Token, TokenFault, TokenFaultKind, Tokenizer};
+pub use tokens::{Looks, Spanned, Token, TokenFault, TokenFaultKind, Tokenizer};
 
 /// The condition of a dependency.
 #[derive(Debug, Drop)]

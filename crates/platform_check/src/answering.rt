@@ -184,7 +184,7 @@ fn verdict(is_met: bool) -> (&'static str, Outcome)
 
 /// The lines on a condition, as it prints, and on whether it is met.
 fn met_lines(alloc: Global, platform: &Platform, word: &str) -> Result<String, AllocError>
-    ensures { IfOk result (λ t. string_bytes t ≡ line (codes "condition: " ++ print_condition (condition_of platform.now)) ++ line (codes "match: " ++ word.now)) }
+    ensures ok { IfOk result (λ t. string_bytes t ≡ line (codes "condition: " ++ print_condition (condition_of platform.now)) ++ line (codes "match: " ++ word.now)) }
 {
     format!(in alloc; "condition: {platform}\nmatch: {word}\n")
 }

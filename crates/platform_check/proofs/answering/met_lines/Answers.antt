@@ -12,5 +12,7 @@ returns c =
     let condition = print_condition (condition_of c.args.platform.now) in
     let word = c.args.word.now in
     let pieces : IfOk c.format.result (λ t. string_bytes t ≡ codes "condition: " ++ (condition ++ (codes "\nmatch: " ++ (word ++ codes "\n")))) = c.format.ensures.ok in
-    IfOk-weaker c.format.result _ (λ t. string_bytes t ≡ line (codes "condition: " ++ condition) ++ line (codes "match: " ++ word))
-    (λ t e. two_lines condition word (string_bytes t) e) pieces
+    record {
+      ok = IfOk-weaker c.format.result _ (λ t. string_bytes t ≡ line (codes "condition: " ++ condition) ++ line (codes "match: " ++ word))
+          (λ t e. two_lines condition word (string_bytes t) e) pieces;
+    }
