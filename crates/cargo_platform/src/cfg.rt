@@ -7,11 +7,10 @@
 //! specific dependencies"); members of `all` and `any` may end with one comma.
 
 use crate::error::ReadError;
+pub use crate::facts::{FactIndex, Facts, Listed};
 use crate::reader::Reader;
 use crate::{Looks, parser};
 use std::alloc::Global;
-
-pub use crate::facts::{FactIndex, Facts, Listed};
 
 /// An identifier. Of those that are read the name is one `_` or ASCII letter, and such characters or ASCII digits behind
 /// it. Equality, order and hash see the name alone; printing and copies keep the raw mark.

@@ -14,10 +14,9 @@ ghost use Rattle.cargo_platform.specs.Reading.{IsRestFrom, characters_from};
 ghost use Rattle.cargo_platform.specs.Looking.{IsCharAt, Costs};
 ghost use Rattle.cargo_platform.specs.Scanning.{Stands};
 
+pub use crate::source::Looks;
 use crate::source::{Look, Source};
 use std::marker::Model;
-
-pub use crate::source::Looks;
 
 /// A token. Names and values are slices of the text; equality looks at all parts.
 #[derive(Clone, Copy, Debug, PartialEq, Eq)]
