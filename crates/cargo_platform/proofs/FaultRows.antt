@@ -119,6 +119,18 @@ group_just_open = row _ (word (codes "all") 0 3 ∷ at LeftParen 3 4 ∷ []) [] 
 value_missing : IsRefused Expressions (codes "a = ") (IncompleteExpr (codes "a string"))
 value_missing = row _ (word (codes "a") 0 1 ∷ at Equals 2 3 ∷ []) [] 4 _ End _ refl (inl refl) refl refl (lit≤ tt) refl
 
+-- one pair, and no comma, stands in `not(..)`
+comma_behind_pair : IsRefused Expressions (codes "not(a = \"1\",") (UnexpectedToken (codes "`)`") (codes "`,`"))
+comma_behind_pair = row _ (word (codes "not") 0 3 ∷ at LeftParen 3 4 ∷ word (codes "a") 4 5 ∷ at Equals 6 7 ∷ at (String (codes "1")) 8 11 ∷ []) (at Comma 11 12 ∷ []) 12 _ _ _ refl (inl refl) refl refl refl refl
+
+-- behind a comma a member may come
+member_missing : IsRefused Expressions (codes "any(a,") (IncompleteExpr (codes "start of a cfg expression"))
+member_missing = row _ (word (codes "any") 0 3 ∷ at LeftParen 3 4 ∷ word (codes "a") 4 5 ∷ at Comma 5 6 ∷ []) [] 6 _ End _ refl (inl refl) refl refl (lit≤ tt) refl
+
+-- nothing is read before the `)`
+pub lone_parenthesis : IsRefused Expressions (codes ")") (UnexpectedToken (codes "identifier") (codes "`)`"))
+lone_parenthesis = row _ [] (at RightParen 0 1 ∷ []) 1 _ _ _ refl (inl refl) refl refl refl refl
+
 paren_for_value : IsRefused Expressions (codes "a = )") (UnexpectedToken (codes "a string") (codes "`)`"))
 paren_for_value = row _ (word (codes "a") 0 1 ∷ at Equals 2 3 ∷ []) (at RightParen 4 5 ∷ []) 5 _ _ _ refl (inl refl) refl refl refl refl
 
@@ -175,5 +187,5 @@ no_other_fault : (rest : List ℕ) → IsRefused Expressions (codes "all(a b \""
 no_other_fault rest r = let same = one_fault Expressions _ _ _ token_before_string r in absurd cc
 
 -- a text that spells a tree has no fault
-whole_is_not_refused : (fault : Fault) → IsRefused Expressions (codes "a") fault → ⊥
+pub whole_is_not_refused : (fault : Fault) → IsRefused Expressions (codes "a") fault → ⊥
 whole_is_not_refused fault r = refused_spells_none (codes "a") fault (Value (Alone (record { raw = false; name = codes "a" }))) r (_, lone_a, (refl, (refl, refl)))

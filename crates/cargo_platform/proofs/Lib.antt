@@ -32,6 +32,14 @@ mod CutRows
 mod SpellingRows
 mod FaultRows
 mod ValueFaultRows
+mod RowTrees
+mod ConditionRows
+mod WellFormedRows
+mod FactRows
+mod PrintRows
+mod KeyRows
+mod WarningRows
+mod ReadingRows
 pub mod FactSets
 pub mod FactTruths
 pub mod FactIndexes

@@ -1,23 +1,15 @@
 -- What some lists of tokens and some texts spell, and that others spell nothing.
-use Rattle.std.proofs.Common.{◌≡◌, refl, sym, ap, subst, ℕ, Bool, true, false, true≢false, List, [], ◌∷◌, None, codes, inl, inr, append-nil, arith, length}
+use Rattle.std.proofs.Common.{◌≡◌, refl, sym, ap, subst, Bool, true, false, true≢false, List, [], ◌∷◌, None, codes, inl, inr, append-nil, arith, length}
 use Rattle.std.specs.Prelude.{IsTrue, IsFalse}
 use Rattle.cargo_platform.specs.Tokens.{Lexeme, LeftParen, RightParen, Ident, Comma, Equals, String, plain}
-use Rattle.cargo_platform.specs.Trees.{Name, CfgValue, Alone, KeyPair, Tree, Not, All, Any, Value, True, False, none, tree, trees_of}
+use Rattle.cargo_platform.specs.Trees.{CfgValue, Alone, KeyPair, Not, All, Any, Value, True, False, none, tree, trees_of}
 use Rattle.cargo_platform.specs.Spelling.{SpellsValue, is_group_word, is_literal_word, MayStand, group, joined, IsMemberList, Spells, SpellEach, Values, Expressions, IsAccepted, IsValueText, IsTreeText}
 use Rattle.cargo_platform.specs.Walk.{walk}
 use Rattle.cargo_platform.proofs.OneCut.{one_cut_from}
 use Rattle.cargo_platform.proofs.Walk.{stopped}
 use Rattle.cargo_platform.proofs.Completing.{accepted_whole}
+use Rattle.cargo_platform.proofs.RowTrees.{name, marked, a}
 use Rattle.cargo_platform.proofs.CutRows.{late_mark, comma_behind, lone_a}
-
-abbrev name : List ℕ → Name
-name s = record { raw = false; name = s }
-
-abbrev marked : List ℕ → Name
-marked s = record { raw = true; name = s }
-
-abbrev a : Tree
-a = Value (Alone (name (codes "a")))
 
 abbrev word_a : Lexeme
 word_a = plain (codes "a")
