@@ -1,13 +1,13 @@
 //! Truth over facts, by each kind of holder.
 
-ghost use Rattle.std.specs.FinSet.{union};
-ghost use Rattle.std.specs.Prelude.{map};
+ghost use Rattle.std.specs.FinSet.{union, empty, from_list};
+ghost use Rattle.std.specs.Prelude.{map, if◌then◌else◌, [], ◌∷◌, codes, Some, None};
 ghost use Rattle.cargo_platform.specs.Facts.{fact_set};
 ghost use Rattle.cargo_platform.specs.Trees.{value_of};
 
 use crate::made::{value, values};
 use crate::real_facts::{LINUX, MACOS, WASM, WINDOWS};
-use cargo_platform::{Cfg, CfgExpr, FactIndex, Facts, Listed};
+use cargo_platform::cfg::{Cfg, CfgExpr, FactIndex, Facts, Listed};
 use std::alloc::{AllocError, Global};
 use std::process::Abort;
 use std::test::Fail;
@@ -24,6 +24,29 @@ impl<'a> Facts for Joined<'a> {
 
     fn holds(&self, c: &Cfg) -> bool {
         Listed(self.target).holds(c) || Listed(self.build).holds(c)
+    }
+}
+
+/// Facts that are kept in no list: `unix` and `target_os = "linux"`, each where its flag is set. The answer is a
+/// function of the name, or of the key and its value.
+#[derive(Drop)]
+struct Flags {
+    unix: bool,
+    linux: bool,
+}
+
+impl Facts for Flags {
+    ghost meant = { λ flags. union
+        (if flags.unix then from_list (record { name = codes "unix"; value = None } ∷ []) else empty)
+        (if flags.linux then from_list (record { name = codes "target_os"; value = Some (codes "linux") } ∷ []) else empty) };
+
+    fn holds(&self, c: &Cfg) -> bool {
+        match c {
+            Cfg::Name(name) => self.unix && name.eq_text("unix"),
+            Cfg::KeyPair(key, value) => {
+                self.linux && key.eq_text("target_os") && value.as_str() == "linux"
+            }
+        }
     }
 }
 
@@ -122,6 +145,58 @@ fn holders_answer_for_names_and_pairs(rt: HostRuntime) -> Result<(), Fail> {
         let asked = value(rt.alloc(), text)?;
         assert_eq!(rt; index.holds(&asked), wanted, "{text}");
         assert_eq!(rt; Listed(&facts).holds(&asked), wanted, "{text}");
+    }
+    Ok(())
+}
+
+/// Asserts what an expression is over flags, and over the facts that they stand for.
+fn assert_flagged(
+    rt: &impl Abort,
+    alloc: Global,
+    text: &str,
+    flags: &Flags,
+    facts: &[Cfg],
+    wanted: bool,
+) -> Result<(), Fail> {
+    assert_matches(rt, alloc, text, facts, wanted)?;
+    let e = CfgExpr::from_str(alloc, text)?;
+    assert_eq!(rt; e.matches_in(flags), wanted, "{text} over flags");
+    Ok(())
+}
+
+/// An expression, and whether it is true with both flags, and with `unix` alone.
+const FLAGGED: &[(&str, bool, bool)] = &[
+    ("unix", true, true),
+    ("r#unix", true, true),
+    ("unix = \"\"", false, false),
+    ("target_os = \"linux\"", true, false),
+    ("r#target_os = \"linux\"", true, false),
+    ("target_os = \"unix\"", false, false),
+    ("target_os", false, false),
+    (
+        "any(linux, target_os = \"\", unix = \"linux\")",
+        false,
+        false,
+    ),
+    ("all(r#unix, not(target_os = \"linux\"))", false, true),
+];
+
+#[test]
+fn flags_match_as_the_facts_that_they_stand_for(rt: HostRuntime) -> Result<(), Fail> {
+    let alloc = rt.alloc();
+    let both = Flags {
+        unix: true,
+        linux: true,
+    };
+    let unix = Flags {
+        unix: true,
+        linux: false,
+    };
+    let both_listed = values(alloc, "unix target_os=linux")?;
+    let unix_listed = values(alloc, "unix")?;
+    for (text, with_both, with_unix) in FLAGGED {
+        assert_flagged(&rt, alloc, text, &both, &both_listed, *with_both)?;
+        assert_flagged(&rt, alloc, text, &unix, &unix_listed, *with_unix)?;
     }
     Ok(())
 }

@@ -173,8 +173,14 @@ fn copies_of_values_keep_marks(rt: HostRuntime) -> Result<(), Fail> {
         assert_prints(&rt, alloc, &copy, text)?;
         assert!(rt; same_ident(&copy, &ident(alloc, text)?), "{text}");
     }
-    for text in ["r#foo", "foo", "r#k=1", "k="] {
+    for (text, printed) in [
+        ("r#foo", "r#foo"),
+        ("foo", "foo"),
+        ("r#k=1", "r#k = \"1\""),
+        ("k=", "k = \"\""),
+    ] {
         let copy = value(alloc, text)?.clone(alloc)?;
+        assert_prints(&rt, alloc, &copy, printed)?;
         assert!(rt; same_value(&copy, &value(alloc, text)?), "{text}");
     }
     Ok(())

@@ -6,7 +6,7 @@
 #![tactic(auto)]
 
 use cargo_platform::{
-    Cfg, CfgExpr, FactIndex, JsonError, ParseError, ParseErrorKind, Platform, ReadError,
+    Cfg, CfgExpr, FactIndex, Ident, JsonError, ParseError, ParseErrorKind, Platform, ReadError,
 };
 use serde_json::Value;
 use std::alloc::{AllocError, Global};
@@ -49,14 +49,19 @@ fn platform(alloc: Global, text: &str) -> Result<Platform, Fault> {
     }
 }
 
+/// The fact that a text spells, which is known to spell one.
+fn fact(alloc: Global, text: &str) -> Result<Cfg, Fault> {
+    match Cfg::from_str(alloc, text) {
+        Ok(fact) => Ok(fact),
+        Err(ReadError::Parse(_)) => Err(Fault::Unknown),
+        Err(ReadError::Memory(_)) => Err(Fault::Memory),
+    }
+}
+
 /// One fact, which is marked.
 fn facts(alloc: Global) -> Result<Vec<Cfg>, Fault> {
     let mut facts = Vec::new(alloc);
-    match Cfg::from_str(alloc, "r#a") {
-        Ok(fact) => facts.push(fact).map_err(AllocError::from)?,
-        Err(ReadError::Parse(_)) => return Err(Fault::Unknown),
-        Err(ReadError::Memory(_)) => return Err(Fault::Memory),
-    }
+    facts.push(fact(alloc, "r#a")?).map_err(AllocError::from)?;
     Ok(facts)
 }
 
@@ -81,12 +86,20 @@ fn ask(alloc: Global, name: &[u8]) -> Result<String, Fault> {
     match name {
         b"key" => key(alloc, "cfg(a)"),
         b"refused_key" => key(alloc, "cfg(a b)"),
+        b"target_key" => key(alloc, "a"),
+        b"spaced_key" => key(alloc, "cfg(a) "),
+        b"empty_key" => key(alloc, ""),
         b"index" => index(alloc),
         b"error" => error(alloc),
         b"attributes" => warned(alloc, true),
         b"keywords" => warned(alloc, false),
         b"clones" => clones(alloc),
+        b"ident_clone" => ident_clone(alloc),
+        b"name_clone" => fact_clone(alloc, "r#a"),
+        b"pair_clone" => fact_clone(alloc, "r#a = \"1\""),
+        b"target_clone" => target_clone(alloc),
         b"json" => json(alloc),
+        b"target_json" => target_json(alloc),
         b"refused_json" => refused_json(alloc),
         _ => Err(Fault::Unknown),
     }
@@ -153,12 +166,38 @@ fn clones(alloc: Global) -> Result<String, Fault> {
     Ok(format!(in alloc; "{platform}\n")?)
 }
 
+fn ident_clone(alloc: Global) -> Result<String, Fault> {
+    let name = Ident {
+        name: String::from_str(alloc, "a")?,
+        raw: true,
+    };
+    let copy = name.clone(alloc)?;
+    Ok(format!(in alloc; "{copy}\n")?)
+}
+
+fn fact_clone(alloc: Global, text: &str) -> Result<String, Fault> {
+    let copy = fact(alloc, text)?.clone(alloc)?;
+    Ok(format!(in alloc; "{copy}\n")?)
+}
+
+fn target_clone(alloc: Global) -> Result<String, Fault> {
+    let copy = platform(alloc, "a")?.clone(alloc)?;
+    Ok(format!(in alloc; "{copy}\n")?)
+}
+
 fn json(alloc: Global) -> Result<String, Fault> {
     let value = platform(alloc, "cfg( a )")?.to_json(alloc)?;
     match Platform::from_json(alloc, &value) {
         Ok(platform) => Ok(format!(in alloc; "{platform}\n")?),
         Err(JsonError::Memory(_)) => Err(Fault::Memory),
         Err(JsonError::NotText | JsonError::Parse(_)) => Err(Fault::Unknown),
+    }
+}
+
+fn target_json(alloc: Global) -> Result<String, Fault> {
+    match platform(alloc, "a")?.to_json(alloc)?.as_str() {
+        Some(text) => Ok(format!(in alloc; "{text}\n")?),
+        None => Err(Fault::Unknown),
     }
 }
 
