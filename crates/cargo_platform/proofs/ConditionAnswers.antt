@@ -7,13 +7,13 @@ use Rattle.cargo_platform.specs.declared.error.ParseError.{ParseError}
 use Rattle.cargo_platform.specs.declared.error.ReadError.{ReadError}
 use Rattle.cargo_platform.specs.declared.error.ReadError.TheVariants as errors
 use Rattle.cargo_platform.specs.Trees.{Tree, tree_of, Condition, Target, Expression, condition_of}
-use Rattle.cargo_platform.specs.Spelling.{IsTreeText, Expressions}
+use Rattle.cargo_platform.specs.Spelling.{Expressions}
 use Rattle.cargo_platform.specs.Faults.{InvalidTarget, IsRefused}
 use Rattle.cargo_platform.specs.Platforms.{IsFirstRefused, IsTargetMessage, IsCfgOf, IsBare, IsConditionText}
 use Rattle.cargo_platform.specs.Errors.{orig_of, fault_in}
 use Rattle.cargo_platform.specs.Readers.{ReadsExpression, ReadsCondition}
 use Rattle.cargo_platform.proofs.TargetNames.{refused_is_no_name}
-use Rattle.cargo_platform.proofs.Conditions.{one_inner, is_print_condition, reads_back_condition}
+use Rattle.cargo_platform.proofs.Conditions.{none_spelled, is_print_condition, reads_back_condition}
 
 -- the expression between `cfg(` and `)` is read
 pub expression_read : (text inner : List ℕ) (e : CfgExpr) → IsCfgOf text inner → ReadsExpression inner (Ok e) → ReadsCondition text (Ok (platform.Cfg e))
@@ -24,12 +24,6 @@ expression_read text inner e h r = record {
   fault = tt;
   reads_back = λ p w s. (reads_back_condition text (Expression (tree_of e)) p w s (inner, h, r.tree), tt);
 }
-
-none_spelled : (text inner : List ℕ) → IsCfgOf text inner → ((t : Tree) → IsTreeText inner t → ⊥) → (p : Condition) → IsConditionText text p → ⊥
-none_spelled text inner h none (Target name) s = s.1 inner h
-none_spelled text inner h none (Expression t) s =
-    let P : List ℕ → Type 0 = λ z. IsTreeText z t in
-    none t (subst P (one_inner text s.0 inner s.1 h) s.2)
 
 -- or it is refused
 pub expression_refused : (text inner : List ℕ) (error : ReadError) → IsCfgOf text inner → ReadsExpression inner (Err error) → ReadsCondition text (Err error)

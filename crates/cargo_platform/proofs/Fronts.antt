@@ -36,13 +36,14 @@ longest_where g front (t ∷ rest) unfit longer others h p =
           absurd (unfit t rest refl (lexemes m.0) (subst C (ap lexemes m.1 ∙ lexemes-append front (t ∷ m.0)) p))
     ]
 
--- where the walk stops at the next token, no longer front is completable
-pub longest_at : (front rest : List Placed) (t : Placed) → walk (lexemes front ++ (t.token ∷ [])) ≡ None → (longer others : List Placed) → front ++ (t ∷ rest) ≡ longer ++ others → IsCompletable Expressions (lexemes longer) → length longer ≤ length front
-longest_at front rest t stops longer others h p =
-    longest_where Expressions front (t ∷ rest) (λ u us e more c.
-    let Q : List Lexeme → Type 0 = λ z. IsAccepted Expressions z in
-    let same : walk (lexemes front ++ (u.token ∷ [])) ≡ None = ap (λ (z : Placed). walk (lexemes front ++ (z.token ∷ []))) (sym (head_is e)) ∙ stops in
-    stopped (lexemes front ++ (u.token ∷ [])) (more ++ c.0) same (subst Q (append_assoc (lexemes front) (u.token ∷ more) c.0 ∙ sym (append_assoc (lexemes front) (u.token ∷ []) (more ++ c.0))) c.2)) longer others h p
+-- where nothing that begins with the front and the next token is accepted, no longer front is completable
+pub longest_before : (g : Grammar) (front rest : List Placed) (t : Placed) → ((more : List Lexeme) → IsAccepted g ((lexemes front ++ (t.token ∷ [])) ++ more) → ⊥) → (longer others : List Placed) → front ++ (t ∷ rest) ≡ longer ++ others → IsCompletable g (lexemes longer) → length longer ≤ length front
+longest_before g front rest t never longer others h p =
+    longest_where g front (t ∷ rest) (λ u us e more c.
+    let Q : List Lexeme → Type 0 = λ z. IsAccepted g z in
+    let Next : Placed → Type 0 = λ z. IsAccepted g ((lexemes front ++ (z.token ∷ [])) ++ (more ++ c.0)) in
+    let parts = append_assoc (lexemes front) (u.token ∷ more) c.0 ∙ sym (append_assoc (lexemes front) (u.token ∷ []) (more ++ c.0)) in
+    never (more ++ c.0) (subst Next (sym (head_is e)) (subst Q parts c.2))) longer others h p
 
 -- the next token does not go on with the tokens that lead to the state
 abbrev pub goes_on : State → List Placed → Option State
@@ -71,4 +72,4 @@ refused_walked text ts front behind tail s next fault cut parts walked stops fol
   where
     no_longer : (front behind : List Placed) (s : State) → walk (lexemes front) ≡ Some s → goes_on s behind ≡ None → (longer others : List Placed) → front ++ behind ≡ longer ++ others → IsCompletable Expressions (lexemes longer) → length longer ≤ length front
     no_longer front [] s walked stops longer others h p = omega (arith, ap length h, length-append longer others, length-append front [])
-    no_longer front (t ∷ rest) s walked stops longer others h p = longest_at front rest t (walk_on (lexemes front) (t.token ∷ []) s walked ∙ stops) longer others h p
+    no_longer front (t ∷ rest) s walked stops longer others h p = longest_before Expressions front rest t (λ more a. stopped (lexemes front ++ (t.token ∷ [])) more (walk_on (lexemes front) (t.token ∷ []) s walked ∙ stops) a) longer others h p

@@ -16,6 +16,7 @@ pub mod ValueFaults
 pub mod Completable
 pub mod Expecting
 pub mod OneFault
+pub mod SomeFault
 pub mod PrintedSpells
 pub mod PrintedMembers
 pub mod ReadsBack
@@ -46,6 +47,7 @@ pub mod FactIndexes
 pub mod Members
 pub mod TargetNames
 pub mod Conditions
+pub mod ConditionFaults
 pub mod ConditionAnswers
 pub mod WarningWalks
 pub mod Texts

@@ -1,5 +1,5 @@
 -- Target names: what none of them holds, where a text stops being one, and what is said of it.
-use Rattle.std.proofs.Common.{◌≡◌, refl, sym, ap, ◌∙◌, subst, ℕ, Bool, true, false, true≢false, not, cond, List, [], ◌∷◌, ◌++◌, length, codes, get_or, Option, Some, None, MatchOption, find, IsTrue, IsFalse, IsUtf8, MatchBool, option_map, inl, inr, ◌==◌, eq-eqb, eqb-true, chars, encode_utf8, encode_utf8_all, append_assoc, length-append, arith}
+use Rattle.std.proofs.Common.{◌≡◌, refl, sym, ap, ◌∙◌, subst, ℕ, Bool, true, false, true≢false, not, ◌||◌, ◌<◌, suc, cond, List, [], ◌∷◌, ◌++◌, length, codes, get_or, Option, Some, None, MatchOption, find, IsTrue, IsFalse, IsUtf8, MatchBool, option_map, inl, inr, ◌==◌, eq-eqb, eqb-true, chars, encode_utf8, encode_utf8_all, append_assoc, length-append, arith}
 use Rattle.std.specs.Char.{IsScalar}
 use Rattle.std.specs.List.{list_all, list_any}
 use Rattle.std.specs.Str.{all_scalars, NonePass}
@@ -27,15 +27,15 @@ none_pass : (t : ℕ → Bool) (cs : List ℕ) → IsTrue (list_all t cs) → No
 none_pass t [] h = tt
 none_pass t (c ∷ cs) h = let parts = and_parts _ _ h in (ap not parts.0, none_pass t cs parts.1)
 
-cfg_is_no_name : (inner : List ℕ) → IsTargetName (codes "cfg(" ++ inner ++ codes ")") → ⊥
-cfg_is_no_name inner w =
-    let text : List ℕ = codes "cfg(" ++ inner ++ codes ")" in
-    let passed : not (is_target_char (get_or text 3 0)) ≡ false = NoCharPasses-byte (λ c. not (is_target_char c)) text 3 (w.0, sym w.2, none_pass is_target_char w.0 w.3) (omega arith) (omega arith) in
-    true≢false (ap not (sym parenthesis_refused) ∙ passed)
+-- a text with a `(` is no target name
+no_parenthesis : (text : List ℕ) (i : ℕ) → i < length text → get_or text i 0 ≡ 0x28 → IsTargetName text → ⊥
+no_parenthesis text i below held w =
+    let passed : not (is_target_char (get_or text i 0)) ≡ false = NoCharPasses-byte (λ c. not (is_target_char c)) text i (w.0, sym w.2, none_pass is_target_char w.0 w.3) below (omega (arith, held)) in
+    true≢false (ap not (sym parenthesis_refused) ∙ ap (λ c. not (is_target_char c)) (sym held) ∙ passed)
 
 -- a target name is no `cfg(..)`
 pub name_is_bare : (name : List ℕ) → IsTargetName name → IsBare name
-name_is_bare name w = λ inner h. cfg_is_no_name inner (subst IsTargetName h w)
+name_is_bare name w = λ inner h. no_parenthesis (codes "cfg(" ++ inner ++ codes ")") 3 (omega arith) refl (subst IsTargetName h w)
 
 -- ---- the first refused character
 
@@ -70,7 +70,7 @@ found : (t : ℕ → Bool) (cs : List ℕ) → IsTrue (all_scalars cs) → Found
 found t [] s = ([], refl, refl, refl)
 found t (c ∷ cs) s = let parts = and_parts _ _ s in at_first t c cs (t c) refl parts.0 (found t cs parts.1)
 
-same_option : (o : Option ℕ) → option_map (λ (c : ℕ). c) o ≡ o
+pub same_option : (o : Option ℕ) → option_map (λ (c : ℕ). c) o ≡ o
 same_option None = refl
 same_option (Some c) = refl
 
@@ -121,3 +121,19 @@ parenthesis_message text r m held message is = inl (sym (contained text r m) ∙
 
 pub character_message : (text : List ℕ) (r : Bool) (c : ℕ) → Contains text r → r ≡ false → IsFirstRefused text c → (message : List ℕ) → message ≡ codes "unexpected character " ++ (encode_utf8 c ++ codes " in target name") → IsTargetMessage text message
 character_message text r c m none first message is = inr (sym (contained text r m) ∙ none, (c, first, is))
+
+-- ---- a text that is refused with a message is no target name
+
+held_at : (text : List ℕ) → IsTrue (list_any (λ c. c == 0x28) text) → (i : ℕ) × (i < length text) × (get_or text i 0 ≡ 0x28)
+held_at [] h = absurd (true≢false (sym h))
+held_at (c ∷ text) h =
+    elim (c == 0x28) as (λ z. (c == 0x28) ≡ z → (i : ℕ) × (i < length (c ∷ text)) × (get_or (c ∷ text) i 0 ≡ 0x28)) [
+      | true ↦ λ here. (0, omega arith, eqb-true c 0x28 here)
+      | false ↦ λ not_here.
+          let k = held_at text (sym (ap (λ z. z || list_any (λ d. d == 0x28) text) not_here) ∙ h) in
+          (suc k.0, omega (arith, k.1), k.2)
+    ] refl
+
+pub message_is_no_name : (text message : List ℕ) → IsTargetMessage text message → IsTargetName text → ⊥
+message_is_no_name text message (inl m) w = let k = held_at text m.0 in no_parenthesis text k.0 k.1 k.2 w
+message_is_no_name text message (inr m) w = refused_is_no_name text m.1.0 m.1.1 w

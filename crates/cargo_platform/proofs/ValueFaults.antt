@@ -22,7 +22,7 @@ is_value_front ts = false
 no_token : {A : Type 0} {t : Lexeme} {ts : List Lexeme} → t ∷ ts ≡ [] → A
 no_token h = absurd cc
 
-spelled_front : (c : CfgValue) (ts more : List Lexeme) → ts ++ more ≡ value_spelling c → is_value_front ts ≡ true
+pub spelled_front : (c : CfgValue) (ts more : List Lexeme) → ts ++ more ≡ value_spelling c → is_value_front ts ≡ true
 spelled_front (Alone n) [] more h = refl
 spelled_front (Alone n) (t ∷ []) more h = ap (λ z. is_value_front (z ∷ [])) (head_is h)
 spelled_front (Alone n) (t ∷ u ∷ ts) more h = no_token (tail_is h)
@@ -32,7 +32,7 @@ spelled_front (KeyPair k v) (t ∷ u ∷ []) more h = λ i. is_value_front (head
 spelled_front (KeyPair k v) (t ∷ u ∷ w ∷ []) more h = λ i. is_value_front (head_is h i ∷ head_is (tail_is h) i ∷ head_is (tail_is (tail_is h)) i ∷ [])
 spelled_front (KeyPair k v) (t ∷ u ∷ w ∷ x ∷ ts) more h = no_token (tail_is (tail_is (tail_is h)))
 
-front_completes : (ts : List Lexeme) → is_value_front ts ≡ true → IsCompletable Values ts
+pub front_completes : (ts : List Lexeme) → is_value_front ts ≡ true → IsCompletable Values ts
 front_completes [] h = (Ident false (codes "a") ∷ [], ((refl, refl), tt), (Alone (record { raw = false; name = codes "a" }), refl))
 front_completes (Ident raw name ∷ []) h = ([], tt, (Alone (record { raw = raw; name = name }), refl))
 front_completes (Ident raw name ∷ Equals ∷ []) h = (String [] ∷ [], ((([], (refl, refl)), refl), tt), (KeyPair (record { raw = raw; name = name }) [], refl))
@@ -55,11 +55,11 @@ third_is : (raw : Bool) (name : List ℕ) (t : Lexeme) (more : List Lexeme) → 
 third_is raw name (String value) more h = (value, refl)
 third_is raw name t more h = absurd (true≢false (sym h))
 
-none_is : IsAccepted Values [] → ⊥
+pub none_is : IsAccepted Values [] → ⊥
 none_is (Alone n, h) = no_token (sym h)
 none_is (KeyPair k v, h) = no_token (sym h)
 
-key_is : (raw : Bool) (name : List ℕ) → IsAccepted Values (Ident raw name ∷ Equals ∷ []) → ⊥
+pub key_is : (raw : Bool) (name : List ℕ) → IsAccepted Values (Ident raw name ∷ Equals ∷ []) → ⊥
 key_is raw name (Alone n, h) = no_token (tail_is h)
 key_is raw name (KeyPair k v, h) = no_token (sym (tail_is (tail_is h)))
 

@@ -8,9 +8,9 @@ ghost use Rattle.cargo_platform.specs.Spelling.{Grammar};
 ghost use Rattle.cargo_platform.specs.Faults.{IsCompletable, Fault};
 ghost use Rattle.cargo_platform.specs.CutLaws.{HasOneCut, CutsAreRead, IsReadAlike, EndsForGood, FailsOnce};
 ghost use Rattle.cargo_platform.specs.GrammarLaws.{HasOneTree, IsOneTreeText, HasOneValue, IsOneValueText, SpellsWellFormed, IsWellFormedText};
-ghost use Rattle.cargo_platform.specs.FaultLaws.{FrontsAreCompletable, IsCompletedShortly, IsWalkedIffCompletable, IsKeptByWalk, IsFrontCompletable, IsStoppedByNext, IsExpectedToFollow, NamesWhatCanFollow, HasOneFault};
+ghost use Rattle.cargo_platform.specs.FaultLaws.{FrontsAreCompletable, IsCompletedShortly, IsWalkedIffCompletable, IsKeptByWalk, IsFrontCompletable, IsStoppedByNext, IsExpectedToFollow, NamesWhatCanFollow, HasOneFault, SpellsOrIsRefused, RefusedSpellsNothing};
 ghost use Rattle.cargo_platform.specs.PrintLaws.{PrintSpells, PrintsApart, PrintSpellsValue, PrintsApartValues};
-ghost use Rattle.cargo_platform.specs.PlatformLaws.{IsOneConditionText, SpellsWellFormedConditions, PrintSpellsCondition, PrintsApartConditions};
+ghost use Rattle.cargo_platform.specs.PlatformLaws.{IsOneConditionText, SpellsWellFormedConditions, PrintSpellsCondition, PrintsApartConditions, SpellsConditionOrIsRefused, RefusedSpellsNoCondition, HasOneConditionFault};
 ghost use Rattle.cargo_platform.specs.Facts.{Pair, FactSet, fact_set, truth};
 ghost use Rattle.cargo_platform.specs.FactLaws.{IsInWhereListed, HaveSamePairs, HaveSameFacts, IsMonotone, IsNotAllAnyNot, IsOrderOfKeys};
 ghost use Rattle.cargo_platform.specs.Key.{name_key, value_key, key, condition_key, name_cmp, value_cmp, tree_cmp, condition_cmp};
@@ -110,6 +110,12 @@ pub fn one_fault()
     ensures { (g : Grammar) (text : List ℕ) → HasOneFault g text }
 {}
 
+/// A text spells a name or a pair, or has a fault as one, and never both. So it is with expressions.
+pub fn spelled_or_refused()
+    ensures either { (g : Grammar) (text : List ℕ) → IsUtf8 text → SpellsOrIsRefused g text }
+    ensures not_both { (g : Grammar) (text : List ℕ) (fault : Fault) → RefusedSpellsNothing g text fault }
+{}
+
 /// The print of a well-formed name or pair spells it.
 pub fn print_spells_value()
     ensures { (c : CfgValue) → PrintSpellsValue c }
@@ -138,6 +144,17 @@ pub fn one_condition_text()
 /// A text spells only well-formed conditions.
 pub fn well_formed_conditions()
     ensures { (text : List ℕ) → SpellsWellFormedConditions text }
+{}
+
+/// A text is refused as a condition with at most one fault, which is the fault of one text.
+pub fn one_condition_fault()
+    ensures { (text : List ℕ) → HasOneConditionFault text }
+{}
+
+/// A text spells a condition, or is refused as one, and never both.
+pub fn condition_spelled_or_refused()
+    ensures either { (text : List ℕ) → IsUtf8 text → SpellsConditionOrIsRefused text }
+    ensures not_both { (text orig : List ℕ) (fault : Fault) → RefusedSpellsNoCondition text orig fault }
 {}
 
 /// The print of a well-formed condition spells it.
