@@ -1,19 +1,19 @@
 -- What is answered to the text of a condition, case by case.
-use Rattle.std.proofs.Common.{◌≡◌, sym, subst, ℕ, List, inl, inr, Ok, Err, String, Global}
+use Rattle.std.proofs.Common.{◌≡◌, sym, subst, ℕ, List, inl, Ok, Err, String, Global}
 use Rattle.cargo_platform.specs.declared.Platform.{Platform}
 use Rattle.cargo_platform.specs.declared.Platform.TheVariants as platform
 use Rattle.cargo_platform.specs.declared.cfg.CfgExpr.{CfgExpr}
 use Rattle.cargo_platform.specs.declared.error.ParseError.{ParseError}
 use Rattle.cargo_platform.specs.declared.error.ReadError.{ReadError}
 use Rattle.cargo_platform.specs.declared.error.ReadError.TheVariants as errors
-use Rattle.cargo_platform.specs.Trees.{Tree, tree_of, Condition, Target, Expression, condition_of}
+use Rattle.cargo_platform.specs.Trees.{Tree, tree_of, Expression, condition_of}
 use Rattle.cargo_platform.specs.Spelling.{Expressions}
-use Rattle.cargo_platform.specs.Faults.{InvalidTarget, IsRefused}
-use Rattle.cargo_platform.specs.Platforms.{IsFirstRefused, IsTargetMessage, IsCfgOf, IsBare, IsConditionText}
+use Rattle.cargo_platform.specs.Faults.{IsRefused}
+use Rattle.cargo_platform.specs.Platforms.{IsCfgOf, IsConditionText, IsRefusedCondition}
 use Rattle.cargo_platform.specs.Errors.{orig_of, fault_in}
 use Rattle.cargo_platform.specs.Readers.{ReadsExpression, ReadsCondition}
-use Rattle.cargo_platform.proofs.TargetNames.{refused_is_no_name}
-use Rattle.cargo_platform.proofs.Conditions.{none_spelled, is_print_condition, reads_back_condition}
+use Rattle.cargo_platform.proofs.Conditions.{is_print_condition, reads_back_condition}
+use Rattle.cargo_platform.proofs.ConditionFaults.{refused_spells_no_condition}
 
 -- the expression between `cfg(` and `)` is read
 pub expression_read : (text inner : List ℕ) (e : CfgExpr) → IsCfgOf text inner → ReadsExpression inner (Ok e) → ReadsCondition text (Ok (platform.Cfg e))
@@ -25,35 +25,24 @@ expression_read text inner e h r = record {
   reads_back = λ p w s. (reads_back_condition text (Expression (tree_of e)) p w s (inner, h, r.tree), tt);
 }
 
--- or it is refused
-pub expression_refused : (text inner : List ℕ) (error : ReadError) → IsCfgOf text inner → ReadsExpression inner (Err error) → ReadsCondition text (Err error)
-expression_refused text inner (errors.Parse e) h r =
-    let P : List ℕ → Type 0 = λ z. IsCfgOf text z in
-    let Q : List ℕ → Type 0 = λ z. IsRefused Expressions z (fault_in e) in
-    let none = none_spelled text inner h r.refused in
+-- the text is refused
+pub condition_refused : (text : List ℕ) (e : ParseError) → IsRefusedCondition text (orig_of e) (fault_in e) → ReadsCondition text (Err (errors.Parse e))
+condition_refused text e fault =
+    let none = refused_spells_no_condition text (orig_of e) (fault_in e) fault in
     record {
       condition = tt;
       well_formed = tt;
       refused = none;
-      fault = inl (subst P (sym r.orig) h, subst Q (sym r.orig) r.fault);
+      fault = fault;
       reads_back = λ p w s. (tt, none p (is_print_condition text p w s));
     }
+
+-- the expression between `cfg(` and `)` is not read
+pub expression_refused : (text inner : List ℕ) (error : ReadError) → IsCfgOf text inner → ReadsExpression inner (Err error) → ReadsCondition text (Err error)
+expression_refused text inner (errors.Parse e) h r =
+    let P : List ℕ → Type 0 = λ z. IsCfgOf text z × IsRefused Expressions z (fault_in e) in
+    condition_refused text e (inl (subst P (sym r.orig) (h, r.fault)))
 expression_refused text inner (errors.Memory e) h r = record { condition = tt; well_formed = tt; refused = tt; fault = tt; reads_back = λ p w s. (tt, tt) }
-
-no_name_spelled : (text : List ℕ) (c : ℕ) → IsBare text → IsFirstRefused text c → (p : Condition) → IsConditionText text p → ⊥
-no_name_spelled text c bare first (Target name) s = refused_is_no_name text c first s.2
-no_name_spelled text c bare first (Expression t) s = bare s.0 s.1
-
--- a target name is refused
-pub name_refused : (text : List ℕ) (c : ℕ) (e : ParseError) → IsBare text → IsFirstRefused text c → orig_of e ≡ text
-    → ((message : List ℕ) × IsTargetMessage text message × (fault_in e ≡ InvalidTarget message)) → ReadsCondition text (Err (errors.Parse e))
-name_refused text c e bare first of why = record {
-  condition = tt;
-  well_formed = tt;
-  refused = no_name_spelled text c bare first;
-  fault = inr (bare, of, why);
-  reads_back = λ p w s. (tt, no_name_spelled text c bare first p (is_print_condition text p w s));
-}
 
 -- ---- from an answer to what the text spells
 

@@ -33,13 +33,6 @@ one_condition text (Expression d) (Expression e) p q = ap Expression (one_expres
 pub none_true : (text : List ℕ) (facts : FactSet) (d : Tree) (b : Bool) → IsConditionText text (Expression d) → b ≡ truth facts d → b ≡ false → (e : Tree) → IsConditionText text (Expression e) → truth facts e ≡ false
 none_true text facts d b p is no_truth e q = ap (truth facts) (one_expression text e d q p) ∙ sym is ∙ no_truth
 
--- where no expression is spelled between `cfg(` and `)`, no condition is
-pub none_spelled : (text inner : List ℕ) → IsCfgOf text inner → ((t : Tree) → IsTreeText inner t → ⊥) → (p : Condition) → IsConditionText text p → ⊥
-none_spelled text inner h none (Target name) s = s.1 inner h
-none_spelled text inner h none (Expression t) s =
-    let P : List ℕ → Type 0 = λ z. IsTreeText z t in
-    none t (subst P (one_inner text s.0 inner s.1 h) s.2)
-
 -- A text spells only well-formed conditions.
 pub spelled_well_formed_condition : (text : List ℕ) (p : Condition) → IsConditionText text p → IsWellFormedCondition p
 spelled_well_formed_condition text (Target m) p = subst IsTargetName (sym p.0) p.2

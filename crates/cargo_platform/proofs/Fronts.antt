@@ -25,9 +25,13 @@ longer_or (f ∷ fs) others (u ∷ us) rest t h =
       | inr m ↦ inr (m.0, λ i. sym (head_is h) i ∷ m.1 i)
     ]
 
+-- no front of a list is longer than the list
+pub none_longer : (front longer others : List Placed) → front ++ [] ≡ longer ++ others → length longer ≤ length front
+none_longer front longer others h = omega (arith, ap length h, length-append longer others, length-append front [])
+
 -- where the front with the next token is the front of no completable list, no longer front is completable
 pub longest_where : (g : Grammar) (front after : List Placed) → ((t : Placed) (us : List Placed) → after ≡ t ∷ us → (more : List Lexeme) → IsCompletable g (lexemes front ++ (t.token ∷ more)) → ⊥) → (longer others : List Placed) → front ++ after ≡ longer ++ others → IsCompletable g (lexemes longer) → length longer ≤ length front
-longest_where g front [] unfit longer others h p = omega (arith, ap length h, length-append longer others, length-append front [])
+longest_where g front [] unfit longer others h p = none_longer front longer others h
 longest_where g front (t ∷ rest) unfit longer others h p =
     elim (longer_or front others longer rest t h) [
       | inl le ↦ le
@@ -71,5 +75,5 @@ refused_walked text ts front behind tail s next fault cut parts walked stops fol
 }
   where
     no_longer : (front behind : List Placed) (s : State) → walk (lexemes front) ≡ Some s → goes_on s behind ≡ None → (longer others : List Placed) → front ++ behind ≡ longer ++ others → IsCompletable Expressions (lexemes longer) → length longer ≤ length front
-    no_longer front [] s walked stops longer others h p = omega (arith, ap length h, length-append longer others, length-append front [])
+    no_longer front [] s walked stops longer others h p = none_longer front longer others h
     no_longer front (t ∷ rest) s walked stops longer others h p = longest_before Expressions front rest t (λ more a. stopped (lexemes front ++ (t.token ∷ [])) more (walk_on (lexemes front) (t.token ∷ []) s walked ∙ stops) a) longer others h p

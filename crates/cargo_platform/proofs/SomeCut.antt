@@ -1,6 +1,6 @@
 -- Each text has a cut.
-use Rattle.std.proofs.Common.{◌≡◌, refl, sym, ap, subst, ◌∙◌, ℕ, zero, suc, ◌+◌, ◌-◌, ◌<◌, ◌≤◌, Bool, true, false, not, ◌&&◌, ◌||◌, List, [], ◌∷◌, ◌++◌, codes, inl, inr, ◌⊎◌, true≢false, append_assoc, arith, length, take, drop, get_or, length-drop, length-append, drop_of_length-le, lit≤}
-use Rattle.std.proofs.Math.Seq.{take-append_seam, drop-append_seam}
+use Rattle.std.proofs.Common.{◌≡◌, refl, sym, ap, subst, ◌∙◌, ℕ, zero, suc, ◌+◌, ◌-◌, ◌<◌, ◌≤◌, Bool, true, false, not, ◌&&◌, ◌||◌, List, [], ◌∷◌, ◌++◌, codes, inl, inr, ◌⊎◌, true≢false, append_assoc, arith, length, take, drop, length-drop, length-append, drop_of_length-le, lit≤}
+use Rattle.std.proofs.Math.Seq.{take-append_seam, drop-append_seam, get_or-append_seam}
 use Rattle.std.specs.Prelude.{IsUtf8, bytes_eq, ◌==◌}
 use Rattle.std.specs.List.{list_all}
 use Rattle.std.specs.Char.{encode_utf8}
@@ -63,19 +63,15 @@ quoted (b ∷ bs) =
       ]
     ] refl
 
-seam : (v rest : List ℕ) → get_or (v ++ (0x22 ∷ rest)) (length v) 0 ≡ 0x22
-seam [] rest = refl
-seam (x ∷ v) rest = seam v rest
-
--- both sides of a quote are text
-quote_sides : (text v rest : List ℕ) → IsUtf8 text → text ≡ v ++ (0x22 ∷ rest) → IsUtf8 v × IsUtf8 rest
-quote_sides text v rest u h =
+-- both sides of an ASCII byte are text
+pub ascii_sides : (b : ℕ) (text v rest : List ℕ) → b < 128 → IsUtf8 text → text ≡ v ++ (b ∷ rest) → IsUtf8 v × IsUtf8 rest
+ascii_sides b text v rest ascii u h =
     let P : List ℕ → Type 0 = λ z. IsUtf8 z in
-    let w : IsUtf8 (v ++ (0x22 ∷ rest)) = subst P h u in
-    let b : IsCharBoundary (v ++ (0x22 ∷ rest)) (length v) =
-    IsCharBoundary-before_ascii (v ++ (0x22 ∷ rest)) (length v) (omega (arith, length-append v (0x22 ∷ rest))) (omega (arith, seam v rest)) in (
-      subst P (take-append_seam v (0x22 ∷ rest)) (IsUtf8-take (v ++ (0x22 ∷ rest)) (length v) w b),
-      ascii_rest 0x22 rest (lit≤ tt) (subst P (drop-append_seam v (0x22 ∷ rest)) (IsUtf8-drop (v ++ (0x22 ∷ rest)) (length v) w b)),
+    let w : IsUtf8 (v ++ (b ∷ rest)) = subst P h u in
+    let at : IsCharBoundary (v ++ (b ∷ rest)) (length v) =
+    IsCharBoundary-before_ascii (v ++ (b ∷ rest)) (length v) (omega (arith, length-append v (b ∷ rest))) (omega (arith, ascii, get_or-append_seam v b rest 0)) in (
+      subst P (take-append_seam v (b ∷ rest)) (IsUtf8-take (v ++ (b ∷ rest)) (length v) w at),
+      ascii_rest b rest ascii (subst P (drop-append_seam v (b ∷ rest)) (IsUtf8-drop (v ++ (b ∷ rest)) (length v) w at)),
     )
 
 -- the first character
@@ -176,7 +172,7 @@ unfolding Quoted
 string bs u =
     elim (quoted bs) [
       | inl q ↦
-          let sides = quote_sides bs q.0 q.1 u q.2 in
+          let sides = ascii_sides 0x22 bs q.0 q.1 (lit≤ tt) u q.2 in
           inr (record { token = String q.0; rest = q.1; parts = ap (λ (z : List ℕ). 0x22 ∷ z) (q.2 ∙ sym (append_assoc q.0 (codes "\"") q.1)); well = (sides.0, q.3); ends = tt; utf8 = sides.1 })
       | inr a ↦ inl (inr (UnterminatedString, (bs, record { scalar = refl; parts = sym (ap (λ (z : List ℕ). z ++ bs) (encode_ascii 0x22 (lit≤ tt))) }, a)))
     ]

@@ -1,5 +1,5 @@
 -- In each grammar a text spells something, or has a fault, and not both.
-use Rattle.std.proofs.Common.{◌≡◌, refl, sym, ap, subst, ◌∙◌, ℕ, ◌≤◌, Bool, true, false, true≢false, List, [], ◌∷◌, ◌++◌, Option, Some, None, inl, inr, ◌⊎◌, append_assoc, append-nil, length, length-append, length-drop, arith}
+use Rattle.std.proofs.Common.{◌≡◌, refl, sym, ap, subst, ◌∙◌, ℕ, ◌≤◌, Bool, true, false, true≢false, List, [], ◌∷◌, ◌++◌, Option, Some, None, inl, inr, ◌⊎◌, append_assoc, append-nil, length, length-drop, arith}
 use Rattle.std.specs.Prelude.{◌↔◌, IsTrue, IsUtf8, drop}
 use Rattle.std.specs.List.{last_or}
 use Rattle.cargo_platform.specs.Tokens.{Lexeme, Ident, Equals, String, Placed}
@@ -12,37 +12,43 @@ use Rattle.cargo_platform.specs.Walk.{walk}
 use Rattle.cargo_platform.specs.Parsing.{is_whole}
 use Rattle.cargo_platform.proofs.Walk.{stopped}
 use Rattle.cargo_platform.proofs.Completing.{walked_completes, whole_accepted, accepted_whole}
-use Rattle.cargo_platform.proofs.Fronts.{lexemes-append, longest_before}
+use Rattle.cargo_platform.proofs.Fronts.{lexemes-append, none_longer, longest_before}
 use Rattle.cargo_platform.proofs.ValueFaults.{is_value_front, spelled_front, front_completes, completable_values, none_is, key_is}
 use Rattle.cargo_platform.proofs.Refused.{refused_spells_none, refused_spells_no_value}
 use Rattle.cargo_platform.proofs.SomeCut.{some_cut}
 use Rattle.cargo_platform.proofs.Completable.{none_completable}
 
 -- the tokens are completable, or no further tokens make them accepted
-completable_or : (g : Grammar) (ts : List Lexeme) → IsCompletable g ts ⊎ ((more : List Lexeme) → IsAccepted g (ts ++ more) → ⊥)
+abbrev IsCompletableOrNot : Grammar → List Lexeme → Type 0
+IsCompletableOrNot g ts = IsCompletable g ts ⊎ ((more : List Lexeme) → IsAccepted g (ts ++ more) → ⊥)
+
+completable_or : (g : Grammar) (ts : List Lexeme) → IsCompletableOrNot g ts
 completable_or Values ts =
-    elim (is_value_front ts) as (λ z. is_value_front ts ≡ z → IsCompletable Values ts ⊎ ((more : List Lexeme) → IsAccepted Values (ts ++ more) → ⊥)) [
+    elim (is_value_front ts) as (λ z. is_value_front ts ≡ z → IsCompletableOrNot Values ts) [
       | true ↦ λ h. inl (front_completes ts h)
       | false ↦ λ h. inr (λ more a. true≢false (sym (spelled_front a.0 ts more a.1) ∙ h))
     ] refl
 completable_or Expressions ts =
-    elim (walk ts) as (λ z. walk ts ≡ z → IsCompletable Expressions ts ⊎ ((more : List Lexeme) → IsAccepted Expressions (ts ++ more) → ⊥)) [
+    elim (walk ts) as (λ z. walk ts ≡ z → IsCompletableOrNot Expressions ts) [
       | None ↦ λ h. inr (λ more a. stopped ts more h a)
       | Some s ↦ λ h. inl (walked_completes ts s h)
     ] refl
 
-accepted_value_or : (ts : List Lexeme) → is_value_front ts ≡ true → (b : Bool) × (IsTrue b ↔ IsAccepted Values ts)
+-- an answer to whether the tokens are accepted
+abbrev IsAcceptedOrNot : Grammar → List Lexeme → Type 0
+IsAcceptedOrNot g ts = (accepted : Bool) × (IsTrue accepted ↔ IsAccepted g ts)
+
+accepted_value_or : (ts : List Lexeme) → is_value_front ts ≡ true → IsAcceptedOrNot Values ts
 accepted_value_or [] h = (false, (λ n. absurd (true≢false (sym n)), λ a. absurd (none_is a)))
 accepted_value_or (Ident raw name ∷ []) h = (true, (λ _. (Alone (record { raw = raw; name = name }), refl), λ _. refl))
 accepted_value_or (Ident raw name ∷ Equals ∷ []) h = (false, (λ n. absurd (true≢false (sym n)), λ a. absurd (key_is raw name a)))
 accepted_value_or (Ident raw name ∷ Equals ∷ String value ∷ []) h = (true, (λ _. (KeyPair (record { raw = raw; name = name }) value, refl), λ _. refl))
 accepted_value_or ts h = absurd (true≢false (sym h))
 
--- whether completable tokens are accepted
-accepted_or : (g : Grammar) (ts : List Lexeme) → IsCompletable g ts → (b : Bool) × (IsTrue b ↔ IsAccepted g ts)
+accepted_or : (g : Grammar) (ts : List Lexeme) → IsCompletable g ts → IsAcceptedOrNot g ts
 accepted_or Values ts p = accepted_value_or ts ((completable_values ts).0 p)
 accepted_or Expressions ts p =
-    elim (walk ts) as (λ z. walk ts ≡ z → (b : Bool) × (IsTrue b ↔ IsAccepted Expressions ts)) [
+    elim (walk ts) as (λ z. walk ts ≡ z → IsAcceptedOrNot Expressions ts) [
       | None ↦ λ h. absurd (stopped ts p.0 h p.2)
       | Some s ↦ λ h. (is_whole s, (λ w. whole_accepted s ts w h, λ a. accepted_whole s ts h a))
     ] refl
@@ -57,11 +63,7 @@ front_from : (g : Grammar) (front behind : List Placed) → IsCompletable g (lex
 front_from g front [] p = record {
   front = front;
   after = [];
-  is = record {
-    parts = refl;
-    completable = p;
-    longest = λ longer others h _. omega (arith, ap length h, length-append longer others, length-append front []);
-  };
+  is = record { parts = refl; completable = p; longest = λ longer others h q. none_longer front longer others h };
 }
 front_from g front (t ∷ ts) p =
     elim (completable_or g (lexemes front ++ (t.token ∷ []))) [

@@ -1,5 +1,5 @@
 -- Target names: what none of them holds, where a text stops being one, and what is said of it.
-use Rattle.std.proofs.Common.{◌≡◌, refl, sym, ap, ◌∙◌, subst, ℕ, Bool, true, false, true≢false, not, ◌||◌, ◌<◌, suc, cond, List, [], ◌∷◌, ◌++◌, length, codes, get_or, Option, Some, None, MatchOption, find, IsTrue, IsFalse, IsUtf8, MatchBool, option_map, inl, inr, ◌==◌, eq-eqb, eqb-true, chars, encode_utf8, encode_utf8_all, append_assoc, length-append, arith}
+use Rattle.std.proofs.Common.{◌≡◌, refl, sym, ap, ◌∙◌, subst, ℕ, Bool, true, false, true≢false, not, ◌<◌, cond, List, [], ◌∷◌, ◌++◌, length, codes, get_or, Option, Some, None, MatchOption, find, IsTrue, IsFalse, IsUtf8, MatchBool, option_map, inl, inr, ◌==◌, eq-eqb, eqb-true, chars, encode_utf8, encode_utf8_all, append_assoc, length-append, arith}
 use Rattle.std.specs.Char.{IsScalar}
 use Rattle.std.specs.List.{list_all, list_any}
 use Rattle.std.specs.Str.{all_scalars, NonePass}
@@ -7,6 +7,8 @@ use Rattle.std.specs.Str.Pattern.{FindsChar, HasMatch}
 use Rattle.std.proofs.lemmas.Bool.{and_parts}
 use Rattle.std.proofs.lemmas.Str.{NoCharPasses-byte, encode_same, length-encode, len_utf8_bounds, chars_from_encodes}
 use Rattle.std.proofs.lemmas.Str.Pattern.{contains_char}
+use Rattle.std.proofs.lemmas.List.{get_or_default}
+use Rattle.std.proofs.lemmas.List.Folds.{Any-from_list_any}
 use Rattle.std.proofs.lemmas.List.Recursion.{or_is}
 use Rattle.ucd_table.specs.Rows.{in_ranges, value_in}
 use Rattle.ucd_derived.specs.AlphabeticRanges.{alphabetic_ranges}
@@ -98,10 +100,12 @@ fails_not_all t (f ∷ fs) (d ∷ cs) after c fails all e =
     let same = encode_same f d _ _ (sym (append_assoc (encode_utf8 f) (encode_utf8_all fs) (encode_utf8 c ++ after)) ∙ e) in
     fails_not_all t fs cs after c fails (and_parts _ _ all).1 same.1
 
+-- the characters before the first refused one, that one, and what is behind it
+pub first_parts : (text : List ℕ) (c : ℕ) (r : IsFirstRefused text c) → text ≡ encode_utf8_all r.3.0 ++ (encode_utf8 c ++ r.4.0)
+first_parts text c r = r.2 ∙ ap (λ (z : List ℕ). z ++ r.1) r.3.2 ∙ ap (λ (z : List ℕ). encode_utf8_all r.3.0 ++ z) r.4.1.parts
+
 pub refused_is_no_name : (text : List ℕ) (c : ℕ) → IsFirstRefused text c → IsTargetName text → ⊥
-refused_is_no_name text c r w =
-    let parts : text ≡ encode_utf8_all r.3.0 ++ (encode_utf8 c ++ r.4.0) = r.2 ∙ ap (λ (z : List ℕ). z ++ r.1) r.3.2 ∙ ap (λ (z : List ℕ). encode_utf8_all r.3.0 ++ z) r.4.1.parts in
-    fails_not_all is_target_char r.3.0 w.0 r.4.0 c r.5 w.3 (sym parts ∙ w.2)
+refused_is_no_name text c r w = fails_not_all is_target_char r.3.0 w.0 r.4.0 c r.5 w.3 (sym (first_parts text c r) ∙ w.2)
 
 -- ---- the message
 
@@ -124,16 +128,8 @@ character_message text r c m none first message is = inr (sym (contained text r 
 
 -- ---- a text that is refused with a message is no target name
 
-held_at : (text : List ℕ) → IsTrue (list_any (λ c. c == 0x28) text) → (i : ℕ) × (i < length text) × (get_or text i 0 ≡ 0x28)
-held_at [] h = absurd (true≢false (sym h))
-held_at (c ∷ text) h =
-    elim (c == 0x28) as (λ z. (c == 0x28) ≡ z → (i : ℕ) × (i < length (c ∷ text)) × (get_or (c ∷ text) i 0 ≡ 0x28)) [
-      | true ↦ λ here. (0, omega arith, eqb-true c 0x28 here)
-      | false ↦ λ not_here.
-          let k = held_at text (sym (ap (λ z. z || list_any (λ d. d == 0x28) text) not_here) ∙ h) in
-          (suc k.0, omega (arith, k.1), k.2)
-    ] refl
-
 pub message_is_no_name : (text message : List ℕ) → IsTargetMessage text message → IsTargetName text → ⊥
-message_is_no_name text message (inl m) w = let k = held_at text m.0 in no_parenthesis text k.0 k.1 k.2 w
+message_is_no_name text message (inl m) w =
+    let k = Any-from_list_any (λ c. c == 0x28) text m.0 in
+    no_parenthesis text k.0 k.2 (get_or_default text k.0 0 k.1 k.2 ∙ k.3 ∙ eqb-true k.1 0x28 k.4) w
 message_is_no_name text message (inr m) w = refused_is_no_name text m.1.0 m.1.1 w

@@ -1,4 +1,5 @@
-use Rattle.cargo_platform.proofs.ConditionAnswers.{expression_read, expression_refused, name_refused}
+use Rattle.std.proofs.Common.{inr}
+use Rattle.cargo_platform.proofs.ConditionAnswers.{expression_read, expression_refused, condition_refused}
 use Rattle.cargo_platform.proofs.Platform.from_str.Goals as goal
 
 pub returns-in-Ok : goal.returns-in-Ok
@@ -9,4 +10,4 @@ returns-in-Err c = expression_refused c.args.s.now c.in-Some.inner.now c.in-Err.
 
 pub returns-in-Ok-target_error : goal.returns-in-Ok-target_error
 returns-in-Ok-target_error c =
-    name_refused c.args.s.now c.in-Some-first_refused.refused c.in-Ok-target_error.error c.in_default.ensures c.in-Some-first_refused.ensures c.in-Ok-target_error.ensures.of c.in-Ok-target_error.ensures.why
+    condition_refused c.args.s.now c.in-Ok-target_error.error (inr (c.in_default.ensures, c.in-Ok-target_error.ensures.of, c.in-Ok-target_error.ensures.why))
