@@ -47,6 +47,7 @@ pub mod FactIndexes
 pub mod Members
 pub mod TargetNames
 pub mod Conditions
+pub mod Changes
 pub mod ConditionFaults
 pub mod ConditionAnswers
 pub mod WarningWalks

@@ -1,7 +1,7 @@
 -- A list of tokens spells at most one tree, whatever follows it.
 use Rattle.std.proofs.Common.{◌≡◌, refl, sym, ap, ◌∙◌, ℕ, Bool, true, false, not, ◌&&◌, ◌||◌, List, [], ◌∷◌, ◌++◌, codes, inl, inr, ◌⊎◌, true≢false, append_assoc, append-nil, arith, subst, length}
 use Rattle.std.specs.Prelude.{IsFalse, bytes_eq, if◌then◌else◌}
-use Rattle.cargo_platform.specs.Tokens.{Lexeme, LeftParen, RightParen, Ident, Comma, Equals, String}
+use Rattle.cargo_platform.specs.Tokens.{Lexeme, LeftParen, RightParen, Ident, Comma, Equals, String, plain}
 use Rattle.cargo_platform.specs.Trees.{Name, CfgValue, Alone, KeyPair, Tree, Not, All, Any, Value, True, False, Trees, none, tree}
 use Rattle.cargo_platform.specs.Spelling.{value_spelling, is_group_word, is_literal_word, MayStand, group, joined, IsMemberList, Spells, SpellEach, IsTreeText}
 use Rattle.cargo_platform.specs.Key.{rank}
@@ -35,8 +35,8 @@ form_of raw name equals =
     else (if not raw && bytes_eq name (codes "all") then 1
     else (if not raw && bytes_eq name (codes "any") then 2
     else (if equals then 3
-    else (if bytes_eq name (codes "true") then 4
-    else (if bytes_eq name (codes "false") then 5
+    else (if not raw && bytes_eq name (codes "true") then 4
+    else (if not raw && bytes_eq name (codes "false") then 5
     else 3)))))
 
 abbrev pub form : List Lexeme → ℕ
@@ -52,12 +52,10 @@ abbrev three : ℕ
 three = 3
 
 -- a name or a key that may stand in an expression
-picks : (m al an ne e t f : Bool) → (not m && (al || an || ne)) ≡ false → (not e && (t || f)) ≡ false
-    → (if not m && ne then 0 else (if not m && al then 1 else (if not m && an then 2 else (if e then 3 else (if t then 4 else (if f then 5 else 3)))))) ≡ three
+picks : (m al an ne e t f : Bool) → (not m && (al || an || ne)) ≡ false → (not e && (not m && (t || f))) ≡ false
+    → (if not m && ne then 0 else (if not m && al then 1 else (if not m && an then 2 else (if e then 3 else (if not m && t then 4 else (if not m && f then 5 else 3)))))) ≡ three
 picks true al an ne true t f h g = refl
-picks true al an ne false true f h g = absurd cc
-picks true al an ne false false true h g = absurd cc
-picks true al an ne false false false h g = refl
+picks true al an ne false t f h g = refl
 picks false true an ne e t f h g = absurd cc
 picks false false true ne e t f h g = absurd cc
 picks false false false true e t f h g = absurd cc
@@ -74,17 +72,16 @@ form_of_value : (c : CfgValue) (x : List Lexeme) → MayStand c → is_equals_ne
 form_of_value (Alone n) x may ne = form_of_word n (is_equals_next x) may.0 (ap (λ b. not b && is_literal_word n) ne ∙ may.1)
 form_of_value (KeyPair k v) x may ne = form_of_word k true may refl
 
-form_of_literal : (raw : Bool) (x : List Lexeme) → is_equals_next x ≡ false → (form (Ident raw (codes "true") ∷ x) ≡ 4) × (form (Ident raw (codes "false") ∷ x) ≡ 5)
-form_of_literal true x ne = (ap (form_of true (codes "true")) ne, ap (form_of true (codes "false")) ne)
-form_of_literal false x ne = (ap (form_of false (codes "true")) ne, ap (form_of false (codes "false")) ne)
+form_of_literal : (x : List Lexeme) → is_equals_next x ≡ false → (form (plain (codes "true") ∷ x) ≡ 4) × (form (plain (codes "false") ∷ x) ≡ 5)
+form_of_literal x ne = (ap (form_of false (codes "true")) ne, ap (form_of false (codes "false")) ne)
 
 pub form_is : (e : Tree) (s x : List Lexeme) → Spells e s → is_equals_next x ≡ false → form (s ++ x) ≡ rank e
 form_is (Not e) s x p ne = ap (λ s. form (s ++ x)) p.2
 form_is (All es) s x p ne = ap (λ s. form (s ++ x)) p.4
 form_is (Any es) s x p ne = ap (λ s. form (s ++ x)) p.4
 form_is (Value c) s x p ne = ap (λ s. form (s ++ x)) p.0 ∙ form_of_value c x p.1 ne
-form_is True s x p ne = ap (λ s. form (s ++ x)) p.1 ∙ (form_of_literal p.0 x ne).0
-form_is False s x p ne = ap (λ s. form (s ++ x)) p.1 ∙ (form_of_literal p.0 x ne).1
+form_is True s x p ne = ap (λ s. form (s ++ x)) p ∙ (form_of_literal x ne).0
+form_is False s x p ne = ap (λ s. form (s ++ x)) p ∙ (form_of_literal x ne).1
 
 pub same_rank : (e f : Tree) (s t x y : List Lexeme) → Spells e s → Spells f t → is_equals_next x ≡ false → is_equals_next y ≡ false → s ++ x ≡ t ++ y → rank e ≡ rank f
 same_rank e f s t x y p q nx ny h = sym (form_is e s x p nx) ∙ ap form h ∙ form_is f t y q ny
@@ -158,8 +155,8 @@ begins (Not e) s x p = ap (λ s. is_identifier_next (s ++ x)) p.2
 begins (All es) s x p = ap (λ s. is_identifier_next (s ++ x)) p.4
 begins (Any es) s x p = ap (λ s. is_identifier_next (s ++ x)) p.4
 begins (Value c) s x p = ap (λ s. is_identifier_next (s ++ x)) p.0 ∙ value_begins c x
-begins True s x p = ap (λ s. is_identifier_next (s ++ x)) p.1
-begins False s x p = ap (λ s. is_identifier_next (s ++ x)) p.1
+begins True s x p = ap (λ s. is_identifier_next (s ++ x)) p
+begins False s x p = ap (λ s. is_identifier_next (s ++ x)) p
 
 pub differ : (z w : List Lexeme) → z ≡ w → is_identifier_next z ≡ false → is_identifier_next w ≡ true → ⊥
 differ z w h a b = true≢false (sym b ∙ sym (ap is_identifier_next h) ∙ a)
@@ -200,8 +197,8 @@ mutual
   one (Value c) (Value d) s t x y p q nx ny h =
       let r = value_of c d x y nx ny (ap (λ (z : List Lexeme). z ++ x) (sym p.0) ∙ h ∙ ap (λ (z : List Lexeme). z ++ y) q.0) in
       (ap Value r.0, r.1)
-  one True True s t x y p q nx ny h = (refl, tail_is (ap (λ (z : List Lexeme). z ++ x) (sym p.1) ∙ h ∙ ap (λ (z : List Lexeme). z ++ y) q.1))
-  one False False s t x y p q nx ny h = (refl, tail_is (ap (λ (z : List Lexeme). z ++ x) (sym p.1) ∙ h ∙ ap (λ (z : List Lexeme). z ++ y) q.1))
+  one True True s t x y p q nx ny h = (refl, tail_is (ap (λ (z : List Lexeme). z ++ x) (sym p) ∙ h ∙ ap (λ (z : List Lexeme). z ++ y) q))
+  one False False s t x y p q nx ny h = (refl, tail_is (ap (λ (z : List Lexeme). z ++ x) (sym p) ∙ h ∙ ap (λ (z : List Lexeme). z ++ y) q))
   one e f s t x y p q nx ny h = absurd (omega (arith, same_rank e f s t x y p q nx ny h))
 
   one_list : (es fs : Trees) (ms ns : List (List Lexeme)) (i j x y : List Lexeme) → SpellEach es ms → SpellEach fs ns → IsMemberList ms i → IsMemberList ns j → i ++ (RightParen ∷ x) ≡ j ++ (RightParen ∷ y) → (es ≡ fs) × (x ≡ y)

@@ -201,8 +201,8 @@ mutual
       let r = spelled_members es (piece false RightParen ∷ ps) w in
       (group (codes "any") r.1, (r.0, r.1, r.2, r.3, refl), ap (λ (z : List Lexeme). plain (codes "any") ∷ LeftParen ∷ z) r.4 ∙ group_is (codes "any") r.1 (tokens ps))
   spelled (Value c) b ps w = value_spelled c b ps w
-  spelled True b ps w = (plain (codes "true") ∷ [], (false, refl), refl)
-  spelled False b ps w = (plain (codes "false") ∷ [], (false, refl), refl)
+  spelled True b ps w = (plain (codes "true") ∷ [], refl, refl)
+  spelled False b ps w = (plain (codes "false") ∷ [], refl, refl)
 
   spelled_members : (es : Trees) (ps : List Piece) → AreWellFormed es → (ss : List (List Lexeme)) × (inner : List Lexeme) × SpellEach es ss × IsMemberList ss inner × (tokens (members es ps) ≡ inner ++ tokens ps)
   spelled_members none ps w = ([], [], tt, refl, refl)

@@ -41,16 +41,16 @@ group_words = (refl, refl, refl)
 no_group_words : IsFalse (is_group_word (marked (codes "all"))) × IsFalse (is_group_word (name (codes "al"))) × IsFalse (is_group_word (name (codes "true")))
 no_group_words = (refl, refl, refl)
 
-literal_words : IsTrue (is_literal_word (name (codes "true"))) × IsTrue (is_literal_word (marked (codes "false"))) × IsFalse (is_literal_word (name (codes "True")))
+literal_words : IsTrue (is_literal_word (name (codes "true"))) × IsFalse (is_literal_word (marked (codes "false"))) × IsFalse (is_literal_word (name (codes "True")))
 literal_words = (refl, refl, refl)
 
-may_stand : MayStand (Alone (marked (codes "any"))) × MayStand (KeyPair (name (codes "true")) [])
-may_stand = ((refl, refl), refl)
+may_stand : MayStand (Alone (marked (codes "any"))) × MayStand (Alone (marked (codes "true"))) × MayStand (KeyPair (name (codes "true")) [])
+may_stand = ((refl, refl), (refl, refl), refl)
 
 no_word_alone : MayStand (Alone (name (codes "any"))) → ⊥
 no_word_alone p = true≢false p.0
 
-no_literal_alone : MayStand (Alone (marked (codes "true"))) → ⊥
+no_literal_alone : MayStand (Alone (name (codes "true"))) → ⊥
 no_literal_alone p = true≢false p.1
 
 no_word_as_key : MayStand (KeyPair (name (codes "not")) (codes "x")) → ⊥
@@ -69,18 +69,26 @@ none_spelled = ([], [], tt, refl, refl)
 all_a_spelled : Spells (All (tree a none)) (plain (codes "all") ∷ LeftParen ∷ word_a ∷ Comma ∷ RightParen ∷ [])
 all_a_spelled = ((word_a ∷ []) ∷ [], word_a ∷ Comma ∷ [], (a_spelled, tt), inr refl, refl)
 
--- `any(a, not(r#true), b = "1")`
-any_spelled : Spells (Any (trees_of (a ∷ Not True ∷ Value (KeyPair (name (codes "b")) (codes "1")) ∷ []))) (plain (codes "any") ∷ LeftParen ∷ word_a ∷ Comma ∷ plain (codes "not") ∷ LeftParen ∷ Ident true (codes "true") ∷ RightParen ∷ Comma ∷ plain (codes "b") ∷ Equals ∷ String (codes "1") ∷ RightParen ∷ [])
+-- `any(a, not(true), b = "1")`
+any_spelled : Spells (Any (trees_of (a ∷ Not True ∷ Value (KeyPair (name (codes "b")) (codes "1")) ∷ []))) (plain (codes "any") ∷ LeftParen ∷ word_a ∷ Comma ∷ plain (codes "not") ∷ LeftParen ∷ plain (codes "true") ∷ RightParen ∷ Comma ∷ plain (codes "b") ∷ Equals ∷ String (codes "1") ∷ RightParen ∷ [])
 any_spelled = (
-  (word_a ∷ []) ∷ group (codes "not") (Ident true (codes "true") ∷ []) ∷ (plain (codes "b") ∷ Equals ∷ String (codes "1") ∷ []) ∷ [],
-  word_a ∷ Comma ∷ plain (codes "not") ∷ LeftParen ∷ Ident true (codes "true") ∷ RightParen ∷ Comma ∷ plain (codes "b") ∷ Equals ∷ String (codes "1") ∷ [],
-  (a_spelled, ((Ident true (codes "true") ∷ [], (true, refl), refl), ((refl, refl), tt))),
+  (word_a ∷ []) ∷ group (codes "not") (plain (codes "true") ∷ []) ∷ (plain (codes "b") ∷ Equals ∷ String (codes "1") ∷ []) ∷ [],
+  word_a ∷ Comma ∷ plain (codes "not") ∷ LeftParen ∷ plain (codes "true") ∷ RightParen ∷ Comma ∷ plain (codes "b") ∷ Equals ∷ String (codes "1") ∷ [],
+  (a_spelled, ((plain (codes "true") ∷ [], refl, refl), ((refl, refl), tt))),
   inl refl,
   refl,
 )
 
 false_spelled : Spells False (plain (codes "false") ∷ [])
-false_spelled = (false, refl)
+false_spelled = refl
+
+-- `r#true`
+marked_spelled : Spells (Value (Alone (marked (codes "true")))) (Ident true (codes "true") ∷ [])
+marked_spelled = (refl, (refl, refl))
+
+marked_is_no_literal : Spells True (Ident true (codes "true") ∷ []) → ⊥
+unfolding is_raw
+marked_is_no_literal p = true≢false (ap is_raw p)
 
 -- a literal is no value
 literal_is_no_value : Spells (Value (Alone (name (codes "true")))) (plain (codes "true") ∷ []) → ⊥

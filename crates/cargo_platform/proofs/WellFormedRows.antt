@@ -47,14 +47,17 @@ literal_as_key : IsWellFormed (Value (KeyPair (name (codes "true")) []))
 unfolding encode_utf8
 literal_as_key = (((refl, refl), (([], (refl, refl)), refl)), refl)
 
+marked_literal_word : IsWellFormed (Value (Alone (marked (codes "true"))))
+marked_literal_word = ((refl, refl), (refl, refl))
+
 no_unmarked_word : IsWellFormed (Value (Alone (name (codes "all")))) → ⊥
 no_unmarked_word p = true≢false p.1.0
 
 no_word_as_key : IsWellFormed (Value (KeyPair (name (codes "any")) (codes "1"))) → ⊥
 no_word_as_key p = true≢false p.1
 
--- `true` alone is the literal, marked or not
-no_literal_as_value : IsWellFormed (Value (Alone (marked (codes "true")))) → ⊥
+-- `true` alone is the literal, and `r#true` is a name
+no_literal_as_value : IsWellFormed (Value (Alone (name (codes "true")))) → ⊥
 no_literal_as_value p = true≢false p.1.1
 
 -- each member has to be so, at any depth

@@ -25,6 +25,8 @@ pub mod OrderLaws
 pub mod Hashing
 pub mod FactLaws
 pub mod Warnings
+pub mod Earlier
+pub mod ChangeLaws
 pub mod Looking
 pub mod Scanning
 pub mod Ahead

@@ -1,5 +1,5 @@
 -- The values of a tree from left to right, and the warnings on them.
-use Rattle.std.specs.Prelude.{◌≡◌, ℕ, Bool, not, ◌&&◌, ◌||◌, if◌then◌else◌, List, [], ◌∷◌, ◌++◌, codes, bytes_eq, flat_map}
+use Rattle.std.specs.Prelude.{◌≡◌, ℕ, Bool, ◌||◌, if◌then◌else◌, List, [], ◌∷◌, ◌++◌, codes, bytes_eq, flat_map}
 use Rattle.cargo_platform.specs.Trees.{Name, CfgValue, Alone, KeyPair, Tree, Not, All, Any, Value, True, False, Trees, none, tree, Condition, Target, Expression}
 use Rattle.cargo_platform.specs.Spelling.{is_literal_word}
 use Rattle.cargo_platform.specs.Print.{print_name, print_value}
@@ -45,7 +45,7 @@ attribute_warning (KeyPair k v) = if bytes_eq k.name (codes "feature") then unsu
 
 -- unmarked `true` and `false`, alone or as a key
 abbrev pub keyword_warning_at : List ℕ → CfgValue → Name → List (List ℕ)
-keyword_warning_at path c n = if not n.raw && is_literal_word n then keyword_warning path c n.name ∷ [] else []
+keyword_warning_at path c n = if is_literal_word n then keyword_warning path c n.name ∷ [] else []
 
 abbrev pub keyword_warning_of : List ℕ → CfgValue → List (List ℕ)
 keyword_warning_of path (Alone n) = keyword_warning_at path (Alone n) n

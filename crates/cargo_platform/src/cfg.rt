@@ -90,7 +90,7 @@ impl CfgExpr {
     ghost use Rattle.cargo_platform.specs.Readers.{ReadsExpression};
 
     /// Reads an expression: a name, a pair, a literal, or `all(..)`, `any(..)` or `not(..)` of expressions, to any depth.
-    /// A name that is marked as raw opens no group, and `true` and `false` alone are the literals, marked or not.
+    /// A name that is marked as raw is no word of the language: it opens no group, and is no literal.
     ///
     /// Any other text is refused with `ReadError::Parse` of its first fault: what can't follow the longest front of its
     /// tokens that some tokens would complete. Where memory is refused the answer is `ReadError::Memory`, whatever the

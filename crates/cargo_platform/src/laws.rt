@@ -11,6 +11,7 @@ ghost use Rattle.cargo_platform.specs.GrammarLaws.{HasOneTree, IsOneTreeText, Ha
 ghost use Rattle.cargo_platform.specs.FaultLaws.{FrontsAreCompletable, IsCompletedShortly, IsWalkedIffCompletable, IsKeptByWalk, IsFrontCompletable, IsStoppedByNext, IsExpectedToFollow, NamesWhatCanFollow, HasOneFault, SpellsOrIsRefused, RefusedSpellsNothing};
 ghost use Rattle.cargo_platform.specs.PrintLaws.{PrintSpells, PrintsApart, PrintSpellsValue, PrintsApartValues};
 ghost use Rattle.cargo_platform.specs.PlatformLaws.{IsOneConditionText, SpellsWellFormedConditions, PrintSpellsCondition, PrintsApartConditions, SpellsConditionOrIsRefused, RefusedSpellsNoCondition, HasOneConditionFault};
+ghost use Rattle.cargo_platform.specs.ChangeLaws.{SpelledReleased, IsAcceptedAsReleased, IsTreeTextAsReleased, KeepsTree, IsConditionTextAsReleased, KeepsCondition};
 ghost use Rattle.cargo_platform.specs.Facts.{Pair, FactSet, fact_set, truth};
 ghost use Rattle.cargo_platform.specs.FactLaws.{IsInWhereListed, HaveSamePairs, HaveSameFacts, IsMonotone, IsNotAllAnyNot, IsOrderOfKeys};
 ghost use Rattle.cargo_platform.specs.Key.{name_key, value_key, key, condition_key, name_cmp, value_cmp, tree_cmp, condition_cmp};
@@ -165,6 +166,27 @@ pub fn print_spells_condition()
 /// Two well-formed conditions print alike only if they are the same.
 pub fn prints_apart_conditions()
     ensures { (p q : Condition) → PrintsApartConditions p q }
+{}
+
+/// Marked `true` and `false` alone are names; in the Rust crate they are the literals. What tokens spelled there is told
+/// by what they spell, and the same lists of tokens are accepted, so that each refused text keeps its fault.
+pub fn marked_literals_are_names()
+    ensures spelled { (ts : List Lexeme) → SpelledReleased ts }
+    ensures accepted { (ts : List Lexeme) → IsAcceptedAsReleased ts }
+{}
+
+/// Whether marked `true` and `false` alone are names or literals, the same texts spell an expression, and the same one if
+/// none of them stands in it.
+pub fn expressions_as_released()
+    ensures accepted { (text : List ℕ) → IsTreeTextAsReleased text }
+    ensures kept { (text : List ℕ) → KeepsTree text }
+{}
+
+/// Whether marked `true` and `false` alone are names or literals, the same texts spell a condition, and the same one if
+/// none of them stands in it.
+pub fn conditions_as_released()
+    ensures accepted { (text : List ℕ) → IsConditionTextAsReleased text }
+    ensures kept { (text : List ℕ) → KeepsCondition text }
 {}
 
 /// The fact set of a list holds the pairs of its members, so that order, repeats and raw marks play no part.

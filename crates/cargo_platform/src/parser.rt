@@ -85,8 +85,8 @@ fn lone(alloc: Global, raw: bool, name: &str) -> Result<CfgExpr, AllocError>
     ensures { IfOk result (λ e. Spells (tree_of e) (ident_token raw name.now ∷ [])) }
 {
     match name {
-        "true" => Ok(CfgExpr::True),
-        "false" => Ok(CfgExpr::False),
+        "true" if !raw => Ok(CfgExpr::True),
+        "false" if !raw => Ok(CfgExpr::False),
         _ => Ok(CfgExpr::Value(Cfg::Name(ident(alloc, raw, name)?))),
     }
 }

@@ -1,6 +1,6 @@
 //! Warnings on conditions that are read without a fault, but do not select dependencies as their writer may expect.
 
-ghost use Rattle.std.specs.Prelude.{◌≡◌, ◌++◌, List, [], ◌∷◌, ℕ, IfOk, OnOk, OnErr, MatchOption, flat_map, map, string_bytes, not, ◌&&◌};
+ghost use Rattle.std.specs.Prelude.{◌≡◌, ◌++◌, List, [], ◌∷◌, ℕ, IfOk, OnOk, OnErr, MatchOption, flat_map, map, string_bytes};
 ghost use Rattle.cargo_platform.specs.Trees.{CfgValue, name_of, value_of, tree_of, trees_of, condition_of};
 ghost use Rattle.cargo_platform.specs.Spelling.{is_literal_word};
 ghost use Rattle.cargo_platform.specs.Errors.{texts};
@@ -111,7 +111,7 @@ impl<'a> Lint for Keywords<'a> {
 }
 
 fn is_keyword(name: &Ident) -> bool
-    ensures { result ≡ (not name.now.raw && is_literal_word (name_of name.now)) }
+    ensures { result ≡ is_literal_word (name_of name.now) }
 {
     !name.raw && matches!(name.as_str(), "true" | "false")
 }

@@ -32,8 +32,8 @@ pub const READ: &[Read] = &[
     (" r#all =\"x\"", "r#all=x", "r#all = \"x\""),
     ("r#all", "r#all", "r#all"),
     ("any(r#any, r#not)", "any2 r#any r#not", "any(r#any, r#not)"),
-    ("r#true", "true", "true"),
-    ("r#false", "false", "false"),
+    ("r#true", "r#true", "r#true"),
+    ("r#false", "r#false", "r#false"),
     ("true = \"x\"", "true=x", "true = \"x\""),
     ("r#false = \"x\"", "r#false=x", "r#false = \"x\""),
 ];

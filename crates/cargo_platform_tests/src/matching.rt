@@ -116,8 +116,10 @@ pub const CONDITIONS: &[(&str, &str, bool)] = &[
     ("all(unix, not(windows), )", "unix", true),
     ("true", "", true),
     ("false", "false", false),
-    ("r#true", "", true),
-    ("r#false", "false", false),
+    ("r#true", "", false),
+    ("r#true", "true", true),
+    ("not(r#false)", "false", false),
+    ("true = \"x\"", "r#true=x", true),
 ];
 
 #[test]

@@ -166,8 +166,8 @@ fn expression<'a>(
             let value = String::from_str(alloc, value)?;
             Ok(CfgExpr::Value(Cfg::KeyPair(ident(alloc, raw, name)?, value)))
         }
-        (None, "true") => Ok(CfgExpr::True),
-        (None, "false") => Ok(CfgExpr::False),
+        (None, "true") if !raw => Ok(CfgExpr::True),
+        (None, "false") if !raw => Ok(CfgExpr::False),
         (None, _) => Ok(CfgExpr::Value(Cfg::Name(ident(alloc, raw, name)?))),
     }
 }

@@ -37,10 +37,10 @@ const TREES: &[(&str, &str)] = &[
     ("any0", "any()"),
     ("all1 r#all=x", "all(r#all = \"x\")"),
     ("all2 true all2 false true", "all(true, all(false, true))"),
+    ("any1 r#true", "any(r#true)"),
     // Such trees are read from no text, and print by the same rules.
     ("all", "all"),
     ("all2 =1 k=a\"b", "all( = \"1\", k = \"a\"b\")"),
-    ("any1 r#true", "any(r#true)"),
 ];
 
 #[test]

@@ -196,6 +196,10 @@ fn conditions_are_met(rt: HostRuntime) {
             b"condition: cfg(true)\nmatch: yes\n".as_slice(),
         ),
         (
+            b"cfg(r#false)\nx\nfalse\n".as_slice(),
+            b"condition: cfg(r#false)\nmatch: yes\n".as_slice(),
+        ),
+        (
             b"cfg(a)\nx\nall\na\n".as_slice(),
             b"condition: cfg(a)\nmatch: yes\n".as_slice(),
         ),
@@ -234,7 +238,7 @@ fn conditions_are_not_met(rt: HostRuntime) {
             b"condition: cfg(any())\nmatch: no\n".as_slice(),
         ),
         (
-            b"cfg(r#false)\nx\nfalse\n".as_slice(),
+            b"cfg(false)\nx\nfalse\n".as_slice(),
             b"condition: cfg(false)\nmatch: no\n".as_slice(),
         ),
     ] {
