@@ -1,19 +1,34 @@
 -- What the grammar of expressions changed.
-use Rattle.std.proofs.Common.{◌≡◌, refl, sym, ap, subst, ◌∙◌, ℕ, Bool, true, false, not, ◌&&◌, ◌||◌, true≢false, List, [], ◌∷◌, codes}
-use Rattle.std.specs.Prelude.{IsFalse, bytes_eq, if◌then◌else◌}
-use Rattle.std.specs.List.{list_any}
+use Rattle.std.proofs.Common.{◌≡◌, refl, sym, ap, subst, ◌∙◌, ℕ, Bool, true, false, not, ◌&&◌, ◌||◌, true≢false, List}
+use Rattle.std.proofs.Common.{[], ◌∷◌, ◌++◌, codes}
+use Rattle.std.specs.Prelude.{◌↔◌, IsFalse, bytes_eq, if◌then◌else◌}
+use Rattle.std.specs.List.{list_any, flat_map}
+use Rattle.std.proofs.lemmas.Grind.{flat_map-append}
+use Rattle.std.proofs.lemmas.List.Concat.{flat_map-cons}
 use Rattle.std.proofs.lemmas.List.Folds.{list_any-append}
 use Rattle.cargo_platform.specs.Tokens.{Lexeme, Ident, Placed}
 use Rattle.cargo_platform.specs.Cut.{lexemes}
-use Rattle.cargo_platform.specs.Trees.{Name, Alone, KeyPair, Tree, Not, All, Any, Value, True, False, Trees, none, tree, Condition, Target, Expression}
-use Rattle.cargo_platform.specs.Spelling.{is_group_word, Spells, SpellEach, SpellEachBy}
-use Rattle.cargo_platform.specs.Platforms.{IsConditionText}
-use Rattle.cargo_platform.specs.Earlier.{is_literal_name, MayStandReleased, SpellsReleasedLiteral, SpellsReleased, IsReleasedTreeText, IsReleasedConditionText, released, released_members}
-use Rattle.cargo_platform.specs.Warnings.{values, members_values}
-use Rattle.cargo_platform.specs.ChangeLaws.{is_marked_literal, SpelledReleased, IsAcceptedAsReleased, IsTreeTextAsReleased, KeepsTree, IsConditionTextAsReleased, KeepsCondition}
+use Rattle.cargo_platform.specs.Trees.{Name, CfgValue, Alone, KeyPair, Tree, Not, All, Any, Value, True, False, Trees}
+use Rattle.cargo_platform.specs.Trees.{none, tree, Condition, Target, Expression}
+use Rattle.cargo_platform.specs.Spelling.{Grammar, Expressions, is_group_word, is_literal_word, MayStand, Spells}
+use Rattle.cargo_platform.specs.Spelling.{SpellEach, SpellEachBy}
+use Rattle.cargo_platform.specs.WellFormed.{IsWellFormedBy, AreWellFormedBy, IsWellFormed, AreWellFormed}
+use Rattle.cargo_platform.specs.Faults.{Fault, IsRefusedBy}
+use Rattle.cargo_platform.specs.Earlier.{IsAcceptedTransitional, MayStandTransitional, SpellsTransitional}
+use Rattle.cargo_platform.specs.Earlier.{SpellEachTransitional, IsTransitionalConditionText, is_literal_name}
+use Rattle.cargo_platform.specs.Earlier.{IsAcceptedReleased, MayStandReleased, SpellsReleasedLiteral, SpellsReleased}
+use Rattle.cargo_platform.specs.Earlier.{IsReleasedTreeText, IsReleasedConditionText, released, released_members}
+use Rattle.cargo_platform.specs.Warnings.{values, members_values, keyword_warning, keyword_warning_at}
+use Rattle.cargo_platform.specs.Warnings.{keyword_warning_of}
+use Rattle.cargo_platform.specs.ChangeLaws.{is_marked_literal, SpelledReleased, IsAcceptedAsReleased}
+use Rattle.cargo_platform.specs.ChangeLaws.{IsRefusedAsReleased, IsTreeTextAsReleased, KeepsTree}
+use Rattle.cargo_platform.specs.ChangeLaws.{IsConditionTextAsReleased, KeepsCondition, is_literal_key}
+use Rattle.cargo_platform.specs.ChangeLaws.{IsRefusedForLiteralKeys, WasWellFormedWithoutMarkedLiterals}
+use Rattle.cargo_platform.specs.ChangeLaws.{IsWellFormedWithoutLiteralKeys, GivesNoKeyword}
 use Rattle.cargo_platform.proofs.OneCut.{one_cut_from}
-use Rattle.cargo_platform.proofs.OneTree.{one_tree}
-use Rattle.cargo_platform.proofs.Completing.{bytes_eq-true}
+use Rattle.cargo_platform.proofs.OneTree.{one_transitional_tree, was_spelled}
+use Rattle.cargo_platform.proofs.WellFormedness.{spelled_well_formed}
+use Rattle.cargo_platform.proofs.Walk.{bytes_eq-true}
 use Rattle.cargo_platform.proofs.Conditions.{one_inner}
 
 neither : (a b : Bool) → (a || b) ≡ false → (a ≡ false) × (b ≡ false)
@@ -40,7 +55,7 @@ lone_released true name g l =
     ] refl
 
 mutual
-  to_released : (e : Tree) (s : List Lexeme) → Spells e s → SpellsReleased (released e) s
+  to_released : (e : Tree) (s : List Lexeme) → SpellsTransitional e s → SpellsReleased (released e) s
   to_released (Not e) s p = (p.0, to_released e p.0 p.1, p.2)
   to_released (All es) s p = (p.0, p.1, each_to_released es p.0 p.2, p.3, p.4)
   to_released (Any es) s p = (p.0, p.1, each_to_released es p.0 p.2, p.3, p.4)
@@ -51,7 +66,7 @@ mutual
   to_released True s p = (false, p)
   to_released False s p = (false, p)
 
-  each_to_released : (es : Trees) (ss : List (List Lexeme)) → SpellEach es ss → SpellEachReleased (released_members es) ss
+  each_to_released : (es : Trees) (ss : List (List Lexeme)) → SpellEachTransitional es ss → SpellEachReleased (released_members es) ss
   each_to_released none [] p = tt
   each_to_released none (s ∷ ss) p = absurd p
   each_to_released (tree e es) [] p = absurd p
@@ -71,7 +86,7 @@ and-false-right true l h = h
 and-false-right false l h = refl
 
 abbrev SpelledNow : Tree → List Lexeme → Type 0
-SpelledNow d s = (e : Tree) × Spells e s × (released e ≡ d)
+SpelledNow d s = (e : Tree) × SpellsTransitional e s × (released e ≡ d)
 
 mutual
   from_released : (d : Tree) (s : List Lexeme) → SpellsReleased d s → SpelledNow d s
@@ -85,7 +100,7 @@ mutual
   from_released False s (true, p) = (Value (Alone (record { raw = true; name = codes "false" })), (p, (refl, refl)), refl)
   from_released False s (false, p) = (False, p, refl)
 
-  each_from_released : (ds : Trees) (ss : List (List Lexeme)) → SpellEachReleased ds ss → (es : Trees) × SpellEach es ss × (released_members es ≡ ds)
+  each_from_released : (ds : Trees) (ss : List (List Lexeme)) → SpellEachReleased ds ss → (es : Trees) × SpellEachTransitional es ss × (released_members es ≡ ds)
   each_from_released none [] p = (none, tt, refl)
   each_from_released none (s ∷ ss) p = absurd p
   each_from_released (tree d ds) [] p = absurd p
@@ -99,7 +114,7 @@ pub spelled_released : (ts : List Lexeme) → SpelledReleased ts
 spelled_released ts d e p = (
   λ q.
       let r = from_released d ts q in
-      sym r.2 ∙ ap released (one_tree r.0 e ts r.1 p),
+      sym r.2 ∙ ap released (one_transitional_tree r.0 e ts r.1 p),
   λ h. let S : Tree → Type 0 = λ z. SpellsReleased z ts in subst S (sym h) (to_released e ts p),
 )
 
@@ -128,6 +143,34 @@ accepted_as_released ts = (
   λ p. let r = from_released p.0 ts p.1 in (r.0, r.1),
 )
 
+-- What is accepted tells what is refused, and with which fault.
+refused_alike : (p q : List Lexeme → Type 0) → ((ts : List Lexeme) → p ts ↔ q ts) → (g : Grammar) (text : List ℕ) (fault : Fault)
+    → IsRefusedBy p g text fault → IsRefusedBy q g text fault
+refused_alike p q same g text fault r = record {
+  ts = r.ts;
+  tail = r.tail;
+  cut = r.cut;
+  front = r.front;
+  after = r.after;
+  is_front = record {
+    parts = r.is_front.parts;
+    completable = let c = r.is_front.completable in (c.0, c.1, (same (lexemes r.front ++ c.0)).0 c.2);
+    longest = λ longer others h c. r.is_front.longest longer others h (c.0, c.1, (same (lexemes longer ++ c.0)).1 c.2);
+  };
+  next = r.next;
+  follows = r.follows;
+  accepted = r.accepted;
+  is_accepted = (λ a. (same (lexemes r.front)).0 (r.is_accepted.0 a), λ a. r.is_accepted.1 ((same (lexemes r.front)).1 a));
+  is_fault = r.is_fault;
+}
+
+-- A text is refused where it was before, with the fault of before.
+pub refused_as_released : (text : List ℕ) (fault : Fault) → IsRefusedAsReleased text fault
+refused_as_released text fault = (
+  refused_alike IsAcceptedTransitional IsAcceptedReleased accepted_as_released Expressions text fault,
+  refused_alike IsAcceptedReleased IsAcceptedTransitional (λ ts. let s = accepted_as_released ts in (s.1, s.0)) Expressions text fault,
+)
+
 -- A text spells a tree where it did before.
 pub tree_text_as_released : (text : List ℕ) → IsTreeTextAsReleased text
 tree_text_as_released text = (
@@ -146,11 +189,11 @@ keeps_tree text d e p q h =
 pub condition_text_as_released : (text : List ℕ) → IsConditionTextAsReleased text
 condition_text_as_released text = (λ p. back p.0 p.1, λ p. on p.0 p.1)
   where
-    back : (p : Condition) → IsConditionText text p → (q : Condition) × IsReleasedConditionText text q
+    back : (p : Condition) → IsTransitionalConditionText text p → (q : Condition) × IsReleasedConditionText text q
     back (Target name) p = (Target name, p)
     back (Expression e) p = let r = (tree_text_as_released p.0).0 (e, p.2) in (Expression r.0, (p.0, p.1, r.1))
 
-    on : (q : Condition) → IsReleasedConditionText text q → (p : Condition) × IsConditionText text p
+    on : (q : Condition) → IsReleasedConditionText text q → (p : Condition) × IsTransitionalConditionText text p
     on (Target name) p = (Target name, p)
     on (Expression e) p = let r = (tree_text_as_released p.0).1 (e, p.2) in (Expression r.0, (p.0, p.1, r.1))
 
@@ -162,3 +205,157 @@ keeps_condition text (Expression d) (Target n) p q h = absurd (q.1 p.0 p.1)
 keeps_condition text (Expression d) (Expression e) p q h =
     let S : List ℕ → Type 0 = λ z. IsReleasedTreeText z d in
     ap Expression (keeps_tree q.0 d e (subst S (one_inner text p.0 q.0 p.1 q.1) p.2) q.2 h)
+
+-- ---- keys
+
+-- a name or a pair that may stand in an expression now
+no_key : (c : CfgValue) → MayStand c → is_literal_key c ≡ false
+no_key (Alone n) m = refl
+no_key (KeyPair k v) m = m.1
+
+may_stand : (c : CfgValue) → MayStandTransitional c → is_literal_key c ≡ false → MayStand c
+may_stand (Alone n) m h = m
+may_stand (KeyPair k v) m h = (m, h)
+
+abbrev pub has_literal_key : List CfgValue → Bool
+has_literal_key cs = list_any is_literal_key cs
+
+none_in : (c : CfgValue) → is_literal_key c ≡ false → has_literal_key (c ∷ []) ≡ false
+none_in c h = ap (λ b. b || false) h
+
+none_in_both : (a b : List CfgValue) → has_literal_key a ≡ false → has_literal_key b ≡ false → has_literal_key (a ++ b) ≡ false
+none_in_both a b h k = list_any-append is_literal_key a b ∙ λ i. h i || k i
+
+mutual
+  keyless : (e : Tree) (s : List Lexeme) → Spells e s → has_literal_key (values e) ≡ false
+  keyless (Not e) s p = keyless e p.0 p.1
+  keyless (All es) s p = each_keyless es p.0 p.2
+  keyless (Any es) s p = each_keyless es p.0 p.2
+  keyless (Value c) s p = none_in c (no_key c p.1)
+  keyless True s p = refl
+  keyless False s p = refl
+
+  each_keyless : (es : Trees) (ss : List (List Lexeme)) → SpellEach es ss → has_literal_key (members_values es) ≡ false
+  each_keyless none [] p = refl
+  each_keyless none (s ∷ ss) p = absurd p
+  each_keyless (tree e es) [] p = absurd p
+  each_keyless (tree e es) (s ∷ ss) p = none_in_both (values e) (members_values es) (keyless e s p.0) (each_keyless es ss p.1)
+
+mutual
+  still : (e : Tree) (s : List Lexeme) → SpellsTransitional e s → has_literal_key (values e) ≡ false → Spells e s
+  still (Not e) s p h = (p.0, still e p.0 p.1 h, p.2)
+  still (All es) s p h = (p.0, p.1, each_still es p.0 p.2 h, p.3, p.4)
+  still (Any es) s p h = (p.0, p.1, each_still es p.0 p.2 h, p.3, p.4)
+  still (Value c) s p h = (p.0, may_stand c p.1 (neither (is_literal_key c) false h).0)
+  still True s p h = p
+  still False s p h = p
+
+  each_still : (es : Trees) (ss : List (List Lexeme)) → SpellEachTransitional es ss → has_literal_key (members_values es) ≡ false → SpellEach es ss
+  each_still none [] p h = tt
+  each_still none (s ∷ ss) p h = absurd p
+  each_still (tree e es) [] p h = absurd p
+  each_still (tree e es) (s ∷ ss) p h =
+      let b = neither _ _ (sym (list_any-append is_literal_key (values e) (members_values es)) ∙ h) in
+      (still e s p.0 b.0, each_still es ss p.1 b.1)
+
+-- A list of tokens that spelled a tree is refused where a literal is a key in it.
+pub refused_for_literal_keys : (ts : List Lexeme) → IsRefusedForLiteralKeys ts
+refused_for_literal_keys ts e p = (
+  λ refused.
+      elim (has_literal_key (values e)) as (λ b. has_literal_key (values e) ≡ b → b ≡ true) [
+        | true ↦ λ _. refl
+        | false ↦ λ h. absurd (refused (e, still e ts p h))
+      ] refl,
+  λ h q.
+      let K : Tree → Type 0 = λ z. has_literal_key (values z) ≡ true in
+      true≢false (sym (subst K (one_transitional_tree e q.0 ts p (was_spelled q.0 ts q.1)) h) ∙ keyless q.0 ts q.1),
+)
+
+-- ---- well-formed trees
+
+-- of the values that may stand, those of which the test is false
+abbrev Narrows : (CfgValue → Type 0) → (CfgValue → Type 0) → (CfgValue → Bool) → Type 0
+Narrows less may test = (c : CfgValue) → less c ↔ (may c × (test c ≡ false))
+
+abbrev WellFormedWhere : (CfgValue → Type 0) → (CfgValue → Type 0) → (CfgValue → Bool) → Tree → Type 0
+WellFormedWhere less may test e = IsWellFormedBy less e ↔ (IsWellFormedBy may e × IsFalse (list_any test (values e)))
+
+abbrev AreWellFormedWhere : (CfgValue → Type 0) → (CfgValue → Type 0) → (CfgValue → Bool) → Trees → Type 0
+AreWellFormedWhere less may test es = AreWellFormedBy less es ↔ (AreWellFormedBy may es × IsFalse (list_any test (members_values es)))
+
+mutual
+  well_formed_where : (less may : CfgValue → Type 0) (test : CfgValue → Bool) → Narrows less may test → (e : Tree) → WellFormedWhere less may test e
+  well_formed_where less may test n (Not e) = well_formed_where less may test n e
+  well_formed_where less may test n (All es) = are_well_formed_where less may test n es
+  well_formed_where less may test n (Any es) = are_well_formed_where less may test n es
+  well_formed_where less may test n (Value c) = (
+    λ w. let m = (n c).0 w.1 in ((w.0, m.0), ap (λ b. b || false) m.1),
+    λ w. (w.0.0, (n c).1 (w.0.1, (neither (test c) false w.1).0)),
+  )
+  well_formed_where less may test n True = (λ w. (w, refl), λ w. w.0)
+  well_formed_where less may test n False = (λ w. (w, refl), λ w. w.0)
+
+  are_well_formed_where : (less may : CfgValue → Type 0) (test : CfgValue → Bool) → Narrows less may test → (es : Trees) → AreWellFormedWhere less may test es
+  are_well_formed_where less may test n none = (λ w. (w, refl), λ w. w.0)
+  are_well_formed_where less may test n (tree e es) =
+      let first = well_formed_where less may test n e in
+      let others = are_well_formed_where less may test n es in
+      let both = list_any-append test (values e) (members_values es) in (
+        λ w.
+            let a = first.0 w.0 in
+            let b = others.0 w.1 in
+            ((a.0, b.0), both ∙ λ i. a.1 i || b.1 i),
+        λ w.
+            let b = neither _ _ (sym both ∙ w.1) in
+            (first.1 (w.0.0, b.0), others.1 (w.0.1, b.1)),
+      )
+
+keyless_narrows : Narrows MayStand MayStandTransitional is_literal_key
+keyless_narrows (Alone n) = (λ m. (m, refl), λ m. m.0)
+keyless_narrows (KeyPair k v) = (λ m. m, λ m. m)
+
+pub well_formed_without_literal_keys : (e : Tree) → IsWellFormedWithoutLiteralKeys e
+well_formed_without_literal_keys e = well_formed_where MayStand MayStandTransitional is_literal_key keyless_narrows e
+
+either_mark : (raw l : Bool) → (not raw && l) ≡ false → (raw && l) ≡ false → l ≡ false
+either_mark true l h k = k
+either_mark false l h k = h
+
+unmarked_narrows : Narrows MayStandReleased MayStandTransitional is_marked_literal
+unmarked_narrows (Alone n) = (
+  λ m. ((m.0, and-false-right (not n.raw) (is_literal_name n) m.1), and-false-right n.raw (is_literal_name n) m.1),
+  λ m. (m.0.0, either_mark n.raw (is_literal_name n) m.0.1 m.1),
+)
+unmarked_narrows (KeyPair k v) = (λ m. (m, refl), λ m. m.0)
+
+pub well_formed_without_marked_literals : (e : Tree) → WasWellFormedWithoutMarkedLiterals e
+well_formed_without_marked_literals e = well_formed_where MayStandReleased MayStandTransitional is_marked_literal unmarked_narrows e
+
+-- ---- keywords
+
+no_warning : (path : List ℕ) (c : CfgValue) (n : Name) → IsFalse (is_literal_word n) → keyword_warning_at path c n ≡ []
+no_warning path c n h = ap (λ b. if b then keyword_warning path c n.name ∷ [] else []) h
+
+value_warns_not : (path : List ℕ) (c : CfgValue) → MayStand c → keyword_warning_of path c ≡ []
+value_warns_not path (Alone n) m = no_warning path (Alone n) n m.1
+value_warns_not path (KeyPair k v) m = no_warning path (KeyPair k v) k m.1
+
+mutual
+  warns_not : (path : List ℕ) (e : Tree) → IsWellFormed e → flat_map (keyword_warning_of path) (values e) ≡ []
+  warns_not path (Not e) w = warns_not path e w
+  warns_not path (All es) w = members_warn_not path es w
+  warns_not path (Any es) w = members_warn_not path es w
+  warns_not path (Value c) w = flat_map-cons (keyword_warning_of path) c [] ∙ ap (λ (z : List (List ℕ)). z ++ flat_map (keyword_warning_of path) []) (value_warns_not path c w.1)
+  warns_not path True w = refl
+  warns_not path False w = refl
+
+  members_warn_not : (path : List ℕ) (es : Trees) → AreWellFormed es → flat_map (keyword_warning_of path) (members_values es) ≡ []
+  members_warn_not path none w = refl
+  members_warn_not path (tree e es) w =
+      flat_map-append (keyword_warning_of path) (values e) (members_values es)
+      ∙ λ i. warns_not path e w.0 i ++ members_warn_not path es w.1 i
+
+-- No text that is read gives a warning on a keyword.
+pub gives_no_keyword : (text : List ℕ) → GivesNoKeyword text
+gives_no_keyword text path (Target name) p = refl
+gives_no_keyword text path (Expression e) p = warns_not path e (spelled_well_formed p.0 e p.2)

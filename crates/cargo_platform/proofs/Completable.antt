@@ -64,16 +64,17 @@ needed_depth (Named ws) = omega arith
 needed_depth (Keyed ws) = omega arith
 needed_depth (Ended ws) = omega arith
 
-picks : (m al an ne : Bool) (ws : List Word) → depth (if not m && ne then Behind Negation ws else (if not m && (al || an) then Behind Several ws else Named ws)) ≡ length ws
+picks : (m al an ne l : Bool) (ws : List Word) → depth (if not m && ne then Behind Negation ws else (if not m && (al || an) then Behind Several ws else (if not m && l then Ended ws else Named ws))) ≡ length ws
 unfolding depth
-picks true al an ne ws = refl
-picks false al an true ws = refl
-picks false true an false ws = refl
-picks false false true false ws = refl
-picks false false false false ws = refl
+picks true al an ne l ws = refl
+picks false al an true l ws = refl
+picks false true an false l ws = refl
+picks false false true false l ws = refl
+picks false false false false true ws = refl
+picks false false false false false ws = refl
 
 name_depth : (raw : Bool) (name : List ℕ) (ws : List Word) → depth (after_name raw name ws) ≡ length ws
-name_depth raw name ws = picks raw (bytes_eq name (codes "all")) (bytes_eq name (codes "any")) (bytes_eq name (codes "not")) ws
+name_depth raw name ws = picks raw (bytes_eq name (codes "all")) (bytes_eq name (codes "any")) (bytes_eq name (codes "not")) (bytes_eq name (codes "true") || bytes_eq name (codes "false")) ws
 
 -- a token opens at most what it is counted for
 abbrev Opens : State → Lexeme → State → Type 0

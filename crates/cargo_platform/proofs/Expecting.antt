@@ -17,17 +17,18 @@ Matches o s = (expected_token Expressions o ≡ expects s) × (expected_end Expr
 abbrev Picks : Bool → State → Type 0
 Picks b s = ((if b then codes "`(`" else codes "`)`") ≡ expects s) × ((if b then codes "`(`" else codes "`)`") ≡ expects_end s)
 
-picks : (m al an ne : Bool) (ws : List Word) → Picks (not m && (al || an || ne)) (if not m && ne then Behind Negation ws else (if not m && (al || an) then Behind Several ws else Named ws))
-picks true al an ne ws = (refl, refl)
-picks false true an true ws = (refl, refl)
-picks false true an false ws = (refl, refl)
-picks false false true true ws = (refl, refl)
-picks false false true false ws = (refl, refl)
-picks false false false true ws = (refl, refl)
-picks false false false false ws = (refl, refl)
+picks : (m al an ne l : Bool) (ws : List Word) → Picks (not m && (al || an || ne)) (if not m && ne then Behind Negation ws else (if not m && (al || an) then Behind Several ws else (if not m && l then Ended ws else Named ws)))
+picks true al an ne l ws = (refl, refl)
+picks false true an true l ws = (refl, refl)
+picks false true an false l ws = (refl, refl)
+picks false false true true l ws = (refl, refl)
+picks false false true false l ws = (refl, refl)
+picks false false false true l ws = (refl, refl)
+picks false false false false true ws = (refl, refl)
+picks false false false false false ws = (refl, refl)
 
 named_matches : (raw : Bool) (name : List ℕ) (ws : List Word) → Matches (Some (Ident raw name)) (after_name raw name ws)
-named_matches raw name ws = picks raw (bytes_eq name (codes "all")) (bytes_eq name (codes "any")) (bytes_eq name (codes "not")) ws
+named_matches raw name ws = picks raw (bytes_eq name (codes "all")) (bytes_eq name (codes "any")) (bytes_eq name (codes "not")) (bytes_eq name (codes "true") || bytes_eq name (codes "false")) ws
 
 moved : (o : Option Lexeme) (s t : State) → Some s ≡ Some t → Matches o s → Matches o t
 moved o s t h m = let P : State → Type 0 = λ z. Matches o z in subst P (same_Some _ _ h) m

@@ -153,6 +153,30 @@ more_than_name = row _ (word (codes "foo") 0 3 ∷ []) (at LeftParen 3 4 ∷ wor
 more_than_marked : IsRefused Expressions (codes "r#all()") (UnterminatedExpression (codes "()"))
 more_than_marked = row _ (at (Ident true (codes "all")) 0 5 ∷ []) (at LeftParen 5 6 ∷ at RightParen 6 7 ∷ []) 7 _ _ _ refl (inl refl) refl refl refl refl
 
+-- `all(true`
+abbrev true_in_all : List Placed
+true_in_all = word (codes "all") 0 3 ∷ at LeftParen 3 4 ∷ word (codes "true") 4 8 ∷ []
+
+-- `not(true`, and ` = "x")`
+abbrev true_in_not : List Placed
+true_in_not = word (codes "not") 0 3 ∷ at LeftParen 3 4 ∷ word (codes "true") 4 8 ∷ []
+
+abbrev pair_goes_on : List Placed
+pair_goes_on = at Equals 9 10 ∷ at (String (codes "x")) 11 14 ∷ at RightParen 14 15 ∷ []
+
+-- a literal is no key: `true` is a whole expression, and what follows it is surplus, or wants the `)` of its group
+literal_as_key : IsRefused Expressions (codes "true =") (UnterminatedExpression (codes "="))
+literal_as_key = row _ (word (codes "true") 0 4 ∷ []) (at Equals 5 6 ∷ []) 6 _ _ _ refl (inl refl) refl refl refl refl
+
+literal_as_key_in_group : IsRefused Expressions (codes "all(true =") (UnexpectedToken (codes "`)`") (codes "`=`"))
+literal_as_key_in_group = row _ true_in_all (at Equals 9 10 ∷ []) 10 _ _ _ refl (inl refl) refl refl refl refl
+
+literal_in_open_group : IsRefused Expressions (codes "all(true") (IncompleteExpr (codes "`)`"))
+literal_in_open_group = row _ true_in_all [] 8 _ End _ refl (inl refl) refl refl (lit≤ tt) refl
+
+literal_as_key_in_negation : IsRefused Expressions (codes "not(true = \"x\")") (UnexpectedToken (codes "`)`") (codes "`=`"))
+literal_as_key_in_negation = row _ true_in_not pair_goes_on 15 _ _ _ refl (inl refl) refl refl refl refl
+
 -- a bad token before a string that does not end, in a group and behind an expression
 token_before_string : IsRefused Expressions (codes "all(a b \"") (UnexpectedToken (codes "`)`") (codes "an identifier"))
 unfolding encode_utf8

@@ -1,9 +1,10 @@
--- A list of tokens spells at most one tree, whatever follows it.
+-- A list of tokens spells at most one tree, whatever follows it: also while unmarked `true` and `false` were keys.
 use Rattle.std.proofs.Common.{◌≡◌, refl, sym, ap, ◌∙◌, ℕ, Bool, true, false, not, ◌&&◌, ◌||◌, List, [], ◌∷◌, ◌++◌, codes, inl, inr, ◌⊎◌, true≢false, append_assoc, append-nil, arith, subst, length}
 use Rattle.std.specs.Prelude.{IsFalse, bytes_eq, if◌then◌else◌}
 use Rattle.cargo_platform.specs.Tokens.{Lexeme, LeftParen, RightParen, Ident, Comma, Equals, String, plain}
 use Rattle.cargo_platform.specs.Trees.{Name, CfgValue, Alone, KeyPair, Tree, Not, All, Any, Value, True, False, Trees, none, tree}
-use Rattle.cargo_platform.specs.Spelling.{value_spelling, is_group_word, is_literal_word, MayStand, group, joined, IsMemberList, Spells, SpellEach, IsTreeText}
+use Rattle.cargo_platform.specs.Spelling.{value_spelling, is_group_word, is_literal_word, group, joined, IsMemberList, Spells, SpellEach, IsTreeText}
+use Rattle.cargo_platform.specs.Earlier.{MayStandTransitional, SpellsTransitional, SpellEachTransitional}
 use Rattle.cargo_platform.specs.Key.{rank}
 use Rattle.cargo_platform.specs.Cut.{lexemes}
 use Rattle.cargo_platform.specs.Tokens.{Placed}
@@ -68,14 +69,14 @@ form_of_word : (n : Name) (equals : Bool) → IsFalse (is_group_word n) → (not
 form_of_word n equals h g =
     picks n.raw (bytes_eq n.name (codes "all")) (bytes_eq n.name (codes "any")) (bytes_eq n.name (codes "not")) equals (bytes_eq n.name (codes "true")) (bytes_eq n.name (codes "false")) h g
 
-form_of_value : (c : CfgValue) (x : List Lexeme) → MayStand c → is_equals_next x ≡ false → form (value_spelling c ++ x) ≡ 3
+form_of_value : (c : CfgValue) (x : List Lexeme) → MayStandTransitional c → is_equals_next x ≡ false → form (value_spelling c ++ x) ≡ 3
 form_of_value (Alone n) x may ne = form_of_word n (is_equals_next x) may.0 (ap (λ b. not b && is_literal_word n) ne ∙ may.1)
 form_of_value (KeyPair k v) x may ne = form_of_word k true may refl
 
 form_of_literal : (x : List Lexeme) → is_equals_next x ≡ false → (form (plain (codes "true") ∷ x) ≡ 4) × (form (plain (codes "false") ∷ x) ≡ 5)
 form_of_literal x ne = (ap (form_of false (codes "true")) ne, ap (form_of false (codes "false")) ne)
 
-pub form_is : (e : Tree) (s x : List Lexeme) → Spells e s → is_equals_next x ≡ false → form (s ++ x) ≡ rank e
+pub form_is : (e : Tree) (s x : List Lexeme) → SpellsTransitional e s → is_equals_next x ≡ false → form (s ++ x) ≡ rank e
 form_is (Not e) s x p ne = ap (λ s. form (s ++ x)) p.2
 form_is (All es) s x p ne = ap (λ s. form (s ++ x)) p.4
 form_is (Any es) s x p ne = ap (λ s. form (s ++ x)) p.4
@@ -83,7 +84,7 @@ form_is (Value c) s x p ne = ap (λ s. form (s ++ x)) p.0 ∙ form_of_value c x 
 form_is True s x p ne = ap (λ s. form (s ++ x)) p ∙ (form_of_literal x ne).0
 form_is False s x p ne = ap (λ s. form (s ++ x)) p ∙ (form_of_literal x ne).1
 
-pub same_rank : (e f : Tree) (s t x y : List Lexeme) → Spells e s → Spells f t → is_equals_next x ≡ false → is_equals_next y ≡ false → s ++ x ≡ t ++ y → rank e ≡ rank f
+pub same_rank : (e f : Tree) (s t x y : List Lexeme) → SpellsTransitional e s → SpellsTransitional f t → is_equals_next x ≡ false → is_equals_next y ≡ false → s ++ x ≡ t ++ y → rank e ≡ rank f
 same_rank e f s t x y p q nx ny h = sym (form_is e s x p nx) ∙ ap form h ∙ form_is f t y q ny
 
 -- ---- the parts
@@ -150,7 +151,7 @@ value_begins : (c : CfgValue) (x : List Lexeme) → is_identifier_next (value_sp
 value_begins (Alone n) x = refl
 value_begins (KeyPair k v) x = refl
 
-pub begins : (e : Tree) (s x : List Lexeme) → Spells e s → is_identifier_next (s ++ x) ≡ true
+pub begins : (e : Tree) (s x : List Lexeme) → SpellsTransitional e s → is_identifier_next (s ++ x) ≡ true
 begins (Not e) s x p = ap (λ s. is_identifier_next (s ++ x)) p.2
 begins (All es) s x p = ap (λ s. is_identifier_next (s ++ x)) p.4
 begins (Any es) s x p = ap (λ s. is_identifier_next (s ++ x)) p.4
@@ -170,7 +171,7 @@ paren_comma h = true≢false (ap is_paren_next h)
     is_paren_next (_ ∷ ts) = false
 
 -- the end of a list of members is no further member
-last_or_more : (f : Tree) (n : List Lexeme) (ns : List (List Lexeme)) (i j x y : List Lexeme) → Spells f n → IsAfter [] i → IsAfter (n ∷ ns) j → i ++ (RightParen ∷ x) ≡ j ++ (RightParen ∷ y) → ⊥
+last_or_more : (f : Tree) (n : List Lexeme) (ns : List (List Lexeme)) (i j x y : List Lexeme) → SpellsTransitional f n → IsAfter [] i → IsAfter (n ∷ ns) j → i ++ (RightParen ∷ x) ≡ j ++ (RightParen ∷ y) → ⊥
 last_or_more f n ns i j x y q (inl a) b h =
     paren_comma (ap (λ (z : List Lexeme). z ++ (RightParen ∷ x)) (sym a) ∙ h ∙ ap (λ (z : List Lexeme). z ++ (RightParen ∷ y)) b.1)
 last_or_more f n ns i j x y q (inr a) b h =
@@ -179,12 +180,12 @@ last_or_more f n ns i j x y q (inr a) b h =
 -- ---- two readings of one list of tokens
 
 -- the list between the parentheses, for members that are none, and for some
-no_members : (ts : List Lexeme) (ss : List (List Lexeme)) → SpellEach none ss → IsMemberList ss ts → ts ≡ []
+no_members : (ts : List Lexeme) (ss : List (List Lexeme)) → SpellEachTransitional none ss → IsMemberList ss ts → ts ≡ []
 no_members ts [] p q = q
 no_members ts (s ∷ ss) p q = absurd p
 
 mutual
-  pub one : (e f : Tree) (s t x y : List Lexeme) → Spells e s → Spells f t → is_equals_next x ≡ false → is_equals_next y ≡ false → s ++ x ≡ t ++ y → (e ≡ f) × (x ≡ y)
+  pub one : (e f : Tree) (s t x y : List Lexeme) → SpellsTransitional e s → SpellsTransitional f t → is_equals_next x ≡ false → is_equals_next y ≡ false → s ++ x ≡ t ++ y → (e ≡ f) × (x ≡ y)
   one (Not e) (Not f) s t x y p q nx ny h =
       let r = one e f p.0 q.0 (RightParen ∷ x) (RightParen ∷ y) p.1 q.1 refl refl (inside (codes "not") (codes "not") p.0 q.0 x y s t p.2 q.2 h) in
       (ap Not r.0, tail_is r.1)
@@ -201,7 +202,7 @@ mutual
   one False False s t x y p q nx ny h = (refl, tail_is (ap (λ (z : List Lexeme). z ++ x) (sym p) ∙ h ∙ ap (λ (z : List Lexeme). z ++ y) q))
   one e f s t x y p q nx ny h = absurd (omega (arith, same_rank e f s t x y p q nx ny h))
 
-  one_list : (es fs : Trees) (ms ns : List (List Lexeme)) (i j x y : List Lexeme) → SpellEach es ms → SpellEach fs ns → IsMemberList ms i → IsMemberList ns j → i ++ (RightParen ∷ x) ≡ j ++ (RightParen ∷ y) → (es ≡ fs) × (x ≡ y)
+  one_list : (es fs : Trees) (ms ns : List (List Lexeme)) (i j x y : List Lexeme) → SpellEachTransitional es ms → SpellEachTransitional fs ns → IsMemberList ms i → IsMemberList ns j → i ++ (RightParen ∷ x) ≡ j ++ (RightParen ∷ y) → (es ≡ fs) × (x ≡ y)
   one_list none none [] [] i j x y p q a b h = (refl, tail_is (ap (λ (z : List Lexeme). z ++ (RightParen ∷ x)) (sym a) ∙ h ∙ ap (λ (z : List Lexeme). z ++ (RightParen ∷ y)) b))
   one_list none none [] (n ∷ ns) i j x y p q a b h = absurd q
   one_list none none (m ∷ ms) ns i j x y p q a b h = absurd p
@@ -226,7 +227,7 @@ mutual
       let others = one_after es fs ms ns c.0 d.0 x y p.1 q.1 c.2 d.2 first.1 in
       (λ i. tree (first.0 i) (others.0 i), others.1)
 
-  one_after : (es fs : Trees) (ms ns : List (List Lexeme)) (i j x y : List Lexeme) → SpellEach es ms → SpellEach fs ns → IsAfter ms i → IsAfter ns j → i ++ (RightParen ∷ x) ≡ j ++ (RightParen ∷ y) → (es ≡ fs) × (x ≡ y)
+  one_after : (es fs : Trees) (ms ns : List (List Lexeme)) (i j x y : List Lexeme) → SpellEachTransitional es ms → SpellEachTransitional fs ns → IsAfter ms i → IsAfter ns j → i ++ (RightParen ∷ x) ≡ j ++ (RightParen ∷ y) → (es ≡ fs) × (x ≡ y)
   one_after none none [] [] i j x y p q (inl a) (inl b) h = (refl, tail_is (ap (λ (z : List Lexeme). z ++ (RightParen ∷ x)) (sym a) ∙ h ∙ ap (λ (z : List Lexeme). z ++ (RightParen ∷ y)) b))
   one_after none none [] [] i j x y p q (inl a) (inr b) h = let e : RightParen ∷ x ≡ Comma ∷ RightParen ∷ y = ap (λ (z : List Lexeme). z ++ (RightParen ∷ x)) (sym a) ∙ h ∙ ap (λ (z : List Lexeme). z ++ (RightParen ∷ y)) b in absurd (paren_comma e)
   one_after none none [] [] i j x y p q (inr a) (inl b) h = let e : Comma ∷ RightParen ∷ x ≡ RightParen ∷ y = ap (λ (z : List Lexeme). z ++ (RightParen ∷ x)) (sym a) ∙ h ∙ ap (λ (z : List Lexeme). z ++ (RightParen ∷ y)) b in absurd (paren_comma (sym e))
@@ -248,9 +249,30 @@ mutual
       let others = one_after es fs ms ns a.0 b.0 x y p.1 q.1 a.2 b.2 first.1 in
       (λ i. tree (first.0 i) (others.0 i), others.1)
 
+-- A list of tokens spelled at most one tree.
+pub one_transitional_tree : (e f : Tree) (ts : List Lexeme) → SpellsTransitional e ts → SpellsTransitional f ts → e ≡ f
+one_transitional_tree e f ts p q = (one e f ts ts [] [] p q refl refl refl).0
+
+mutual
+  -- what spells a tree spelled it then
+  pub was_spelled : (e : Tree) (s : List Lexeme) → Spells e s → SpellsTransitional e s
+  was_spelled (Not e) s p = (p.0, was_spelled e p.0 p.1, p.2)
+  was_spelled (All es) s p = (p.0, p.1, each_was_spelled es p.0 p.2, p.3, p.4)
+  was_spelled (Any es) s p = (p.0, p.1, each_was_spelled es p.0 p.2, p.3, p.4)
+  was_spelled (Value (Alone n)) s p = p
+  was_spelled (Value (KeyPair k v)) s p = (p.0, p.1.0)
+  was_spelled True s p = p
+  was_spelled False s p = p
+
+  each_was_spelled : (es : Trees) (ss : List (List Lexeme)) → SpellEach es ss → SpellEachTransitional es ss
+  each_was_spelled none [] p = tt
+  each_was_spelled none (s ∷ ss) p = absurd p
+  each_was_spelled (tree e es) [] p = absurd p
+  each_was_spelled (tree e es) (s ∷ ss) p = (was_spelled e s p.0, each_was_spelled es ss p.1)
+
 -- A list of tokens spells at most one tree.
 pub one_tree : (e f : Tree) (ts : List Lexeme) → Spells e ts → Spells f ts → e ≡ f
-one_tree e f ts p q = (one e f ts ts [] [] p q refl refl refl).0
+one_tree e f ts p q = one_transitional_tree e f ts (was_spelled e ts p) (was_spelled f ts q)
 
 -- A text spells at most one tree.
 pub one_tree_text : (text : List ℕ) (e f : Tree) → IsTreeText text e → IsTreeText text f → e ≡ f

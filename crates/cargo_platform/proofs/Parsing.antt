@@ -1,20 +1,20 @@
 -- A reader of expressions, step by step.
 use Rattle.std.proofs.Common.{◌≡◌, refl, sym, ap, subst, ◌∙◌, ℕ, ◌+◌, ◌-◌, ◌≤◌, ◌<◌, Bool, true, false, ◌&&◌, List, [], ◌∷◌, ◌++◌, Some, None, Ok, Err, codes, length, slice_range, append_assoc, append-nil, true≢false, arith}
-use Rattle.std.specs.Prelude.{IsFalse, Result, IfOk, IfErr}
+use Rattle.std.specs.Prelude.{IsTrue, IsFalse, Result, IfOk, IfErr}
 use Rattle.cargo_platform.specs.declared.reader.Refusal.{Refusal}
 use Rattle.cargo_platform.specs.declared.reader.Refusal.TheVariants as refusal
 use Rattle.cargo_platform.specs.declared.reader.Mark.TheVariants as marks
 use Rattle.cargo_platform.specs.Tokens.{Lexeme, LeftParen, RightParen, Ident, Comma, Equals, String, Placed, plain, written}
 use Rattle.cargo_platform.specs.Cut.{lexemes}
-use Rattle.cargo_platform.specs.Trees.{KeyPair, Tree, Not, Value, trees_of}
-use Rattle.cargo_platform.specs.Spelling.{is_group_word, group, IsMemberList, Spells, SpellEach}
+use Rattle.cargo_platform.specs.Trees.{Alone, KeyPair, Tree, Not, Value, trees_of}
+use Rattle.cargo_platform.specs.Spelling.{is_literal_word, MayStand, group, IsMemberList, Spells, SpellEach}
 use Rattle.cargo_platform.specs.Faults.{Fault, UnexpectedToken, IncompleteExpr, UnterminatedExpression}
 use Rattle.cargo_platform.specs.Walk.{Word, Several, Negation, State, Member, Behind, Named, Keyed, Ended, after, after_name, walk_from, walk}
 use Rattle.cargo_platform.specs.Ahead.{Item, Nothing, Ahead, Comes, Path, next_of, items_left, item_count}
 use Rattle.cargo_platform.specs.Ahead as ahead
 use Rattle.cargo_platform.specs.Parsing.{Opening, Negated, Listed, list_word, list_tree, opening_word, IsFresh, kind, kinds, is_list, finished, begins, ends, Wants, Has, HasName, HasKey, HasWord, is_equals, is_equals_next, Reads, TakesToken, LacksMark, LacksName, LacksString, is_whole, expects, expects_end, IsFaultAt, IsStop, IsStuck, IfFault, StopsAt, Stops, RefusesNext, RefusesMore, IsNoString, LacksValue}
 use Rattle.cargo_platform.specs.Misfits.{misfit, IsSurplus}
-use Rattle.cargo_platform.proofs.Walk.{walk_on, named}
+use Rattle.cargo_platform.proofs.Walk.{walk_on, named, literal}
 use Rattle.cargo_platform.proofs.Completing.{finished_snoc, list_snoc, list_finished}
 use Rattle.cargo_platform.proofs.Fronts.{lexemes-append}
 use Rattle.cargo_platform.proofs.SomeCut.{written_length}
@@ -282,17 +282,17 @@ behind_comma gs all es e old ts h =
       walked = walk_on ts (Comma ∷ []) (ends h.name (Several ∷ kinds gs)) h.walked ∙ goes_on h.name (kinds gs);
     }
 
-name_walk : (gs : List Opening) (raw : Bool) (name : List ℕ) (ts : List Lexeme) → IsFalse (is_group_word (record { raw = raw; name = name })) → HasName gs raw name ts → walk ts ≡ Some (Named (kinds gs))
+name_walk : (gs : List Opening) (raw : Bool) (name : List ℕ) (ts : List Lexeme) → MayStand (Alone (record { raw = raw; name = name })) → HasName gs raw name ts → walk ts ≡ Some (Named (kinds gs))
 name_walk gs raw name ts n h =
     ap walk h.is ∙ walk_on h.before (Ident raw name ∷ []) (begins (kinds gs)) h.wanted.walked
     ∙ after_begins (kinds gs) raw name ∙ ap Some (named (record { raw = raw; name = name }) (kinds gs) n)
 
-pub key_walk : (gs : List Opening) (raw : Bool) (name : List ℕ) (ts : List Lexeme) → IsFalse (is_group_word (record { raw = raw; name = name })) → HasKey gs raw name ts → walk ts ≡ Some (Keyed (kinds gs))
+pub key_walk : (gs : List Opening) (raw : Bool) (name : List ℕ) (ts : List Lexeme) → MayStand (Alone (record { raw = raw; name = name })) → HasKey gs raw name ts → walk ts ≡ Some (Keyed (kinds gs))
 key_walk gs raw name ts n h =
     ap walk h.is ∙ walk_on h.before (Ident raw name ∷ Equals ∷ []) (begins (kinds gs)) h.wanted.walked
     ∙ ap (λ s. walk_from s (Equals ∷ [])) (after_begins (kinds gs) raw name ∙ ap Some (named (record { raw = raw; name = name }) (kinds gs) n))
 
-pub name_lone : (gs : List Opening) (raw : Bool) (name : List ℕ) (e : Tree) (left : Item) (ts : List Lexeme) → IsFalse (is_group_word (record { raw = raw; name = name })) → Spells e (Ident raw name ∷ []) → IsFalse (is_equals_next left) → HasName gs raw name ts → Has gs e left ts
+pub name_lone : (gs : List Opening) (raw : Bool) (name : List ℕ) (e : Tree) (left : Item) (ts : List Lexeme) → MayStand (Alone (record { raw = raw; name = name })) → Spells e (Ident raw name ∷ []) → IsFalse (is_equals_next left) → HasName gs raw name ts → Has gs e left ts
 name_lone gs raw name e left ts n s clear h = record {
   opens = (h.before, Ident raw name ∷ [], h.wanted.opens, s, h.is);
   name = true;
@@ -300,7 +300,17 @@ name_lone gs raw name e left ts n s clear h = record {
   clear = clear;
 }
 
-pub key_pair : (gs : List Opening) (raw : Bool) (name v : List ℕ) (left : Item) (ts : List Lexeme) → IsFalse (is_group_word (record { raw = raw; name = name })) → HasKey gs raw name ts → Has gs (Value (KeyPair (record { raw = raw; name = name }) v)) left (ts ++ String v ∷ [])
+pub literal_lone : (gs : List Opening) (raw : Bool) (name : List ℕ) (e : Tree) (left : Item) (ts : List Lexeme) → IsTrue (is_literal_word (record { raw = raw; name = name })) → Spells e (Ident raw name ∷ []) → HasName gs raw name ts → Has gs e left ts
+literal_lone gs raw name e left ts l s h = record {
+  opens = (h.before, Ident raw name ∷ [], h.wanted.opens, s, h.is);
+  name = false;
+  walked =
+      ap walk h.is ∙ walk_on h.before (Ident raw name ∷ []) (begins (kinds gs)) h.wanted.walked
+      ∙ after_begins (kinds gs) raw name ∙ ap Some (literal raw name (kinds gs) l);
+  clear = refl;
+}
+
+pub key_pair : (gs : List Opening) (raw : Bool) (name v : List ℕ) (left : Item) (ts : List Lexeme) → MayStand (Alone (record { raw = raw; name = name })) → HasKey gs raw name ts → Has gs (Value (KeyPair (record { raw = raw; name = name }) v)) left (ts ++ String v ∷ [])
 key_pair gs raw name v left ts n h = record {
   opens = (
     h.before,
@@ -362,7 +372,7 @@ after_keyed : (ws : List Word) (t : Lexeme) → ((v : List ℕ) → t ≡ String
 after_keyed ws (String v) h = absurd (h v refl)
 after_keyed ws t h = refl
 
-pub key_refusing : (l : Ahead) (gs : List Opening) (raw : Bool) (name : List ℕ) (ts : List Lexeme) → IsFalse (is_group_word (record { raw = raw; name = name })) → LacksString l → HasKey gs raw name ts → Refusing l (codes "a string") (codes "a string") ts
+pub key_refusing : (l : Ahead) (gs : List Opening) (raw : Bool) (name : List ℕ) (ts : List Lexeme) → MayStand (Alone (record { raw = raw; name = name })) → LacksString l → HasKey gs raw name ts → Refusing l (codes "a string") (codes "a string") ts
 key_refusing l gs raw name ts w n h = record {
   s = Keyed (kinds gs);
   walked = key_walk gs raw name ts w h;

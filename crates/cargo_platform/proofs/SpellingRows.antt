@@ -44,8 +44,8 @@ no_group_words = (refl, refl, refl)
 literal_words : IsTrue (is_literal_word (name (codes "true"))) × IsFalse (is_literal_word (marked (codes "false"))) × IsFalse (is_literal_word (name (codes "True")))
 literal_words = (refl, refl, refl)
 
-may_stand : MayStand (Alone (marked (codes "any"))) × MayStand (Alone (marked (codes "true"))) × MayStand (KeyPair (name (codes "true")) [])
-may_stand = ((refl, refl), (refl, refl), refl)
+may_stand : MayStand (Alone (marked (codes "any"))) × MayStand (Alone (marked (codes "true"))) × MayStand (KeyPair (marked (codes "true")) [])
+may_stand = ((refl, refl), (refl, refl), (refl, refl))
 
 no_word_alone : MayStand (Alone (name (codes "any"))) → ⊥
 no_word_alone p = true≢false p.0
@@ -54,7 +54,10 @@ no_literal_alone : MayStand (Alone (name (codes "true"))) → ⊥
 no_literal_alone p = true≢false p.1
 
 no_word_as_key : MayStand (KeyPair (name (codes "not")) (codes "x")) → ⊥
-no_word_as_key p = true≢false p
+no_word_as_key p = true≢false p.0
+
+no_literal_as_key : MayStand (KeyPair (name (codes "true")) (codes "x")) → ⊥
+no_literal_as_key p = true≢false p.1
 
 -- ---- expressions
 
@@ -74,7 +77,7 @@ any_spelled : Spells (Any (trees_of (a ∷ Not True ∷ Value (KeyPair (name (co
 any_spelled = (
   (word_a ∷ []) ∷ group (codes "not") (plain (codes "true") ∷ []) ∷ (plain (codes "b") ∷ Equals ∷ String (codes "1") ∷ []) ∷ [],
   word_a ∷ Comma ∷ plain (codes "not") ∷ LeftParen ∷ plain (codes "true") ∷ RightParen ∷ Comma ∷ plain (codes "b") ∷ Equals ∷ String (codes "1") ∷ [],
-  (a_spelled, ((plain (codes "true") ∷ [], refl, refl), ((refl, refl), tt))),
+  (a_spelled, ((plain (codes "true") ∷ [], refl, refl), ((refl, (refl, refl)), tt))),
   inl refl,
   refl,
 )
@@ -142,6 +145,10 @@ marked_group p = unwalked _ refl p
 -- `all = "x"`, which is a pair of the other grammar
 word_as_key : IsAccepted Expressions (plain (codes "all") ∷ Equals ∷ String (codes "x") ∷ []) → ⊥
 word_as_key p = unwalked _ refl p
+
+-- `true = "x"`, which is a pair of the other grammar
+literal_as_key : IsAccepted Expressions (plain (codes "true") ∷ Equals ∷ String (codes "x") ∷ []) → ⊥
+literal_as_key p = unwalked _ refl p
 
 -- `all(a`
 open_group : IsAccepted Expressions (plain (codes "all") ∷ LeftParen ∷ word_a ∷ []) → ⊥

@@ -42,10 +42,13 @@ marked_word = (((refl, refl), (refl, refl)), (((refl, refl), (refl, refl)), tt))
 literals : IsWellFormed (Any (trees_of (True ∷ Not False ∷ [])))
 literals = (tt, (tt, tt))
 
--- `true = ""`
-literal_as_key : IsWellFormed (Value (KeyPair (name (codes "true")) []))
+-- `r#true = ""`
+marked_literal_as_key : IsWellFormed (Value (KeyPair (marked (codes "true")) []))
 unfolding encode_utf8
-literal_as_key = (((refl, refl), (([], (refl, refl)), refl)), refl)
+marked_literal_as_key = (((refl, refl), (([], (refl, refl)), refl)), (refl, refl))
+
+no_literal_as_key : IsWellFormed (Value (KeyPair (name (codes "true")) [])) → ⊥
+no_literal_as_key p = true≢false p.1.1
 
 marked_literal_word : IsWellFormed (Value (Alone (marked (codes "true"))))
 marked_literal_word = ((refl, refl), (refl, refl))
@@ -54,7 +57,7 @@ no_unmarked_word : IsWellFormed (Value (Alone (name (codes "all")))) → ⊥
 no_unmarked_word p = true≢false p.1.0
 
 no_word_as_key : IsWellFormed (Value (KeyPair (name (codes "any")) (codes "1"))) → ⊥
-no_word_as_key p = true≢false p.1
+no_word_as_key p = true≢false p.1.0
 
 -- `true` alone is the literal, and `r#true` is a name
 no_literal_as_value : IsWellFormed (Value (Alone (name (codes "true")))) → ⊥

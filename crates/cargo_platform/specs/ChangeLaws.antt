@@ -1,12 +1,19 @@
--- Laws of the changes of the grammar of expressions.
-use Rattle.std.specs.Prelude.{◌≡◌, ◌↔◌, ◌&&◌, ℕ, Bool, false, List, IsFalse}
+-- Laws of the changes of the grammar of expressions: from the released one to the transitional, and from that to today's.
+use Rattle.std.specs.Prelude.{◌≡◌, ◌↔◌, ◌&&◌, ℕ, Bool, false, List, [], IsTrue, IsFalse}
 use Rattle.std.specs.List.{list_any}
 use Rattle.cargo_platform.specs.Tokens.{Lexeme}
 use Rattle.cargo_platform.specs.Trees.{CfgValue, Alone, KeyPair, Tree, Condition}
-use Rattle.cargo_platform.specs.Earlier.{SpellsTransitional, IsTransitionalTreeText, IsTransitionalConditionText, is_literal_name, SpellsReleased, IsReleasedTreeText, IsReleasedConditionText, released}
-use Rattle.cargo_platform.specs.Warnings.{values, condition_values}
+use Rattle.cargo_platform.specs.Spelling.{is_literal_word, Spells, Expressions, IsAccepted}
+use Rattle.cargo_platform.specs.Faults.{Fault, IsRefusedBy}
+use Rattle.cargo_platform.specs.WellFormed.{IsWellFormed}
+use Rattle.cargo_platform.specs.Platforms.{IsConditionText}
+use Rattle.cargo_platform.specs.Earlier.{is_literal_name, released, SpellsReleased, IsAcceptedReleased}
+use Rattle.cargo_platform.specs.Earlier.{IsReleasedTreeText, IsReleasedConditionText, IsWellFormedReleased}
+use Rattle.cargo_platform.specs.Earlier.{SpellsTransitional, IsAcceptedTransitional, IsTransitionalTreeText}
+use Rattle.cargo_platform.specs.Earlier.{IsTransitionalConditionText, IsWellFormedTransitional}
+use Rattle.cargo_platform.specs.Warnings.{values, condition_values, keyword_warnings}
 
--- ---- from the released grammar to the transitional one: marked `true` and `false` alone became names
+-- ---- marked `true` and `false` alone became names
 
 -- marked `true` or `false` alone
 abbrev pub is_marked_literal : CfgValue → Bool
@@ -17,9 +24,14 @@ is_marked_literal (KeyPair k v) = false
 abbrev pub SpelledReleased : List Lexeme → Type 0
 SpelledReleased ts = (d e : Tree) → SpellsTransitional e ts → (SpellsReleased d ts ↔ (d ≡ released e))
 
--- the same lists of tokens are accepted, so the same are completable, and each refused text keeps its fault
+-- the same lists of tokens are accepted
 abbrev pub IsAcceptedAsReleased : List Lexeme → Type 0
-IsAcceptedAsReleased ts = ((e : Tree) × SpellsTransitional e ts) ↔ ((d : Tree) × SpellsReleased d ts)
+IsAcceptedAsReleased ts = IsAcceptedTransitional ts ↔ IsAcceptedReleased ts
+
+-- the same texts are refused, with the same faults
+abbrev pub IsRefusedAsReleased : List ℕ → Fault → Type 0
+IsRefusedAsReleased text fault =
+    IsRefusedBy IsAcceptedTransitional Expressions text fault ↔ IsRefusedBy IsAcceptedReleased Expressions text fault
 
 -- the same texts spell a tree
 abbrev pub IsTreeTextAsReleased : List ℕ → Type 0
@@ -41,3 +53,36 @@ abbrev pub KeepsCondition : List ℕ → Type 0
 KeepsCondition text =
     (p q : Condition) → IsReleasedConditionText text p → IsTransitionalConditionText text q
     → IsFalse (list_any is_marked_literal (condition_values q)) → q ≡ p
+
+-- ---- unmarked `true` and `false` stopped being keys
+
+-- unmarked `true` or `false` as a key
+abbrev pub is_literal_key : CfgValue → Bool
+is_literal_key (Alone n) = false
+is_literal_key (KeyPair k v) = is_literal_word k
+
+-- what a list of tokens spells it spelled
+abbrev pub SpelledTransitional : List Lexeme → Type 0
+SpelledTransitional ts = (e : Tree) → Spells e ts → SpellsTransitional e ts
+
+-- a list of tokens that spelled a tree is refused exactly where a literal is a key in it, at any depth
+abbrev pub IsRefusedForLiteralKeys : List Lexeme → Type 0
+IsRefusedForLiteralKeys ts =
+    (e : Tree) → SpellsTransitional e ts
+    → ((IsAccepted Expressions ts → ⊥) ↔ IsTrue (list_any is_literal_key (values e)))
+
+-- ---- well-formed trees, and warnings
+
+-- a tree was well-formed exactly where it was so in the transitional grammar, and no marked literal stands alone in it
+abbrev pub WasWellFormedWithoutMarkedLiterals : Tree → Type 0
+WasWellFormedWithoutMarkedLiterals e =
+    IsWellFormedReleased e ↔ (IsWellFormedTransitional e × IsFalse (list_any is_marked_literal (values e)))
+
+-- a tree is well-formed exactly where it was so in the transitional grammar, and no literal is a key in it
+abbrev pub IsWellFormedWithoutLiteralKeys : Tree → Type 0
+IsWellFormedWithoutLiteralKeys e =
+    IsWellFormed e ↔ (IsWellFormedTransitional e × IsFalse (list_any is_literal_key (values e)))
+
+-- no text gives a warning on a keyword
+abbrev pub GivesNoKeyword : List ℕ → Type 0
+GivesNoKeyword text = (path : List ℕ) (p : Condition) → IsConditionText text p → keyword_warnings path p ≡ []

@@ -1,23 +1,16 @@
 -- Earlier grammars of expressions under names of their own, so that each change is a statement between two of them.
 use Rattle.std.specs.Prelude.{◌≡◌, ℕ, Bool, ◌&&◌, ◌||◌, if◌then◌else◌, List, [], ◌∷◌, codes, IsFalse, bytes_eq}
 use Rattle.cargo_platform.specs.Tokens.{Lexeme, Ident}
-use Rattle.cargo_platform.specs.Trees.{Name, CfgValue, Alone, KeyPair, Tree, Not, All, Any, Value, True, False, Trees, none, tree, Condition}
-use Rattle.cargo_platform.specs.Spelling.{is_group_word, Spells, SpellsBy, TextSpells}
+use Rattle.cargo_platform.specs.Trees.{Name, CfgValue, Alone, KeyPair, Tree, Not, All, Any, Value, True, False, Trees}
+use Rattle.cargo_platform.specs.Trees.{none, tree, Condition}
+use Rattle.cargo_platform.specs.Spelling.{is_group_word, is_literal_word, SpellsLiteral, SpellsBy, SpellEachBy}
+use Rattle.cargo_platform.specs.Spelling.{TextSpells}
+use Rattle.cargo_platform.specs.WellFormed.{IsWellFormedBy}
 use Rattle.cargo_platform.specs.Platforms.{IsConditionTextBy}
-
--- ---- transitional: marked `true` and `false` alone are names, and unmarked ones may be keys, as in today's grammar
-
-abbrev pub SpellsTransitional : Tree → List Lexeme → Type 0
-SpellsTransitional = Spells
-
-abbrev pub IsTransitionalTreeText : List ℕ → Tree → Type 0
-IsTransitionalTreeText text e = TextSpells SpellsTransitional text e
-
-abbrev pub IsTransitionalConditionText : List ℕ → Condition → Type 0
-IsTransitionalConditionText = IsConditionTextBy IsTransitionalTreeText
 
 -- ---- released, as the Rust crate 0.3.3 has it: `true` and `false` alone are the literals, marked or not
 
+-- the name is `true` or `false`, marked or not
 abbrev pub is_literal_name : Name → Bool
 is_literal_name n = bytes_eq n.name (codes "true") || bytes_eq n.name (codes "false")
 
@@ -37,6 +30,9 @@ IsReleasedTreeText text e = TextSpells SpellsReleased text e
 abbrev pub IsReleasedConditionText : List ℕ → Condition → Type 0
 IsReleasedConditionText = IsConditionTextBy IsReleasedTreeText
 
+abbrev pub IsWellFormedReleased : Tree → Type 0
+IsWellFormedReleased = IsWellFormedBy MayStandReleased
+
 -- the tree with the literals in place of marked `true` and `false` alone
 abbrev mutual
   pub released : Tree → Tree
@@ -53,3 +49,32 @@ abbrev mutual
   pub released_members : Trees → Trees
   released_members none = none
   released_members (tree e es) = tree (released e) (released_members es)
+
+-- ---- transitional: marked `true` and `false` alone are names, and unmarked ones may still be keys
+
+abbrev pub MayStandTransitional : CfgValue → Type 0
+MayStandTransitional (Alone n) = IsFalse (is_group_word n) × IsFalse (is_literal_word n)
+MayStandTransitional (KeyPair k v) = IsFalse (is_group_word k)
+
+abbrev pub SpellsTransitional : Tree → List Lexeme → Type 0
+SpellsTransitional = SpellsBy MayStandTransitional SpellsLiteral
+
+abbrev pub SpellEachTransitional : Trees → List (List Lexeme) → Type 0
+SpellEachTransitional = SpellEachBy MayStandTransitional SpellsLiteral
+
+abbrev pub IsTransitionalTreeText : List ℕ → Tree → Type 0
+IsTransitionalTreeText text e = TextSpells SpellsTransitional text e
+
+abbrev pub IsTransitionalConditionText : List ℕ → Condition → Type 0
+IsTransitionalConditionText = IsConditionTextBy IsTransitionalTreeText
+
+abbrev pub IsWellFormedTransitional : Tree → Type 0
+IsWellFormedTransitional = IsWellFormedBy MayStandTransitional
+
+-- ---- what the two accept
+
+abbrev pub IsAcceptedReleased : List Lexeme → Type 0
+IsAcceptedReleased ts = (e : Tree) × SpellsReleased e ts
+
+abbrev pub IsAcceptedTransitional : List Lexeme → Type 0
+IsAcceptedTransitional ts = (e : Tree) × SpellsTransitional e ts

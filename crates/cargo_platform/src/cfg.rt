@@ -90,7 +90,8 @@ impl CfgExpr {
     ghost use Rattle.cargo_platform.specs.Readers.{ReadsExpression};
 
     /// Reads an expression: a name, a pair, a literal, or `all(..)`, `any(..)` or `not(..)` of expressions, to any depth.
-    /// A name that is marked as raw is no word of the language: it opens no group, and is no literal.
+    /// Unmarked `all`, `any`, `not`, `true` and `false` are words of the language, and no names or keys. A raw mark makes
+    /// each an ordinary name: `r#true` is a name, and `r#all = "x"` a pair.
     ///
     /// Any other text is refused with `ReadError::Parse` of its first fault: what can't follow the longest front of its
     /// tokens that some tokens would complete. Where memory is refused the answer is `ReadError::Memory`, whatever the

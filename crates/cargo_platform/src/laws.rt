@@ -11,7 +11,7 @@ ghost use Rattle.cargo_platform.specs.GrammarLaws.{HasOneTree, IsOneTreeText, Ha
 ghost use Rattle.cargo_platform.specs.FaultLaws.{FrontsAreCompletable, IsCompletedShortly, IsWalkedIffCompletable, IsKeptByWalk, IsFrontCompletable, IsStoppedByNext, IsExpectedToFollow, NamesWhatCanFollow, HasOneFault, SpellsOrIsRefused, RefusedSpellsNothing};
 ghost use Rattle.cargo_platform.specs.PrintLaws.{PrintSpells, PrintsApart, PrintSpellsValue, PrintsApartValues};
 ghost use Rattle.cargo_platform.specs.PlatformLaws.{IsOneConditionText, SpellsWellFormedConditions, PrintSpellsCondition, PrintsApartConditions, SpellsConditionOrIsRefused, RefusedSpellsNoCondition, HasOneConditionFault};
-ghost use Rattle.cargo_platform.specs.ChangeLaws.{SpelledReleased, IsAcceptedAsReleased, IsTreeTextAsReleased, KeepsTree, IsConditionTextAsReleased, KeepsCondition};
+ghost use Rattle.cargo_platform.specs.ChangeLaws.{SpelledReleased, IsAcceptedAsReleased, IsRefusedAsReleased, IsTreeTextAsReleased, KeepsTree, IsConditionTextAsReleased, KeepsCondition, SpelledTransitional, IsRefusedForLiteralKeys, WasWellFormedWithoutMarkedLiterals, IsWellFormedWithoutLiteralKeys, GivesNoKeyword};
 ghost use Rattle.cargo_platform.specs.Facts.{Pair, FactSet, fact_set, truth};
 ghost use Rattle.cargo_platform.specs.FactLaws.{IsInWhereListed, HaveSamePairs, HaveSameFacts, IsMonotone, IsNotAllAnyNot, IsOrderOfKeys};
 ghost use Rattle.cargo_platform.specs.Key.{name_key, value_key, key, condition_key, name_cmp, value_cmp, tree_cmp, condition_cmp};
@@ -169,10 +169,12 @@ pub fn prints_apart_conditions()
 {}
 
 /// Marked `true` and `false` alone are names; in the Rust crate they are the literals. What tokens spelled there is told
-/// by what they spell, and the same lists of tokens are accepted, so that each refused text keeps its fault.
+/// by what they spell; the same lists of tokens are accepted, and the same texts refused, with the same faults. The
+/// transitional grammar is that of the Rust crate with this change alone.
 pub fn marked_literals_are_names()
     ensures spelled { (ts : List Lexeme) → SpelledReleased ts }
     ensures accepted { (ts : List Lexeme) → IsAcceptedAsReleased ts }
+    ensures refused { (text : List ℕ) (fault : Fault) → IsRefusedAsReleased text fault }
 {}
 
 /// Whether marked `true` and `false` alone are names or literals, the same texts spell an expression, and the same one if
@@ -187,6 +189,25 @@ pub fn expressions_as_released()
 pub fn conditions_as_released()
     ensures accepted { (text : List ℕ) → IsConditionTextAsReleased text }
     ensures kept { (text : List ℕ) → KeepsCondition text }
+{}
+
+/// Unmarked `true` and `false` are no keys in an expression; in the transitional grammar they are. What is spelled was
+/// spelled there, and what was spelled there is refused exactly where one of them is a key in it.
+pub fn literals_are_no_keys()
+    ensures spelled { (ts : List Lexeme) → SpelledTransitional ts }
+    ensures refused { (ts : List Lexeme) → IsRefusedForLiteralKeys ts }
+{}
+
+/// Which trees are well-formed in the Rust crate's grammar, in the transitional one, and today: the first without marked
+/// literals alone, the last without unmarked ones as keys.
+pub fn well_formed_as_before()
+    ensures released { (e : Tree) → WasWellFormedWithoutMarkedLiterals e }
+    ensures today { (e : Tree) → IsWellFormedWithoutLiteralKeys e }
+{}
+
+/// No text that is read gives a warning on a keyword: such warnings are of trees that are made by hand.
+pub fn no_keyword_is_read()
+    ensures { (text : List ℕ) → GivesNoKeyword text }
 {}
 
 /// The fact set of a list holds the pairs of its members, so that order, repeats and raw marks play no part.

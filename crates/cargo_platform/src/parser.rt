@@ -4,8 +4,8 @@ ghost use Rattle.std.specs.Prelude.{◌≡◌, ◌≤◌, ◌<◌, false, true, 
 ghost use Rattle.cargo_platform.specs.Tokens.{Ident as ident_token};
 ghost use Rattle.cargo_platform.specs.Ahead.{items_left};
 ghost use Rattle.cargo_platform.specs.Ahead as ahead;
-ghost use Rattle.cargo_platform.specs.Trees.{Tree, name_of, value_of, tree_of, Not};
-ghost use Rattle.cargo_platform.specs.Spelling.{is_group_word, value_spelling, Spells};
+ghost use Rattle.cargo_platform.specs.Trees.{Alone, Tree, name_of, value_of, tree_of, Not};
+ghost use Rattle.cargo_platform.specs.Spelling.{is_group_word, is_literal_word, value_spelling, MayStand, Spells};
 ghost use Rattle.cargo_platform.specs.Parsing.{LacksMark, Opening, Negated, Listed, opening, stack, opening_word, IsFresh, is_all, list_tree, Wants, Has, HasName, HasWord, Stands, Reads, Stops, HasRead, ClearBehind, TakesValue, LacksValue, StopsKey, StopsValue, kinds, is_list};
 
 use crate::cfg::{Cfg, CfgExpr, Ident};
@@ -79,15 +79,17 @@ fn ident(alloc: Global, raw: bool, name: &str) -> Result<Ident, AllocError>
     })
 }
 
-/// What a name alone says.
-fn lone(alloc: Global, raw: bool, name: &str) -> Result<CfgExpr, AllocError>
-    requires { IsFalse (is_group_word (record { raw = raw; name = name.now })) }
-    ensures { IfOk result (λ e. Spells (tree_of e) (ident_token raw name.now ∷ [])) }
+/// The literal that a name is, if it is an unmarked word of one.
+fn literal_named(raw: bool, name: &str) -> Option<CfgExpr>
+    ensures { MatchOption result (IsFalse (is_literal_word (record { raw = raw; name = name.now }))) (λ e. Spells (tree_of e) (ident_token raw name.now ∷ []) × IsTrue (is_literal_word (record { raw = raw; name = name.now }))) }
 {
+    if raw {
+        return None;
+    }
     match name {
-        "true" if !raw => Ok(CfgExpr::True),
-        "false" if !raw => Ok(CfgExpr::False),
-        _ => Ok(CfgExpr::Value(Cfg::Name(ident(alloc, raw, name)?))),
+        "true" => Some(CfgExpr::True),
+        "false" => Some(CfgExpr::False),
+        _ => None,
     }
 }
 
@@ -110,14 +112,14 @@ fn read_pair<'a>(
     Ok(Cfg::KeyPair(key, value))
 }
 
-/// Reads what follows a name that opens no group.
+/// Reads what follows a name that opens no group and is no literal.
 fn read_value<'a>(
     alloc: Global,
     reader: &mut Reader<'a>,
     raw: bool,
     name: &str,
 ) -> Result<CfgExpr, Refusal<'a>>
-    requires { IsFalse (is_group_word (record { raw = raw; name = name.now })) }
+    requires { MayStand (Alone (record { raw = raw; name = name.now })) }
     ensures same_text { reader.new.text ≡ reader.old.text }
     ensures value { IfOk result (λ e. (gs : List Opening) → Reads reader.old reader.new (HasName gs raw name.now) (Has gs (tree_of e) reader.new.item)) }
     ensures refused { IfErr result (λ r. (gs : List Opening) → Stops reader.old (HasName gs raw name.now) r) }
@@ -125,7 +127,7 @@ fn read_value<'a>(
     if reader.eat(Mark::Equals) {
         Ok(CfgExpr::Value(read_pair(alloc, reader, raw, name)?))
     } else {
-        Ok(lone(alloc, raw, name)?)
+        Ok(CfgExpr::Value(Cfg::Name(ident(alloc, raw, name)?)))
     }
 }
 
@@ -158,13 +160,14 @@ fn behind_name<'a>(
     ensures begun { IfOk result (λ done. Reads reader.old reader.new (HasName (stack groups.old) raw name.now) (Stands (stack groups.new) done reader.new.item)) }
     ensures refused { IfErr result (Stops reader.old (HasName (stack groups.old) raw name.now)) }
 {
-    match group_named(alloc, raw, name) {
-        Some(group) => {
-            open_group(reader, groups, group)?;
-            Ok(None)
-        }
-        None => Ok(Some(read_value(alloc, reader, raw, name)?)),
+    if let Some(group) = group_named(alloc, raw, name) {
+        open_group(reader, groups, group)?;
+        return Ok(None);
     }
+    if let Some(literal) = literal_named(raw, name) {
+        return Ok(Some(literal));
+    }
+    Ok(Some(read_value(alloc, reader, raw, name)?))
 }
 
 /// Reads the `)` of a list that has no members yet, or ends with a comma.

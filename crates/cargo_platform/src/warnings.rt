@@ -28,8 +28,9 @@ impl Platform {
     }
 
     /// Appends a warning for each name or pair of the expression whose name or key is `true` or `false` without the raw
-    /// mark, in their order from left to right. The name of a target gives none. `path` names the manifest, and stands
-    /// in each warning as it is given.
+    /// mark, in their order from left to right. Only a tree that is made by hand has such a value: the readers refuse the
+    /// words as keys, and read them alone as literals. The name of a target gives none. `path` names the manifest, and
+    /// stands in each warning as it is given.
     ///
     /// It refuses only where memory is refused, and the list then holds what it held.
     pub fn check_cfg_keywords(

@@ -184,7 +184,7 @@ fn texts_of_at_most_five_characters(rt: HostRuntime) -> Result<(), Fail> {
 fn lists_of_at_most_five_pieces(rt: HostRuntime) -> Result<(), Fail> {
     let counted = count_texts(&rt, rt.alloc(), &PIECES)?;
     assert_eq!(rt; counted.texts, 66_430);
-    assert_eq!(rt; counted.expressions, 11);
+    assert_eq!(rt; counted.expressions, 10);
     Ok(())
 }
 

@@ -28,13 +28,13 @@ pub const READ: &[Read] = &[
     ("any( a ,b = \"1\", )", "any2 a b=1", "any(a, b = \"1\")"),
     ("not ( all ( ) )", "not all0", "not(all())"),
     ("not(any())", "not any0", "not(any())"),
-    // A mark makes a word an ordinary name; a key may be any word but the three groups' own.
+    // A mark makes a word an ordinary name and an ordinary key.
     (" r#all =\"x\"", "r#all=x", "r#all = \"x\""),
     ("r#all", "r#all", "r#all"),
     ("any(r#any, r#not)", "any2 r#any r#not", "any(r#any, r#not)"),
     ("r#true", "r#true", "r#true"),
     ("r#false", "r#false", "r#false"),
-    ("true = \"x\"", "true=x", "true = \"x\""),
+    ("r#true = \"x\"", "r#true=x", "r#true = \"x\""),
     ("r#false = \"x\"", "r#false=x", "r#false = \"x\""),
 ];
 
@@ -122,6 +122,28 @@ const REFUSED: &[Refused] = &[
         Fault::UnexpectedToken("`(`", "`=`"),
         "expected `(`, found `=`",
     ),
+    // A literal is no key.
+    (
+        "true = \"x\"",
+        Fault::UnterminatedExpression("= \"x\""),
+        "unexpected content `= \"x\"` found after cfg expression",
+    ),
+    (
+        "false =",
+        Fault::UnterminatedExpression("="),
+        "unexpected content `=` found after cfg expression",
+    ),
+    (
+        "all(true = \"x\")",
+        Fault::UnexpectedToken("`)`", "`=`"),
+        "expected `)`, found `=`",
+    ),
+    (
+        "not(true = \"x\")",
+        Fault::UnexpectedToken("`)`", "`=`"),
+        "expected `)`, found `=`",
+    ),
+    ("all(true ", Fault::IncompleteExpr("`)`"), UNCLOSED),
     ("a = ", Fault::IncompleteExpr("a string"), NO_STRING),
     (
         "a = )",

@@ -119,7 +119,7 @@ pub const CONDITIONS: &[(&str, &str, bool)] = &[
     ("r#true", "", false),
     ("r#true", "true", true),
     ("not(r#false)", "false", false),
-    ("true = \"x\"", "r#true=x", true),
+    ("r#true = \"x\"", "true=x", true),
 ];
 
 #[test]

@@ -161,14 +161,17 @@ fn expression<'a>(
     if !raw && name == "not" {
         return negation(alloc, tokens, depth);
     }
-    match (pair_value(tokens)?, name) {
-        (Some(value), _) => {
-            let value = String::from_str(alloc, value)?;
-            Ok(CfgExpr::Value(Cfg::KeyPair(ident(alloc, raw, name)?, value)))
-        }
-        (None, "true") if !raw => Ok(CfgExpr::True),
-        (None, "false") if !raw => Ok(CfgExpr::False),
-        (None, _) => Ok(CfgExpr::Value(Cfg::Name(ident(alloc, raw, name)?))),
+    if !raw && name == "true" {
+        return Ok(CfgExpr::True);
+    }
+    if !raw && name == "false" {
+        return Ok(CfgExpr::False);
+    }
+    let value = pair_value(tokens)?;
+    let ident = ident(alloc, raw, name)?;
+    match value {
+        Some(value) => Ok(CfgExpr::Value(Cfg::KeyPair(ident, String::from_str(alloc, value)?))),
+        None => Ok(CfgExpr::Value(Cfg::Name(ident))),
     }
 }
 

@@ -139,6 +139,12 @@ const BAD_EXPRESSIONS: &[Refused] = &[
         Fault::UnterminatedString,
         "unterminated string in cfg",
     ),
+    // A literal is no key.
+    (
+        "any(not(feature = \"w\"), r#test, true = \"x\", true)",
+        Fault::UnexpectedToken("`)`", "`=`"),
+        "expected `)`, found `=`",
+    ),
 ];
 
 #[test]
@@ -331,7 +337,7 @@ fn conditions_of_at_most_five_pieces(rt: HostRuntime) -> Result<(), Fail> {
     let (names, conditions) = read_texts(&rt, rt.alloc(), &PIECES)?;
     // The empty list, and one of the words `a`, `true`, `all` and `not`.
     assert_eq!(rt; names, 5);
-    assert_eq!(rt; conditions, 11);
+    assert_eq!(rt; conditions, 10);
     Ok(())
 }
 

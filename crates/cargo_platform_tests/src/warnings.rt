@@ -150,13 +150,16 @@ fn literals_are_no_keywords(rt: HostRuntime) -> Result<(), Fail> {
 #[test]
 fn warnings_go_behind_those_before(rt: HostRuntime) -> Result<(), Fail> {
     let alloc = rt.alloc();
-    let text = "cfg(any(not(feature = \"w\"), r#test, true = \"x\", true))";
+    let text = "cfg(any(not(feature = \"w\"), r#test, r#true = \"x\", true))";
     let condition = Platform::from_str(alloc, text)?;
     let mut found = on_attributes(alloc, "w")?;
     condition.check_cfg_attributes(alloc, &mut found)?;
     let mut wanted = on_attributes(alloc, "w feature r#test")?;
     assert_eq!(rt; found, wanted);
     condition.check_cfg_keywords(alloc, &mut found, "-")?;
+    assert_eq!(rt; found, wanted);
+    let made = Platform::Cfg(expression(alloc, "true=x")?);
+    made.check_cfg_keywords(alloc, &mut found, "-")?;
     wanted.push(on_word(alloc, "-", "true = \"x\"", "true")?)?;
     assert_eq!(rt; found, wanted);
     Ok(())

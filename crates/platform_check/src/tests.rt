@@ -200,6 +200,10 @@ fn conditions_are_met(rt: HostRuntime) {
             b"condition: cfg(r#false)\nmatch: yes\n".as_slice(),
         ),
         (
+            b"cfg(r#true = \"x\")\nx\ntrue = \"x\"\n".as_slice(),
+            b"condition: cfg(r#true = \"x\")\nmatch: yes\n".as_slice(),
+        ),
+        (
             b"cfg(a)\nx\nall\na\n".as_slice(),
             b"condition: cfg(a)\nmatch: yes\n".as_slice(),
         ),
@@ -252,6 +256,10 @@ fn conditions_are_refused(rt: HostRuntime) {
         (
             b"!foo\nx\nunix\n\n".as_slice(),
             b"line 1: failed to parse `!foo` as a cfg expression: invalid target specifier: unexpected character ! in target name\n".as_slice(),
+        ),
+        (
+            b"cfg(true = \"x\")\nx\ntrue = \"x\"\n".as_slice(),
+            b"line 1: failed to parse `true = \"x\"` as a cfg expression: unexpected content `= \"x\"` found after cfg expression\n".as_slice(),
         ),
         (
             b"cfg(a b)\nx".as_slice(),
@@ -324,13 +332,8 @@ fn conditions_are_warned_of(rt: HostRuntime) {
             Outcome::NoMatch,
         ),
         (
-            b"cfg(true = \"x\")\nx\ntrue = \"x\"\n".as_slice(),
-            b"condition: cfg(true = \"x\")\nmatch: yes\nwarning: [-] future-incompatibility: `cfg(true = \"x\")` is deprecated as `true` is a keyword and not an identifier and should not have have been accepted in this position.\n | this was previously accepted by Cargo but is being phased out; it will become a hard error in a future release!\n |\n | help: use raw-idents instead: `cfg(r#true)`\n".as_slice(),
-            Outcome::Match,
-        ),
-        (
-            b"cfg(any(true = \"x\", feature = \"w\"))\nx\n".as_slice(),
-            b"condition: cfg(any(true = \"x\", feature = \"w\"))\nmatch: no\nwarning: Found `feature = ...` in `target.'cfg(...)'.dependencies`. This key is not supported for selecting dependencies and will not work as expected. Use the [features] section instead: https://doc.rust-lang.org/cargo/reference/features.html\nwarning: [-] future-incompatibility: `cfg(true = \"x\")` is deprecated as `true` is a keyword and not an identifier and should not have have been accepted in this position.\n | this was previously accepted by Cargo but is being phased out; it will become a hard error in a future release!\n |\n | help: use raw-idents instead: `cfg(r#true)`\n".as_slice(),
+            b"cfg(any(r#true = \"x\", feature = \"w\"))\nx\n".as_slice(),
+            b"condition: cfg(any(r#true = \"x\", feature = \"w\"))\nmatch: no\nwarning: Found `feature = ...` in `target.'cfg(...)'.dependencies`. This key is not supported for selecting dependencies and will not work as expected. Use the [features] section instead: https://doc.rust-lang.org/cargo/reference/features.html\n".as_slice(),
             Outcome::NoMatch,
         ),
     ] {

@@ -29,7 +29,7 @@ impl From<AllocError> for Fault {
     }
 }
 
-const WARNED: &str = "cfg(any(not(feature = \"w\"), r#test, true = \"x\", true))";
+const WARNED: &str = "cfg(any(not(feature = \"w\"), r#test, r#true = \"x\", true))";
 
 /// The printed value, or the printed error of a refused text.
 fn shown<T: Display + Drop>(alloc: Global, read: Result<T, ReadError>) -> Result<String, Fault> {
@@ -91,8 +91,8 @@ fn ask(alloc: Global, name: &[u8]) -> Result<String, Fault> {
         b"empty_key" => key(alloc, ""),
         b"index" => index(alloc),
         b"error" => error(alloc),
-        b"attributes" => warned(alloc, true),
-        b"keywords" => warned(alloc, false),
+        b"attributes" => warned(alloc, &platform(alloc, WARNED)?, true),
+        b"keywords" => warned(alloc, &keyed_by_a_literal(alloc)?, false),
         b"clones" => clones(alloc),
         b"ident_clone" => ident_clone(alloc),
         b"name_clone" => fact_clone(alloc, "r#a"),
@@ -126,9 +126,13 @@ fn error(alloc: Global) -> Result<String, Fault> {
     Ok(format!(in alloc; "{error}\n")?)
 }
 
+/// A condition that is read from no text: a literal is its key.
+fn keyed_by_a_literal(alloc: Global) -> Result<Platform, Fault> {
+    Ok(Platform::Cfg(CfgExpr::Value(fact(alloc, "true = \"x\"")?)))
+}
+
 /// The warnings of a walk behind one that was there. Where memory is refused the list has to hold that one alone.
-fn warned(alloc: Global, attributes: bool) -> Result<String, Fault> {
-    let platform = platform(alloc, WARNED)?;
+fn warned(alloc: Global, platform: &Platform, attributes: bool) -> Result<String, Fault> {
     let mut warnings = Vec::new(alloc);
     warnings
         .push(String::from_str(alloc, "w")?)

@@ -1,7 +1,8 @@
-use Rattle.std.proofs.Common.{◌≡◌, ◌∙◌, ap, sym, subst}
+use Rattle.std.proofs.Common.{◌≡◌, refl, ◌∙◌, ap, sym, subst}
 use Rattle.std.proofs.lemmas.Result.{err_from_is_err_and}
 use Rattle.cargo_platform.specs.Tokens.{Equals, String}
-use Rattle.cargo_platform.specs.Trees.{Tree, Value, KeyPair, tree_of}
+use Rattle.cargo_platform.specs.Trees.{Tree, Value, Alone, KeyPair, tree_of}
+use Rattle.cargo_platform.specs.declared.cfg.Cfg.TheVariants as cfg
 use Rattle.cargo_platform.specs.declared.cfg.CfgExpr.TheVariants as expr
 use Rattle.cargo_platform.proofs.TreeViews.{tree_of-Value}
 use Rattle.cargo_platform.specs.Ahead.{Ahead}
@@ -38,13 +39,13 @@ returns-in_err-read_pair-clause-refused c =
     (reads_taken l m Equals (HasName gs raw name) (HasKey gs raw name) (c.eat.ensures.taken c.if-eat.true) (λ ts p. name_key gs raw name ts p))
     (stops_lacking m (HasKey gs raw name) r c.in_err-read_pair.ensures.refused (λ n ts p. key_refusing m gs raw name ts c.requires n p)))
 
-pub returns-in_ok-lone-clause-value : goal.returns-in_ok-lone-clause-value
-returns-in_ok-lone-clause-value c = λ gs.
+pub returns-in_ok-ident-clause-value : goal.returns-in_ok-ident-clause-value
+returns-in_ok-ident-clause-value c = λ gs.
     let l = c.args.reader.now in
-    let m = c.eat.new.self in
     let raw = c.args.raw in
     let name = c.args.name.now in
-    let e = tree_of c.in_ok-lone.field-0 in
+    let e = Value (Alone (record { raw = raw; name = name })) in
+    let is : tree_of (expr.Value (cfg.Name c.in_ok-ident.field-0)) ≡ e = tree_of-Value (cfg.Name c.in_ok-ident.field-0) ∙ ap (λ n. Value (Alone n)) c.in_ok-ident.ensures in
     let n = c.eat.ensures.not_taken c.if-eat.false in
-    let R : Ahead → Type 0 = λ z. Reads l z (HasName gs raw name) (Has gs e z.item) in
-    subst R (sym n.0) (reads_same l (HasName gs raw name) (Has gs e l.item) (λ ts p. name_lone gs raw name e l.item ts c.requires c.in_ok-lone.ensures (lacks_equals l n.1) p))
+    let R : Ahead → Tree → Type 0 = λ z t. Reads l z (HasName gs raw name) (Has gs t z.item) in
+    subst (R _) (sym is) (subst (λ z. R z e) (sym n.0) (reads_same l (HasName gs raw name) (Has gs e l.item) (λ ts p. name_lone gs raw name e l.item ts c.requires (refl, c.requires) (lacks_equals l n.1) p)))
