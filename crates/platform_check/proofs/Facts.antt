@@ -41,11 +41,12 @@ none_refused (t ∷ texts) (c ∷ facts) zero h l n = n c h.0
 none_refused (t ∷ texts) (c ∷ facts) (suc i) h l n = none_refused texts facts i h.1 (omega arith) n
 
 -- the line of a fact, among the facts' lines
-fact_line : (ls : List (List ℕ)) (i : ℕ) → get_or (fact_lines ls) i [] ≡ line_at ls (i + 3)
+pub fact_line : (ls : List (List ℕ)) (i : ℕ) → get_or (fact_lines ls) i [] ≡ line_at ls (i + 3)
 fact_line ls i = let at : 2 + i ≡ (i + 3) - 1 = omega arith in get_or-drop 2 ls i [] ∙ ap (λ k. get_or ls k []) at
 
 -- the facts before it are spelled, so it is the first that is refused
-first_fact : (ls : List (List ℕ)) (facts : List CfgValue) (i n : ℕ) → SpellFacts (take i (fact_lines ls)) facts → i < length (fact_lines ls)
+pub first_fact : (ls : List (List ℕ)) (facts : List CfgValue) (i n : ℕ) → SpellFacts (take i (fact_lines ls)) facts
+    → i < length (fact_lines ls)
     → SpellsNoFact (get_or (fact_lines ls) i []) → n ≡ i + 3 → IsLeast (IsRefusedFact ls) n
 first_fact ls facts i n h l none e =
     let long : length (fact_lines ls) ≡ length ls - 2 = length-drop 2 ls in
@@ -71,7 +72,7 @@ first_fact_of (Line n e) ls facts i text h l same refused =
     )
 first_fact_of (Memory e) ls facts i text h l same refused = tt
 
-no_line_before : (ls : List (List ℕ)) (m : ℕ) → m < 1 → IsRefusedLine ls m → ⊥
+pub no_line_before : (ls : List (List ℕ)) (m : ℕ) → m < 1 → IsRefusedLine ls m → ⊥
 no_line_before ls m before (inl one) = absurd (omega arith)
 no_line_before ls m before (inr fact) = absurd (omega arith)
 
@@ -81,7 +82,8 @@ pub first_line : (r : Refusal) (ls : List (List ℕ)) → IfLine r (λ n orig fa
 first_line (Line n e) ls refused = ((inl (refused.0, refused.1), λ m before. no_line_before ls m (omega arith)), inl (refused.0, refused.2))
 first_line (Memory e) ls refused = tt
 
-not_before : (ls : List (List ℕ)) (p : Condition) (n m : ℕ) → IsConditionText (line_at ls 1) p → IsLeast (IsRefusedFact ls) n → m < n → IsRefusedLine ls m → ⊥
+pub not_before : (ls : List (List ℕ)) (p : Condition) (n m : ℕ) → IsConditionText (line_at ls 1) p
+    → IsLeast (IsRefusedFact ls) n → m < n → IsRefusedLine ls m → ⊥
 not_before ls p n m v least before (inl one) = one.1 p v
 not_before ls p n m v least before (inr fact) = least.1 m before fact
 

@@ -49,7 +49,16 @@ after_failed_read c = record c { reads = up c.reads; failed_reads = up c.failed_
 
 -- neither a write nor a flush was asked for
 abbrev pub no_writes : WriteCounts
-no_writes = record { writes = 0; interrupted_writes = 0; failed_writes = 0; empty_writes = 0; flushes = 0; interrupted_flushes = 0; failed_flushes = 0 }
+no_writes = record {
+  writes = 0;
+  interrupted_writes = 0;
+  failed_writes = 0;
+  empty_writes = 0;
+  flushes = 0;
+  interrupted_flushes = 0;
+  failed_flushes = 0;
+  flushed_writes = 0;
+}
 
 -- after a write that took n bytes
 abbrev pub after_write : ℕ → WriteCounts → WriteCounts
@@ -63,14 +72,14 @@ after_interrupted_write c = record c { writes = up c.writes; interrupted_writes 
 abbrev pub after_failed_write : WriteCounts → WriteCounts
 after_failed_write c = record c { writes = up c.writes; failed_writes = up c.failed_writes }
 
--- after a flush
+-- after a flush, which comes after all writes so far
 abbrev pub after_flush : WriteCounts → WriteCounts
-after_flush c = record c { flushes = up c.flushes }
+after_flush c = record c { flushes = up c.flushes; flushed_writes = c.writes }
 
 -- after a flush that was interrupted
 abbrev pub after_interrupted_flush : WriteCounts → WriteCounts
-after_interrupted_flush c = record c { flushes = up c.flushes; interrupted_flushes = up c.interrupted_flushes }
+after_interrupted_flush c = record (after_flush c) { interrupted_flushes = up c.interrupted_flushes }
 
 -- after a flush that failed otherwise
 abbrev pub after_failed_flush : WriteCounts → WriteCounts
-after_failed_flush c = record c { flushes = up c.flushes; failed_flushes = up c.failed_flushes }
+after_failed_flush c = record (after_flush c) { failed_flushes = up c.failed_flushes }

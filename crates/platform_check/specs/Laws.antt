@@ -19,6 +19,10 @@ pub record AreLines (text : List ℕ) (ls : List (List ℕ)) : Type 0 where
   pub unbroken : AllByRecursion IsUnbroken ls
   pub parts : (text ≡ ended ls) ⊎ ((front : List (List ℕ)) × (last : List ℕ) × (ls ≡ front ++ last ∷ []) × (last ≢ []) × (text ≡ ended front ++ last))
 
+-- an input has an output, and an outcome
+abbrev pub HasAnswer : List ℕ → Type 0
+HasAnswer bs = (output : List ℕ) × (outcome : Outcome) × IsAnswer bs output outcome
+
 -- an input has at most one output, and one outcome
 abbrev pub HasOneAnswer : List ℕ → Type 0
 HasOneAnswer bs = (output other : List ℕ) (outcome another : Outcome) → IsAnswer bs output outcome → IsAnswer bs other another → (output ≡ other) × (outcome ≡ another)

@@ -14,12 +14,17 @@ abbrev pub IsGathered : Gathered → List ℕ → Type 0
 IsGathered (Whole v) bs = (v.items ≡ bs) × (length bs ≤ 1_048_576)
 IsGathered TooLong bs = IsTooLong bs
 
--- these bytes were read and counted, and the reader stood at its end unless they are too many
+-- these bytes were read and counted, no read failed otherwise than by an interruption, and one read met the end, where
+-- the reader stood, unless they are too many
 pub record IsInput (old new : Option (List ℕ)) (counts : ReadCounts) (bs : List ℕ) : Type 0 where
   pub given : Consumes old new bs
   pub counted : counts.bytes ≡ length bs
-  pub ended : length bs ≤ 1_048_576 → (0 < counts.ends) × IsAtEnd new
+  pub unfailed : counts.failed_reads ≡ 0
+  pub ended : length bs ≤ 1_048_576 → (counts.ends ≡ 1) × IsAtEnd new
 
--- a read failed otherwise than by an interruption, or all reads were made, and they brought neither the end nor a byte too many
+-- the reads brought neither the end nor a byte too many, and one of them failed otherwise than by an interruption, or
+-- none did and all were made
 abbrev pub HasReadFault : ReadCounts → Type 0
-HasReadFault c = (0 < c.failed_reads) ⊎ ((c.reads ≡ 1_048_578) × (c.ends ≡ 0) × (c.bytes ≤ 1_048_576))
+HasReadFault c =
+    (c.ends ≡ 0) × (c.bytes ≤ 1_048_576)
+    × ((c.failed_reads ≡ 1) ⊎ ((c.failed_reads ≡ 0) × (c.reads ≡ 1_048_578)))

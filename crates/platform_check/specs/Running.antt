@@ -4,14 +4,16 @@ use Rattle.std.specs.Io.KnownBytes.{Appends}
 use Rattle.platform_check.specs.declared.answering.Outcome.{Outcome}
 use Rattle.platform_check.specs.declared.counted.WriteCounts.{WriteCounts}
 use Rattle.platform_check.specs.Answering.{IsAnswer}
-use Rattle.platform_check.specs.Writing.{WritesBeginning, HasWriteFault, IsWithinWrites}
+use Rattle.platform_check.specs.Writing.{WritesBeginning, failures, IsFlushed, HasWriteFault, IsWithinWrites}
 
--- the writer took the whole output of these bytes, which goes with the outcome, and was flushed once
+-- the writer took the whole output of these bytes, which goes with the outcome, no call failed, and one flush came
+-- after all writes
 pub record Answers (old new : Option (List ℕ)) (counts : WriteCounts) (outcome : Outcome) (bs : List ℕ) : Type 0 where
   pub output : List ℕ
   pub is_answer : IsAnswer bs output outcome
   pub written : Appends old new output
-  pub flushed : counts.flushes ≡ 1
+  pub unfailed : failures counts ≡ 0
+  pub flushed : IsFlushed counts
   pub within : IsWithinWrites counts (length output)
 
 -- the writer took a beginning of the output of these bytes, and a count tells why no more

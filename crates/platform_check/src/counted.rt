@@ -12,7 +12,7 @@ use std::io;
 use std::io::{ErrorKind, Read, Write};
 
 /// What reads came to. Each count stays at its greatest value once it is there.
-#[derive(Clone, Copy)]
+#[derive(Clone, Copy, Debug, PartialEq, Eq)]
 pub struct ReadCounts {
     /// The reads that were asked for.
     pub reads: u64,
@@ -27,7 +27,7 @@ pub struct ReadCounts {
 }
 
 /// What writes and flushes came to. Each count stays at its greatest value once it is there.
-#[derive(Clone, Copy)]
+#[derive(Clone, Copy, Debug, PartialEq, Eq)]
 pub struct WriteCounts {
     /// The writes that were asked for.
     pub writes: u64,
@@ -43,6 +43,8 @@ pub struct WriteCounts {
     pub interrupted_flushes: u64,
     /// The flushes that failed otherwise.
     pub failed_flushes: u64,
+    /// The writes that a flush came after.
+    pub flushed_writes: u64,
 }
 
 /// A reader whose reads are counted.
@@ -170,6 +172,7 @@ impl<W> Output<W> {
                 flushes: 0,
                 interrupted_flushes: 0,
                 failed_flushes: 0,
+                flushed_writes: 0,
             },
         }
     }
@@ -222,6 +225,13 @@ impl<W> Output<W> {
     {
         self.counts.failed_flushes
     }
+
+    /// The writes that a flush came after.
+    pub fn flushed_writes(&self) -> u64
+        ensures { result ≡ (write_counts self.now).flushed_writes }
+    {
+        self.counts.flushed_writes
+    }
 }
 
 impl<W: Write> Output<W> {
@@ -266,6 +276,7 @@ impl<W: Write> Output<W> {
         let outcome = self.writer.flush();
         let counts = &mut self.counts;
         counts.flushes = counts.flushes.saturating_add(1);
+        counts.flushed_writes = counts.writes;
         match outcome {
             Ok(()) => Ok(()),
             Err(e) => {

@@ -11,6 +11,8 @@ pub mod counted;
 pub mod laws;
 pub mod reading;
 #[cfg(test)]
+mod scripted;
+#[cfg(test)]
 mod tests;
 pub mod writing;
 
@@ -57,6 +59,7 @@ pub fn run<R: Read, W: Write>(
     ensures read { IsErrOf result RunError.Read → HasReadFault (read_counts input.new) }
     ensures within { (read_counts input.new).reads ≤ 1_048_578 }
     ensures read_silent { IsErrOf result RunError.Read → output.new ≡ output.old }
+    ensures memory { IsErrOf result RunError.Memory → (read_counts input.new).failed_reads ≡ 0 }
     ensures memory_silent { IsErrOf result RunError.Memory → output.new ≡ output.old }
 {
     let gathered = reading::gather(alloc, input)?;

@@ -36,6 +36,7 @@ pub fn gather<R: Read>(alloc: Global, input: &mut counted::Input<R>) -> Result<G
         × IsInput (R.remaining (reader_of input.old)) (R.remaining (reader_of input.new)) (read_counts input.new) bs) }
     ensures read { IsErrOf result RunError.Read → HasReadFault (read_counts input.new) }
     ensures within { (read_counts input.new).reads ≤ 1_048_578 }
+    ensures memory { IsErrOf result RunError.Memory → (read_counts input.new).failed_reads ≡ 0 }
     ensures no_write { IsErrOf result RunError.Write → ⊥ }
 {
     let mut bytes = Vec::new(alloc);

@@ -1,133 +1,58 @@
+//! Runs of the program in memory: its answers, and what it makes of readers and writers that go wrong.
+
 use crate::answering::Outcome;
+use crate::counted::{ReadCounts, WriteCounts};
+use crate::scripted::{
+    Calls, Failing, NEVER, ScriptedReader, ScriptedWriter, only, reader_over, writer_to,
+};
 use crate::{RunError, counted, run};
 use std::alloc::Global;
-use std::io;
-use std::io::{ErrorKind, Read, Write};
+use std::io::ErrorKind;
 use std::process::Abort;
 
-/// Calls by their numbers, from `first` on and before `end`. The first call is number 1.
-#[derive(Clone, Copy)]
-struct Calls {
-    first: u64,
-    end: u64,
-}
-
-const NEVER: Calls = Calls { first: 0, end: 0 };
-
-fn only(number: u64) -> Calls {
-    Calls {
-        first: number,
-        end: number.saturating_add(1),
+/// What an input counted, by the calls that give its counts.
+fn reads_of<R>(input: &counted::Input<R>) -> ReadCounts {
+    ReadCounts {
+        reads: input.reads(),
+        interrupted_reads: input.interrupted_reads(),
+        failed_reads: input.failed_reads(),
+        bytes: input.bytes(),
+        ends: input.ends(),
     }
 }
 
-impl Calls {
-    fn has(&self, number: u64) -> bool {
-        self.first <= number && number < self.end
+/// What an output counted, by the calls that give its counts.
+fn writes_of<W>(output: &counted::Output<W>) -> WriteCounts {
+    WriteCounts {
+        writes: output.writes(),
+        interrupted_writes: output.interrupted_writes(),
+        failed_writes: output.failed_writes(),
+        empty_writes: output.empty_writes(),
+        flushes: output.flushes(),
+        interrupted_flushes: output.interrupted_flushes(),
+        failed_flushes: output.failed_flushes(),
+        flushed_writes: output.flushed_writes(),
     }
 }
 
-/// Gives a text and then so many times `a`, in pieces of at most `most` bytes. Some of its calls go wrong.
-#[derive(Drop)]
-struct ScriptedReader<'a> {
-    text: &'a [u8],
-    letters: u64,
-    most: usize,
-    calls: u64,
-    interrupted: Calls,
-    failing: Calls,
-}
-
-fn reader_over(text: &[u8], letters: u64) -> ScriptedReader<'_> {
-    ScriptedReader {
-        text,
-        letters,
-        most: usize::MAX,
-        calls: 0,
-        interrupted: NEVER,
-        failing: NEVER,
-    }
-}
-
-impl<'a> Read for ScriptedReader<'a> {
-    fn read(&mut self, buf: &mut [u8]) -> io::Result<usize> {
-        self.calls = self.calls.saturating_add(1);
-        if self.interrupted.has(self.calls) {
-            return Err(io::Error::from(ErrorKind::Interrupted));
-        }
-        if self.failing.has(self.calls) {
-            return Err(io::Error::from(ErrorKind::BrokenPipe));
-        }
-        let most = self.most.min(buf.len());
-        for (index, place) in buf[..most].iter_mut().enumerate() {
-            if let Some((byte, rest)) = self.text.split_first() {
-                *place = *byte;
-                self.text = rest;
-            } else if self.letters > 0 {
-                *place = b'a';
-                self.letters -= 1;
-            } else {
-                return Ok(index);
-            }
-        }
-        Ok(most)
-    }
-}
-
-/// Takes at most `most` bytes a call. Some of its calls go wrong.
-#[derive(Drop)]
-struct ScriptedWriter {
-    got: Vec<u8>,
-    most: usize,
-    calls: u64,
-    interrupted: Calls,
-    failing: Calls,
-    flush_fault: Option<ErrorKind>,
-}
-
-fn writer_to(alloc: Global) -> ScriptedWriter {
-    ScriptedWriter {
-        got: Vec::new(alloc),
-        most: usize::MAX,
-        calls: 0,
-        interrupted: NEVER,
-        failing: NEVER,
-        flush_fault: None,
-    }
-}
-
-impl Write for ScriptedWriter {
-    fn write(&mut self, buf: &[u8]) -> io::Result<usize> {
-        self.calls = self.calls.saturating_add(1);
-        if self.interrupted.has(self.calls) {
-            return Err(io::Error::from(ErrorKind::Interrupted));
-        }
-        if self.failing.has(self.calls) {
-            return Err(io::Error::from(ErrorKind::BrokenPipe));
-        }
-        let most = self.most.min(buf.len());
-        self.got.extend_from_slice(&buf[..most])?;
-        Ok(most)
-    }
-
-    fn flush(&mut self) -> io::Result<()> {
-        match self.flush_fault {
-            Some(kind) => Err(io::Error::from(kind)),
-            None => Ok(()),
-        }
-    }
-}
-
-/// Runs over both, and answers how it ended, and how many reads and writes were asked for.
+/// Runs over both, and asserts that they got the very calls that were counted, none with a piece of no bytes, and that
+/// each write was handed all that was left.
 fn run_over(
+    rt: &impl Abort,
     alloc: Global,
-    reader: ScriptedReader<'_>,
+    reader: &mut ScriptedReader<'_>,
     writer: &mut ScriptedWriter,
-) -> (Result<Outcome, RunError>, u64, u64) {
-    let mut input = counted::Input::new(reader);
-    let mut output = counted::Output::new(writer);
+) -> Result<Outcome, RunError> {
+    let mut input = counted::Input::new(&mut *reader);
+    let mut output = counted::Output::new(&mut *writer);
     let ended = run(alloc, &mut input, &mut output);
-    (ended, input.reads(), output.writes())
+    let reads = reads_of(&input);
+    let writes = writes_of(&output);
+    assert_eq!(rt; reader.counts, reads);
+    assert_eq!(rt; writer.counts, writes);
+    assert_eq!(rt; reader.empty_pieces, 0);
+    assert_eq!(rt; writer.partial_writes, 0);
+    ended
 }
 
 /// Runs over a text in memory, which ends so after just this was written.
@@ -147,6 +72,9 @@ const LINUX: &[u8] =
 /// The reads of one byte that `LINUX` takes, the last at its end.
 const LINUX_READS: u64 = 85;
 
+/// The writes of one byte that `LINUX_MEETS` takes.
+const LINUX_WRITES: u64 = 58;
+
 /// What is written of `LINUX`, 58 bytes.
 const LINUX_MEETS: &[u8] = b"condition: cfg(all(unix, target_os = \"linux\"))\nmatch: yes\n";
 
@@ -155,12 +83,15 @@ const NAMELESS: &[u8] = b"condition: \nmatch: yes\n";
 
 const LONG: &[u8] = b"input is longer than 1048576 bytes\n";
 
+/// The length of the answer to 1,048,576 times `a`.
+const LETTERS_LEN: usize = 1_048_598;
+
 /// Whether it is the answer to 1,048,576 times `a`: the letters as the condition, and that they do not match. There is
 /// one more `a`, in `match`.
 fn is_of_all_letters(written: &[u8]) -> bool {
     written.starts_with(b"condition: a")
         && written.ends_with(b"a\nmatch: no\n")
-        && written.len() == 1_048_598
+        && written.len() == LETTERS_LEN
         && written.iter().filter(|b| **b == b'a').count() == 1_048_577
 }
 
@@ -343,43 +274,48 @@ fn conditions_are_warned_of(rt: HostRuntime) {
 
 #[test]
 fn limit_of_bytes(rt: HostRuntime) {
-    let mut all = writer_to(rt.alloc());
-    let (ended, _, _) = run_over(rt.alloc(), reader_over(b"", 1_048_576), &mut all);
+    let mut all = writer_to(rt.alloc(), LETTERS_LEN);
+    let ended = run_over(&rt, rt.alloc(), &mut reader_over(b"", 1_048_576), &mut all);
     assert_eq!(rt; ended, Ok(Outcome::NoMatch));
     assert!(rt; is_of_all_letters(&all.got));
-    let mut long = writer_to(rt.alloc());
-    let (ended, _, _) = run_over(rt.alloc(), reader_over(b"", 1_048_577), &mut long);
+    let mut long = writer_to(rt.alloc(), LONG.len());
+    let ended = run_over(&rt, rt.alloc(), &mut reader_over(b"", 1_048_577), &mut long);
     assert_eq!(rt; ended, Ok(Outcome::Refused));
     assert_eq!(rt; long.got.as_slice(), LONG);
 }
 
 #[test]
 fn one_byte_a_read(rt: HostRuntime) {
-    for interrupted in [NEVER, only(30)] {
-        let mut writer = writer_to(rt.alloc());
-        let reader = ScriptedReader {
+    for interrupted in 0..LINUX_READS + 1 {
+        let mut writer = writer_to(rt.alloc(), LINUX_MEETS.len());
+        let mut reader = ScriptedReader {
             most: 1,
-            interrupted,
+            interrupted: only(interrupted),
             ..reader_over(LINUX, 0)
         };
-        let (ended, _, _) = run_over(rt.alloc(), reader, &mut writer);
+        let ended = run_over(&rt, rt.alloc(), &mut reader, &mut writer);
         assert_eq!(rt; ended, Ok(Outcome::Match));
         assert_eq!(rt; writer.got.as_slice(), LINUX_MEETS);
+        assert_eq!(rt;
+            (reader.counts.bytes, reader.counts.ends),
+            (LINUX_READS - 1, 1)
+        );
     }
 }
 
 #[test]
 fn a_read_fails(rt: HostRuntime) {
     for number in 1..LINUX_READS + 1 {
-        let mut writer = writer_to(rt.alloc());
-        let reader = ScriptedReader {
+        let mut writer = writer_to(rt.alloc(), LINUX_MEETS.len());
+        let mut reader = ScriptedReader {
             most: 1,
             failing: only(number),
             ..reader_over(LINUX, 0)
         };
-        let (ended, reads, writes) = run_over(rt.alloc(), reader, &mut writer);
+        let ended = run_over(&rt, rt.alloc(), &mut reader, &mut writer);
         assert_eq!(rt; ended, Err(RunError::Read));
-        assert_eq!(rt; (reads, writes), (number, 0));
+        assert_eq!(rt; reader.counts.reads, number);
+        assert_eq!(rt; (writer.counts.writes, writer.counts.flushes), (0, 0));
     }
 }
 
@@ -389,26 +325,26 @@ fn reads_are_interrupted(rt: HostRuntime) {
         (1_048_578, Ok(Outcome::Match), NAMELESS),
         (u64::MAX, Err(RunError::Read), b"".as_slice()),
     ] {
-        let mut writer = writer_to(rt.alloc());
-        let reader = ScriptedReader {
+        let mut writer = writer_to(rt.alloc(), NAMELESS.len());
+        let mut reader = ScriptedReader {
             interrupted: Calls { first: 1, end },
             ..reader_over(b"", 0)
         };
-        let (ended, reads, _) = run_over(rt.alloc(), reader, &mut writer);
+        let ended = run_over(&rt, rt.alloc(), &mut reader, &mut writer);
         assert_eq!(rt; ended, want);
-        assert_eq!(rt; reads, 1_048_578);
+        assert_eq!(rt; reader.counts.reads, 1_048_578);
         assert_eq!(rt; writer.got.as_slice(), got);
     }
 }
 
 #[test]
 fn one_byte_a_read_without_end(rt: HostRuntime) {
-    let mut writer = writer_to(rt.alloc());
-    let reader = ScriptedReader {
+    let mut writer = writer_to(rt.alloc(), LONG.len());
+    let mut reader = ScriptedReader {
         most: 1,
         ..reader_over(b"", u64::MAX)
     };
-    let (ended, _, _) = run_over(rt.alloc(), reader, &mut writer);
+    let ended = run_over(&rt, rt.alloc(), &mut reader, &mut writer);
     assert_eq!(rt; ended, Ok(Outcome::Refused));
     assert_eq!(rt; writer.got.as_slice(), LONG);
 }
@@ -416,13 +352,13 @@ fn one_byte_a_read_without_end(rt: HostRuntime) {
 #[test]
 fn interruptions_at_the_limit_of_reads(rt: HostRuntime) {
     for (end, want) in [(6, Ok(Outcome::NoMatch)), (7, Err(RunError::Read))] {
-        let mut writer = writer_to(rt.alloc());
-        let reader = ScriptedReader {
+        let mut writer = writer_to(rt.alloc(), LETTERS_LEN);
+        let mut reader = ScriptedReader {
             most: 1,
             interrupted: Calls { first: 5, end },
             ..reader_over(b"", 1_048_576)
         };
-        let (ended, _, _) = run_over(rt.alloc(), reader, &mut writer);
+        let ended = run_over(&rt, rt.alloc(), &mut reader, &mut writer);
         assert_eq!(rt; ended, want);
         assert_eq!(rt; is_of_all_letters(&writer.got), ended.is_ok());
         assert_eq!(rt; writer.got.is_empty(), ended.is_err());
@@ -431,21 +367,30 @@ fn interruptions_at_the_limit_of_reads(rt: HostRuntime) {
 
 #[test]
 fn one_byte_a_write(rt: HostRuntime) {
-    for (end, want, got, count) in [
-        (0, Ok(Outcome::Match), LINUX_MEETS, 58),
-        (4, Ok(Outcome::Match), LINUX_MEETS, 59),
-        (5, Err(RunError::Write), &LINUX_MEETS[..57], 59),
-    ] {
+    for interrupted in 0..LINUX_WRITES + 1 {
         let mut writer = ScriptedWriter {
             most: 1,
-            interrupted: Calls { first: 3, end },
-            ..writer_to(rt.alloc())
+            interrupted: only(interrupted),
+            ..writer_to(rt.alloc(), LINUX_MEETS.len())
         };
-        let (ended, _, writes) = run_over(rt.alloc(), reader_over(LINUX, 0), &mut writer);
-        assert_eq!(rt; ended, want);
-        assert_eq!(rt; writes, count);
-        assert_eq!(rt; writer.got.as_slice(), got);
+        let ended = run_over(&rt, rt.alloc(), &mut reader_over(LINUX, 0), &mut writer);
+        assert_eq!(rt; ended, Ok(Outcome::Match));
+        assert_eq!(rt; writer.counts.writes, LINUX_WRITES + interrupted.min(1));
+        assert_eq!(rt; writer.got.as_slice(), LINUX_MEETS);
     }
+}
+
+#[test]
+fn one_byte_a_write_and_two_interruptions(rt: HostRuntime) {
+    let mut writer = ScriptedWriter {
+        most: 1,
+        interrupted: Calls { first: 3, end: 5 },
+        ..writer_to(rt.alloc(), LINUX_MEETS.len())
+    };
+    let ended = run_over(&rt, rt.alloc(), &mut reader_over(LINUX, 0), &mut writer);
+    assert_eq!(rt; ended, Err(RunError::Write));
+    assert_eq!(rt; (writer.counts.writes, writer.counts.flushes), (59, 0));
+    assert_eq!(rt; writer.got.as_slice(), &LINUX_MEETS[..57]);
 }
 
 #[test]
@@ -456,49 +401,80 @@ fn writes_are_interrupted(rt: HostRuntime) {
     ] {
         let mut writer = ScriptedWriter {
             interrupted: Calls { first: 1, end },
-            ..writer_to(rt.alloc())
+            ..writer_to(rt.alloc(), LINUX_MEETS.len())
         };
-        let (ended, _, writes) = run_over(rt.alloc(), reader_over(LINUX, 0), &mut writer);
+        let ended = run_over(&rt, rt.alloc(), &mut reader_over(LINUX, 0), &mut writer);
         assert_eq!(rt; ended, want);
-        assert_eq!(rt; writes, 59);
+        assert_eq!(rt; writer.counts.writes, 59);
         assert_eq!(rt; writer.got.as_slice(), got);
     }
+}
+
+/// An output that is longer than the pieces of the input, to a writer that is interrupted as often as it may be.
+#[test]
+fn a_long_output_in_the_last_write(rt: HostRuntime) {
+    let mut writer = ScriptedWriter {
+        interrupted: Calls {
+            first: 1,
+            end: 10_023,
+        },
+        ..writer_to(rt.alloc(), 10_022)
+    };
+    let ended = run_over(&rt, rt.alloc(), &mut reader_over(b"", 10_000), &mut writer);
+    assert_eq!(rt; ended, Ok(Outcome::NoMatch));
+    assert_eq!(rt; writer.counts.writes, 10_023);
+    assert_eq!(rt; writer.got.len(), 10_022);
 }
 
 #[test]
 fn a_write_fails(rt: HostRuntime) {
     for (index, _) in LINUX_MEETS.iter().enumerate() {
-        let mut writer = ScriptedWriter {
-            most: 1,
-            failing: only(index as u64 + 1),
-            ..writer_to(rt.alloc())
-        };
-        let (ended, _, _) = run_over(rt.alloc(), reader_over(LINUX, 0), &mut writer);
-        assert_eq!(rt; ended, Err(RunError::Write));
-        assert_eq!(rt; writer.got.as_slice(), &LINUX_MEETS[..index]);
+        let number = only(index as u64 + 1);
+        for (failing, idle) in [(number, NEVER), (NEVER, number)] {
+            let mut writer = ScriptedWriter {
+                most: 1,
+                failing,
+                idle,
+                ..writer_to(rt.alloc(), LINUX_MEETS.len())
+            };
+            let ended = run_over(&rt, rt.alloc(), &mut reader_over(LINUX, 0), &mut writer);
+            assert_eq!(rt; ended, Err(RunError::Write));
+            assert_eq!(rt; writer.got.as_slice(), &LINUX_MEETS[..index]);
+            assert_eq!(rt; writer.counts.writes, index as u64 + 1);
+            assert_eq!(rt; writer.counts.flushes, 0);
+        }
     }
 }
 
 #[test]
-fn a_write_takes_nothing(rt: HostRuntime) {
-    let mut writer = ScriptedWriter {
-        most: 0,
-        ..writer_to(rt.alloc())
-    };
-    let (ended, _, writes) = run_over(rt.alloc(), reader_over(LINUX, 0), &mut writer);
-    assert_eq!(rt; ended, Err(RunError::Write));
-    assert_eq!(rt; writes, 1);
+fn the_flush_fails(rt: HostRuntime) {
+    for (interrupted_flushes, failing_flushes) in [(only(1), NEVER), (NEVER, only(1))] {
+        let mut writer = ScriptedWriter {
+            interrupted_flushes,
+            failing_flushes,
+            ..writer_to(rt.alloc(), LINUX_MEETS.len())
+        };
+        let ended = run_over(&rt, rt.alloc(), &mut reader_over(LINUX, 0), &mut writer);
+        assert_eq!(rt; ended, Err(RunError::Write));
+        assert_eq!(rt; writer.got.as_slice(), LINUX_MEETS);
+        assert_eq!(rt; writer.counts.flushes, 1);
+    }
 }
 
 #[test]
-fn the_flush_fails(rt: HostRuntime) {
-    for kind in [ErrorKind::Interrupted, ErrorKind::BrokenPipe] {
-        let mut writer = ScriptedWriter {
-            flush_fault: Some(kind),
-            ..writer_to(rt.alloc())
-        };
-        let (ended, _, _) = run_over(rt.alloc(), reader_over(LINUX, 0), &mut writer);
-        assert_eq!(rt; ended, Err(RunError::Write));
-        assert_eq!(rt; writer.got.as_slice(), LINUX_MEETS);
+fn errors_are_passed_back(rt: HostRuntime) {
+    for kind in [
+        ErrorKind::Interrupted,
+        ErrorKind::BrokenPipe,
+        ErrorKind::TimedOut,
+        ErrorKind::UnexpectedEof,
+    ] {
+        let read = counted::Input::new(Failing(kind)).read(&mut [0u8; 4]);
+        assert_eq!(rt; read.err().map(|e| e.kind()), Some(kind));
+        let mut output = counted::Output::new(Failing(kind));
+        let written = output.write(b"a");
+        assert_eq!(rt; written.err().map(|e| e.kind()), Some(kind));
+        let flushed = output.flush();
+        assert_eq!(rt; flushed.err().map(|e| e.kind()), Some(kind));
     }
 }

@@ -2,7 +2,7 @@
 ghost use Rattle.std.specs.Prelude.{◌≡◌, ◌≤◌, ◌+◌, IsErr, OnOk, OnErr, length};
 ghost use Rattle.std.specs.Io.KnownBytes.{Appends};
 ghost use Rattle.platform_check.specs.Counts.{writer_of, write_counts, no_writes};
-ghost use Rattle.platform_check.specs.Writing.{HasWriteFault, IsWithinWrites, WritesBeginning};
+ghost use Rattle.platform_check.specs.Writing.{failures, HasWriteFault, IsFlushed, IsWithinWrites, WritesBeginning};
 
 use crate::counted;
 use crate::counted::is_interrupted;
@@ -18,6 +18,7 @@ fn hand_over<W: Write>(output: &mut counted::Output<W>, text: &[u8]) -> Result<(
     requires { write_counts output.old ≡ no_writes }
     ensures written { OnOk result (Appends (W.contents (writer_of output.old)) (W.contents (writer_of output.new)) text.now) }
     ensures beginning { OnErr result (WritesBeginning (W.contents (writer_of output.old)) (W.contents (writer_of output.new)) text.now) }
+    ensures unfailed { OnOk result (failures (write_counts output.new) ≡ 0) }
     ensures fault { IsErr result → HasWriteFault (write_counts output.new) (length text.now) }
     ensures within { (write_counts output.new).writes ≤ length text.now + 1 }
     ensures unflushed { (write_counts output.new).flushes ≡ 0 }
@@ -51,7 +52,8 @@ pub fn write_out<W: Write>(output: &mut counted::Output<W>, text: &[u8]) -> Resu
     requires { write_counts output.old ≡ no_writes }
     ensures written { OnOk result (Appends (W.contents (writer_of output.old)) (W.contents (writer_of output.new)) text.now) }
     ensures beginning { OnErr result (WritesBeginning (W.contents (writer_of output.old)) (W.contents (writer_of output.new)) text.now) }
-    ensures flushed { OnOk result ((write_counts output.new).flushes ≡ 1) }
+    ensures unfailed { OnOk result (failures (write_counts output.new) ≡ 0) }
+    ensures flushed { OnOk result (IsFlushed (write_counts output.new)) }
     ensures fault { IsErr result → HasWriteFault (write_counts output.new) (length text.now) }
     ensures within { IsWithinWrites (write_counts output.new) (length text.now) }
 {

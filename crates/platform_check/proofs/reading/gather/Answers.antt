@@ -16,6 +16,7 @@ returns-then-n-len-clause-brought g c =
       record {
         given = Consumes-trans _ _ _ _ _ c.loop-turn.invariant.brought c.in-Ok.ensures.bytes.0;
         counted = grind (arith, counted, longer);
+        unfailed = grind (arith, counted);
         ended = λ short. absurd (omega arith);
       },
     )

@@ -1,4 +1,5 @@
-use Rattle.std.proofs.Common.{◌≡◌, ◌≤◌, ◌<◌, ℕ, List, length, ◌+◌, ◌-◌, ◌^◌, take, drop, rules, arith, length-drop, ap, ◌∙◌}
+use Rattle.std.proofs.Common.{◌≡◌, ◌≤◌, ◌<◌, ℕ, List, length, ◌+◌, ◌-◌, ◌^◌, take, drop, inl, inr}
+use Rattle.std.proofs.Common.{rules, arith, length-drop, ap, ◌∙◌}
 use Rattle.std.proofs.lemmas.Grind.{common_steps}
 use Rattle.std.proofs.Math.Seq.{take-add}
 use Rattle.std.proofs.KnownBytes.{Appends-trans, Appends-kept}
@@ -18,8 +19,7 @@ loop-turn-preserved g c = elim c.match-write.branch [
       let next = rw cut at w.in-Ok.ensures.bytes in
       record {
         writes = grind (arith, counted);
-        failed = grind (arith, counted);
-        nothing = grind (arith, counted);
+        unfailed = grind (arith, counted);
         unflushed = grind (arith, counted);
         within = omega arith;
         each = grind (arith, counted);
@@ -34,8 +34,7 @@ loop-turn-preserved g c = elim c.match-write.branch [
       let grown : c.write.new.self.counts.interrupted_writes ≡ before + 1 = ap (λ x. x.interrupted_writes) counted ∙ omega arith in
       record {
         writes = grind (arith, counted);
-        failed = grind (arith, counted);
-        nothing = grind (arith, counted);
+        unfailed = grind (arith, counted);
         unflushed = grind (arith, counted);
         within = omega arith;
         each = omega arith;
@@ -43,3 +42,19 @@ loop-turn-preserved g c = elim c.match-write.branch [
         written = rw same (Appends-kept _ _ _ _ c.loop-turn.invariant.written w.in-Err.ensures.bytes);
       }
 ]
+
+pub returns-in-Ok-eq0-clause-fault : goal.returns-in-Ok-eq0-clause-fault
+returns-in-Ok-eq0-clause-fault g c =
+    let counted = c.in-Ok-eq0.ensures.ok in
+    λ _. inl (grind (arith, counted))
+
+pub returns-then-not-is_interrupted-clause-fault : goal.returns-then-not-is_interrupted-clause-fault
+returns-then-not-is_interrupted-clause-fault g c =
+    let counted = c.in-Err.ensures.failed (search rules) in
+    λ _. inl (grind (arith, counted))
+
+pub returns-then-taken-text-2-clause-unfailed : goal.returns-then-taken-text-2-clause-unfailed
+returns-then-taken-text-2-clause-unfailed g c = c.loop-turn.invariant.unfailed
+
+pub returns-clause-fault : goal.returns-clause-fault
+returns-clause-fault g c = λ _. inr (c.loop-turn.invariant.unfailed, omega arith, omega arith)

@@ -2,13 +2,13 @@
 use Rattle.std.proofs.Common.{◌≡◌, ◌≤◌, ◌+◌, length, take}
 use Rattle.std.specs.Io.KnownBytes.{Appends}
 use Rattle.platform_check.specs.Counts.{write_counts, writer_of}
+use Rattle.platform_check.specs.Writing.{failures}
 use Rattle.platform_check.proofs.writing.hand_over.Given as goal
 
 abbrev pub invariant-loop-turn : goal.invariant-loop-turn
 invariant-loop-turn g l = record {
   writes : (write_counts l.output).writes ≡ l._turn;
-  failed : (write_counts l.output).failed_writes ≡ 0;
-  nothing : (write_counts l.output).empty_writes ≡ 0;
+  unfailed : failures (write_counts l.output) ≡ 0;
   unflushed : (write_counts l.output).flushes ≡ 0;
   within : l.taken ≤ length l.text;
   each : l._turn ≤ l.taken + (write_counts l.output).interrupted_writes;
