@@ -2,9 +2,10 @@
 # make build  leaves the program, and says where
 # make test   the gate: everything proved from nothing, the must-fail edits, the tests, the programs
 # make refusals   each growth of memory refused in turn, in each call and in the program
+# make statuses   the program where reading or writing fails
 # make quick  the checks alone, over kept work
 # make fmt    lays out the files
-.PHONY: run build test refusals quick fmt rt
+.PHONY: run build test refusals statuses quick fmt rt
 
 PROGRAM := crates/platform_check
 
@@ -25,6 +26,9 @@ test: rt
 
 refusals: rt
 	.ci/refusals
+
+statuses: rt
+	.ci/statuses
 
 quick: rt
 	rt all check

@@ -1,10 +1,10 @@
 //! All short texts, read by the library and by the plain reader, and cut texts.
 
 use crate::looks::negations;
-use crate::made::{assert_prints, same, same_value};
+use crate::made::{assert_prints, same, same_value, value};
 use crate::plain_reader::{self, Stop};
 use crate::refusals::{error_of, is_fault};
-use crate::{expressions, matching, names_and_pairs, platforms, warnings};
+use crate::{expressions, matching, names_and_pairs, order, platforms, printing, warnings};
 use cargo_platform::tokens::Looks;
 use cargo_platform::{Cfg, CfgExpr, ParseErrorKind, ReadError};
 use std::alloc::{AllocError, Global};
@@ -42,7 +42,7 @@ fn assert_same_cfg(rt: &impl Abort, alloc: Global, text: &str, plain: &Cfg) -> R
 }
 
 /// Asserts that both readers of names and pairs answer alike, and that what is read reads back. Whether it was read.
-fn is_cfg(rt: &impl Abort, alloc: Global, text: &str) -> Result<bool, Fail> {
+pub fn is_cfg(rt: &impl Abort, alloc: Global, text: &str) -> Result<bool, Fail> {
     match plain_reader::read_cfg(alloc, text) {
         Ok(plain) => {
             assert_same_cfg(rt, alloc, text, &plain)?;
@@ -228,6 +228,12 @@ fn beginnings_of_names_and_pairs(rt: HostRuntime) -> Result<(), Fail> {
     for (text, _, _, _, _) in names_and_pairs::READ {
         assert_cfg_beginnings(&rt, rt.alloc(), text)?;
     }
+    for (first, second, _) in order::VALUES {
+        for text in [first, second] {
+            let printed = value(rt.alloc(), text)?.to_string(rt.alloc())?;
+            assert_cfg_beginnings(&rt, rt.alloc(), &printed)?;
+        }
+    }
     Ok(())
 }
 
@@ -250,8 +256,18 @@ fn beginnings_of_more_expressions(rt: HostRuntime) -> Result<(), Fail> {
     for (text, _) in warnings::ATTRIBUTES {
         assert_beginnings(&rt, rt.alloc(), text)?;
     }
+    for text in [warnings::TWO_KINDS, warnings::LITERALS] {
+        assert_beginnings(&rt, rt.alloc(), text)?;
+    }
     for (_, text) in platforms::CONDITIONS {
         assert_beginnings(&rt, rt.alloc(), text)?;
+    }
+    for (_, text) in printing::TREES {
+        assert_beginnings(&rt, rt.alloc(), text)?;
+    }
+    for (first, second, _) in order::EXPRESSIONS {
+        assert_beginnings(&rt, rt.alloc(), first)?;
+        assert_beginnings(&rt, rt.alloc(), second)?;
     }
     let deep = negations(rt.alloc(), 500)?;
     assert_beginnings(&rt, rt.alloc(), &deep)

@@ -1,7 +1,8 @@
 //! Expressions, read from text.
 
-use crate::all_short_texts::is_expression;
+use crate::all_short_texts::{is_cfg, is_expression};
 use crate::made::{assert_prints, expression, repeated, same};
+use crate::platforms::is_condition;
 use crate::refusals::{Fault, assert_refused};
 use cargo_platform::{Cfg, CfgExpr};
 use std::test::Fail;
@@ -243,6 +244,8 @@ fn a_long_list(rt: HostRuntime) -> Result<(), Fail> {
     text.push_str(&repeated(alloc, "a,", 100_000)?)?;
     text.push(')')?;
     assert!(rt; is_expression(&rt, alloc, &text)?);
+    assert!(rt; is_condition(&rt, alloc, &text)?);
+    assert!(rt; !is_cfg(&rt, alloc, &text)?);
     let (read, looks) = CfgExpr::from_str_counted(alloc, &text);
     let CfgExpr::All(members) = read? else {
         return Err(Fail::new("a group"));
@@ -262,6 +265,8 @@ fn a_long_string_without_end(rt: HostRuntime) -> Result<(), Fail> {
     let mut text = String::from_str(alloc, "a = \"")?;
     text.push_str(&repeated(alloc, " ", 100_000)?)?;
     assert!(rt; !is_expression(&rt, alloc, &text)?);
+    assert!(rt; !is_condition(&rt, alloc, &text)?);
+    assert!(rt; !is_cfg(&rt, alloc, &text)?);
     let (read, looks) = CfgExpr::from_str_counted(alloc, &text);
     let fault = Fault::UnterminatedString;
     assert_refused(&rt, alloc, read.err(), &text, fault, UNTERMINATED)?;
@@ -275,12 +280,14 @@ fn deep_texts_are_refused(rt: HostRuntime) -> Result<(), Fail> {
     let alloc = rt.alloc();
     let open = repeated(alloc, "all(", 500)?;
     assert!(rt; !is_expression(&rt, alloc, &open)?);
+    assert!(rt; !is_condition(&rt, alloc, &open)?);
     let start = Fault::IncompleteExpr("start of a cfg expression");
     let read = CfgExpr::from_str(alloc, &open);
     assert_refused(&rt, alloc, read.err(), &open, start, START)?;
     let mut two = repeated(alloc, "not(", 500)?;
     two.push_str("a b")?;
     assert!(rt; !is_expression(&rt, alloc, &two)?);
+    assert!(rt; !is_condition(&rt, alloc, &two)?);
     let second = Fault::UnexpectedToken("`)`", "an identifier");
     let read = CfgExpr::from_str(alloc, &two);
     assert_refused(&rt, alloc, read.err(), &two, second, NAME)?;

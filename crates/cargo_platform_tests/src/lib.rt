@@ -9,6 +9,8 @@ mod expressions;
 #[cfg(test)]
 mod json;
 #[cfg(test)]
+mod long_names;
+#[cfg(test)]
 mod looks;
 #[cfg(test)]
 mod made;

@@ -25,7 +25,7 @@ pub fn assert_order<T: Ord + Hash>(rt: &impl Abort, a: &T, b: &T, order: Orderin
 }
 
 /// Two texts, and how the first stands to the second.
-const EXPRESSIONS: &[(&str, &str, Ordering)] = &[
+pub const EXPRESSIONS: &[(&str, &str, Ordering)] = &[
     ("foo", "r#foo", Ordering::Equal),
     ("a", "a = \"\"", Ordering::Less),
     ("k = \"1\"", "r#k = \"2\"", Ordering::Less),
@@ -61,7 +61,8 @@ fn expressions_by_their_keys(rt: HostRuntime) -> Result<(), Fail> {
     Ok(())
 }
 
-const VALUES: &[(&str, &str, Ordering)] = &[
+/// Two names or pairs as `made::value` takes them, and how the first stands to the second.
+pub const VALUES: &[(&str, &str, Ordering)] = &[
     ("foo", "r#foo", Ordering::Equal),
     ("z", "a=", Ordering::Less),
     ("k=1", "r#k=2", Ordering::Less),

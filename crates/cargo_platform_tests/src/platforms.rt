@@ -293,7 +293,7 @@ fn assert_reads_back(
 }
 
 /// Asserts that `cfg(`, the text and `)` reads as the plain reader reads the text. Whether it was read.
-fn is_condition(rt: &impl Abort, alloc: Global, inner: &str) -> Result<bool, Fail> {
+pub fn is_condition(rt: &impl Abort, alloc: Global, inner: &str) -> Result<bool, Fail> {
     let text = format!(in alloc; "cfg({inner})")?;
     let read = Platform::from_str(alloc, &text);
     match plain_reader::read_expression(alloc, inner) {
@@ -307,6 +307,58 @@ fn is_condition(rt: &impl Abort, alloc: Global, inner: &str) -> Result<bool, Fai
             Ok(false)
         }
     }
+}
+
+/// Asserts what an ASCII text reads as: between `cfg(` and `)` an expression, and else the name of a target. Whether it
+/// was read.
+fn is_platform(rt: &impl Abort, alloc: Global, text: &str) -> Result<bool, Fail> {
+    match text
+        .strip_prefix("cfg(")
+        .and_then(|rest| rest.strip_suffix(')'))
+    {
+        Some(inner) => is_condition(rt, alloc, inner),
+        None => is_name(rt, alloc, text),
+    }
+}
+
+/// Asserts that an ASCII text is read, and what each of its beginnings reads as.
+fn assert_platform_beginnings(rt: &impl Abort, alloc: Global, text: &str) -> Result<(), Fail> {
+    assert!(rt; is_platform(rt, alloc, text)?, "{text}");
+    for (end, _) in text.char_indices() {
+        is_platform(rt, alloc, text.get(..end).unwrap_or(""))?;
+    }
+    Ok(())
+}
+
+#[test]
+fn beginnings_of_conditions(rt: HostRuntime) -> Result<(), Fail> {
+    for (text, _) in CONDITIONS {
+        assert_platform_beginnings(&rt, rt.alloc(), text)?;
+    }
+    for (text, _, _, _) in MATCHED {
+        assert_platform_beginnings(&rt, rt.alloc(), text)?;
+    }
+    for (first, second, _) in ORDERED {
+        assert_platform_beginnings(&rt, rt.alloc(), first)?;
+        assert_platform_beginnings(&rt, rt.alloc(), second)?;
+    }
+    Ok(())
+}
+
+#[test]
+fn beginnings_of_names(rt: HostRuntime) -> Result<(), Fail> {
+    let alloc = rt.alloc();
+    for text in NAMES {
+        for (end, _) in text.char_indices() {
+            let beginning = text.get(..end).unwrap_or("");
+            let read = Platform::from_str(alloc, beginning)?;
+            assert!(rt;
+                matches!(&read, Platform::Name(name) if name.as_str() == beginning),
+                "{beginning}"
+            );
+        }
+    }
+    Ok(())
 }
 
 /// How many texts are read alone, and how many between `cfg(` and `)`.

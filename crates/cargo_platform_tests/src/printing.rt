@@ -31,14 +31,17 @@ fn names_and_pairs_print(rt: HostRuntime) -> Result<(), Fail> {
 }
 
 /// A tree as `made::expression` takes it, and the printed form.
-const TREES: &[(&str, &str)] = &[
+pub const TREES: &[(&str, &str)] = &[
     ("any2 a b=1", "any(a, b = \"1\")"),
     ("not all0", "not(all())"),
     ("any0", "any()"),
     ("all1 r#all=x", "all(r#all = \"x\")"),
     ("all2 true all2 false true", "all(true, all(false, true))"),
     ("any1 r#true", "any(r#true)"),
-    // Such trees are read from no text, and print by the same rules.
+];
+
+/// Trees as above that are read from no text. They print by the same rules.
+const HAND_MADE: &[(&str, &str)] = &[
     ("all", "all"),
     ("all2 =1 k=a\"b", "all( = \"1\", k = \"a\"b\")"),
 ];
@@ -46,7 +49,7 @@ const TREES: &[(&str, &str)] = &[
 #[test]
 fn expressions_print(rt: HostRuntime) -> Result<(), Fail> {
     let alloc = rt.alloc();
-    for (tree, printed) in TREES {
+    for (tree, printed) in TREES.iter().chain(HAND_MADE) {
         let tree = expression(alloc, tree)?;
         assert_prints(&rt, alloc, &tree, printed)?;
         let condition = Platform::Cfg(tree);

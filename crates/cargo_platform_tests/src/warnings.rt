@@ -93,6 +93,12 @@ fn attributes_that_select_nothing(rt: HostRuntime) -> Result<(), Fail> {
     Ok(())
 }
 
+/// An expression with warnings of two kinds.
+pub const TWO_KINDS: &str = "any(not(feature = \"w\"), r#test, r#true = \"x\", true)";
+
+/// An expression of a name that is a keyword but for its mark, and of the keyword as a literal.
+pub const LITERALS: &str = "any(r#true, true)";
+
 /// A name or a pair as `made::value` takes it, and where it is warned about, its printed form and the word.
 const WORDS: &[(&str, Option<(&str, &str)>)] = &[
     ("true", Some(("true", "true"))),
@@ -140,7 +146,7 @@ fn keywords_from_left_to_right(rt: HostRuntime) -> Result<(), Fail> {
 #[test]
 fn literals_are_no_keywords(rt: HostRuntime) -> Result<(), Fail> {
     let alloc = rt.alloc();
-    let condition = Platform::from_str(alloc, "cfg(any(r#true, true))")?;
+    let condition = Platform::Cfg(CfgExpr::from_str(alloc, LITERALS)?);
     let mut found = Vec::new(alloc);
     condition.check_cfg_keywords(alloc, &mut found, "-")?;
     assert!(rt; found.is_empty());
@@ -150,8 +156,7 @@ fn literals_are_no_keywords(rt: HostRuntime) -> Result<(), Fail> {
 #[test]
 fn warnings_go_behind_those_before(rt: HostRuntime) -> Result<(), Fail> {
     let alloc = rt.alloc();
-    let text = "cfg(any(not(feature = \"w\"), r#test, r#true = \"x\", true))";
-    let condition = Platform::from_str(alloc, text)?;
+    let condition = Platform::from_str(alloc, &format!(in alloc; "cfg({TWO_KINDS})")?)?;
     let mut found = on_attributes(alloc, "w")?;
     condition.check_cfg_attributes(alloc, &mut found)?;
     let mut wanted = on_attributes(alloc, "w feature r#test")?;

@@ -1,4 +1,7 @@
 //! A reader and a writer that count what was asked of them and how it went.
+//!
+//! No clause can say how many calls of the wrapped reader or writer are made for one of these, nor with which piece.
+//! The tests compare the counts with the calls that a reader and a writer got.
 ghost use Rattle.std.specs.Prelude.{◌≡◌, ◌≢◌, ◌↔◌, ◌<◌, IsTrue, IfOk, IfErr, OnOk, length};
 ghost use Rattle.std.specs.Io.{ReadsAtMost, WritesAtMost};
 ghost use Rattle.std.specs.Io.KnownBytes.{Keeps, ReadConsumes, WriteAppends};
@@ -123,8 +126,8 @@ impl<R> Input<R> {
 }
 
 impl<R: Read> Input<R> {
-    /// Passes one read on and counts it. The piece, which is not empty, gets at most as many bytes as it has; the
-    /// answer is their number, and 0 at the end. An error of the reader is passed back.
+    /// Reads into the piece, which is not empty, and counts one read. The answer is how many bytes it brought, and 0 at
+    /// the end. An error is counted by its kind.
     pub fn read(&mut self, piece: &mut [u8]) -> io::Result<usize>
         requires { 0 < length piece.old }
         ensures bound { ReadsAtMost result piece.new }
@@ -235,8 +238,8 @@ impl<W> Output<W> {
 }
 
 impl<W: Write> Output<W> {
-    /// Passes one write on and counts it. The answer is how many bytes of the piece, which is not empty, were taken.
-    /// An error of the writer is passed back.
+    /// Writes the piece, which is not empty, and counts one write. The answer is how many of its bytes were taken. An
+    /// error is counted by its kind.
     pub fn write(&mut self, piece: &[u8]) -> io::Result<usize>
         requires { 0 < length piece.now }
         ensures bound { WritesAtMost result piece.now }
@@ -266,7 +269,7 @@ impl<W: Write> Output<W> {
         }
     }
 
-    /// Passes one flush on and counts it. An error of the writer is passed back.
+    /// Flushes, and counts one flush. An error is counted by its kind.
     pub fn flush(&mut self) -> io::Result<()>
         ensures bytes { Keeps (W.contents (writer_of self.old)) (W.contents (writer_of self.new)) }
         ensures ok { OnOk result (write_counts self.new ≡ after_flush (write_counts self.old)) }

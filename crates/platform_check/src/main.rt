@@ -29,7 +29,7 @@ pub enum RunError {
     Memory,
 }
 
-/// Reads the whole input, and writes the whole output.
+/// Reads the input to its end, or until it is known to be too long, and writes the whole output, and flushes it once.
 ///
 /// The input has at most 1,048,576 bytes of UTF-8 text, and a newline ends a line. Line 1 is a condition as a dependency
 /// table of Cargo has it: a target's name, or `cfg(all(unix, target_os = "linux"))`. Line 2 is the name of the target,
@@ -42,7 +42,8 @@ pub enum RunError {
 ///
 /// An interrupted read or write is asked again. `RunError::Read`: a read failed otherwise, or 1,048,578 reads brought
 /// neither the end nor a byte too many. `RunError::Write`: a write failed otherwise or took nothing, one write more
-/// than the output has bytes did not take all of it, or the flush failed. `RunError::Memory`: memory was wanted.
+/// than the output has bytes did not take all of it, or the flush failed. `RunError::Memory`: memory was wanted. After
+/// `Read` and `Memory` nothing was written, and after `Write` a beginning of the output.
 pub fn run<R: Read, W: Write>(
     alloc: Global,
     input: &mut counted::Input<R>,

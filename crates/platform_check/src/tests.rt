@@ -55,7 +55,7 @@ fn run_over(
     ended
 }
 
-/// Runs over a text in memory, which ends so after just this was written.
+/// Asserts that a run over a text in memory, and one by the script, ends so after just this was written.
 fn assert_answers(rt: &impl Abort, alloc: Global, text: &[u8], outcome: Outcome, want: &[u8]) {
     let mut written = Vec::new(alloc);
     let mut input = counted::Input::new(text);
@@ -63,6 +63,10 @@ fn assert_answers(rt: &impl Abort, alloc: Global, text: &[u8], outcome: Outcome,
     let ended = run(alloc, &mut input, &mut output);
     assert_eq!(rt; ended, Ok(outcome));
     assert_eq!(rt; written.as_slice(), want);
+    let mut writer = writer_to(alloc, want.len());
+    let ended = run_over(rt, alloc, &mut reader_over(text, 0), &mut writer);
+    assert_eq!(rt; ended, Ok(outcome));
+    assert_eq!(rt; writer.got.as_slice(), want);
 }
 
 /// A target that meets the condition by two of its facts.

@@ -6,7 +6,8 @@
 #![tactic(auto)]
 
 use cargo_platform::{
-    Cfg, CfgExpr, FactIndex, Ident, JsonError, ParseError, ParseErrorKind, Platform, ReadError,
+    Cfg, CfgExpr, FactIndex, Facts, Ident, JsonError, ParseError, ParseErrorKind, Platform,
+    ReadError,
 };
 use serde_json::Value;
 use std::alloc::{AllocError, Global};
@@ -30,6 +31,9 @@ impl From<AllocError> for Fault {
 }
 
 const WARNED: &str = "cfg(any(not(feature = \"w\"), r#test, r#true = \"x\", true))";
+
+/// A group with spaces and a trailing comma.
+const GROUP: &str = "any( a ,b = \"1\", )";
 
 /// The printed value, or the printed error of a refused text.
 fn shown<T: Display + Drop>(alloc: Global, read: Result<T, ReadError>) -> Result<String, Fault> {
@@ -69,7 +73,7 @@ fn read(alloc: Global, name: &[u8]) -> Result<String, Fault> {
     match name {
         b"pair" => shown(alloc, Cfg::from_str(alloc, "target_os = \"linux\"")),
         b"refused_pair" => shown(alloc, Cfg::from_str(alloc, "r #foo")),
-        b"expression" => shown(alloc, CfgExpr::from_str(alloc, "any( a ,b = \"1\", )")),
+        b"expression" => shown(alloc, CfgExpr::from_str(alloc, GROUP)),
         b"negation" => shown(alloc, CfgExpr::from_str(alloc, "not(all(r#a))")),
         b"refused_expression" => shown(alloc, CfgExpr::from_str(alloc, "all(a b)")),
         b"surplus" => shown(alloc, CfgExpr::from_str(alloc, "a b")),
@@ -78,6 +82,20 @@ fn read(alloc: Global, name: &[u8]) -> Result<String, Fault> {
         b"target" => shown(alloc, Platform::from_str(alloc, "x86_64-apple-darwin")),
         b"refused_target" => shown(alloc, Platform::from_str(alloc, "a€b")),
         b"refused_parenthesis" => shown(alloc, Platform::from_str(alloc, "cfg(")),
+        _ => read_more(alloc, name),
+    }
+}
+
+fn read_more(alloc: Global, name: &[u8]) -> Result<String, Fault> {
+    match name {
+        b"empty_pair" => shown(alloc, Cfg::from_str(alloc, "")),
+        b"empty_target" => shown(alloc, Platform::from_str(alloc, "")),
+        b"empty_condition" => shown(alloc, Platform::from_str(alloc, "cfg()")),
+        b"counted_group" => shown(alloc, CfgExpr::from_str_counted(alloc, GROUP).0),
+        b"refused_counted" => shown(alloc, CfgExpr::from_str_counted(alloc, "all(a b)").0),
+        b"counted_surplus" => shown(alloc, CfgExpr::from_str_counted(alloc, "a b").0),
+        b"group_clone" => group_clone(alloc),
+        b"index_of_two" => index_of_two(alloc),
         _ => ask(alloc, name),
     }
 }
@@ -187,6 +205,25 @@ fn fact_clone(alloc: Global, text: &str) -> Result<String, Fault> {
 fn target_clone(alloc: Global) -> Result<String, Fault> {
     let copy = platform(alloc, "a")?.clone(alloc)?;
     Ok(format!(in alloc; "{copy}\n")?)
+}
+
+fn group_clone(alloc: Global) -> Result<String, Fault> {
+    shown(
+        alloc,
+        match CfgExpr::from_str(alloc, GROUP) {
+            Ok(group) => group.clone(alloc).map_err(ReadError::Memory),
+            Err(refusal) => Err(refusal),
+        },
+    )
+}
+
+/// Whether an index of a name and a pair holds the pair.
+fn index_of_two(alloc: Global) -> Result<String, Fault> {
+    let pair = fact(alloc, "target_os=\"linux\"")?;
+    let mut facts = facts(alloc)?;
+    facts.push(pair.clone(alloc)?).map_err(AllocError::from)?;
+    let holds = FactIndex::new(alloc, &facts)?.holds(&pair);
+    Ok(format!(in alloc; "{holds}\n")?)
 }
 
 fn json(alloc: Global) -> Result<String, Fault> {

@@ -1,0 +1,83 @@
+//! Names, keys and values that are longer than any in the tables.
+
+use crate::all_short_texts::{is_cfg, is_expression};
+use crate::made::{assert_prints, repeated, same_value};
+use crate::refusals::{Fault, assert_refused};
+use cargo_platform::{Cfg, CfgExpr, FactIndex, Facts, Platform};
+use std::alloc::Global;
+use std::process::Abort;
+use std::test::Fail;
+
+/// Lengths in bytes, from the greatest that a byte holds.
+const LENGTHS: [usize; 4] = [255, 256, 257, 5000];
+
+#[test]
+fn long_texts_are_read(rt: HostRuntime) -> Result<(), Fail> {
+    let alloc = rt.alloc();
+    for length in LENGTHS {
+        let long = repeated(alloc, "a", length)?;
+        for text in [
+            format!(in alloc; "{long}")?,
+            format!(in alloc; "r#{long}")?,
+            format!(in alloc; "{long} = \"\"")?,
+            format!(in alloc; "k = \"{long}\"")?,
+        ] {
+            assert!(rt; is_cfg(&rt, alloc, &text)?, "{text}");
+            assert!(rt; is_expression(&rt, alloc, &text)?, "{text}");
+        }
+        let target = Platform::from_str(alloc, &long)?;
+        assert_prints(&rt, alloc, &target.clone(alloc)?, &long)?;
+    }
+    Ok(())
+}
+
+#[test]
+fn long_texts_are_refused(rt: HostRuntime) -> Result<(), Fail> {
+    let alloc = rt.alloc();
+    for length in LENGTHS {
+        let long = repeated(alloc, "b", length)?;
+        let text = format!(in alloc; "a {long}")?;
+        let message = format!(in alloc; "unexpected content `{long}` found after cfg expression")?;
+        for refusal in [
+            Cfg::from_str(alloc, &text).err(),
+            CfgExpr::from_str(alloc, &text).err(),
+        ] {
+            let fault = Fault::UnterminatedExpression(&long);
+            assert_refused(&rt, alloc, refusal, &text, fault, &message)?;
+        }
+        let key = format!(in alloc; "cfg({text})")?;
+        assert!(rt; !CfgExpr::matches_key(alloc, &key, &[])?);
+    }
+    Ok(())
+}
+
+/// Asserts that a fact is copied, kept in an index, and met by the expression and the key that ask for it.
+fn assert_is_met(rt: &impl Abort, alloc: Global, text: &str) -> Result<(), Fail> {
+    let fact = Cfg::from_str(alloc, text)?;
+    let copy = fact.clone(alloc)?;
+    assert!(rt; same_value(&copy, &fact), "{text}");
+    let facts = vec![in alloc; fact]?;
+    let index = FactIndex::new(alloc, &facts)?;
+    assert!(rt; index.holds(&copy), "{text}");
+    let condition = Platform::Cfg(CfgExpr::from_str(alloc, text)?);
+    assert!(rt; condition.clone(alloc)?.matches("", &facts), "{text}");
+    let key = condition.to_string(alloc)?;
+    assert!(rt; CfgExpr::matches_key(alloc, &key, &facts)?, "{text}");
+    let json = condition.to_json(alloc)?;
+    assert_prints(rt, alloc, &Platform::from_json(alloc, &json)?, &key)
+}
+
+#[test]
+fn long_facts_are_met(rt: HostRuntime) -> Result<(), Fail> {
+    let alloc = rt.alloc();
+    for length in LENGTHS {
+        let long = repeated(alloc, "a", length)?;
+        for text in [
+            format!(in alloc; "r#{long}")?,
+            format!(in alloc; "{long} = \"{long}\"")?,
+        ] {
+            assert_is_met(&rt, alloc, &text)?;
+        }
+    }
+    Ok(())
+}
