@@ -2,7 +2,7 @@
 
 ghost use Rattle.std.specs.Prelude.{◌≤◌, length};
 
-use crate::counted::{ReadCounts, WriteCounts};
+use crate::counted::{Input, Output, ReadCounts, WriteCounts};
 use std::alloc::Global;
 use std::io;
 use std::io::{ErrorKind, Read, Write};
@@ -29,6 +29,31 @@ impl Calls {
     }
 }
 
+/// What an input counted, by the calls that give its counts.
+pub fn reads_of<R>(input: &Input<R>) -> ReadCounts {
+    ReadCounts {
+        reads: input.reads(),
+        interrupted_reads: input.interrupted_reads(),
+        failed_reads: input.failed_reads(),
+        bytes: input.bytes(),
+        ends: input.ends(),
+    }
+}
+
+/// What an output counted, by the calls that give its counts.
+pub fn writes_of<W>(output: &Output<W>) -> WriteCounts {
+    WriteCounts {
+        writes: output.writes(),
+        interrupted_writes: output.interrupted_writes(),
+        failed_writes: output.failed_writes(),
+        empty_writes: output.empty_writes(),
+        flushes: output.flushes(),
+        interrupted_flushes: output.interrupted_flushes(),
+        failed_flushes: output.failed_flushes(),
+        flushed_writes: output.flushed_writes(),
+    }
+}
+
 /// Gives a text and then so many times `a`, in pieces of at most `most` bytes. Some of its calls go wrong.
 #[derive(Drop)]
 pub struct ScriptedReader<'a> {
@@ -50,13 +75,7 @@ pub fn reader_over(text: &[u8], letters: u64) -> ScriptedReader<'_> {
         most: usize::MAX,
         interrupted: NEVER,
         failing: NEVER,
-        counts: ReadCounts {
-            reads: 0,
-            interrupted_reads: 0,
-            failed_reads: 0,
-            bytes: 0,
-            ends: 0,
-        },
+        counts: reads_of(&Input::new(())),
         empty_pieces: 0,
     }
 }
@@ -135,16 +154,7 @@ pub fn writer_to(alloc: Global, whole: usize) -> ScriptedWriter {
         idle: NEVER,
         interrupted_flushes: NEVER,
         failing_flushes: NEVER,
-        counts: WriteCounts {
-            writes: 0,
-            interrupted_writes: 0,
-            failed_writes: 0,
-            empty_writes: 0,
-            flushes: 0,
-            interrupted_flushes: 0,
-            failed_flushes: 0,
-            flushed_writes: 0,
-        },
+        counts: writes_of(&Output::new(())),
         partial_writes: 0,
     }
 }

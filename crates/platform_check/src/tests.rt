@@ -1,39 +1,14 @@
 //! Runs of the program in memory: its answers, and what it makes of readers and writers that go wrong.
 
 use crate::answering::Outcome;
-use crate::counted::{ReadCounts, WriteCounts};
 use crate::scripted::{
-    Calls, Failing, NEVER, ScriptedReader, ScriptedWriter, only, reader_over, writer_to,
+    Calls, Failing, NEVER, ScriptedReader, ScriptedWriter, only, reader_over, reads_of, writer_to,
+    writes_of,
 };
 use crate::{RunError, counted, run};
 use std::alloc::Global;
 use std::io::ErrorKind;
 use std::process::Abort;
-
-/// What an input counted, by the calls that give its counts.
-fn reads_of<R>(input: &counted::Input<R>) -> ReadCounts {
-    ReadCounts {
-        reads: input.reads(),
-        interrupted_reads: input.interrupted_reads(),
-        failed_reads: input.failed_reads(),
-        bytes: input.bytes(),
-        ends: input.ends(),
-    }
-}
-
-/// What an output counted, by the calls that give its counts.
-fn writes_of<W>(output: &counted::Output<W>) -> WriteCounts {
-    WriteCounts {
-        writes: output.writes(),
-        interrupted_writes: output.interrupted_writes(),
-        failed_writes: output.failed_writes(),
-        empty_writes: output.empty_writes(),
-        flushes: output.flushes(),
-        interrupted_flushes: output.interrupted_flushes(),
-        failed_flushes: output.failed_flushes(),
-        flushed_writes: output.flushed_writes(),
-    }
-}
 
 /// Runs over both, and asserts that they got the very calls that were counted, none with a piece of no bytes, and that
 /// each write was handed all that was left.
