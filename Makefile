@@ -1,11 +1,12 @@
 # make run    builds the program and runs it on its sample input
 # make build  leaves the program, and says where
-# make test   the gate: everything proved from nothing, the must-fail edits, the tests, the programs
+# make test   the gate: everything proved from nothing, the wrong bodies, the tests, the programs
+# make wrong-bodies   the wrong bodies of crates/*/wrong-bodies alone, over kept work where there is some
 # make refusals   each growth of memory refused in turn, in each call and in the program
 # make statuses   the program where reading or writing fails
 # make quick  the checks alone, over kept work
 # make fmt    lays out the files
-.PHONY: run build test refusals statuses quick fmt rt
+.PHONY: run build test wrong-bodies refusals statuses quick fmt rt
 
 PROGRAM := crates/platform_check
 
@@ -21,8 +22,10 @@ build: rt
 	@echo "the program is $(PROGRAM)/out/platform_check"
 
 test: rt
-	.ci/printed-caller
-	rt ci
+	.ci/gate
+
+wrong-bodies: rt
+	.ci/wrong-bodies
 
 refusals: rt
 	.ci/refusals
