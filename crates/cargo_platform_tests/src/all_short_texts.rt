@@ -269,6 +269,11 @@ fn beginnings_of_more_expressions(rt: HostRuntime) -> Result<(), Fail> {
         assert_beginnings(&rt, rt.alloc(), first)?;
         assert_beginnings(&rt, rt.alloc(), second)?;
     }
+    Ok(())
+}
+
+#[test]
+fn beginnings_of_a_deep_expression(rt: HostRuntime) -> Result<(), Fail> {
     let deep = negations(rt.alloc(), 500)?;
     assert_beginnings(&rt, rt.alloc(), &deep)
 }
