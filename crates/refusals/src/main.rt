@@ -2,7 +2,8 @@
 //!
 //! The script `.ci/refusals` runs it with each growth of memory refused in turn. The status tells what came of it: 0
 //! after the answers, 9 where a call answered want of memory, 8 where a list of warnings was left changed then, 6 for a
-//! name that stands for no call.
+//! name that stands for no call. Each `+` before the name is a growth that is made before the call, so one build, with
+//! one growth refused, does for each growth of each call.
 #![tactic(auto)]
 
 use cargo_platform::{
@@ -69,7 +70,21 @@ fn facts(alloc: Global) -> Result<Vec<Cfg>, Fault> {
     Ok(facts)
 }
 
-fn read(alloc: Global, name: &[u8]) -> Result<String, Fault> {
+/// Makes a growth for each `+` that the input begins with, and returns what stands behind them.
+fn grown<'a>(alloc: Global, input: &'a [u8]) -> Result<&'a [u8], Fault> {
+    let mut name = input;
+    for _ in 0..input.len() {
+        let [b'+', behind @ ..] = name else {
+            break;
+        };
+        let _growth = Box::new(alloc, 0u8).map_err(AllocError::from)?;
+        name = behind;
+    }
+    Ok(name)
+}
+
+fn read(alloc: Global, input: &[u8]) -> Result<String, Fault> {
+    let name = grown(alloc, input)?;
     match name {
         b"pair" => shown(alloc, Cfg::from_str(alloc, "target_os = \"linux\"")),
         b"refused_pair" => shown(alloc, Cfg::from_str(alloc, "r #foo")),
