@@ -45,6 +45,9 @@ pub mod FactSets
 pub mod FactTruths
 pub mod FactIndexes
 pub mod Members
+pub mod Lines
+pub mod TextLines
+pub mod FactLines
 pub mod TargetNames
 pub mod Conditions
 pub mod Changes

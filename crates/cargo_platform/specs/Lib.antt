@@ -24,6 +24,8 @@ pub mod Key
 pub mod OrderLaws
 pub mod Hashing
 pub mod FactLaws
+pub mod Lines
+pub mod FactLines
 pub mod Warnings
 pub mod Earlier
 pub mod ChangeLaws

@@ -14,6 +14,7 @@ ghost use Rattle.cargo_platform.specs.PlatformLaws.{IsOneConditionText, SpellsWe
 ghost use Rattle.cargo_platform.specs.ChangeLaws.{SpelledReleased, IsAcceptedAsReleased, IsRefusedAsReleased, IsTreeTextAsReleased, KeepsTree, IsConditionTextAsReleased, KeepsCondition, SpelledTransitional, IsRefusedForLiteralKeys, WasWellFormedWithoutMarkedLiterals, IsWellFormedWithoutLiteralKeys, GivesNoKeyword};
 ghost use Rattle.cargo_platform.specs.Facts.{Pair, FactSet, fact_set, truth};
 ghost use Rattle.cargo_platform.specs.FactLaws.{IsInWhereListed, HaveSamePairs, HaveSameFacts, IsMonotone, IsNotAllAnyNot, IsOrderOfKeys};
+ghost use Rattle.cargo_platform.specs.Lines.{lines_of, AreLines};
 ghost use Rattle.cargo_platform.specs.Key.{name_key, value_key, key, condition_key, name_cmp, value_cmp, tree_cmp, condition_cmp};
 ghost use Rattle.cargo_platform.specs.Hashing.{name_hash, value_hash, tree_hash, condition_hash};
 
@@ -249,4 +250,10 @@ pub fn hashes_are_of_keys()
     ensures values { (c : CfgValue) → value_hash (value_key c) ≡ value_hash c }
     ensures trees { (e : Tree) → tree_hash (key e) ≡ tree_hash e }
     ensures conditions { (p : Condition) → condition_hash (condition_key p) ≡ condition_hash p }
+{}
+
+/// A text has its lines, and no others.
+pub fn lines_are()
+    ensures are { (text : List ℕ) → AreLines text (lines_of text) }
+    ensures only { (text : List ℕ) (ls : List (List ℕ)) → AreLines text ls → ls ≡ lines_of text }
 {}

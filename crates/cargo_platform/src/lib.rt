@@ -10,6 +10,7 @@ pub mod cfg;
 mod clone;
 mod display;
 pub mod error;
+mod fact_lines;
 mod facts;
 mod json;
 pub mod laws;
@@ -25,6 +26,7 @@ mod warnings;
 
 pub use cfg::{Cfg, CfgExpr, FactIndex, Facts, Ident, Listed};
 pub use error::{ParseError, ParseErrorKind, ReadError};
+pub use fact_lines::{FactsError, read_facts};
 pub use json::JsonError;
 pub use tokens::{Looks, Spanned, Token, TokenFault, TokenFaultKind, Tokenizer};
 

@@ -1,0 +1,90 @@
+//! The facts of a target, read from a text.
+
+ghost use Rattle.std.specs.Prelude.{◌≡◌, ◌≢◌, ◌==◌, [], IfOk};
+ghost use Rattle.std.specs.List.{slice_split};
+ghost use Rattle.cargo_platform.specs.Trees.{value_of};
+ghost use Rattle.cargo_platform.specs.Spelling.{Values, IsValueText};
+ghost use Rattle.cargo_platform.specs.Faults.{IsRefused};
+ghost use Rattle.cargo_platform.specs.WellFormed.{IsWellFormedValue};
+ghost use Rattle.cargo_platform.specs.Errors.{orig_of, fault_in};
+ghost use Rattle.cargo_platform.specs.Lines.{lines_of};
+ghost use Rattle.cargo_platform.specs.FactLines.{IfLine, ReadsFacts, SpellsNoFact};
+
+use crate::cfg::Cfg;
+use crate::error::{ParseError, ReadError};
+use std::alloc::{AllocError, Global};
+use std::fmt;
+
+/// Why a text of facts is refused.
+#[derive(Debug, Drop)]
+pub enum FactsError {
+    /// This line spells no fact.
+    Line {
+        /// The number of the line, counted from 1.
+        number: usize,
+        /// What is wrong with it.
+        error: ParseError,
+    },
+    /// Memory was refused.
+    Memory(AllocError),
+}
+
+/// The text without the newline that ends its last line. Its lines are the parts between the newlines that are left.
+fn without_last_end(text: &str) -> &str
+    ensures { text.now ≢ [] → slice_split (λ b. b == 10) result.now ≡ lines_of text.now }
+{
+    text.strip_suffix('\n').unwrap_or(text)
+}
+
+/// Reads the line of this number as a fact.
+fn read_line(alloc: Global, number: usize, line: &str) -> Result<Cfg, FactsError>
+    ensures fact { IfOk result (λ c. IsValueText line.now (value_of c)) }
+    ensures well_formed { IfOk result (λ c. IsWellFormedValue (value_of c)) }
+    ensures numbered { IfLine result (λ n e. n ≡ number) }
+    ensures refused { IfLine result (λ n e. SpellsNoFact line.now) }
+    ensures orig { IfLine result (λ n e. orig_of e ≡ line.now) }
+    ensures fault { IfLine result (λ n e. IsRefused Values line.now (fault_in e)) }
+{
+    match Cfg::from_str(alloc, line) {
+        Ok(fact) => Ok(fact),
+        Err(ReadError::Parse(error)) => Err(FactsError::Line { number, error }),
+        Err(ReadError::Memory(error)) => Err(FactsError::Memory(error)),
+    }
+}
+
+/// Reads a list of facts, one a line, as `rustc --print cfg` prints them: line for line what `Cfg::from_str` reads.
+///
+/// A line ends with `\n` and with nothing else; behind the last `\n` a line stands only where a character does. So the
+/// empty text has no facts, and an empty line, or one that ends with `\r`, is refused. A text with a line that spells
+/// no fact is refused with `FactsError::Line` of the first such line. Where memory is refused the answer is
+/// `FactsError::Memory`, whatever the text.
+pub fn read_facts(alloc: Global, text: &str) -> Result<Vec<Cfg>, FactsError>
+    ensures { ReadsFacts text.now result }
+{
+    let mut facts = Vec::new(alloc);
+    if text.is_empty() {
+        return Ok(facts);
+    }
+    for line in without_last_end(text).split('\n') {
+        let fact = read_line(alloc, facts.len() + 1, line)?;
+        if facts.push(fact).is_err() {
+            return Err(FactsError::Memory(AllocError));
+        }
+    }
+    Ok(facts)
+}
+
+impl fmt::Display for FactsError {
+    ghost use Rattle.cargo_platform.specs.FactLines.{print_facts_error};
+
+    ghost output = { λ e. print_facts_error e };
+
+    fn fmt<W: fmt::Write>(&self, f: &mut fmt::Formatter<W>) -> fmt::Result {
+        match self {
+            FactsError::Line { number, error } => write!(f, "line {number}: {error}"),
+            FactsError::Memory(error) => write!(f, "{error}"),
+        }
+    }
+}
+
+impl std::error::Error for FactsError {}
