@@ -55,3 +55,5 @@ pub mod ConditionFaults
 pub mod ConditionAnswers
 pub mod WarningWalks
 pub mod Texts
+pub mod OnLiterals
+pub mod Holders

@@ -218,14 +218,21 @@ mutual
       let o = spelled_others es ps w.1 in
       (r.0 ∷ o.0, (r.1, o.1), ap (λ (z : List Lexeme). Comma ∷ z) (r.2 ∙ ap (λ (z : List Lexeme). r.0 ++ z) o.2 ∙ sym (append_assoc r.0 (behind_commas o.0) (tokens ps))))
 
+-- the tokens of a tree as it is printed
+abbrev pub canonical : Tree → List Lexeme
+canonical e = tokens (pieces e false [])
+
+pub canonical_spells : (e : Tree) → IsWellFormed e → Spells e (canonical e)
+canonical_spells e w =
+    let r = spelled e false [] w in
+    subst (λ ts. Spells e ts) (sym (r.2 ∙ append-nil r.0)) r.1
+
 -- The print of a well-formed tree is accepted, with that tree.
 pub printed_spells : (e : Tree) → IsWellFormed e → IsTreeText (print e) e
 printed_spells e w =
     let text : laid (pieces e false []) ≡ print e = laid_is e false [] ∙ append-nil (print e) in
     let c = cut_laid (print e) 0 (pieces e false []) (omega arith) (sym text) (separate e false [] w (refl, refl) tt) in
-    let r = spelled e false [] w in
-    let P : List Lexeme → Type 0 = λ z. Spells e z in
-    (c.places, c.cut, subst P (sym (c.are ∙ r.2 ∙ append-nil r.0)) r.1)
+    (c.places, c.cut, subst (λ ts. Spells e ts) (sym c.are) (canonical_spells e w))
 
 value_tokens : (c : CfgValue) → tokens (value_pieces false c []) ≡ value_spelling c
 value_tokens (Alone n) = refl

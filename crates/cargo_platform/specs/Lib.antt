@@ -26,6 +26,7 @@ pub mod Hashing
 pub mod FactLaws
 pub mod Lines
 pub mod FactLines
+pub mod Holders
 pub mod Warnings
 pub mod Earlier
 pub mod ChangeLaws

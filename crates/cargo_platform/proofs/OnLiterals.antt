@@ -1,0 +1,160 @@
+-- What a text that is written out spells, and with which fault it is refused: what is asked for here computes, so that
+-- a caller answers it by `refl`.
+use Rattle.std.proofs.Common.{◌≡◌, refl, sym, ◌∙◌, subst, ℕ, ◌+◌, Bool, true, false, not, ◌&&◌, if◌then◌else◌, List}
+use Rattle.std.proofs.Common.{[], ◌∷◌}
+use Rattle.std.proofs.Common.{◌++◌, Option, Some, None, codes, inl, inr, length, take, drop, append-nil, ap, arith}
+use Rattle.std.specs.Prelude.{◌==◌, ◌≤◌, bytes_eq}
+use Rattle.std.proofs.lemmas.List.{take-append-drop}
+use Rattle.std.specs.List.{last_or}
+use Rattle.cargo_platform.specs.Chars.{is_identifier_start, is_identifier_rest, is_space, is_quote, is_number_sign}
+use Rattle.cargo_platform.specs.Tokens.{Lexeme, LeftParen, RightParen, Ident, Comma, Equals, String, Placed}
+use Rattle.cargo_platform.specs.Cut.{IsCut, IsTail, lexemes}
+use Rattle.cargo_platform.specs.Trees.{CfgValue, Tree, Condition, Expression}
+use Rattle.cargo_platform.specs.Spelling.{Expressions, IsTreeText, IsValueText, Spells, SpellsValue}
+use Rattle.cargo_platform.specs.WellFormed.{IsWellFormed}
+use Rattle.cargo_platform.specs.Faults.{Fault, Next, Unfit, End, Follows, fault_of, IsRefused}
+use Rattle.cargo_platform.specs.Walk.{State, Wanted, after, walk}
+use Rattle.cargo_platform.specs.Parsing.{is_whole}
+use Rattle.cargo_platform.proofs.CutTests.{is_cut_from, cut_by}
+use Rattle.cargo_platform.proofs.Fronts.{goes_on, refused_walked}
+use Rattle.cargo_platform.proofs.PrintedSpells.{canonical, canonical_spells}
+
+-- ---- the tokens of a text, with the place of its tail
+
+-- what is being read, and where it began
+pub data Mode : Type 0 where
+  Between : Mode
+  InName : (raw : Bool) (start : ℕ) (name : List ℕ) → Mode
+  Marked : (start : ℕ) → Mode
+  InString : (start : ℕ) (value : List ℕ) → Mode
+  Stopped : (start : ℕ) → Mode
+
+abbrev pub at : Lexeme → ℕ → ℕ → Placed
+at t i j = record { token = t; start = i; end = j }
+
+-- the token that a character is, if it is one, and what is being read behind it
+abbrev pub begin : ℕ → ℕ → List Placed × Mode
+begin i c =
+    if is_space c then ([], Between)
+    else (if c == 0x28 then (at LeftParen i (i + 1) ∷ [], Between)
+    else (if c == 0x29 then (at RightParen i (i + 1) ∷ [], Between)
+    else (if c == 0x2C then (at Comma i (i + 1) ∷ [], Between)
+    else (if c == 0x3D then (at Equals i (i + 1) ∷ [], Between)
+    else (if is_quote c then ([], InString i [])
+    else (if is_identifier_start c then ([], InName false i (c ∷ []))
+    else ([], Stopped i)))))))
+
+abbrev pub behind_name : Placed → List Placed × Mode → List Placed × Mode
+behind_name t next = (t ∷ next.0, next.1)
+
+abbrev pub step : Mode → ℕ → ℕ → List Placed × Mode
+step Between j c = begin j c
+step (InName raw i name) j c =
+    if is_identifier_rest c then ([], InName raw i (name ++ c ∷ []))
+    else (if not raw && bytes_eq name (codes "r") && is_number_sign c then ([], Marked i)
+    else behind_name (at (Ident raw name) i j) (begin j c))
+step (Marked i) j c = if is_identifier_start c then ([], InName true i (c ∷ [])) else ([], Stopped i)
+step (InString i value) j c =
+    if is_quote c then (at (String value) i (j + 1) ∷ [], Between) else ([], InString i (value ++ c ∷ []))
+step (Stopped i) j c = ([], Stopped i)
+
+abbrev pub finish : Mode → ℕ → List Placed × ℕ
+finish Between j = ([], j)
+finish (InName raw i name) j = (at (Ident raw name) i j ∷ [], j)
+finish (Marked i) j = ([], i)
+finish (InString i value) j = ([], i)
+finish (Stopped i) j = ([], i)
+
+abbrev pub scan : Mode → ℕ → List ℕ → List Placed × ℕ
+scan mode j [] = finish mode j
+scan mode j (c ∷ cs) =
+    let now : List Placed × Mode = step mode j c in
+    let more : List Placed × ℕ = scan now.1 (j + 1) cs in
+    (now.0 ++ more.0, more.1)
+
+abbrev pub tokens_in : List ℕ → List Placed
+tokens_in text = (scan Between 0 text).0
+
+-- the tokens are those of the text, of which nothing is left
+abbrev pub is_cut_whole : List ℕ → Bool
+is_cut_whole text = is_cut_from text 0 (tokens_in text) (length text)
+
+nothing_left : (text : List ℕ) → drop (length text) text ≡ []
+nothing_left [] = refl
+nothing_left (c ∷ cs) = nothing_left cs
+
+cut_whole : (text : List ℕ) → is_cut_whole text ≡ true → IsCut text (tokens_in text) (length text)
+cut_whole text h = cut_by text (tokens_in text) (length text) h (inl (nothing_left text))
+
+-- ---- what a text spells
+
+-- The text spells the tree, whatever the spaces in it: its tokens are those of the printed tree.
+pub tree_on_literal : (text : List ℕ) (e : Tree) → is_cut_whole text ≡ true → lexemes (tokens_in text) ≡ canonical e
+    → IsWellFormed e → IsTreeText text e
+tree_on_literal text e cut same formed =
+    (tokens_in text, cut_whole text cut, subst (λ ts. Spells e ts) (sym same) (canonical_spells e formed))
+
+-- The text spells the name or the pair.
+pub value_on_literal : (text : List ℕ) (c : CfgValue) → is_cut_whole text ≡ true
+    → SpellsValue c (lexemes (tokens_in text))
+    → IsValueText text c
+value_on_literal text c cut spelled = (tokens_in text, cut_whole text cut, spelled)
+
+-- ---- with which fault a text is refused
+
+abbrev pub one_more : Option State → ℕ
+one_more None = 0
+one_more (Some s) = 1
+
+-- how many tokens fit, one behind another
+abbrev pub fitting : Option State → List Placed → ℕ
+fitting None ts = 0
+fitting (Some s) [] = 0
+fitting (Some s) (t ∷ ts) =
+    let next : Option State = after s t.token in
+    one_more next + fitting next ts
+
+abbrev pub front_in : List ℕ → List Placed
+front_in text = take (fitting (Some (Wanted [])) (tokens_in text)) (tokens_in text)
+
+abbrev pub behind_in : List ℕ → List Placed
+behind_in text = drop (fitting (Some (Wanted [])) (tokens_in text)) (tokens_in text)
+
+abbrev pub next_of : List ℕ → List Placed → Next
+next_of text [] = End
+next_of text (t ∷ ts) = Unfit t.token (drop t.start text)
+
+next_follows : (text : List ℕ) (behind : List Placed) → Follows text behind (length text) (next_of text behind)
+next_follows text [] = omega arith
+next_follows text (t ∷ ts) = refl
+
+-- the fault by the table, where the front leads to this state and does not go on
+abbrev pub fault_at : List ℕ → Option State → Option State → Option Fault
+fault_at text (Some s) None =
+    fault_of Expressions (is_whole s) (last_or None (lexemes (front_in text))) (next_of text (behind_in text))
+fault_at text s t = None
+
+abbrev pub further : Option State → List Placed → Option State
+further None ts = None
+further (Some s) ts = goes_on s ts
+
+abbrev pub fault_found : List ℕ → Option Fault
+fault_found text =
+    let reached : Option State = walk (lexemes (front_in text)) in
+    fault_at text reached (further reached (behind_in text))
+
+refused_there : (text : List ℕ) (fault : Fault) (s t : Option State) → walk (lexemes (front_in text)) ≡ s
+    → further s (behind_in text) ≡ t → IsCut text (tokens_in text) (length text) → fault_at text s t ≡ Some fault
+    → IsRefused Expressions text fault
+refused_there text fault None t walked stops cut found = absurd cc
+refused_there text fault (Some s) (Some t) walked stops cut found = absurd cc
+refused_there text fault (Some s) None walked stops cut found =
+    refused_walked text (tokens_in text) (front_in text) (behind_in text) (length text) s
+    (next_of text (behind_in text)) fault
+    cut (sym (take-append-drop (fitting (Some (Wanted [])) (tokens_in text)) (tokens_in text))) walked stops
+    (next_follows text (behind_in text)) found
+
+-- The text is refused with this fault, where each of its characters belongs to a token or is a space.
+pub refused_on_literal : (text : List ℕ) (fault : Fault) → is_cut_whole text ≡ true → fault_found text ≡ Some fault
+    → IsRefused Expressions text fault
+refused_on_literal text fault cut found = refused_there text fault _ _ refl refl (cut_whole text cut) found
