@@ -7,8 +7,8 @@
 #![tactic(auto)]
 
 use cargo_platform::{
-    Cfg, CfgExpr, FactIndex, Facts, Ident, JsonError, ParseError, ParseErrorKind, Platform,
-    ReadError,
+    Cfg, CfgExpr, FactIndex, Facts, FactsError, Ident, JsonError, ParseError, ParseErrorKind,
+    Platform, ReadError, read_facts,
 };
 use serde_json::Value;
 use std::alloc::{AllocError, Global};
@@ -123,6 +123,8 @@ fn ask(alloc: Global, name: &[u8]) -> Result<String, Fault> {
         b"spaced_key" => key(alloc, "cfg(a) "),
         b"empty_key" => key(alloc, ""),
         b"index" => index(alloc),
+        b"facts" => lines(alloc, "unix\nr#k = \"1\"\n"),
+        b"refused_facts" => lines(alloc, "unix\na b"),
         b"error" => error(alloc),
         b"attributes" => warned(alloc, &platform(alloc, WARNED)?, true),
         b"keywords" => warned(alloc, &keyed_by_a_literal(alloc)?, false),
@@ -152,6 +154,21 @@ fn index(alloc: Global) -> Result<String, Fault> {
         Err(ReadError::Memory(_)) => return Err(Fault::Memory),
     };
     Ok(format!(in alloc; "{matches}\n")?)
+}
+
+/// The facts that a text holds line for line, or the error of its first refused line.
+fn lines(alloc: Global, text: &str) -> Result<String, Fault> {
+    match read_facts(alloc, text) {
+        Ok(facts) => {
+            let mut printed = String::new(alloc);
+            for fact in &facts {
+                printed.push_str(&format!(in alloc; "{fact}\n")?)?;
+            }
+            Ok(printed)
+        }
+        Err(FactsError::Line { number, error }) => Ok(format!(in alloc; "{number}: {error}\n")?),
+        Err(FactsError::Memory(_)) => Err(Fault::Memory),
+    }
 }
 
 fn error(alloc: Global) -> Result<String, Fault> {
