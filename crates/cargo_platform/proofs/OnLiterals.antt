@@ -1,15 +1,15 @@
 -- What a text that is written out spells, and with which fault it is refused: what is asked for here computes, so that
 -- a caller answers it by `refl`.
-use Rattle.std.proofs.Common.{◌≡◌, refl, sym, ◌∙◌, subst, ℕ, ◌+◌, Bool, true, false, not, ◌&&◌, if◌then◌else◌, List}
+use Rattle.std.proofs.Common.{◌≡◌, refl, sym, subst, ℕ, ◌+◌, Bool, true, false, not, ◌&&◌, if◌then◌else◌, List}
 use Rattle.std.proofs.Common.{[], ◌∷◌}
-use Rattle.std.proofs.Common.{◌++◌, Option, Some, None, codes, inl, inr, length, take, drop, append-nil, ap, arith}
-use Rattle.std.specs.Prelude.{◌==◌, ◌≤◌, bytes_eq}
+use Rattle.std.proofs.Common.{◌++◌, Option, Some, None, codes, inl, length, take, drop, arith}
+use Rattle.std.specs.Prelude.{◌==◌, bytes_eq}
 use Rattle.std.proofs.lemmas.List.{take-append-drop}
 use Rattle.std.specs.List.{last_or}
 use Rattle.cargo_platform.specs.Chars.{is_identifier_start, is_identifier_rest, is_space, is_quote, is_number_sign}
 use Rattle.cargo_platform.specs.Tokens.{Lexeme, LeftParen, RightParen, Ident, Comma, Equals, String, Placed}
-use Rattle.cargo_platform.specs.Cut.{IsCut, IsTail, lexemes}
-use Rattle.cargo_platform.specs.Trees.{CfgValue, Tree, Condition, Expression}
+use Rattle.cargo_platform.specs.Cut.{IsCut, lexemes}
+use Rattle.cargo_platform.specs.Trees.{CfgValue, Tree}
 use Rattle.cargo_platform.specs.Spelling.{Expressions, IsTreeText, IsValueText, Spells, SpellsValue}
 use Rattle.cargo_platform.specs.WellFormed.{IsWellFormed}
 use Rattle.cargo_platform.specs.Faults.{Fault, Next, Unfit, End, Follows, fault_of, IsRefused}

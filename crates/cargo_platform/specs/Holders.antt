@@ -1,5 +1,5 @@
 -- Words for the sets of pairs that holders of one's own mean.
-use Rattle.std.specs.Prelude.{◌≡◌, ℕ, Bool, List, [], ◌∷◌, Some, None, ◌&&◌, false, bytes_eq, if◌then◌else◌}
+use Rattle.std.specs.Prelude.{ℕ, Bool, List, [], ◌∷◌, Some, None, ◌&&◌, false, bytes_eq, if◌then◌else◌}
 use Rattle.std.specs.FinSet.{empty, from_list}
 use Rattle.cargo_platform.specs.Trees.{CfgValue, Alone, KeyPair}
 use Rattle.cargo_platform.specs.Facts.{Pair, FactSet}
