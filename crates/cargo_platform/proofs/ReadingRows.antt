@@ -1,13 +1,15 @@
 -- Some calls of a tokenizer one after another, what they cost, and what no calls give.
-use Rattle.std.proofs.Common.{◌≡◌, refl, sym, ap, ◌∙◌, ℕ, lit≤, lit<, true, false, true≢false, List, [], ◌∷◌, codes, inl, inr, arith, length, None, Some, Err}
+use Rattle.std.proofs.Common.{◌≡◌, refl, sym, ap, ◌∙◌, ℕ, lit≤, lit<, true, false, true≢false, List, [], ◌∷◌, codes, inl, inr, arith, length, Option, Result, None, Some, Err}
 use Rattle.std.specs.Char.{encode_utf8}
 use Rattle.std.specs.List.{list_all}
 use Rattle.std.specs.Str.{chars}
+use Rattle.cargo_platform.specs.declared.tokens.Spanned.{Spanned}
+use Rattle.cargo_platform.specs.declared.tokens.TokenFault.{TokenFault}
 use Rattle.cargo_platform.specs.declared.tokens.TokenFaultKind.{TokenFaultKind}
 use Rattle.cargo_platform.specs.declared.tokens.TokenFaultKind.TheVariants.{UnexpectedChar}
 use Rattle.cargo_platform.specs.Chars.{is_space}
 use Rattle.cargo_platform.specs.Tokens.{LeftParen, IsStringValue}
-use Rattle.cargo_platform.specs.Reading.{Progress, MovesTo, GivesToken, GivesEnd, NextGives, BeginsCharacter, Next, characters_from, credit, end_cost, SeesAll, results_left, ReadsTo, EndsAt, Reads}
+use Rattle.cargo_platform.specs.Reading.{Progress, MovesTo, GivesToken, GivesEnd, NextGives, BeginsCharacter, Next, characters_from, results_left, ReadsTo, EndsAt, Reads}
 use Rattle.cargo_platform.proofs.OneCut.{tail_no_space, one_cut_from}
 use Rattle.cargo_platform.proofs.Runs.{cuts_are_read}
 use Rattle.cargo_platform.proofs.CutTests.{spaces, written_at, cut_by}
@@ -105,35 +107,27 @@ counted : (characters_from (0x61 ∷ 0xC3 ∷ 0xA9 ∷ 0x28 ∷ []) 0 ≡ 3) × 
 unfolding chars
 counted = (refl, refl, refl)
 
--- three looks for each character that is left, and none after a fault
-credits : (credit (reached (codes " (") 0 0) ≡ 6) × (credit (reached (codes " (") 1 2) ≡ 5) × (credit (stopped (codes " (") 1 2) ≡ 2)
-unfolding chars
-credits = (refl, refl, refl)
-
 results_are_few : (results_left (reached (codes " (") 0 0) ≡ 3) × (results_left (reached (codes " (") 2 0) ≡ 1) × (results_left (stopped (codes " (") 1 0) ≡ 0)
 results_are_few = (refl, refl, refl)
 
-end_is_looked_at : (kind : TokenFaultKind) → (end_cost None ≡ 1) × (end_cost (Some (Err (record { kind = kind; at = 0 }))) ≡ 1)
-end_is_looked_at kind = (refl, refl)
-
 -- a call after the fault costs nothing
-next_after_fault : Next (stopped (codes "#") 0 4) None (stopped (codes "#") 0 4)
-next_after_fault = record { gives = nothing_after_fault; begins = tt; reached = (lit≤ tt, λ below high. absurd (omega (arith, high))); cost = lit≤ tt; sees = λ going. absurd (true≢false going) }
-
--- and one at the end no more than one look
-next_at_end : Next (reached (codes "a") 1 2) None (reached (codes "a") 1 4) → ⊥
+next_after_fault : Next (stopped (codes "#") 0 1) None (stopped (codes "#") 0 1)
 unfolding chars
-next_at_end p = absurd (omega (arith, p.cost))
+next_after_fault = record { gives = inl (refl, refl); begins = tt; reached = (lit≤ tt, λ below high. absurd (omega (arith, high))); each = λ going. absurd (true≢false going); at_most = lit≤ tt }
 
--- the one space and the end
-sees_end : SeesAll (reached (codes "a ") 1 2) None (reached (codes "a ") 2 4)
+-- behind a token the space there was looked at, and at the end the end
+looks_at_space : (old : Progress) (r : Option (Result Spanned TokenFault)) (looks : ℕ) → Next old r (reached (codes "a ") 1 looks) → looks ≡ 2
 unfolding chars
-sees_end = lit≤ tt
+looks_at_space old r looks n = omega (arith, n.each refl)
 
--- a call that gives the end has looked at it
-end_is_not_free : SeesAll (reached (codes "a ") 1 2) None (reached (codes "a ") 2 3) → ⊥
+looks_at_end : (old : Progress) (r : Option (Result Spanned TokenFault)) (looks : ℕ) → Next old r (reached (codes "a ") 2 looks) → looks ≡ 3
 unfolding chars
-end_is_not_free p = absurd (omega (arith, p))
+looks_at_end old r looks n = omega (arith, n.each refl)
+
+-- nothing is looked at again before a fault
+looks_up_to_fault : (old : Progress) (r : Option (Result Spanned TokenFault)) → Next old r (stopped (codes "a #") 2 5) → ⊥
+unfolding chars
+looks_up_to_fault old r n = absurd (omega (arith, n.at_most))
 
 -- ---- strings
 

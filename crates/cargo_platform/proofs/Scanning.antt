@@ -1,12 +1,12 @@
 -- From the bytes that a tokenizer saw to the words of the cut.
-use Rattle.std.proofs.Common.{◌≡◌, ◌≢◌, ℕ, zero, suc, ◌+◌, ◌-◌, ◌<◌, ◌≤◌, Bool, true, false, not, ◌&&◌, List, [], ◌∷◌, ◌++◌, length, get_or, take, drop, refl, sym, ap, ◌∙◌, arith, add-one, codes, length-drop, subst, true≢false}
+use Rattle.std.proofs.Common.{◌≡◌, ◌≢◌, ℕ, zero, suc, ◌+◌, ◌-◌, ◌<◌, ◌≤◌, Bool, true, false, not, ◌&&◌, List, [], ◌∷◌, ◌++◌, length, get_or, take, drop, refl, sym, ap, ◌∙◌, arith, add-one, codes, length-drop, subst, true≢false, ltb}
 use Rattle.std.specs.Prelude.{slice_index, slice_range, IsUtf8, bytes_eq}
 use Rattle.std.specs.List.{between, list_all}
 use Rattle.std.proofs.lemmas.List.{get_or-drop}
 use Rattle.std.proofs.lemmas.List.Edits.{between_none, between_more, length-between, get_or-between}
 use Rattle.std.proofs.lemmas.Grind.{common_steps}
 use Rattle.std.proofs.lemmas.Slice.Eq.{bytes_eq-Decides}
-use Rattle.std.proofs.lemmas.Bool.{ne_eqb}
+use Rattle.std.proofs.lemmas.Bool.{ne_eqb, ltb-true, ltb-false}
 use Rattle.std.proofs.Math.Seq.{drop-cons}
 use Rattle.cargo_platform.specs.declared.tokens.TokenFaultKind.TheVariants.{UnterminatedString}
 use Rattle.cargo_platform.specs.Chars.{is_identifier_start, is_identifier_rest, is_space, is_quote, is_number_sign, starts}
@@ -58,6 +58,9 @@ only_spaces text from to ordered inside each = (
   all_between is_space text from to inside (λ i above below. ap is_space (each i above below)),
 )
 
+pub rest_begins : (text : List ℕ) (at : ℕ) → at < length text → slice_index text at ≢ 0x20 → (b : ℕ) × (after : List ℕ) × (drop at text ≡ b ∷ after) × (is_space b ≡ false)
+rest_begins text at within past = (slice_index text at, drop (at + 1) text, rw (add-one, drop-cons text at 0) refl, ne_eqb (slice_index text at) 0x20 past)
+
 -- ---- tokens
 
 pub string_stands : (text value : List ℕ) (start quote : ℕ) → slice_index text start ≡ 0x22 → slice_index text quote ≡ 0x22 → start + 1 ≤ quote → quote < length text → value ≡ slice_range text (start + 1) quote → IsUtf8 value → ((i : ℕ) → start + 1 ≤ i → i < quote → slice_index text i ≢ 0x22) → Stands text (String value) start (quote + 1)
@@ -79,6 +82,16 @@ string_stands text value start quote opens closes ordered within is utf8 inside 
 
 start_is_rest : (b : ℕ) → is_identifier_start b ≡ true → is_identifier_rest b ≡ true
 start_is_rest b h = grind (arith, common_steps)
+
+-- a place where an identifier begins is not one where it ended
+pub goes_past : (text : List ℕ) (at end : ℕ) → is_identifier_start (slice_index text at) ≡ true → at ≤ end → is_identifier_rest (slice_index text end) ≡ false → at < end
+goes_past text at end begins ordered ends = go (ltb at end) refl
+  where
+    go : (t : Bool) → ltb at end ≡ t → at < end
+    go true e = ltb-true at end e
+    go false e =
+        let is : at ≡ end = omega (arith, ltb-false at end e) in
+        absurd (true≢false (sym (start_is_rest (slice_index text at) begins) ∙ ap (λ k. is_identifier_rest (slice_index text k)) is ∙ ends))
 
 -- a name, from its first byte and the others
 name_written : (text name : List ℕ) (from end : ℕ) → from < end → end ≤ length text → name ≡ slice_range text from end → is_identifier_start (slice_index text from) ≡ true → ((i : ℕ) → from + 1 ≤ i → i < end → is_identifier_rest (slice_index text i) ≡ true) → IsIdentifierName name

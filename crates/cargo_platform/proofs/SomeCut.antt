@@ -100,7 +100,7 @@ record Lexed (text : List ℕ) : Type 0 where
 abbrev Outcome : List ℕ → Type 0
 Outcome text = IsTail text ⊎ Lexed text
 
-rest_is_ascii : IsAsciiTest is_identifier_rest
+pub rest_is_ascii : IsAsciiTest is_identifier_rest
 rest_is_ascii c h =
     elim (either (is_identifier_start c) (is_in_range 48 57 c) h) [
       | inl e ↦ start_is_ascii c e

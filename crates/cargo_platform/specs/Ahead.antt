@@ -1,12 +1,12 @@
 -- For proofs: what a reader has ahead of it, and how it goes on from one token to the next.
-use Rattle.std.specs.Prelude.{◌≡◌, ℕ, ◌+◌, ◌-◌, ◌*◌, ◌≤◌, ◌<◌, ◌^◌, false, List, [], ◌∷◌, length, drop, Option, Some, None, Result, Ok, Err}
+use Rattle.std.specs.Prelude.{◌≡◌, ℕ, ◌+◌, ◌-◌, ◌≤◌, false, List, [], ◌∷◌, length, drop, Option, Some, None, Result, Ok, Err}
 use Rattle.std.specs.Str.{IsCharBoundary}
 use Rattle.cargo_platform.specs.declared.tokens.Spanned.{Spanned}
 use Rattle.cargo_platform.specs.declared.tokens.TokenFault.{TokenFault}
 use Rattle.cargo_platform.specs.declared.tokens.TokenFaultKind.{TokenFaultKind}
 use Rattle.cargo_platform.specs.Tokens.{Placed, placed}
 use Rattle.cargo_platform.specs.Cut.{AreSpaces, IsWrittenAt, IsWhole, BeginsFault, IsCutFrom}
-use Rattle.cargo_platform.specs.Reading.{Progress, BeginsCharacter, characters_from, credit, end_cost}
+use Rattle.cargo_platform.specs.Reading.{Progress, BeginsCharacter, characters_from}
 use Rattle.cargo_platform.specs.Faults.{Next, Unfit, Broken, End}
 
 -- what a tokenizer gives: a token, the fault of the tail, or nothing more
@@ -73,20 +73,13 @@ items_left l = item_count l.item + (length l.text - l.place)
 
 -- behind a token the tokenizer goes on, and nothing comes at the end of the text
 abbrev pub IsItem : Progress → Option (Result Spanned TokenFault) → Type 0
-IsItem p None = p.place ≡ length p.text
+IsItem p None = (p.failed ≡ false) × (p.place ≡ length p.text)
 IsItem p (Some (Ok s)) = p.failed ≡ false
 IsItem p (Some (Err f)) = Unit {0}
 
--- each character before the place, and at the end the end, was looked at
-abbrev pub HasSeen : Progress → Option (Result Spanned TokenFault) → Type 0
-HasSeen p None = characters_from p.text 0 + 1 ≤ p.looks
-HasSeen p (Some (Ok s)) = characters_from p.text 0 ≤ p.looks + characters_from p.text p.place
-HasSeen p (Some (Err f)) = Unit {0}
-
 pub record IsReading (p : Progress) (ahead : Option (Result Spanned TokenFault)) : Type 0 where
-  pub short : characters_from p.text 0 < 2 ^ 64
   pub reached : IsCharBoundary p.text p.place
   pub begins : BeginsCharacter p.text ahead
   pub item : IsItem p ahead
-  pub cost : credit p ≤ 3 * characters_from p.text 0 + end_cost ahead
-  pub seen : HasSeen p ahead
+  pub each : p.failed ≡ false → p.looks + characters_from p.text p.place ≡ characters_from p.text 0 + 1
+  pub at_most : p.looks ≤ characters_from p.text 0 + 1

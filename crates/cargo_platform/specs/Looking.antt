@@ -1,5 +1,5 @@
 -- What a look at a place of a text gives, and what looks cost.
-use Rattle.std.specs.Prelude.{◌≡◌, ℕ, ◌+◌, ◌-◌, ◌<◌, ◌≤◌, ◌^◌, List, ◌∷◌, ◌++◌, length, drop, slice_index, encode_utf8}
+use Rattle.std.specs.Prelude.{◌≡◌, ℕ, ◌+◌, ◌-◌, ◌<◌, ◌≤◌, ◌^◌, Bool, false, List, ◌∷◌, ◌++◌, length, drop, slice_index, encode_utf8, Option, Some, None}
 use Rattle.std.specs.Char.{IsScalar, len_utf8}
 use Rattle.std.specs.Str.{IsCharBoundary, chars}
 use Rattle.cargo_platform.specs.declared.source.Look.{Look}
@@ -26,10 +26,35 @@ Sees text at End = at ≡ length text
 Sees text at (Ascii byte) = (byte < 128) × IsCharAt text at byte
 Sees text at (Wide c) = (128 ≤ c) × IsCharAt text at c
 
--- from the one place to the other each character was looked at, and `least` to `most` looks were made beside
-pub record Costs (text : List ℕ) (from to least most old new : ℕ) : Type 0 where
+-- the character that a look gave, unless it was the end
+abbrev pub character_of : Look → Option ℕ
+character_of End = None
+character_of (Ascii byte) = Some byte
+character_of (Wide c) = Some c
+
+-- what is at the place, if that was looked at before
+abbrev pub SeesBefore : List ℕ → ℕ → Option Look → Type 0
+SeesBefore text at None = Unit {0}
+SeesBefore text at (Some look) = Sees text at look
+
+-- the looks that are still to be made at a place
+abbrev pub unseen : Option Look → ℕ
+unseen None = 1
+unseen (Some look) = 0
+
+-- from the one place to the other each character was looked at once, and so many looks were made beside
+pub record Costs (text : List ℕ) (from to beside old new : ℕ) : Type 0 where
   pub forward : characters_from text to ≤ characters_from text from
   pub grows : old ≤ new
-  pub at_most : new + characters_from text to ≤ old + characters_from text from + most
+  pub at_most : new + characters_from text to ≤ old + characters_from text from + beside
   -- below the greatest count
-  pub at_least : new < 2 ^ 128 - 1 → old + characters_from text from + least ≤ new + characters_from text to
+  pub at_least : new < 2 ^ 128 - 1 → old + characters_from text from + beside ≤ new + characters_from text to
+
+-- where a tokenizer stands: until a fault each character before the place was looked at once, and once it began what is
+-- at the place too
+pub record IsStanding (text : List ℕ) (place : ℕ) (seen : Option Look) (failed : Bool) (looks : ℕ) : Type 0 where
+  pub short : characters_from text 0 < 2 ^ 64
+  pub reached : IsCharBoundary text place
+  pub sees : SeesBefore text place seen
+  pub each : failed ≡ false → looks + characters_from text place + unseen seen ≡ characters_from text 0 + 1
+  pub at_most : looks ≤ characters_from text 0 + 1

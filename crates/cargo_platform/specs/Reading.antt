@@ -1,5 +1,5 @@
 -- How a tokenizer goes through the cut of its text, one call of `next` after another.
-use Rattle.std.specs.Prelude.{◌≡◌, ◌⊎◌, ℕ, ◌+◌, ◌*◌, ◌-◌, ◌^◌, ◌<◌, ◌≤◌, Bool, true, false, List, [], ◌∷◌, length, drop, Option, Some, None, Result, Ok, Err, IsFalse, if◌then◌else◌}
+use Rattle.std.specs.Prelude.{◌≡◌, ◌⊎◌, ℕ, ◌+◌, ◌-◌, ◌≤◌, Bool, true, false, List, [], ◌∷◌, length, drop, Option, Some, None, Result, Ok, Err, IsFalse, if◌then◌else◌}
 use Rattle.std.specs.Str.{IsCharBoundary, chars}
 use Rattle.cargo_platform.specs.declared.tokens.Spanned.{Spanned}
 use Rattle.cargo_platform.specs.declared.tokens.TokenFault.{TokenFault}
@@ -62,29 +62,15 @@ BeginsCharacter text (Some (Err f)) = IsCharBoundary text f.at
 abbrev pub characters_from : List ℕ → ℕ → ℕ
 characters_from text at = length (chars (drop at text))
 
--- the looks so far, and those that what is left may still cost: three for each character, and none after a fault
-abbrev pub credit : Progress → ℕ
-credit p = p.looks + (if p.failed then 0 else 3 * characters_from p.text p.place)
-
--- a token takes from the credit; the end and a fault add one look
-abbrev pub end_cost : Option (Result Spanned TokenFault) → ℕ
-end_cost None = 1
-end_cost (Some (Ok s)) = 0
-end_cost (Some (Err f)) = 1
-
--- below the greatest count each character up to the place reached, and the end, was looked at
-abbrev pub SeesAll : Progress → Option (Result Spanned TokenFault) → Progress → Type 0
-SeesAll old None new = old.looks + characters_from old.text old.place + 1 ≤ new.looks + characters_from new.text new.place
-SeesAll old (Some (Ok s)) new = old.looks + characters_from old.text old.place ≤ new.looks + characters_from new.text new.place
-SeesAll old (Some (Err f)) new = Unit {0}
-
--- one call of `next`, with where it came to and what it cost
+-- one call of `next`, with where it came to and how often the text was looked at so far
 pub record Next (old : Progress) (r : Option (Result Spanned TokenFault)) (new : Progress) : Type 0 where
   pub gives : NextGives old r new
   pub begins : BeginsCharacter old.text r
   pub reached : IsCharBoundary new.text new.place
-  pub cost : credit new ≤ credit old + end_cost r
-  pub sees : old.failed ≡ false → new.looks < 2 ^ 128 - 1 → SeesAll old r new
+  -- until a fault: once at each character before the place, and once at what is there, a character or the end
+  pub each : new.failed ≡ false → new.looks + characters_from new.text new.place ≡ characters_from new.text 0 + 1
+  -- always: as if once at each character and once at the end
+  pub at_most : new.looks ≤ characters_from new.text 0 + 1
 
 -- at most so many results come before the last None
 abbrev pub results_left : Progress → ℕ

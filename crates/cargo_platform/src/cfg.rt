@@ -85,7 +85,7 @@ impl Cfg {
 }
 
 impl CfgExpr {
-    ghost use Rattle.std.specs.Prelude.{◌≤◌, ◌+◌, ◌*◌, length, OnOk};
+    ghost use Rattle.std.specs.Prelude.{◌≡◌, ◌≤◌, ◌+◌, ◌*◌, length, OnOk};
     ghost use Rattle.std.specs.Str.{chars};
     ghost use Rattle.cargo_platform.specs.Readers.{ReadsExpression};
 
@@ -103,12 +103,13 @@ impl CfgExpr {
     }
 
     /// Reads an expression as `from_str` does, and tells how often the reader asked its source for a character, or whether
-    /// the text ends: at most three times for each character of the text and once more, whatever it answers.
+    /// the text ends: with an expression once for each character of the text and once for its end, and whatever it
+    /// answers never more often.
     pub fn from_str_counted(alloc: Global, s: &str) -> (Result<CfgExpr, ReadError>, Looks)
         ensures reads { ReadsExpression s.now result.0 }
         ensures at_most { result.1 ≤ 12 * (length (chars s.now) + 1) }
-        ensures at_most_three { result.1 ≤ 3 * length (chars s.now) + 1 }
-        ensures at_least { OnOk result.0 (length (chars s.now) + 1 ≤ result.1) }
+        ensures at_most_once { result.1 ≤ length (chars s.now) + 1 }
+        ensures each_once { OnOk result.0 (result.1 ≡ length (chars s.now) + 1) }
     {
         let mut reader = Reader::new(s);
         let read = match parser::read_expression(alloc, &mut reader) {

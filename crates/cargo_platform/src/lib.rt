@@ -7,6 +7,7 @@
 #![tactic(auto)]
 
 pub mod cfg;
+mod classes;
 mod clone;
 mod display;
 pub mod error;

@@ -1,6 +1,6 @@
 //! The tokens of a text with one item of look-ahead: what the parsers read from.
 
-ghost use Rattle.std.specs.Prelude.{◌≡◌, ◌≤◌, ◌+◌, ◌*◌, IsTrue, IsFalse, IfSome, IfNone, IfErr, OnOk};
+ghost use Rattle.std.specs.Prelude.{◌≡◌, ◌≤◌, ◌+◌, IsTrue, IsFalse, IfSome, IfNone, IfErr, OnOk};
 ghost use Rattle.cargo_platform.specs.Tokens.{Ident as ident_token, String as string_token, Placed, lexeme};
 ghost use Rattle.cargo_platform.specs.Reading.{Next, characters_from};
 ghost use Rattle.cargo_platform.specs.Ahead.{Comes, GoesOn};
@@ -30,11 +30,12 @@ impl<'a> Model for Reader<'a> {
     ghost invariant = { λ r. IsReading r.tokens r.ahead };
 }
 
-/// The one place that asks for the next item.
-fn next_item<'a>(tokens: &mut Tokenizer<'a>) -> Option<Result<Spanned<'a>, TokenFault>>
-    ensures { Next tokens.old result tokens.new }
+/// The one place that asks for the next item, which is written where it is kept.
+#[inline(never)]
+fn refill<'a>(tokens: &mut Tokenizer<'a>, ahead: &mut Option<Result<Spanned<'a>, TokenFault>>)
+    ensures { Next tokens.old ahead.new tokens.new }
 {
-    tokens.next()
+    *ahead = tokens.next();
 }
 
 impl<'a> Reader<'a> {
@@ -43,7 +44,8 @@ impl<'a> Reader<'a> {
         ensures first { Comes text.now 0 result.item result.place }
     {
         let mut tokens = Tokenizer::new(text);
-        let ahead = next_item(&mut tokens);
+        let mut ahead = None;
+        refill(&mut tokens, &mut ahead);
         Reader { tokens, ahead }
     }
 
@@ -59,7 +61,7 @@ impl<'a> Reader<'a> {
         requires { (t : Placed) × (self.old.item ≡ ahead.Token t) }
         ensures { GoesOn self.old self.new }
     {
-        self.ahead = next_item(&mut self.tokens);
+        refill(&mut self.tokens, &mut self.ahead);
     }
 
     /// The text from what comes next on, or nothing at the end.
@@ -75,8 +77,8 @@ impl<'a> Reader<'a> {
 
     /// The looks that were made.
     pub fn spend(self) -> Looks
-        ensures at_most { result ≤ 3 * characters_from self.entry.text 0 + 1 }
-        ensures at_least { self.entry.item ≡ ahead.Nothing → characters_from self.entry.text 0 + 1 ≤ result }
+        ensures at_most { result ≤ characters_from self.entry.text 0 + 1 }
+        ensures whole { self.entry.item ≡ ahead.Nothing → result ≡ characters_from self.entry.text 0 + 1 }
     {
         let Reader { tokens, ahead: _ } = self;
         tokens.spend()

@@ -1,12 +1,17 @@
 //! The characters of a text, which are seen by looks alone.
 //!
-//! `Source` keeps its text to itself. `look` is its one call that gives a character or tells that the text ends, and
-//! it counts itself; `spend` gives the count.
+//! A look asks what is at one place: a character, or the end of the text. `Source` keeps its text to itself. Its calls
+//! that tell of characters are `look` and the three scans, and each counts its looks; `spend` gives the count. A scan
+//! goes over bytes, counts once, and hands on what ended it, so that nobody need look there again.
 
-ghost use Rattle.std.specs.Prelude.{◌≡◌, ◌+◌, ◌-◌, ◌^◌, ◌<◌, ◌≤◌, min, length, drop, slice_range};
+ghost use Rattle.std.specs.Prelude.{◌≡◌, ◌≢◌, ℕ, ◌+◌, ◌-◌, ◌^◌, ◌<◌, ◌≤◌, true, false, length, drop, slice_index, slice_range, IfSome, IfNone, MatchOption};
 ghost use Rattle.std.specs.Str.{IsCharBoundary};
-ghost use Rattle.cargo_platform.specs.Looking.{IsCharAt, Sees};
+ghost use Rattle.cargo_platform.specs.Chars.{is_identifier_rest, is_character_start};
+ghost use Rattle.cargo_platform.specs.Cut.{AreSpaces};
+ghost use Rattle.cargo_platform.specs.Reading.{IsRestFrom, characters_from};
+ghost use Rattle.cargo_platform.specs.Looking.{IsCharAt, Sees, Costs};
 
+use crate::classes::continues_identifier;
 use std::marker::Model;
 
 /// How many looks a source was asked for. Only a source that is spent makes one.
@@ -57,24 +62,88 @@ impl<'a> Source<'a> {
         Source { text, looks: 0 }
     }
 
-    /// The character at a byte place, or that the text ends there.
+    /// What is at a byte place.
     #[inline(always)]
     pub fn look(&mut self, at: usize) -> Look
         requires { IsCharBoundary self.old.text.now at }
         ensures same { self.new.text ≡ self.old.text }
-        ensures counted { self.new.looks ≡ min (self.old.looks + 1) (2 ^ 128 - 1) }
         ensures sees { Sees self.old.text.now at result }
+        ensures cost { Costs self.old.text.now at at 1 self.old.looks self.new.looks }
     {
-        self.looks = self.looks.saturating_add(1);
-        let bytes = self.text.as_bytes();
-        if at >= bytes.len() {
-            return Look::End;
+        self.add_looks(1);
+        character_at(self.text, at)
+    }
+
+    /// The first place from `from` on with no space, and what is there. `first` is what a look at `from` gave; each
+    /// further character up to that place is looked at.
+    #[inline(always)]
+    pub fn past_spaces(&mut self, from: usize, first: Look) -> (usize, Look)
+        requires begin { IsCharBoundary self.old.text.now from }
+        requires seen { Sees self.old.text.now from first }
+        ensures same { self.new.text ≡ self.old.text }
+        ensures boundary { IsCharBoundary self.old.text.now result.0 }
+        ensures spaces { AreSpaces self.old.text.now from result.0 }
+        ensures sees { Sees self.old.text.now result.0 result.1 }
+        ensures past { slice_index self.old.text.now result.0 ≢ 0x20 }
+        ensures cost { Costs self.old.text.now from result.0 0 self.old.looks self.new.looks }
+    {
+        let Look::Ascii(byte) = first else {
+            return (from, first);
+        };
+        if byte != b' ' {
+            return (from, first);
         }
-        let byte = bytes[at];
-        if byte < 0x80 {
-            return Look::Ascii(byte);
+        let end = spaces_end(self.text, from + 1);
+        self.add_looks(end - from);
+        (end, character_at(self.text, end))
+    }
+
+    /// The first place from `from` on with no character of an identifier, and what is there. `first` is what a look at
+    /// `from` gave; each further character up to that place is looked at.
+    #[inline(always)]
+    pub fn past_identifier(&mut self, from: usize, first: Look) -> (usize, Look)
+        requires begin { IsCharBoundary self.old.text.now from }
+        requires seen { Sees self.old.text.now from first }
+        ensures same { self.new.text ≡ self.old.text }
+        ensures order { from ≤ result.0 }
+        ensures boundary { IsCharBoundary self.old.text.now result.0 }
+        ensures rest { (i : ℕ) → from ≤ i → i < result.0 → is_identifier_rest (slice_index self.old.text.now i) ≡ true }
+        ensures end { is_identifier_rest (slice_index self.old.text.now result.0) ≡ false }
+        ensures sees { Sees self.old.text.now result.0 result.1 }
+        ensures cost { Costs self.old.text.now from result.0 0 self.old.looks self.new.looks }
+    {
+        let Look::Ascii(byte) = first else {
+            return (from, first);
+        };
+        if !continues_identifier(byte) {
+            return (from, first);
         }
-        Look::Wide(wide_char_at(self.text, at))
+        let end = identifier_end(self.text, from + 1);
+        self.add_looks(end - from);
+        (end, character_at(self.text, end))
+    }
+
+    /// The place of the first quote from `from` on. Each character from there up to the quote, or up to the end of the
+    /// text, is looked at, and that too.
+    #[inline(always)]
+    pub fn closing_quote(&mut self, from: usize) -> Option<usize>
+        requires { IsCharBoundary self.old.text.now from }
+        ensures same { self.new.text ≡ self.old.text }
+        ensures order { IfSome result (λ quote. from ≤ quote) }
+        ensures at_quote { IfSome result (λ quote. IsCharAt self.old.text.now quote 0x22) }
+        ensures value { IfSome result (λ quote. (i : ℕ) → from ≤ i → i < quote → slice_index self.old.text.now i ≢ 0x22) }
+        ensures none { IfNone result ((i : ℕ) → from ≤ i → slice_index self.old.text.now i ≢ 0x22) }
+        ensures cost { IfSome result (λ quote. Costs self.old.text.now from quote 1 self.old.looks self.new.looks) }
+        ensures cost_to_end { IfNone result (Costs self.old.text.now from (length self.old.text.now) 1 self.old.looks self.new.looks) }
+    {
+        let (end, characters) = value_end(self.text, from);
+        self.add_looks(characters);
+        self.add_looks(1);
+        if end < self.text.len() {
+            Some(end)
+        } else {
+            None
+        }
     }
 
     /// The text between two byte places.
@@ -98,6 +167,21 @@ impl<'a> Source<'a> {
         &text[at..]
     }
 
+    /// The text from the first character on that is no space, from a byte place on.
+    pub fn rest_from(&self, at: usize) -> Option<&'a str>
+        requires { IsCharBoundary self.now.text.now at }
+        ensures { MatchOption result
+            (AreSpaces self.now.text.now at (length self.now.text.now))
+            (λ rest. IsRestFrom self.now.text.now at rest.now) }
+    {
+        let text: &'a str = self.text;
+        let start = spaces_end(text, at);
+        if start == text.len() {
+            return None;
+        }
+        Some(&text[start..])
+    }
+
     pub fn spend(self) -> Looks
         ensures { result ≡ self.entry.looks }
     {
@@ -105,15 +189,31 @@ impl<'a> Source<'a> {
         Looks { count: looks }
     }
 
-    /// The same text with the same count, to look ahead in; its looks are not counted here.
-    pub fn copied(&self) -> Source<'a>
-        ensures { result ≡ self.now }
+    #[inline(always)]
+    fn add_looks(&mut self, looks: usize)
+        ensures same { self.new.text ≡ self.old.text }
+        ensures grows { self.old.looks ≤ self.new.looks }
+        ensures at_most { self.new.looks ≤ self.old.looks + looks }
+        ensures at_least { self.new.looks < 2 ^ 128 - 1 → self.old.looks + looks ≤ self.new.looks }
     {
-        Source {
-            text: self.text,
-            looks: self.looks,
-        }
+        self.looks = self.looks.saturating_add(looks as u128);
     }
+}
+
+#[inline(always)]
+fn character_at(text: &str, at: usize) -> Look
+    requires { IsCharBoundary text.now at }
+    ensures { Sees text.now at result }
+{
+    let bytes = text.as_bytes();
+    if at >= bytes.len() {
+        return Look::End;
+    }
+    let byte = bytes[at];
+    if byte < 0x80 {
+        return Look::Ascii(byte);
+    }
+    Look::Wide(wide_char_at(text, at))
 }
 
 #[cold]
@@ -127,4 +227,68 @@ fn wide_char_at(text: &str, at: usize) -> char
         unreachable!()
     };
     c
+}
+
+/// The first place from `from` on with no space.
+#[inline(always)]
+fn spaces_end(text: &str, from: usize) -> usize
+    requires { IsCharBoundary text.now from }
+    ensures order { from ≤ result }
+    ensures boundary { IsCharBoundary text.now result }
+    ensures spaces { (i : ℕ) → from ≤ i → i < result → slice_index text.now i ≡ 0x20 }
+    ensures past { slice_index text.now result ≢ 0x20 }
+    ensures characters { characters_from text.now from ≡ characters_from text.now result + (result - from) }
+{
+    let bytes = text.as_bytes();
+    let mut at = from;
+    'spaces: while at < bytes.len() && bytes[at] == b' ' {
+        at += 1;
+    }
+    at
+}
+
+/// The first place from `from` on with no character of an identifier.
+#[inline(always)]
+fn identifier_end(text: &str, from: usize) -> usize
+    requires { IsCharBoundary text.now from }
+    ensures order { from ≤ result }
+    ensures boundary { IsCharBoundary text.now result }
+    ensures rest { (i : ℕ) → from ≤ i → i < result → is_identifier_rest (slice_index text.now i) ≡ true }
+    ensures end { is_identifier_rest (slice_index text.now result) ≡ false }
+    ensures characters { characters_from text.now from ≡ characters_from text.now result + (result - from) }
+{
+    let bytes = text.as_bytes();
+    let mut at = from;
+    'rest: while at < bytes.len() && continues_identifier(bytes[at]) {
+        at += 1;
+    }
+    at
+}
+
+/// The place of the first quote from `from` on, or else the end, and how many characters stand before it.
+#[inline(always)]
+fn value_end(text: &str, from: usize) -> (usize, usize)
+    requires { IsCharBoundary text.now from }
+    ensures order { from ≤ result.0 }
+    ensures within { result.0 ≤ length text.now }
+    ensures value { (i : ℕ) → from ≤ i → i < result.0 → slice_index text.now i ≢ 0x22 }
+    ensures quote { result.0 < length text.now → IsCharAt text.now result.0 0x22 }
+    ensures characters { characters_from text.now from ≡ characters_from text.now result.0 + result.1 }
+{
+    let bytes = text.as_bytes();
+    let mut at = from;
+    let mut characters = 0;
+    'value: while at < bytes.len() && bytes[at] != b'"' {
+        characters += usize::from(begins_character(bytes[at]));
+        at += 1;
+    }
+    (at, characters)
+}
+
+/// Whether a character begins with the byte; every other one goes on with it.
+#[inline(always)]
+fn begins_character(byte: u8) -> bool
+    ensures { result ≡ is_character_start byte }
+{
+    byte & 0xC0 != 0x80
 }

@@ -5,15 +5,16 @@
 //! with no escapes. Where such conditions stand: "Platform specific dependencies" in Cargo's reference, and
 //! "Conditional compilation" in the Rust reference.
 
-ghost use Rattle.std.specs.Prelude.{◌≡◌, ◌≢◌, ℕ, ◌+◌, ◌≤◌, ◌<◌, length, drop, slice_index, IfSome, IfNone, IfOk, IfErr, OnErr, OnOk, MatchOption, IsTrue, true, false};
+ghost use Rattle.std.specs.Prelude.{◌≡◌, ◌≢◌, ◌+◌, ◌≤◌, length, drop, slice_index, IfOk, IfErr, OnErr, OnOk, MatchOption, true, false};
 ghost use Rattle.std.specs.Str.{IsCharBoundary};
-ghost use Rattle.cargo_platform.specs.Chars.{is_identifier_start, is_identifier_rest};
+ghost use Rattle.cargo_platform.specs.Chars.{is_identifier_start};
 ghost use Rattle.cargo_platform.specs.Tokens.{lexeme, called};
 ghost use Rattle.cargo_platform.specs.Cut.{AreSpaces, BeginsFault};
 ghost use Rattle.cargo_platform.specs.Reading.{IsRestFrom, characters_from};
-ghost use Rattle.cargo_platform.specs.Looking.{IsCharAt, Costs};
-ghost use Rattle.cargo_platform.specs.Scanning.{Stands};
+ghost use Rattle.cargo_platform.specs.Looking.{IsCharAt, Sees, Costs, SeesBefore, unseen, character_of};
+ghost use Rattle.cargo_platform.specs.Scanning.{Stands, IsCutAt};
 
+use crate::classes::begins_identifier;
 pub use crate::source::Looks;
 use crate::source::{Look, Source};
 use std::marker::Model;
@@ -79,18 +80,21 @@ pub struct TokenFault {
 pub struct Tokenizer<'a> {
     source: Source<'a>,
     place: usize,
+    /// What is at the place, where that was looked at.
+    seen: Option<Look>,
     failed: bool,
 }
 
 impl<'a> Model for Tokenizer<'a> {
-    ghost use Rattle.std.specs.Str.{IsCharBoundary};
     ghost use Rattle.cargo_platform.specs.Reading.{Progress};
 
     ghost Value = { Progress };
 
+    ghost use Rattle.cargo_platform.specs.Looking.{IsStanding};
+
     ghost view = { λ t. record { text = t.source.text.now; place = t.place; failed = t.failed; looks = t.source.looks } };
 
-    ghost invariant = { λ t. IsCharBoundary t.source.text.now t.place };
+    ghost invariant = { λ t. IsStanding t.source.text.now t.place t.seen t.failed t.source.looks };
 }
 
 impl<'a> Tokenizer<'a> {
@@ -101,6 +105,7 @@ impl<'a> Tokenizer<'a> {
         Tokenizer {
             source: Source::new(text),
             place: 0,
+            seen: None,
             failed: false,
         }
     }
@@ -112,12 +117,7 @@ impl<'a> Tokenizer<'a> {
             (AreSpaces self.now.text self.now.place (length self.now.text))
             (λ rest. IsRestFrom self.now.text self.now.place rest.now) }
     {
-        let mut source = self.source.copied();
-        let (start, first) = first_after_spaces(&mut source, self.place);
-        let Some(_) = first else {
-            return None;
-        };
-        Some(source.text_from(start))
+        self.source.rest_from(self.place)
     }
 
     /// The text from a byte place on.
@@ -135,6 +135,7 @@ impl<'a> Tokenizer<'a> {
         let Tokenizer {
             source,
             place: _,
+            seen: _,
             failed: _,
         } = self;
         source.spend()
@@ -151,22 +152,26 @@ impl<'a> Iterator for Tokenizer<'a> {
 
     ghost remaining = { λ t. at_most (results_left t) };
 
+    #[inline(always)]
     fn next(&mut self) -> Option<Result<Spanned<'a>, TokenFault>> {
         if self.failed {
             return None;
         }
-        let (start, first) = first_after_spaces(&mut self.source, self.place);
-        let Some(first) = first else {
+        let (start, seen) = first_after_spaces(&mut self.source, self.place, self.seen);
+        let Some(first) = character_of(seen) else {
             self.place = start;
+            self.seen = Some(seen);
             return None;
         };
         match token_at(&mut self.source, start, first) {
-            Ok((token, end)) => {
+            Ok(Cut { token, end, seen }) => {
                 self.place = end;
+                self.seen = Some(seen);
                 Some(Ok(Spanned { token, start, end }))
             }
             Err(kind) => {
                 self.place = start;
+                self.seen = None;
                 self.failed = true;
                 Some(Err(TokenFault { kind, at: start }))
             }
@@ -174,179 +179,177 @@ impl<'a> Iterator for Tokenizer<'a> {
     }
 }
 
-/// The token that begins with this character at a place, and where it ends.
-#[inline]
+/// The character that a look gave, unless it was the end.
+#[inline(always)]
+fn character_of(look: Look) -> Option<char>
+    ensures { result ≡ character_of look }
+{
+    match look {
+        Look::End => None,
+        Look::Ascii(byte) => Some(byte as char),
+        Look::Wide(c) => Some(c),
+    }
+}
+
+/// The first place from `from` on with no space, and what is there. `seen` is what is at `from`, if that was looked at.
+#[inline(always)]
+fn first_after_spaces(source: &mut Source<'_>, from: usize, seen: Option<Look>) -> (usize, Look)
+    requires begin { IsCharBoundary source.old.text.now from }
+    requires seen { SeesBefore source.old.text.now from seen }
+    ensures same { source.new.text ≡ source.old.text }
+    ensures boundary { IsCharBoundary source.old.text.now result.0 }
+    ensures spaces { AreSpaces source.old.text.now from result.0 }
+    ensures sees { Sees source.old.text.now result.0 result.1 }
+    ensures past { slice_index source.old.text.now result.0 ≢ 0x20 }
+    ensures cost { Costs source.old.text.now from result.0 (unseen seen) source.old.looks source.new.looks }
+{
+    let first = seen_or_look(source, from, seen);
+    source.past_spaces(from, first)
+}
+
+/// What is at a place: what was seen there before, or what a look gives.
+#[inline(always)]
+fn seen_or_look(source: &mut Source<'_>, at: usize, seen: Option<Look>) -> Look
+    requires boundary { IsCharBoundary source.old.text.now at }
+    requires seen { SeesBefore source.old.text.now at seen }
+    ensures same { source.new.text ≡ source.old.text }
+    ensures sees { Sees source.old.text.now at result }
+    ensures cost { Costs source.old.text.now at at (unseen seen) source.old.looks source.new.looks }
+{
+    match seen {
+        Some(look) => look,
+        None => source.look(at),
+    }
+}
+
+/// A token, where it ends, and what is there.
+#[derive(Clone, Copy)]
+struct Cut<'a> {
+    token: Token<'a>,
+    end: usize,
+    seen: Look,
+}
+
+/// The token that begins with this character at a place.
+#[inline(always)]
 fn token_at<'a>(
     source: &mut Source<'a>,
     start: usize,
     first: char,
-) -> Result<(Token<'a>, usize), TokenFaultKind>
+) -> Result<Cut<'a>, TokenFaultKind>
     requires begin { IsCharBoundary source.old.text.now start }
     requires there { IsCharAt source.old.text.now start first }
     requires past { first ≢ 0x20 }
     ensures same { source.new.text ≡ source.old.text }
-    ensures token { IfOk result (λ r. Stands source.old.text.now (lexeme r.0) start r.1) }
-    ensures boundary { IfOk result (λ r. IsCharBoundary source.old.text.now r.1) }
+    ensures token { IfOk result (λ cut. IsCutAt source.old.text.now start cut) }
     ensures fault { IfErr result (λ kind. BeginsFault (drop start source.old.text.now) kind) }
-    ensures cost { IfOk result (λ r. Costs source.old.text.now (start + 1) r.1 0 2 source.old.looks source.new.looks) }
+    ensures cost { IfOk result (λ cut. Costs source.old.text.now (start + 1) cut.end 1 source.old.looks source.new.looks) }
     ensures cost_of_fault { OnErr result (source.new.looks ≤ source.old.looks + characters_from source.old.text.now start) }
     ensures one { OnOk result (characters_from source.old.text.now start ≡ characters_from source.old.text.now (start + 1) + 1) }
 {
     match first {
-        '(' => Ok((Token::LeftParen, start + 1)),
-        ')' => Ok((Token::RightParen, start + 1)),
-        ',' => Ok((Token::Comma, start + 1)),
-        '=' => Ok((Token::Equals, start + 1)),
+        '(' => Ok(mark_at(source, start, Token::LeftParen)),
+        ')' => Ok(mark_at(source, start, Token::RightParen)),
+        ',' => Ok(mark_at(source, start, Token::Comma)),
+        '=' => Ok(mark_at(source, start, Token::Equals)),
         '"' => string_at(source, start),
         'r' => match source.look(start + 1) {
             Look::Ascii(b'#') => marked_at(source, start),
-            _ => Ok(identifier_at(source, start)),
+            second => Ok(identifier_at(source, start, second)),
         },
-        c if begins_identifier(c) => Ok(identifier_at(source, start)),
+        c if begins_identifier(c) => {
+            let second = source.look(start + 1);
+            Ok(identifier_at(source, start, second))
+        }
         c => Err(TokenFaultKind::UnexpectedChar(c)),
     }
 }
 
+/// The token of one character that stands at a place.
+#[inline(always)]
+fn mark_at<'a>(source: &mut Source<'a>, start: usize, token: Token<'a>) -> Cut<'a>
+    requires stands { Stands source.old.text.now (lexeme token) start (start + 1) }
+    requires boundary { IsCharBoundary source.old.text.now (start + 1) }
+    ensures same { source.new.text ≡ source.old.text }
+    ensures token { IsCutAt source.old.text.now start result }
+    ensures cost { Costs source.old.text.now (start + 1) result.end 1 source.old.looks source.new.looks }
+{
+    let seen = source.look(start + 1);
+    Cut {
+        token,
+        end: start + 1,
+        seen,
+    }
+}
+
 /// The string whose first quote stands at a place.
-#[inline]
-fn string_at<'a>(
-    source: &mut Source<'a>,
-    start: usize,
-) -> Result<(Token<'a>, usize), TokenFaultKind>
+#[inline(always)]
+fn string_at<'a>(source: &mut Source<'a>, start: usize) -> Result<Cut<'a>, TokenFaultKind>
     requires begin { IsCharBoundary source.old.text.now start }
     requires there { IsCharAt source.old.text.now start 0x22 }
     ensures same { source.new.text ≡ source.old.text }
-    ensures token { IfOk result (λ r. Stands source.old.text.now (lexeme r.0) start r.1) }
-    ensures boundary { IfOk result (λ r. IsCharBoundary source.old.text.now r.1) }
+    ensures token { IfOk result (λ cut. IsCutAt source.old.text.now start cut) }
     ensures fault { IfErr result (λ kind. BeginsFault (drop start source.old.text.now) kind) }
-    ensures cost { IfOk result (λ r. Costs source.old.text.now (start + 1) r.1 0 2 source.old.looks source.new.looks) }
+    ensures cost { IfOk result (λ cut. Costs source.old.text.now (start + 1) cut.end 1 source.old.looks source.new.looks) }
     ensures cost_of_fault { OnErr result (source.new.looks ≤ source.old.looks + characters_from source.old.text.now start) }
 {
-    match closing_quote(source, start + 1) {
-        Some(quote) => Ok((Token::String(source.slice(start + 1, quote)), quote + 1)),
+    match source.closing_quote(start + 1) {
+        Some(quote) => {
+            let seen = source.look(quote + 1);
+            Ok(Cut {
+                token: Token::String(source.slice(start + 1, quote)),
+                end: quote + 1,
+                seen,
+            })
+        }
         None => Err(TokenFaultKind::UnterminatedString),
     }
 }
 
-/// The unmarked identifier that begins at a place.
-#[inline]
-fn identifier_at<'a>(source: &mut Source<'a>, start: usize) -> (Token<'a>, usize)
+/// The unmarked identifier that begins at a place. `second` is what is behind its first character.
+#[inline(always)]
+fn identifier_at<'a>(source: &mut Source<'a>, start: usize, second: Look) -> Cut<'a>
     requires begin { IsCharBoundary source.old.text.now start }
     requires there { IsCharAt source.old.text.now start (slice_index source.old.text.now start) }
     requires first { is_identifier_start (slice_index source.old.text.now start) ≡ true }
+    requires seen { Sees source.old.text.now (start + 1) second }
     requires plain { slice_index source.old.text.now start ≡ 0x72 → slice_index source.old.text.now (start + 1) ≢ 0x23 }
     ensures same { source.new.text ≡ source.old.text }
-    ensures token { Stands source.old.text.now (lexeme result.0) start result.1 }
-    ensures boundary { IsCharBoundary source.old.text.now result.1 }
-    ensures cost { Costs source.old.text.now (start + 1) result.1 1 1 source.old.looks source.new.looks }
+    ensures token { IsCutAt source.old.text.now start result }
+    ensures cost { Costs source.old.text.now (start + 1) result.end 0 source.old.looks source.new.looks }
 {
-    let end = identifier_end(source, start + 1);
-    (Token::Ident(false, source.slice(start, end)), end)
+    let (end, seen) = source.past_identifier(start + 1, second);
+    Cut {
+        token: Token::Ident(false, source.slice(start, end)),
+        end,
+        seen,
+    }
 }
 
 /// The raw identifier whose `r#` stands at a place.
-#[inline]
-fn marked_at<'a>(
-    source: &mut Source<'a>,
-    start: usize,
-) -> Result<(Token<'a>, usize), TokenFaultKind>
+#[inline(always)]
+fn marked_at<'a>(source: &mut Source<'a>, start: usize) -> Result<Cut<'a>, TokenFaultKind>
     requires begin { IsCharBoundary source.old.text.now start }
     requires there { IsCharAt source.old.text.now start 0x72 }
     requires number_sign { IsCharAt source.old.text.now (start + 1) 0x23 }
     ensures same { source.new.text ≡ source.old.text }
-    ensures token { IfOk result (λ r. Stands source.old.text.now (lexeme r.0) start r.1) }
-    ensures boundary { IfOk result (λ r. IsCharBoundary source.old.text.now r.1) }
+    ensures token { IfOk result (λ cut. IsCutAt source.old.text.now start cut) }
     ensures fault { IfErr result (λ kind. BeginsFault (drop start source.old.text.now) kind) }
-    ensures cost { IfOk result (λ r. Costs source.old.text.now (start + 2) r.1 1 1 source.old.looks source.new.looks) }
+    ensures cost { IfOk result (λ cut. Costs source.old.text.now (start + 2) cut.end 1 source.old.looks source.new.looks) }
     ensures cost_of_fault { OnErr result (source.new.looks + 1 ≤ source.old.looks + characters_from source.old.text.now start) }
 {
-    match source.look(start + 2) {
+    let third = source.look(start + 2);
+    match third {
         Look::Ascii(b) if begins_identifier(b as char) => {
-            let end = identifier_end(source, start + 3);
-            Ok((Token::Ident(true, source.slice(start + 2, end)), end))
+            let (end, seen) = source.past_identifier(start + 2, third);
+            Ok(Cut {
+                token: Token::Ident(true, source.slice(start + 2, end)),
+                end,
+                seen,
+            })
         }
         Look::Ascii(b) => Err(TokenFaultKind::UnexpectedChar(b as char)),
         Look::Wide(c) => Err(TokenFaultKind::UnexpectedChar(c)),
         Look::End => Err(TokenFaultKind::MissingIdentifier),
     }
-}
-
-/// The first place from `from` on with no space, and the character there.
-#[inline]
-fn first_after_spaces(source: &mut Source<'_>, from: usize) -> (usize, Option<char>)
-    requires { IsCharBoundary source.old.text.now from }
-    ensures same { source.new.text ≡ source.old.text }
-    ensures boundary { IsCharBoundary source.old.text.now result.0 }
-    ensures spaces { AreSpaces source.old.text.now from result.0 }
-    ensures end { IfNone result.1 (result.0 ≡ length source.old.text.now) }
-    ensures there { IfSome result.1 (λ c. IsCharAt source.old.text.now result.0 c) }
-    ensures past { IfSome result.1 (λ c. c ≢ 0x20) }
-    ensures cost { Costs source.old.text.now from result.0 1 1 source.old.looks source.new.looks }
-{
-    let mut at = from;
-    'spaces: loop {
-        match source.look(at) {
-            Look::Ascii(b' ') => at += 1,
-            Look::Ascii(b) => return (at, Some(b as char)),
-            Look::Wide(c) => return (at, Some(c)),
-            Look::End => return (at, None),
-        }
-    }
-}
-
-/// The first place from `from` on with no character of an identifier.
-#[inline]
-fn identifier_end(source: &mut Source<'_>, from: usize) -> usize
-    requires { IsCharBoundary source.old.text.now from }
-    ensures same { source.new.text ≡ source.old.text }
-    ensures order { from ≤ result }
-    ensures boundary { IsCharBoundary source.old.text.now result }
-    ensures rest { (i : ℕ) → from ≤ i → i < result → is_identifier_rest (slice_index source.old.text.now i) ≡ true }
-    ensures end { is_identifier_rest (slice_index source.old.text.now result) ≡ false }
-    ensures cost { Costs source.old.text.now from result 1 1 source.old.looks source.new.looks }
-{
-    let mut at = from;
-    'rest: loop {
-        match source.look(at) {
-            Look::Ascii(b) if continues_identifier(b as char) => at += 1,
-            _ => return at,
-        }
-    }
-}
-
-/// The place of the first quote from `from` on.
-#[inline]
-fn closing_quote(source: &mut Source<'_>, from: usize) -> Option<usize>
-    requires { IsCharBoundary source.old.text.now from }
-    ensures same { source.new.text ≡ source.old.text }
-    ensures order { IfSome result (λ quote. from ≤ quote) }
-    ensures at_quote { IfSome result (λ quote. IsCharAt source.old.text.now quote 0x22) }
-    ensures value { IfSome result (λ quote. (i : ℕ) → from ≤ i → i < quote → slice_index source.old.text.now i ≢ 0x22) }
-    ensures none { IfNone result ((i : ℕ) → from ≤ i → slice_index source.old.text.now i ≢ 0x22) }
-    ensures cost { IfSome result (λ quote. Costs source.old.text.now from quote 1 1 source.old.looks source.new.looks) }
-    ensures cost_to_end { IfNone result (Costs source.old.text.now from (length source.old.text.now) 1 1 source.old.looks source.new.looks) }
-{
-    let mut at = from;
-    'value: loop {
-        match source.look(at) {
-            Look::Ascii(b'"') => return Some(at),
-            Look::Ascii(_) => at += 1,
-            Look::Wide(c) => at += c.len_utf8(),
-            Look::End => return None,
-        }
-    }
-}
-
-#[inline]
-fn begins_identifier(c: char) -> bool
-    ensures { result ≡ is_identifier_start c }
-{
-    c == '_' || c.is_ascii_alphabetic()
-}
-
-#[inline]
-fn continues_identifier(c: char) -> bool
-    ensures { result ≡ is_identifier_rest c }
-{
-    begins_identifier(c) || c.is_ascii_digit()
 }

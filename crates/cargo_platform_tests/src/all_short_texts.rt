@@ -59,16 +59,10 @@ pub fn is_cfg(rt: &impl Abort, alloc: Global, text: &str) -> Result<bool, Fail> 
 /// Asserts that the looks are within their bounds.
 fn assert_looks(rt: &impl Abort, text: &str, looks: &Looks, is_read: bool) {
     let characters = text.chars().count() as u128;
+    let each_once = characters.saturating_add(1);
     let looks = looks.count();
-    assert!(rt;
-        looks <= characters.saturating_mul(12).saturating_add(12),
-        "{text}: {looks}"
-    );
-    assert!(rt;
-        looks <= characters.saturating_mul(3).saturating_add(1),
-        "{text}: {looks}"
-    );
-    assert!(rt; !is_read || looks > characters, "{text}: {looks}");
+    assert!(rt; looks <= each_once, "{text}: {looks}");
+    assert!(rt; !is_read || looks == each_once, "{text}: {looks}");
 }
 
 /// Asserts that an expression is the plain reader's, and that it reads back.

@@ -254,8 +254,7 @@ fn a_long_list(rt: HostRuntime) -> Result<(), Fail> {
     for member in &members {
         assert!(rt; same(member, &expression(alloc, "a")?));
     }
-    let looks = looks.count();
-    assert!(rt; 200_006 <= looks && looks <= 2_400_072, "{looks}");
+    assert_eq!(rt; looks.count(), 200_006);
     Ok(())
 }
 
@@ -270,8 +269,7 @@ fn a_long_string_without_end(rt: HostRuntime) -> Result<(), Fail> {
     let (read, looks) = CfgExpr::from_str_counted(alloc, &text);
     let fault = Fault::UnterminatedString;
     assert_refused(&rt, alloc, read.err(), &text, fault, UNTERMINATED)?;
-    let looks = looks.count();
-    assert!(rt; looks <= 1_200_072, "{looks}");
+    assert_eq!(rt; looks.count(), 100_006);
     Ok(())
 }
 

@@ -7,20 +7,25 @@ use cargo_platform::CfgExpr;
 use std::alloc::{AllocError, Global};
 use std::test::Fail;
 
-/// A text, whether it is read, and the fewest and the most looks.
-const TEXTS: &[(&str, bool, u128, u128)] = &[
-    ("a", true, 2, 24),
-    ("all(a, )", true, 9, 108),
-    ("", false, 0, 12),
+/// A text, whether it is read, and how often it is looked at: once at each character that is come to, and at the end.
+const TEXTS: &[(&str, bool, u128)] = &[
+    ("a", true, 2),
+    ("all(a, )", true, 9),
+    ("  r = \"aé\"  ", true, 13),
+    ("r#r", true, 4),
+    ("", false, 1),
+    ("a#b", false, 2),
+    ("r#", false, 3),
+    ("r#é", false, 3),
+    ("a = \"é", false, 7),
 ];
 
 #[test]
 fn looks_at_short_texts(rt: HostRuntime) -> Result<(), Fail> {
-    for (text, is_read, least, most) in TEXTS {
+    for (text, is_read, count) in TEXTS {
         let (read, looks) = CfgExpr::from_str_counted(rt.alloc(), text);
         assert_eq!(rt; read.is_ok(), *is_read, "{text}");
-        let looks = looks.count();
-        assert!(rt; *least <= looks && looks <= *most, "{text}: {looks}");
+        assert_eq!(rt; looks.count(), *count, "{text}");
     }
     Ok(())
 }
@@ -44,8 +49,7 @@ fn a_deep_text(rt: HostRuntime) -> Result<(), Fail> {
     assert!(rt; read.matches(&values(alloc, "a")?));
     assert!(rt; !read.matches(&[]));
     assert_prints(&rt, alloc, &read, &text)?;
-    let looks = looks.count();
-    assert!(rt; 2_502 <= looks && looks <= 30_024, "{looks}");
+    assert_eq!(rt; looks.count(), 2_502);
     Ok(())
 }
 
@@ -58,8 +62,7 @@ fn a_deep_text_without_its_end(rt: HostRuntime) -> Result<(), Fail> {
     let fault = Fault::IncompleteExpr("`)`");
     let message = "expected `)`, but cfg expression ended";
     assert_refused(&rt, alloc, read.err(), &text, fault, message)?;
-    let looks = looks.count();
-    assert!(rt; looks <= 30_012, "{looks}");
+    assert_eq!(rt; looks.count(), 2_501);
     Ok(())
 }
 
@@ -71,7 +74,6 @@ fn groups_without_end(rt: HostRuntime) -> Result<(), Fail> {
     let fault = Fault::IncompleteExpr("start of a cfg expression");
     let message = "expected start of a cfg expression, but cfg expression ended";
     assert_refused(&rt, alloc, read.err(), &text, fault, message)?;
-    let looks = looks.count();
-    assert!(rt; looks <= 14_400_012, "{looks}");
+    assert_eq!(rt; looks.count(), 1_200_001);
     Ok(())
 }

@@ -3,7 +3,7 @@ use Rattle.cargo_platform.specs.Ahead.{Ahead}
 use Rattle.cargo_platform.proofs.Readings.{seen_whole}
 use Rattle.cargo_platform.proofs.reader.Reader.spend.Goals as goal
 
-pub returns-clause-at_least : goal.returns-clause-at_least
-returns-clause-at_least c = λ done.
+pub returns-clause-whole : goal.returns-clause-whole
+returns-clause-whole c = λ done.
     let seen = seen_whole c.self.inside.tokens c.self.inside.ahead c.self.invariant (ap (λ (z : Ahead). z.item) c.self.view_is ∙ done) in
     rw (← c.self.view_is, c.spend.ensures) seen

@@ -1,7 +1,18 @@
-use Rattle.std.proofs.Common.{subst, sym}
-use Rattle.std.specs.Str.{IsCharBoundary}
+use Rattle.std.proofs.Common.{◌<◌, ◌^◌, ℕ, List, None, false, subst, sym, arith}
 use Rattle.std.proofs.lemmas.Str.{IsCharBoundary-start}
+use Rattle.cargo_platform.specs.Reading.{characters_from}
+use Rattle.cargo_platform.specs.Looking.{IsStanding}
+use Rattle.cargo_platform.proofs.Looking.{chars_fit}
 use Rattle.cargo_platform.proofs.tokens.Tokenizer.new.Goals as goal
 
 pub invariant_of-result : goal.invariant_of-result
-invariant_of-result c = subst (λ bs. IsCharBoundary bs 0) (sym c.new.ensures.text) (IsCharBoundary-start c.args.text.now c.utf8.text)
+invariant_of-result c =
+    let fits : characters_from c.args.text.now 0 < 2 ^ 64 = omega (arith, chars_fit c.args.text.now c.utf8.text) in
+    let S : List ℕ → Type 0 = λ bs. IsStanding bs 0 None false c.new.result.looks in
+    subst S (sym c.new.ensures.text) (record {
+      short = fits;
+      reached = IsCharBoundary-start c.args.text.now c.utf8.text;
+      sees = tt;
+      each = λ going. omega (arith, c.new.ensures.looks);
+      at_most = omega (arith, c.new.ensures.looks);
+    })
