@@ -108,13 +108,9 @@ fn the_first_line_that_is_no_fact_is_refused(rt: HostRuntime) -> Result<(), Fail
         assert_eq!(rt; error.orig(), *orig);
         assert!(rt; is_fault(error.kind(), *fault), "{text}");
         let whole = format!(in rt.alloc();
-            "line {wanted}: failed to parse `{orig}` as a cfg expression: {message}")?;
-        assert_prints(
-            &rt,
-            rt.alloc(),
-            &FactsError::Line { number, error },
-            &whole,
+            "line {wanted}: failed to parse `{orig}` as a cfg expression: {message}"
         )?;
+        assert_prints(&rt, rt.alloc(), &FactsError::Line { number, error }, &whole)?;
     }
     Ok(())
 }

@@ -1,11 +1,13 @@
-//! The library's tests, over its public calls alone, and the proved caller that `CALLING.md` prints. They stand in
-//! a crate of their own, so that the library is proved once and not once more with its tests.
+//! The library's tests, over its public calls alone. They stand in a crate of their own, so that the library is proved
+//! once and not once more with its tests.
 #![tactic(auto)]
 
 #[cfg(test)]
 mod all_short_texts;
 #[cfg(test)]
 mod expressions;
+#[cfg(test)]
+mod facts;
 #[cfg(test)]
 mod json;
 #[cfg(test)]
@@ -30,7 +32,6 @@ mod printing;
 mod real_facts;
 #[cfg(test)]
 mod refusals;
-pub mod selected;
 #[cfg(test)]
 mod tokens;
 #[cfg(test)]

@@ -1,13 +1,15 @@
 //! Truth over facts, by each kind of holder.
 
-ghost use Rattle.std.specs.FinSet.{union, empty, from_list};
-ghost use Rattle.std.specs.Prelude.{map, if◌then◌else◌, [], ◌∷◌, codes, Some, None};
+ghost use Rattle.std.specs.FinSet.{union};
+ghost use Rattle.std.specs.Prelude.{map, codes};
 ghost use Rattle.cargo_platform.specs.Facts.{fact_set};
+ghost use Rattle.cargo_platform.specs.Holders.{name_fact, pair_fact, only, where_set};
 ghost use Rattle.cargo_platform.specs.Trees.{value_of};
 
 use crate::made::{value, values};
 use crate::real_facts::{LINUX, MACOS, WASM, WINDOWS};
 use cargo_platform::cfg::{Cfg, CfgExpr, FactIndex, Facts, Listed};
+use cargo_platform::read_facts;
 use std::alloc::{AllocError, Global};
 use std::process::Abort;
 use std::test::Fail;
@@ -36,9 +38,8 @@ struct Flags {
 }
 
 impl Facts for Flags {
-    ghost meant = { λ flags. union
-        (if flags.unix then from_list (record { name = codes "unix"; value = None } ∷ []) else empty)
-        (if flags.linux then from_list (record { name = codes "target_os"; value = Some (codes "linux") } ∷ []) else empty) };
+    ghost meant = { λ flags. union (where_set flags.unix (only (name_fact (codes "unix"))))
+        (where_set flags.linux (only (pair_fact (codes "target_os") (codes "linux")))) };
 
     fn holds(&self, c: &Cfg) -> bool {
         match c {
@@ -203,15 +204,6 @@ fn flags_match_as_the_facts_that_they_stand_for(rt: HostRuntime) -> Result<(), F
     Ok(())
 }
 
-/// The facts of a target, one a line.
-fn facts_of(alloc: Global, lines: &str) -> Result<Vec<Cfg>, Fail> {
-    let mut facts = Vec::new(alloc);
-    for line in lines.lines() {
-        facts.push(Cfg::from_str(alloc, line)?)?;
-    }
-    Ok(facts)
-}
-
 /// A condition, and whether it holds for 64-bit Linux, Windows, macOS on ARM and WebAssembly without a system.
 pub type Target = (&'static str, [bool; 4]);
 
@@ -259,7 +251,7 @@ pub const TARGETS: &[Target] = &[
 #[test]
 fn conditions_of_real_crates(rt: HostRuntime) -> Result<(), Fail> {
     for (i, lines) in [LINUX, WINDOWS, MACOS, WASM].iter().enumerate() {
-        let facts = facts_of(rt.alloc(), lines)?;
+        let facts = read_facts(rt.alloc(), lines)?;
         for (text, wanted) in TARGETS {
             assert_matches(&rt, rt.alloc(), text, &facts, wanted[i])?;
         }

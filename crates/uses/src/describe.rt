@@ -1,0 +1,21 @@
+//! A line on a key of a manifest.
+
+use cargo_platform::{Cfg, Platform, ReadError};
+use std::alloc::{AllocError, Global};
+
+/// The key in its canonical form and whether it applies to a target, by its name and facts; or the key's fault.
+pub fn describe(
+    alloc: Global,
+    key: &str,
+    target: &str,
+    facts: &[Cfg],
+) -> Result<String, AllocError> {
+    match Platform::from_str(alloc, key) {
+        Ok(platform) => {
+            let applies = platform.matches(target, facts);
+            format!(in alloc; "{platform}: {applies}")
+        }
+        Err(ReadError::Parse(error)) => format!(in alloc; "{error}"),
+        Err(ReadError::Memory(error)) => Err(error),
+    }
+}

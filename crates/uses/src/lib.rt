@@ -1,0 +1,14 @@
+//! Callers of `cargo_platform`, as its users write them. `README.md` says what each shows.
+#![tactic(auto)]
+
+pub mod audit;
+pub mod describe;
+pub mod fixed_key;
+pub mod linter;
+pub mod own_error;
+pub mod own_facts;
+pub mod planner;
+pub mod printed_facts;
+pub mod selected;
+#[cfg(test)]
+mod tests;
