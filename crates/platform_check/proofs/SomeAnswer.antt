@@ -21,9 +21,10 @@ use Rattle.platform_check.specs.Reading.{IsTooLong}
 use Rattle.platform_check.specs.Lines.{line, lines_of, line_at, fact_lines}
 use Rattle.platform_check.specs.Answering.{SpellFacts, SpellsNoFact, IsQuery, IsAnswerToLines}
 use Rattle.platform_check.specs.Answering.{is_match, match_outcome, query_text, refused_line}
-use Rattle.platform_check.specs.Laws.{ended, AreLines, HasAnswer}
+use Rattle.cargo_platform.specs.Lines.{ended, AreLines}
+use Rattle.platform_check.specs.Laws.{HasAnswer}
 use Rattle.platform_check.proofs.Facts.{fact_line, first_fact, no_line_before, not_before}
-use Rattle.platform_check.proofs.TextLines.{lines_are}
+use Rattle.cargo_platform.proofs.TextLines.{lines_are}
 
 -- ---- the lines of a text of characters are such texts
 

@@ -2,8 +2,9 @@
 use Rattle.std.specs.Prelude.{ℕ, ◌≡◌, ◌≤◌, ◌<◌, ◌⊎◌, Bool, true, false, List, [], ◌∷◌, ◌++◌, length, codes, flat_map, bytes_eq, IsUtf8}
 use Rattle.std.specs.Fmt.{decimal}
 use Rattle.cargo_platform.specs.Trees.{CfgValue, Condition, Target, Expression}
-use Rattle.cargo_platform.specs.Spelling.{Values, IsValueText}
+use Rattle.cargo_platform.specs.Spelling.{Values}
 use Rattle.cargo_platform.specs.Faults.{Fault, IsRefused}
+pub use Rattle.cargo_platform.specs.FactLines.{SpellsNoFact, SpellFacts}
 use Rattle.cargo_platform.specs.Platforms.{IsConditionText, IsRefusedCondition}
 use Rattle.cargo_platform.specs.Facts.{fact_set, truth}
 use Rattle.cargo_platform.specs.Print.{print_condition, print_error}
@@ -19,17 +20,6 @@ use Rattle.platform_check.specs.Lines.{line, lines_of, line_at, fact_lines}
 -- no condition is spelled by the text
 abbrev pub SpellsNoCondition : List ℕ → Type 0
 SpellsNoCondition text = (p : Condition) → IsConditionText text p → ⊥
-
--- no fact, a name or a pair, is spelled by the text
-abbrev pub SpellsNoFact : List ℕ → Type 0
-SpellsNoFact text = (c : CfgValue) → IsValueText text c → ⊥
-
--- each line spells the fact at its place, and there are as many facts as lines
-abbrev pub SpellFacts : List (List ℕ) → List CfgValue → Type 0
-SpellFacts [] [] = Unit {0}
-SpellFacts [] (fact ∷ facts) = ⊥
-SpellFacts (text ∷ texts) [] = ⊥
-SpellFacts (text ∷ texts) (fact ∷ facts) = IsValueText text fact × SpellFacts texts facts
 
 -- what accepted lines ask: line 1 spells the condition, line 2 is the target's name as it stands, and each further line spells a fact
 pub record IsQuery (ls : List (List ℕ)) (condition : Condition) (facts : List CfgValue) : Type 0 where

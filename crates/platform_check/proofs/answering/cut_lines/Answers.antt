@@ -6,7 +6,7 @@ use Rattle.std.proofs.lemmas.Str.Pattern.{strip_suffix_char}
 use Rattle.std.specs.Prelude.{◌==◌}
 use Rattle.std.specs.List.{slice_split}
 use Rattle.platform_check.specs.Lines.{lines_of}
-use Rattle.platform_check.proofs.Lines.{lines_of-ended, lines_of-open}
+use Rattle.cargo_platform.proofs.Lines.{lines_of-ended, lines_of-open}
 use Rattle.platform_check.proofs.answering.cut_lines.Goals as goal
 use Rattle.platform_check.proofs.answering.cut_lines.Goals.{in-Some, in-None}
 
