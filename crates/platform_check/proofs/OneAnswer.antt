@@ -6,7 +6,7 @@ use Rattle.cargo_platform.specs.Faults.{Fault}
 use Rattle.cargo_platform.proofs.ConditionFaults.{one_condition_fault}
 use Rattle.cargo_platform.proofs.Conditions.{one_condition}
 use Rattle.cargo_platform.proofs.OneFault.{one_fault}
-use Rattle.cargo_platform.proofs.OneValue.{one_value_text}
+use Rattle.cargo_platform.proofs.FactLines.{one_list}
 use Rattle.platform_check.specs.declared.answering.Outcome.{Outcome}
 use Rattle.platform_check.specs.Lines.{lines_of, line_at, fact_lines}
 use Rattle.platform_check.specs.Answering.{SpellFacts, IsQuery, IsLineFault, IsAnswerToQuery, IsAnswerToLines, refused_line}
@@ -22,17 +22,6 @@ one_line_fault ls n orig other e f (inr a) (inl b) = absurd (omega arith)
 one_line_fault ls n orig other e f (inr a) (inr b) = (a.1.0 ∙ sym b.1.0, one_fault Values (line_at ls n) e f a.1.1 b.1.1)
 
 -- ---- one answer
-
-one_list : (texts : List (List ℕ)) (cs ds : List CfgValue) → SpellFacts texts cs → SpellFacts texts ds → cs ≡ ds
-one_list [] [] [] p q = refl
-one_list [] [] (d ∷ ds) p q = absurd q
-one_list [] (c ∷ cs) ds p q = absurd p
-one_list (t ∷ texts) [] ds p q = absurd p
-one_list (t ∷ texts) (c ∷ cs) [] p q = absurd q
-one_list (t ∷ texts) (c ∷ cs) (d ∷ ds) p q =
-    let first : c ≡ d = one_value_text t c d p.0 q.0 in
-    let others : cs ≡ ds = one_list texts cs ds p.1 q.1 in
-    λ i. first i ∷ others i
 
 same_query : (ls : List (List ℕ)) (c d : Condition) (cs ds : List CfgValue) (output other : List ℕ) (outcome another : Outcome)
     → IsQuery ls c cs → IsQuery ls d ds → IsAnswerToQuery (line_at ls 2) c cs output outcome → IsAnswerToQuery (line_at ls 2) d ds other another → (output ≡ other) × (outcome ≡ another)
