@@ -4,6 +4,8 @@ pub mod Cut
 pub mod Reading
 pub mod CutLaws
 pub mod Trees
+pub mod ViewLaws
+pub mod Sizes
 pub mod Spelling
 pub mod WellFormed
 pub mod GrammarLaws

@@ -1,6 +1,9 @@
 //! Laws over the definitions. The functions do nothing: each contract is a law.
 
-ghost use Rattle.std.specs.Prelude.{◌≡◌, true, false, ℕ, List, [], IsUtf8};
+ghost use Rattle.std.specs.Prelude.{◌≡◌, ◌≤◌, true, false, ℕ, List, [], IsUtf8, Box, Vec};
+ghost use Rattle.std.specs.declared.alloc.Global.{Global};
+ghost use Rattle.cargo_platform.specs.declared.cfg.Cfg.{Cfg};
+ghost use Rattle.cargo_platform.specs.declared.cfg.CfgExpr.{CfgExpr};
 ghost use Rattle.cargo_platform.specs.Tokens.{Lexeme, Placed};
 ghost use Rattle.cargo_platform.specs.Reading.{Progress};
 ghost use Rattle.cargo_platform.specs.Trees.{Name, CfgValue, Tree, All, Any, Trees, none, Condition};
@@ -12,7 +15,9 @@ ghost use Rattle.cargo_platform.specs.FaultLaws.{FrontsAreCompletable, IsComplet
 ghost use Rattle.cargo_platform.specs.PrintLaws.{PrintSpells, PrintsApart, PrintSpellsValue, PrintsApartValues};
 ghost use Rattle.cargo_platform.specs.PlatformLaws.{IsOneConditionText, SpellsWellFormedConditions, PrintSpellsCondition, PrintsApartConditions, SpellsConditionOrIsRefused, RefusedSpellsNoCondition, HasOneConditionFault};
 ghost use Rattle.cargo_platform.specs.ChangeLaws.{SpelledReleased, IsAcceptedAsReleased, IsRefusedAsReleased, IsTreeTextAsReleased, KeepsTree, IsConditionTextAsReleased, KeepsCondition, SpelledTransitional, IsRefusedForLiteralKeys, WasWellFormedWithoutMarkedLiterals, IsWellFormedWithoutLiteralKeys, GivesNoKeyword};
-ghost use Rattle.cargo_platform.specs.Facts.{Pair, FactSet, fact_set, truth};
+ghost use Rattle.cargo_platform.specs.ViewLaws.{IsNotOf, IsAllOf, IsAnyOf, IsValueOf, AreLiterals};
+ghost use Rattle.cargo_platform.specs.Sizes.{size, depth};
+ghost use Rattle.cargo_platform.specs.Facts.{Pair, pair_cmp, FactSet, fact_set, truth};
 ghost use Rattle.cargo_platform.specs.FactLaws.{IsInWhereListed, HaveSamePairs, HaveSameFacts, IsMonotone, IsNotAllAnyNot, IsOrderOfKeys};
 ghost use Rattle.cargo_platform.specs.Lines.{lines_of, AreLines};
 ghost use Rattle.cargo_platform.specs.Key.{name_key, value_key, key, condition_key, name_cmp, value_cmp, tree_cmp, condition_cmp};
@@ -256,4 +261,23 @@ pub fn hashes_are_of_keys()
 pub fn lines_are()
     ensures are { (text : List ℕ) → AreLines text (lines_of text) }
     ensures only { (text : List ℕ) (ls : List (List ℕ)) → AreLines text ls → ls ≡ lines_of text }
+{}
+
+/// An expression is seen form by form.
+pub fn views_by_form()
+    ensures negations { (e : Box CfgExpr Global) → IsNotOf e }
+    ensures all { (es : Vec CfgExpr Global) → IsAllOf es }
+    ensures any { (es : Vec CfgExpr Global) → IsAnyOf es }
+    ensures values { (c : Cfg) → IsValueOf c }
+    ensures literals { AreLiterals }
+{}
+
+/// The order by which a set of facts is kept is total, and only equal pairs tie.
+pub fn pairs_are_ordered()
+    ensures { IsOrderOfKeys (λ (p : Pair). p) pair_cmp }
+{}
+
+/// A tree is no deeper than it is large.
+pub fn depth_within_size()
+    ensures { (e : Tree) → depth e ≤ size e }
 {}
