@@ -1,0 +1,9 @@
+pub mod Folding
+pub mod KleeneSound
+pub mod Refining
+pub mod Telling
+pub mod Leaving
+pub mod Keeping
+pub mod Reducing
+pub mod Naming
+pub mod Steps

@@ -1,0 +1,113 @@
+//! What is known of the facts of a target.
+
+ghost use Rattle.std.specs.Prelude.{◌≡◌, Bool, Option, Some, IfSome};
+ghost use Rattle.std.specs.FinSet.{contains};
+ghost use Rattle.cargo_platform.specs.Trees.{value_of};
+ghost use Rattle.cargo_platform.specs.Facts.{Pair, FactSet, pair_of};
+
+use cargo_platform::{Cfg, Facts, Ident, Listed};
+
+/// What is known of a set of facts.
+pub trait Knowledge {
+    // The sets of facts that are possible.
+    ghost allows: { Self → FactSet → Type 0 };
+
+    // One of them.
+    ghost example: { Self → FactSet };
+
+    // What is told of a pair.
+    ghost told: { Self → Pair → Option Bool };
+
+    /// Whether the pair of `c`, its name or its key and value without the raw mark, is a fact; `None` where that is not
+    /// known.
+    fn tells(&self, c: &Cfg) -> Option<bool>
+        ensures { result ≡ told self.now (pair_of (value_of c.now)) };
+
+    // Some set is.
+    ghost possible: { (k : Self) → allows k (example k) };
+
+    // What is told holds in each possible set.
+    ghost sound: { (k : Self) (s : FactSet) (p : Pair) → allows k s → IfSome (told k p) (λ b. contains s p ≡ b) };
+}
+
+/// The facts of a holder as all the facts that there are: each name and pair is known.
+#[derive(Drop)]
+pub struct Complete<'a, F>(pub &'a F);
+
+impl<'a, F: Facts> Knowledge for Complete<'a, F> {
+    ghost use Rattle.std.specs.Prelude.{refl};
+    ghost use Rattle.std.proofs.Common.{ap};
+
+    ghost allows = { λ k s. s ≡ F.meant k.0.now };
+
+    ghost example = { λ k. F.meant k.0.now };
+
+    ghost told = { λ k p. Some (contains (F.meant k.0.now) p) };
+
+    fn tells(&self, c: &Cfg) -> Option<bool> {
+        Some(self.0.holds(c))
+    }
+
+    ghost possible = { λ k. refl };
+
+    ghost sound = { λ k s p is. ap (λ t. contains t p) is };
+}
+
+/// The facts of a target as far as they are listed. A name or key in `complete` has all its facts in the list, alone or
+/// with a value; of any other one there may be more.
+///
+/// So `target_os` in `complete` and `target_os = "linux"` in `facts` rule out `target_os = "windows"`, and `unix` in
+/// `complete` alone rules out `unix`. Raw marks play no part.
+#[derive(Drop)]
+pub struct Partial<'a> {
+    pub facts: &'a [Cfg],
+    pub complete: &'a [&'a str],
+}
+
+impl<'a> Partial<'a> {
+    ghost use Rattle.std.specs.Prelude.{string_bytes, map};
+    ghost use Rattle.partial_facts.specs.Partly.{is_named};
+
+    // Whether all facts of this name or key are listed.
+    fn is_complete(&self, name: &Ident) -> bool
+        ensures { result ≡ is_named (string_bytes name.now.name) (map (λ t. t.now) self.now.complete.now) }
+    {
+        for text in self.complete {
+            if name.as_str() == *text {
+                return true;
+            }
+        }
+        false
+    }
+}
+
+impl<'a> Knowledge for Partial<'a> {
+    ghost use Rattle.std.specs.Prelude.{map};
+    ghost use Rattle.cargo_platform.specs.Facts.{fact_set};
+    ghost use Rattle.partial_facts.specs.Partly.{IsPartlyKnown, partly_told, partly_possible, partly_sound};
+
+    ghost allows = { λ k s. IsPartlyKnown (fact_set (map value_of k.facts.now)) (map (λ t. t.now) k.complete.now) s };
+
+    ghost example = { λ k. fact_set (map value_of k.facts.now) };
+
+    ghost told = { λ k p. partly_told (fact_set (map value_of k.facts.now)) (map (λ t. t.now) k.complete.now) p };
+
+    fn tells(&self, c: &Cfg) -> Option<bool> {
+        if Listed(self.facts).holds(c) {
+            return Some(true);
+        }
+        match c {
+            Cfg::Name(name) | Cfg::KeyPair(name, _) => {
+                if self.is_complete(name) {
+                    Some(false)
+                } else {
+                    None
+                }
+            }
+        }
+    }
+
+    ghost possible = { λ k. partly_possible (fact_set (map value_of k.facts.now)) (map (λ t. t.now) k.complete.now) };
+
+    ghost sound = { λ k s p is. partly_sound (fact_set (map value_of k.facts.now)) (map (λ t. t.now) k.complete.now) s p is };
+}
