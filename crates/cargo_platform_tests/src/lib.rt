@@ -28,8 +28,7 @@ mod plain_reader;
 mod platforms;
 #[cfg(test)]
 mod printing;
-#[cfg(test)]
-mod real_facts;
+pub mod real_facts;
 #[cfg(test)]
 mod refusals;
 #[cfg(test)]

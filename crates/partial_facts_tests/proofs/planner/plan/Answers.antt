@@ -1,0 +1,18 @@
+use Rattle.std.proofs.Common.{◌≡◌, sym, subst, string_bytes}
+use Rattle.std.proofs.lemmas.Result.{IfOk-weaker}
+use Rattle.cargo_platform.specs.Trees.{Tree, tree_of}
+use Rattle.cargo_platform.specs.Facts.{FactSet, truth}
+use Rattle.cargo_platform.specs.Spelling.{IsTreeText}
+use Rattle.cargo_platform.specs.Print.{print}
+use Rattle.partial_facts_tests.proofs.planner.plan.Goals as goal
+
+pub returns : goal.returns
+returns g c =
+    let d : Tree = tree_of c.in_ok-left.left in
+    let e : Tree = tree_of c.args.e.now in
+    let spelled : IsTreeText (print d) d = c.print_spells.ensures d (c.in_ok-left.ensures.well_formed c.requires) in
+    IfOk-weaker c.text_of.result (λ text. string_bytes text ≡ print d)
+    (λ text. (x : Tree) × IsTreeText (string_bytes text) x
+    × ((s : FactSet) → g.K.Knowledge.allows c.args.known.now s → truth s x ≡ truth s e))
+    (λ text is. (d, subst (λ bs. IsTreeText bs d) (sym is) spelled, λ s a. c.in_ok-left.ensures.sound s a))
+    c.text_of.ensures

@@ -1,0 +1,11 @@
+//! Callers of `partial_facts`, proved, and its tests, over its public calls alone. They stand in a crate of their own, so
+//! that the library is proved once and not once more with its tests.
+#![tactic(auto)]
+
+pub mod audit;
+#[cfg(test)]
+mod completions;
+pub mod planner;
+#[cfg(test)]
+mod residuals;
+pub mod targets;

@@ -1,0 +1,43 @@
+//! A plan that is made before all facts are known, and carried out later.
+
+ghost use Rattle.std.specs.Prelude.{◌≡◌, IfOk, map, string_bytes};
+ghost use Rattle.cargo_platform.specs.Trees.{Tree, tree_of, value_of};
+ghost use Rattle.cargo_platform.specs.Facts.{FactSet, fact_set, truth};
+ghost use Rattle.cargo_platform.specs.Spelling.{IsTreeText};
+ghost use Rattle.cargo_platform.specs.Print.{print};
+ghost use Rattle.cargo_platform.specs.WellFormed.{IsWellFormed};
+ghost use Rattle.cargo_platform.specs.Errors.{IfParse};
+
+use cargo_platform::{Cfg, CfgExpr, ReadError, laws};
+use partial_facts::{Knowledge, residual};
+use std::alloc::{AllocError, Global};
+
+/// The text of what is left of the condition to ask, which is to be stored.
+pub fn plan<K: Knowledge>(alloc: Global, e: &CfgExpr, known: &K) -> Result<String, AllocError>
+    requires { IsWellFormed (tree_of e.now) }
+    ensures { IfOk result (λ text. (d : Tree) × IsTreeText (string_bytes text) d
+        × ((s : FactSet) → K.allows known.now s → truth s d ≡ truth s (tree_of e.now))) }
+{
+    laws::print_spells();
+    let left = residual(alloc, e, known)?;
+    text_of(alloc, &left)
+}
+
+/// Asks a stored text over the facts of a target, once they are known.
+pub fn ask(alloc: Global, text: &str, facts: &[Cfg]) -> Result<bool, ReadError>
+    ensures answer { IfOk result (λ yes. (d : Tree) → IsTreeText text.now d
+        → yes ≡ truth (fact_set (map value_of facts.now)) d) }
+    ensures read { IfParse result (λ _. (d : Tree) → IsTreeText text.now d → ⊥) }
+{
+    laws::one_tree_text();
+    match CfgExpr::from_str(alloc, text) {
+        Ok(e) => Ok(e.matches(facts)),
+        Err(error) => Err(error),
+    }
+}
+
+fn text_of(alloc: Global, e: &CfgExpr) -> Result<String, AllocError>
+    ensures { IfOk result (λ text. string_bytes text ≡ print (tree_of e.now)) }
+{
+    e.to_string(alloc)
+}
