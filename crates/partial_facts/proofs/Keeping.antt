@@ -1,4 +1,5 @@
--- What is left of a tree holds values of the tree in their order, is well-formed if the tree is, and no larger or deeper.
+-- What is left of a tree holds values of the tree in their order, is well-formed if the tree is, and is no larger or
+-- deeper.
 use Rattle.std.proofs.Common.{◌≡◌, refl, sym, ap, subst, ℕ, ◌+◌, ◌≤◌, max, Bool, true, false, Option, Some, None}
 use Rattle.std.proofs.Common.{List, [], ◌∷◌, ◌++◌, inl, inr, Result, IfOk, arith}
 use Rattle.std.proofs.lemmas.List.{append-nil}

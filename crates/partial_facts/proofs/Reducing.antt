@@ -1,5 +1,5 @@
--- The steps of `reduced` over the members of a group. `all` goes on at members that are true, and `any` at false ones: that
--- truth is called the neutral one.
+-- The steps of `reduced` over the members of a group. `all` goes on at members that are true, and `any` at false ones:
+-- that truth is called the neutral one.
 use Rattle.std.proofs.Common.{◌≡◌, ◌∙◌, refl, sym, ap, ℕ, ◌+◌, ◌<◌, ◌≤◌, Bool, true, false, not, Option, Some, None}
 use Rattle.std.proofs.Common.{List, [], ◌∷◌, ◌++◌, length, drop, get_or, map, subst, Box, Vec, Global, box_value}
 use Rattle.std.proofs.Common.{vec_len, inl, inr, rules, arith}

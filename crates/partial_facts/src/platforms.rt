@@ -24,7 +24,8 @@ pub fn decide_platform<K: Knowledge>(
     name: Option<&str>,
     known: &K,
 ) -> Option<bool>
-    ensures exact { result ≡ kleene_condition (option_copied name.entry) (K.told known.now) (condition_of platform.now) }
+    ensures exact { result
+        ≡ kleene_condition (option_copied name.entry) (K.told known.now) (condition_of platform.now) }
     ensures sound { (target : List ℕ) (s : FactSet) → IfSome name.entry (λ n. target ≡ n.now) → K.allows known.now s
         → IfSome result (λ b. IsTrueCondition target s (condition_of platform.now) ↔ IsTrue b) }
 {
@@ -60,7 +61,8 @@ pub fn residual_platform<K: Knowledge>(
     ensures exact { IfOk result (λ r.
         condition_of r ≡ residual_condition (option_copied name.entry) (K.told known.now) (condition_of platform.now)) }
     ensures sound { (target : List ℕ) (s : FactSet) → IfSome name.entry (λ n. target ≡ n.now) → K.allows known.now s
-        → IfOk result (λ r. IsTrueCondition target s (condition_of r) ↔ IsTrueCondition target s (condition_of platform.now)) }
+        → IfOk result (λ r.
+        IsTrueCondition target s (condition_of r) ↔ IsTrueCondition target s (condition_of platform.now)) }
     ensures decided { IfOk result (λ r. condition_literal_truth (condition_of r)
         ≡ kleene_condition (option_copied name.entry) (K.told known.now) (condition_of platform.now)) }
     ensures open { IfOk result (λ r.

@@ -17,9 +17,9 @@ use std::alloc::{AllocError, Global};
 /// What is left of the expression to ask: over each possible set of facts it is as true as `e`, and it holds no name or
 /// pair that is known.
 ///
-/// It is a literal where `decide` answers, and elsewhere `e` without the members that are known; of a group that has one
-/// member left that member stands alone. Its names and pairs stand in `e` in that order, with these raw marks, and it is
-/// well-formed where `e` is, so that its text reads back. It refuses only where memory is refused.
+/// It is a literal where `decide` answers, and elsewhere `e` without the members that are known; of a group that has
+/// one member left that member stands alone. Its names and pairs stand in `e` in that order, with these raw marks, and
+/// it is well-formed where `e` is, so that its text reads back. It refuses only where memory is refused.
 pub fn residual<K: Knowledge>(alloc: Global, e: &CfgExpr, known: &K) -> Result<CfgExpr, AllocError>
     ensures exact { IfOk result (λ r. tree_of r ≡ residual_tree (K.told known.now) (tree_of e.now)) }
     ensures sound { (s : FactSet) → K.allows known.now s

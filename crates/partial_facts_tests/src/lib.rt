@@ -1,5 +1,5 @@
-//! Callers of `partial_facts`, proved, and its tests, over its public calls alone. They stand in a crate of their own, so
-//! that the library is proved once and not once more with its tests.
+//! Callers of `partial_facts`, proved, and its tests, over its public calls alone. They stand in a crate of their own,
+//! so that the library is proved once and not once more with its tests.
 #![tactic(auto)]
 
 pub mod audit;
