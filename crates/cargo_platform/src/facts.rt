@@ -1,11 +1,13 @@
 //! Facts, and the truth of an expression over them.
 
-ghost use Rattle.std.specs.Prelude.{◌≡◌, map, IfOk};
+ghost use Rattle.std.specs.Prelude.{◌≡◌, map, IfOk, string_bytes};
+ghost use Rattle.std.specs.Ordering.{eq_by_cmp};
 ghost use Rattle.std.specs.FinSet.{contains};
-ghost use Rattle.cargo_platform.specs.Trees.{value_of, tree_of};
+ghost use Rattle.cargo_platform.specs.Key.{value_cmp};
+ghost use Rattle.cargo_platform.specs.Trees.{Alone, KeyPair, name_of, value_of, tree_of};
 ghost use Rattle.cargo_platform.specs.Facts.{FactSet, pair_of, fact_set, truth};
 
-use crate::cfg::{Cfg, CfgExpr};
+use crate::cfg::{Cfg, CfgExpr, Ident};
 use std::alloc::{AllocError, Global};
 use std::collections::BTreeSet;
 
@@ -27,7 +29,32 @@ impl<'a> Facts for Listed<'a> {
     ghost meant = { λ facts. fact_set (map value_of facts.0.now) };
 
     fn holds(&self, c: &Cfg) -> bool {
-        self.0.iter().any(|fact| fact == c)
+        match c {
+            Cfg::Name(name) => self.0.iter().any(|fact| is_name(fact, name)),
+            Cfg::KeyPair(key, value) => self.0.iter().any(|fact| is_pair(fact, key, value)),
+        }
+    }
+}
+
+/// Whether the fact is this name alone.
+#[inline(always)]
+fn is_name(fact: &Cfg, name: &Ident) -> bool
+    ensures { result ≡ eq_by_cmp value_cmp (value_of fact.now) (Alone (name_of name.now)) }
+{
+    match fact {
+        Cfg::Name(other) => other == name,
+        Cfg::KeyPair(..) => false,
+    }
+}
+
+/// Whether the fact is the pair of this key and this value. Values are compared first: facts share keys oftener.
+#[inline(always)]
+fn is_pair(fact: &Cfg, key: &Ident, value: &String) -> bool
+    ensures { result ≡ eq_by_cmp value_cmp (value_of fact.now) (KeyPair (name_of key.now) (string_bytes value.now)) }
+{
+    match fact {
+        Cfg::Name(_) => false,
+        Cfg::KeyPair(other_key, other_value) => other_value == value && other_key == key,
     }
 }
 

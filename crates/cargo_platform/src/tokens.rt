@@ -19,7 +19,7 @@ pub use crate::source::Looks;
 use crate::source::{Look, Source};
 use std::marker::Model;
 
-/// A token. Names and values are slices of the text; equality looks at all parts.
+/// A token. Names and values are the bytes of the text that they were written by; equality looks at all parts.
 #[derive(Clone, Copy, Debug, PartialEq, Eq)]
 pub enum Token<'a> {
     LeftParen,

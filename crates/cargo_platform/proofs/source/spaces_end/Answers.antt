@@ -6,7 +6,7 @@ pub spaces-preserved : goal.spaces-preserved
 spaces-preserved c =
     let is = c.as_bytes-bytes.ensures.value in
     let within : c.spaces.at < length c.args.text.now = rw is at c.spaces-test.true in
-    let space : get_or c.args.text.now c.spaces.at 0 ≡ 0x20 = rw is at c.if-bytes-at-eq32.true in
+    let space : get_or c.args.text.now c.spaces.at 0 ≡ 0x20 = rw (← is) (omega arith) in
     let step = ascii_step c.args.text.now c.spaces.at c.utf8.text within (omega arith) c.spaces.invariant.boundary in
     record {
       order = omega arith;
