@@ -18,7 +18,7 @@ use Rattle.cargo_platform.proofs.OneCut.{both_true, both_first, both_second, nev
 
 -- ---- tests of the bytes between two places
 
-all_each : (p : ℕ → Bool) (xs : List ℕ) → ((i : ℕ) → i < length xs → p (get_or xs i 0) ≡ true) → list_all p xs ≡ true
+pub all_each : (p : ℕ → Bool) (xs : List ℕ) → ((i : ℕ) → i < length xs → p (get_or xs i 0) ≡ true) → list_all p xs ≡ true
 all_each p [] each = refl
 all_each p (x ∷ xs) each = both_true (p x) (list_all p xs) (each 0 (omega arith)) (all_each p xs (λ i below. each (suc i) (omega arith)))
 

@@ -1,23 +1,25 @@
 -- Target names: what none of them holds, where a text stops being one, and what is said of it.
-use Rattle.std.proofs.Common.{◌≡◌, refl, sym, ap, ◌∙◌, subst, ℕ, Bool, true, false, true≢false, not, ◌<◌, cond, List, [], ◌∷◌, ◌++◌, length, codes, get_or, Option, Some, None, MatchOption, find, IsTrue, IsFalse, IsUtf8, MatchBool, option_map, inl, inr, ◌==◌, eq-eqb, eqb-true, chars, encode_utf8, encode_utf8_all, append_assoc, length-append, arith}
+use Rattle.std.proofs.Common.{◌≡◌, refl, sym, ap, ◌∙◌, subst, ℕ, Bool, true, false, true≢false, not, ◌<◌, cond, List, [], ◌∷◌, ◌++◌, length, codes, get_or, Option, Some, None, MatchOption, find, IsTrue, IsFalse, IsUtf8, MatchBool, option_map, inl, inr, ◌==◌, ◌||◌, eq-eqb, eqb-true, chars, encode_utf8, encode_utf8_all, append_assoc, length-append, arith}
 use Rattle.std.specs.Char.{IsScalar}
 use Rattle.std.specs.List.{list_all, list_any}
 use Rattle.std.specs.Str.{all_scalars, NonePass}
 use Rattle.std.specs.Str.Pattern.{FindsChar, HasMatch}
-use Rattle.std.proofs.lemmas.Bool.{and_parts}
-use Rattle.std.proofs.lemmas.Str.{NoCharPasses-byte, encode_same, length-encode, len_utf8_bounds, chars_from_encodes}
+use Rattle.std.proofs.lemmas.Bool.{and_parts, agree_below_at}
+use Rattle.std.proofs.lemmas.Str.{NoCharPasses-byte, encode_ascii, encode_same, length-encode, len_utf8_bounds, chars_from_encodes}
 use Rattle.std.proofs.lemmas.Str.Pattern.{contains_char}
 use Rattle.std.proofs.lemmas.List.{get_or_default}
 use Rattle.std.proofs.lemmas.List.Folds.{Any-from_list_any}
 use Rattle.std.proofs.lemmas.List.Recursion.{or_is}
+use lib.Utf8.{low_scalar}
 use Rattle.ucd_table.specs.Rows.{in_ranges, value_in}
 use Rattle.ucd_derived.specs.AlphabeticRanges.{alphabetic_ranges}
 use Rattle.ucd_category.specs.GeneralCategoryRows.{general_category_rows}
 use Rattle.unicode.specs.Binary.{is_alphabetic}
 use Rattle.unicode.specs.GeneralCategory.{general_category}
-use Rattle.cargo_platform.specs.Chars.{BeginsWith}
-use Rattle.cargo_platform.specs.Platforms.{is_target_char, IsTargetName, IsFirstRefused, IsTargetMessage, IsBare}
-use Rattle.cargo_platform.proofs.OneCut.{both_true, never}
+use Rattle.cargo_platform.specs.Chars.{BeginsWith, is_identifier_rest}
+use Rattle.cargo_platform.specs.Platforms.{is_target_char, is_plain_byte, IsTargetName, IsFirstRefused, IsTargetMessage, IsBare}
+use Rattle.cargo_platform.proofs.OneCut.{both_true, either, never}
+use Rattle.cargo_platform.proofs.SomeCut.{rest_is_ascii}
 
 -- ---- `cfg(..)` is no target name
 
@@ -38,6 +40,38 @@ no_parenthesis text i below held w =
 -- a target name is no `cfg(..)`
 pub name_is_bare : (name : List ℕ) → IsTargetName name → IsBare name
 name_is_bare name w = λ inner h. no_parenthesis (codes "cfg(" ++ inner ++ codes ")") 3 (omega arith) refl (subst IsTargetName h w)
+
+-- ---- plain names
+
+plain_is_ascii : (b : ℕ) → is_plain_byte b ≡ true → b < 128
+plain_is_ascii b h =
+    elim (either (is_identifier_rest b || b == 0x2D) (b == 0x2E) h) [
+      | inr e ↦ omega (arith, eqb-true b 0x2E e)
+      | inl e ↦ elim (either (is_identifier_rest b) (b == 0x2D) e) [
+        | inr f ↦ omega (arith, eqb-true b 0x2D f)
+        | inl f ↦ rest_is_ascii b f
+      ]
+    ]
+
+-- in each of the 128 rows
+plain_or_not : (b : ℕ) → b < 128 → (not (is_plain_byte b) || is_target_char b) ≡ true
+unfolding is_alphabetic general_category in_ranges value_in alphabetic_ranges general_category_rows
+plain_or_not b small = agree_below_at (λ c. not (is_plain_byte c) || is_target_char c) (λ c. true) 128 b refl small
+
+passes_where : (p t : Bool) → (not p || t) ≡ true → p ≡ true → t ≡ true
+passes_where p t h is = grind arith
+
+pub plain_name : (text : List ℕ) → list_all is_plain_byte text ≡ true → IsTargetName text
+plain_name [] h = ([], refl, refl, refl)
+plain_name (b ∷ text) h =
+    let parts = and_parts _ _ h in
+    let small : b < 128 = plain_is_ascii b parts.0 in
+    let rest = plain_name text parts.1 in (
+      b ∷ rest.0,
+      both_true _ _ (low_scalar b (omega (arith, small))) rest.1,
+      ap (λ (z : List ℕ). b ∷ z) rest.2 ∙ ap (λ (z : List ℕ). z ++ encode_utf8_all rest.0) (sym (encode_ascii b small)),
+      both_true _ _ (passes_where (is_plain_byte b) (is_target_char b) (plain_or_not b small) parts.0) rest.3,
+    )
 
 -- ---- the first refused character
 

@@ -103,7 +103,13 @@ impl Ord for Cfg {
             (Cfg::Name(a), Cfg::Name(b)) => a.cmp(b),
             (Cfg::Name(_), Cfg::KeyPair(..)) => Ordering::Less,
             (Cfg::KeyPair(..), Cfg::Name(_)) => Ordering::Greater,
-            (Cfg::KeyPair(j, a), Cfg::KeyPair(k, b)) => j.cmp(k).then_with(|| a.cmp(b)),
+            (Cfg::KeyPair(j, a), Cfg::KeyPair(k, b)) => {
+                // Telling that texts are equal takes less than putting them in order.
+                if j == k {
+                    return a.cmp(b);
+                }
+                j.cmp(k)
+            }
         }
     }
 }

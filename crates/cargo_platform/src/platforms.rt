@@ -9,10 +9,11 @@ ghost use Rattle.unicode.specs.GeneralCategory.{general_category};
 ghost use Rattle.cargo_platform.specs.Trees.{Tree, Expression, value_of, condition_of};
 ghost use Rattle.cargo_platform.specs.Facts.{fact_set, truth, IsTrueCondition};
 ghost use Rattle.cargo_platform.specs.Faults.{InvalidTarget};
-ghost use Rattle.cargo_platform.specs.Platforms.{is_number_category, is_target_char, IsTargetName, IsFirstRefused, IsTargetMessage, IsCfgOf, IsBare, IsConditionText};
+ghost use Rattle.cargo_platform.specs.Platforms.{is_number_category, is_target_char, is_plain_byte, IsTargetName, IsFirstRefused, IsTargetMessage, IsCfgOf, IsBare, IsConditionText};
 ghost use Rattle.cargo_platform.specs.Errors.{orig_of, fault_in};
 ghost use Rattle.cargo_platform.specs.Readers.{ReadsCondition};
 
+use crate::classes::continues_identifier;
 use crate::{Cfg, CfgExpr, ParseError, ParseErrorKind, Platform, ReadError};
 use std::alloc::{AllocError, Global};
 use unicode::properties::{GeneralCategory, is_alphabetic};
@@ -89,7 +90,30 @@ fn inside_cfg(text: &str) -> Option<&str>
 fn first_refused(name: &str) -> Option<char>
     ensures { MatchOption result (IsTargetName name.now) (λ c. IsFirstRefused name.now c) }
 {
+    if is_plain(name) {
+        return None;
+    }
     name.chars().find(|c| !is_target_char(*c))
+}
+
+// Whether all bytes of the name are plain, as those of each target's name today are: then no character is looked up.
+fn is_plain(name: &str) -> bool
+    ensures { IsTrue result → IsTargetName name.now }
+{
+    for byte in name.as_bytes() {
+        if !is_plain_byte(*byte) {
+            return false;
+        }
+    }
+    true
+}
+
+// Whether the byte is `_`, `-`, `.`, an ASCII letter or an ASCII digit.
+#[inline(always)]
+fn is_plain_byte(byte: u8) -> bool
+    ensures { result ≡ is_plain_byte byte }
+{
+    continues_identifier(byte) || byte == b'-' || byte == b'.'
 }
 
 // Whether a target name may hold the character.
