@@ -55,7 +55,9 @@ ascii_here text at utf8 within small boundary =
     (rw (encode_ascii _ small) (rw (add-one, drop-cons text at 0) refl))
 
 -- a step over a byte below 128
-pub ascii_step : (text : List ℕ) (at : ℕ) → IsUtf8 text → at < length text → get_or text at 0 < 128 → IsCharBoundary text at → IsCharBoundary text (at + 1) × (characters_from text at ≡ characters_from text (at + 1) + 1)
+pub ascii_step : (text : List ℕ) (at : ℕ) → IsUtf8 text → at < length text → get_or text at 0 < 128 →
+    IsCharBoundary text at → IsCharBoundary text (at + 1) ×
+    (characters_from text at ≡ characters_from text (at + 1) + 1)
 ascii_step text at utf8 within small boundary =
     let here = ascii_here text at utf8 within small boundary in
     let one : at + len_utf8 (get_or text at 0) ≡ at + 1 = ap (λ n. at + n) (len_utf8_ascii _ small) in
@@ -73,12 +75,15 @@ begins_low b h = grind (arith, nat_tests)
 goes_on : (b : ℕ) → is_character_start (128 + b % 64) ≡ false
 goes_on b = let low : b % 64 < 64 = omega arith in grind (arith, nat_tests)
 
-count_next : (b : ℕ) (bs : List ℕ) → count_by is_character_start bs ≡ 0 → count_by is_character_start ((128 + b % 64) ∷ bs) ≡ 0
+count_next : (b : ℕ) (bs : List ℕ) → count_by is_character_start bs ≡ 0 →
+    count_by is_character_start ((128 + b % 64) ∷ bs) ≡ 0
 count_next b bs none =
-    let zero : cond {A = ℕ} (is_character_start (128 + b % 64)) 1 0 ≡ 0 = ap (λ (t : Bool). cond {A = ℕ} t 1 0) (goes_on b) in
+    let zero : cond {A = ℕ} (is_character_start (128 + b % 64)) 1 0 ≡ 0 =
+    ap (λ (t : Bool). cond {A = ℕ} t 1 0) (goes_on b) in
     omega (arith, sum_by-cons (λ x. cond {A = ℕ} (is_character_start x) 1 0) (128 + b % 64) bs)
 
-count_first : (b : ℕ) (bs : List ℕ) → is_character_start b ≡ true → count_by is_character_start bs ≡ 0 → count_by is_character_start (b ∷ bs) ≡ 1
+count_first : (b : ℕ) (bs : List ℕ) → is_character_start b ≡ true → count_by is_character_start bs ≡ 0 →
+    count_by is_character_start (b ∷ bs) ≡ 1
 count_first b bs first none =
     let one : cond {A = ℕ} (is_character_start b) 1 0 ≡ 1 = ap (λ (t : Bool). cond {A = ℕ} t 1 0) first in
     omega (arith, sum_by-cons (λ x. cond {A = ℕ} (is_character_start x) 1 0) b bs)
@@ -87,22 +92,34 @@ starts_at_front : (c : ℕ) → count_by is_character_start (encode_utf8 c) ≡ 
 unfolding encode
 starts_at_front c = go (ltb c 128) (ltb c 2048) (ltb c 65536) refl
   where
-    go : (x y z : Bool) → ltb c 128 ≡ x → count_by is_character_start (cond x (c ∷ []) (cond y ((192 + c / 64) ∷ next c ∷ []) (cond z ((224 + c / 4096) ∷ next (c / 64) ∷ next c ∷ []) ((240 + c / 262144) ∷ next (c / 4096) ∷ next (c / 64) ∷ next c ∷ [])))) ≡ 1
+    go : (x y z : Bool) → ltb c 128 ≡ x →
+        count_by is_character_start (cond x (c ∷ [])
+        (cond y ((192 + c / 64) ∷ next c ∷ [])
+        (cond z ((224 + c / 4096) ∷ next (c / 64) ∷ next c ∷ [])
+        ((240 + c / 262144) ∷ next (c / 4096) ∷ next (c / 64) ∷ next c ∷ [])))) ≡ 1
     go true y z e = count_first c [] (begins_low c (ltb-true c 128 e)) refl
-    go false true z e = count_first (192 + c / 64) (next c ∷ []) (begins (192 + c / 64) (omega arith)) (count_next c [] refl)
-    go false false true e = count_first (224 + c / 4096) (next (c / 64) ∷ next c ∷ []) (begins (224 + c / 4096) (omega arith)) (count_next (c / 64) (next c ∷ []) (count_next c [] refl))
-    go false false false e = count_first (240 + c / 262144) (next (c / 4096) ∷ next (c / 64) ∷ next c ∷ []) (begins (240 + c / 262144) (omega arith)) (count_next (c / 4096) (next (c / 64) ∷ next c ∷ []) (count_next (c / 64) (next c ∷ []) (count_next c [] refl)))
+    go false true z e = count_first (192 + c / 64) (next c ∷ []) (begins (192 + c / 64) (omega arith))
+        (count_next c [] refl)
+    go false false true e = count_first (224 + c / 4096) (next (c / 64) ∷ next c ∷ [])
+        (begins (224 + c / 4096) (omega arith)) (count_next (c / 64) (next c ∷ []) (count_next c [] refl))
+    go false false false e = count_first (240 + c / 262144) (next (c / 4096) ∷ next (c / 64) ∷ next c ∷ [])
+        (begins (240 + c / 262144) (omega arith))
+        (count_next (c / 4096) (next (c / 64) ∷ next c ∷ [])
+        (count_next (c / 64) (next c ∷ []) (count_next c [] refl)))
 
 starts_of : (cs : List ℕ) → scalars cs ≡ true → count_by is_character_start (encode_utf8_all cs) ≡ length cs
 starts_of [] h = refl
 starts_of (c ∷ cs) h =
     let ends : scalars cs ≡ true = both_right (scalar c) (scalars cs) h in
-    sum_by-append (λ b. cond {A = ℕ} (is_character_start b) 1 0) (encode_utf8 c) (encode_utf8_all cs) ∙ omega (arith, starts_at_front c, starts_of cs ends)
+    sum_by-append (λ b. cond {A = ℕ} (is_character_start b) 1 0) (encode_utf8 c) (encode_utf8_all cs)
+    ∙ omega (arith, starts_at_front c, starts_of cs ends)
 
 starts_are : (bs : List ℕ) → IsUtf8 bs → length (chars bs) ≡ count_by is_character_start bs
-starts_are bs utf8 = sym (ap (count_by is_character_start) (sym (encodes-chars bs utf8)) ∙ starts_of (chars bs) (scalars-chars bs utf8))
+starts_are bs utf8 = sym (ap (count_by is_character_start) (sym (encodes-chars bs utf8))
+    ∙ starts_of (chars bs) (scalars-chars bs utf8))
 
-pub starts_from : (text : List ℕ) (at : ℕ) → IsUtf8 text → IsCharBoundary text at → characters_from text at ≡ count_by is_character_start (drop at text)
+pub starts_from : (text : List ℕ) (at : ℕ) → IsUtf8 text → IsCharBoundary text at →
+    characters_from text at ≡ count_by is_character_start (drop at text)
 starts_from text at utf8 boundary = starts_are (drop at text) (IsUtf8-drop text at utf8 boundary)
 
 -- no character stands at the end
@@ -118,7 +135,8 @@ pub chars_fit : (bs : List ℕ) → IsUtf8 bs → length (chars bs) ≤ length b
 chars_fit bs utf8 = omega (arith, length-le-encodes (chars bs), ap length (encodes-chars bs utf8))
 
 -- what holds at the first place and at each further one holds at each
-pub first_and_others : (P : ℕ → Type 0) (from end : ℕ) → P from → ((i : ℕ) → from + 1 ≤ i → i < end → P i) → (i : ℕ) → from ≤ i → i < end → P i
+pub first_and_others : (P : ℕ → Type 0) (from end : ℕ) → P from → ((i : ℕ) → from + 1 ≤ i → i < end → P i) →
+    (i : ℕ) → from ≤ i → i < end → P i
 first_and_others P from end first others i above below = go (ltb from i) refl
   where
     go : (t : Bool) → ltb from i ≡ t → P i

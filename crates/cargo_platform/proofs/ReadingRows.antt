@@ -113,19 +113,28 @@ results_are_few = (refl, refl, refl)
 -- a call after the fault costs nothing
 next_after_fault : Next (stopped (codes "#") 0 1) None (stopped (codes "#") 0 1)
 unfolding chars
-next_after_fault = record { gives = inl (refl, refl); begins = tt; reached = (lit≤ tt, λ below high. absurd (omega (arith, high))); each = λ going. absurd (true≢false going); at_most = lit≤ tt }
+next_after_fault = record {
+  gives = inl (refl, refl);
+  begins = tt;
+  reached = (lit≤ tt, λ below high. absurd (omega (arith, high)));
+  each = λ going. absurd (true≢false going);
+  at_most = lit≤ tt;
+}
 
 -- behind a token the space there was looked at, and at the end the end
-looks_at_space : (old : Progress) (r : Option (Result Spanned TokenFault)) (looks : ℕ) → Next old r (reached (codes "a ") 1 looks) → looks ≡ 2
+looks_at_space : (old : Progress) (r : Option (Result Spanned TokenFault)) (looks : ℕ) →
+    Next old r (reached (codes "a ") 1 looks) → looks ≡ 2
 unfolding chars
 looks_at_space old r looks n = omega (arith, n.each refl)
 
-looks_at_end : (old : Progress) (r : Option (Result Spanned TokenFault)) (looks : ℕ) → Next old r (reached (codes "a ") 2 looks) → looks ≡ 3
+looks_at_end : (old : Progress) (r : Option (Result Spanned TokenFault)) (looks : ℕ) →
+    Next old r (reached (codes "a ") 2 looks) → looks ≡ 3
 unfolding chars
 looks_at_end old r looks n = omega (arith, n.each refl)
 
 -- nothing is looked at again before a fault
-looks_up_to_fault : (old : Progress) (r : Option (Result Spanned TokenFault)) → Next old r (stopped (codes "a #") 2 5) → ⊥
+looks_up_to_fault : (old : Progress) (r : Option (Result Spanned TokenFault)) →
+    Next old r (stopped (codes "a #") 2 5) → ⊥
 unfolding chars
 looks_up_to_fault old r n = absurd (omega (arith, n.at_most))
 

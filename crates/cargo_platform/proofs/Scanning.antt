@@ -18,7 +18,8 @@ use Rattle.cargo_platform.proofs.OneCut.{both_true, both_first, both_second, nev
 
 -- ---- tests of the bytes between two places
 
-pub all_each : (p : ℕ → Bool) (xs : List ℕ) → ((i : ℕ) → i < length xs → p (get_or xs i 0) ≡ true) → list_all p xs ≡ true
+pub all_each : (p : ℕ → Bool) (xs : List ℕ) → ((i : ℕ) → i < length xs → p (get_or xs i 0) ≡ true) →
+    list_all p xs ≡ true
 all_each p [] each = refl
 all_each p (x ∷ xs) each = both_true (p x) (list_all p xs) (each 0 (omega arith)) (all_each p xs (λ i below. each (suc i) (omega arith)))
 
@@ -58,8 +59,14 @@ only_spaces text from to ordered inside each = (
   all_between is_space text from to inside (λ i above below. ap is_space (each i above below)),
 )
 
-pub rest_begins : (text : List ℕ) (at : ℕ) → at < length text → slice_index text at ≢ 0x20 → (b : ℕ) × (after : List ℕ) × (drop at text ≡ b ∷ after) × (is_space b ≡ false)
-rest_begins text at within past = (slice_index text at, drop (at + 1) text, rw (add-one, drop-cons text at 0) refl, ne_eqb (slice_index text at) 0x20 past)
+pub rest_begins : (text : List ℕ) (at : ℕ) → at < length text → slice_index text at ≢ 0x20 →
+    (b : ℕ) × (after : List ℕ) × (drop at text ≡ b ∷ after) × (is_space b ≡ false)
+rest_begins text at within past = (
+  slice_index text at,
+  drop (at + 1) text,
+  rw (add-one, drop-cons text at 0) refl,
+  ne_eqb (slice_index text at) 0x20 past,
+)
 
 -- ---- tokens
 
@@ -84,14 +91,16 @@ start_is_rest : (b : ℕ) → is_identifier_start b ≡ true → is_identifier_r
 start_is_rest b h = grind (arith, common_steps)
 
 -- a place where an identifier begins is not one where it ended
-pub goes_past : (text : List ℕ) (at end : ℕ) → is_identifier_start (slice_index text at) ≡ true → at ≤ end → is_identifier_rest (slice_index text end) ≡ false → at < end
+pub goes_past : (text : List ℕ) (at end : ℕ) → is_identifier_start (slice_index text at) ≡ true → at ≤ end →
+    is_identifier_rest (slice_index text end) ≡ false → at < end
 goes_past text at end begins ordered ends = go (ltb at end) refl
   where
     go : (t : Bool) → ltb at end ≡ t → at < end
     go true e = ltb-true at end e
     go false e =
         let is : at ≡ end = omega (arith, ltb-false at end e) in
-        absurd (true≢false (sym (start_is_rest (slice_index text at) begins) ∙ ap (λ k. is_identifier_rest (slice_index text k)) is ∙ ends))
+        absurd (true≢false (sym (start_is_rest (slice_index text at) begins)
+        ∙ ap (λ k. is_identifier_rest (slice_index text k)) is ∙ ends))
 
 -- a name, from its first byte and the others
 name_written : (text name : List ℕ) (from end : ℕ) → from < end → end ≤ length text → name ≡ slice_range text from end → is_identifier_start (slice_index text from) ≡ true → ((i : ℕ) → from + 1 ≤ i → i < end → is_identifier_rest (slice_index text i) ≡ true) → IsIdentifierName name

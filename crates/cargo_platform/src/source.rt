@@ -131,10 +131,12 @@ impl<'a> Source<'a> {
         ensures same { self.new.text ≡ self.old.text }
         ensures order { IfSome result (λ quote. from ≤ quote) }
         ensures at_quote { IfSome result (λ quote. IsCharAt self.old.text.now quote 0x22) }
-        ensures value { IfSome result (λ quote. (i : ℕ) → from ≤ i → i < quote → slice_index self.old.text.now i ≢ 0x22) }
+        ensures value { IfSome result (λ quote.
+            (i : ℕ) → from ≤ i → i < quote → slice_index self.old.text.now i ≢ 0x22) }
         ensures none { IfNone result ((i : ℕ) → from ≤ i → slice_index self.old.text.now i ≢ 0x22) }
         ensures cost { IfSome result (λ quote. Costs self.old.text.now from quote 1 self.old.looks self.new.looks) }
-        ensures cost_to_end { IfNone result (Costs self.old.text.now from (length self.old.text.now) 1 self.old.looks self.new.looks) }
+        ensures cost_to_end { IfNone result
+            (Costs self.old.text.now from (length self.old.text.now) 1 self.old.looks self.new.looks) }
     {
         let (end, characters) = value_end(self.text, from);
         self.add_looks(characters);

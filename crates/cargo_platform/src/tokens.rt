@@ -243,7 +243,8 @@ fn token_at<'a>(
     ensures same { source.new.text ≡ source.old.text }
     ensures token { IfOk result (λ cut. IsCutAt source.old.text.now start cut) }
     ensures fault { IfErr result (λ kind. BeginsFault (drop start source.old.text.now) kind) }
-    ensures cost { IfOk result (λ cut. Costs source.old.text.now (start + 1) cut.end 1 source.old.looks source.new.looks) }
+    ensures cost { IfOk result (λ cut.
+        Costs source.old.text.now (start + 1) cut.end 1 source.old.looks source.new.looks) }
     ensures cost_of_fault { OnErr result (source.new.looks ≤ source.old.looks + characters_from source.old.text.now start) }
     ensures one { OnOk result (characters_from source.old.text.now start ≡ characters_from source.old.text.now (start + 1) + 1) }
 {
@@ -290,7 +291,8 @@ fn string_at<'a>(source: &mut Source<'a>, start: usize) -> Result<Cut<'a>, Token
     ensures same { source.new.text ≡ source.old.text }
     ensures token { IfOk result (λ cut. IsCutAt source.old.text.now start cut) }
     ensures fault { IfErr result (λ kind. BeginsFault (drop start source.old.text.now) kind) }
-    ensures cost { IfOk result (λ cut. Costs source.old.text.now (start + 1) cut.end 1 source.old.looks source.new.looks) }
+    ensures cost { IfOk result (λ cut.
+        Costs source.old.text.now (start + 1) cut.end 1 source.old.looks source.new.looks) }
     ensures cost_of_fault { OnErr result (source.new.looks ≤ source.old.looks + characters_from source.old.text.now start) }
 {
     match source.closing_quote(start + 1) {
@@ -335,7 +337,8 @@ fn marked_at<'a>(source: &mut Source<'a>, start: usize) -> Result<Cut<'a>, Token
     ensures same { source.new.text ≡ source.old.text }
     ensures token { IfOk result (λ cut. IsCutAt source.old.text.now start cut) }
     ensures fault { IfErr result (λ kind. BeginsFault (drop start source.old.text.now) kind) }
-    ensures cost { IfOk result (λ cut. Costs source.old.text.now (start + 2) cut.end 1 source.old.looks source.new.looks) }
+    ensures cost { IfOk result (λ cut.
+        Costs source.old.text.now (start + 2) cut.end 1 source.old.looks source.new.looks) }
     ensures cost_of_fault { OnErr result (source.new.looks + 1 ≤ source.old.looks + characters_from source.old.text.now start) }
 {
     let third = source.look(start + 2);

@@ -20,13 +20,16 @@ returns-then-eq c =
     let w = c.in-KeyPair in
     let keys = name_cmp (name_of w.other_key) (name_of c.args.key.now) in
     let texts = text_cmp (string_bytes w.other_value) (string_bytes c.args.value.now) in
-    let values = sym c.if-eq.true ∙ c.eq.ensures ∙ texts_ties (string_bytes w.other_value) (string_bytes c.args.value.now) in
-    rw w.is (first_of_true c.eq-then-eq.result ∙ both_tied c.eq-then-eq.result true keys texts c.eq-then-eq.ensures values)
+    let values = sym c.if-eq.true ∙ c.eq.ensures
+    ∙ texts_ties (string_bytes w.other_value) (string_bytes c.args.value.now) in
+    rw w.is (first_of_true c.eq-then-eq.result
+    ∙ both_tied c.eq-then-eq.result true keys texts c.eq-then-eq.ensures values)
 
 pub returns-else-eq : goal.returns-else-eq
 returns-else-eq c =
     let w = c.in-KeyPair in
     let keys = name_cmp (name_of w.other_key) (name_of c.args.key.now) in
     let texts = text_cmp (string_bytes w.other_value) (string_bytes c.args.value.now) in
-    let values = sym c.if-eq.false ∙ c.eq.ensures ∙ texts_ties (string_bytes w.other_value) (string_bytes c.args.value.now) in
+    let values = sym c.if-eq.false ∙ c.eq.ensures
+    ∙ texts_ties (string_bytes w.other_value) (string_bytes c.args.value.now) in
     rw w.is (c.if-eq.false ∙ none_of_false (is_eq keys) ∙ both_tied (is_eq keys) false keys texts refl values)

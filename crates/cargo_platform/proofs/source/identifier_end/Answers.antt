@@ -8,8 +8,10 @@ pub rest-preserved : goal.rest-preserved
 rest-preserved c =
     let is = c.as_bytes-bytes.ensures.value in
     let within : c.rest.at < length c.args.text.now = rw is at c.rest-test.true in
-    let rest : is_identifier_rest (get_or c.args.text.now c.rest.at 0) ≡ true = rw is at (sym c.continues_identifier.ensures ∙ c.if-continues_identifier.true) in
-    let step = ascii_step c.args.text.now c.rest.at c.utf8.text within (rest_is_ascii _ rest) c.rest.invariant.boundary in
+    let rest : is_identifier_rest (get_or c.args.text.now c.rest.at 0) ≡ true =
+    rw is at (sym c.continues_identifier.ensures ∙ c.if-continues_identifier.true) in
+    let step = ascii_step c.args.text.now c.rest.at c.utf8.text within
+    (rest_is_ascii _ rest) c.rest.invariant.boundary in
     record {
       order = omega arith;
       boundary = step.0;

@@ -10,7 +10,8 @@ invariant-value l = record {
   within : l.at ≤ length l.text;
   value : (i : ℕ) → l.from ≤ i → i < l.at → slice_index l.text i ≢ 0x22;
   few : l.characters + l.from ≤ l.at;
-  characters : count_by is_character_start (drop l.from l.text) ≡ l.characters + count_by is_character_start (drop l.at l.text);
+  characters : count_by is_character_start (drop l.from l.text) ≡ l.characters + count_by is_character_start
+      (drop l.at l.text);
 }
 
 abbrev pub decreases-value : goal.decreases-value

@@ -14,11 +14,15 @@ returns-in-Ascii-clause-token c =
     let found = rw same at c.past_identifier-end.ensures in
     let begins = sym c.if-begins_identifier.ensures in
     let here = rw c.in-Ascii.is at c.look-third.ensures.sees in
-    let first : is_identifier_start (slice_index text (c.args.start + 2)) ≡ true = ap is_identifier_start (here.1.ascii (start_is_ascii _ begins)) ∙ begins in
-    let behind : c.args.start + 3 ≤ end = omega (arith, goes_past text (c.args.start + 2) end first found.order found.end) in
+    let first : is_identifier_start (slice_index text (c.args.start + 2)) ≡ true =
+    ap is_identifier_start (here.1.ascii (start_is_ascii _ begins)) ∙ begins in
+    let behind : c.args.start + 3 ≤ end =
+    omega (arith, goes_past text (c.args.start + 2) end first found.order found.end) in
     record {
-      stands = marked_stands text _ c.args.start end (c.requires.there.ascii (omega arith)) (c.requires.number_sign.ascii (omega arith)) first behind found.boundary.0
-          (c.slice.ensures ∙ ap (λ t. between (c.args.start + 2) end t.now) found.same) (λ i above below. found.rest i (omega arith) below) found.end;
+      stands = marked_stands text _ c.args.start end (c.requires.there.ascii (omega arith))
+          (c.requires.number_sign.ascii (omega arith)) first behind found.boundary.0
+          (c.slice.ensures ∙ ap (λ t. between (c.args.start + 2) end t.now) found.same)
+          (λ i above below. found.rest i (omega arith) below) found.end;
       boundary = found.boundary;
       sees = found.sees;
     }

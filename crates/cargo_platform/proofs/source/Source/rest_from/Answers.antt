@@ -6,14 +6,17 @@ use Rattle.cargo_platform.proofs.source.Source.rest_from.Goals as goal
 pub returns-then-start-text : goal.returns-then-start-text
 returns-then-start-text c =
     let found = c.spaces_end-start.ensures in
-    subst (AreSpaces c.args.self.now.text.now c.args.at) c.if-start-text.true (only_spaces c.args.self.now.text.now c.args.at c.spaces_end-start.result found.order found.boundary.0 found.spaces)
+    subst (AreSpaces c.args.self.now.text.now c.args.at) c.if-start-text.true
+    (only_spaces c.args.self.now.text.now c.args.at c.spaces_end-start.result found.order found.boundary.0 found.spaces)
 
 pub returns : goal.returns
 returns c =
     let found = c.spaces_end-start.ensures in
     record {
       start = c.spaces_end-start.result;
-      apart = only_spaces c.args.self.now.text.now c.args.at c.spaces_end-start.result found.order found.boundary.0 found.spaces;
+      apart = only_spaces c.args.self.now.text.now c.args.at c.spaces_end-start.result
+          found.order found.boundary.0 found.spaces;
       bytes = c.range_from.ensures.value;
-      begins = rw c.range_from.ensures.value (rest_begins c.args.self.now.text.now c.spaces_end-start.result (omega arith) found.past);
+      begins = rw c.range_from.ensures.value
+          (rest_begins c.args.self.now.text.now c.spaces_end-start.result (omega arith) found.past);
     }
