@@ -69,7 +69,7 @@ pub record Next (old : Progress) (r : Option (Result Spanned TokenFault)) (new :
   pub reached : IsCharBoundary new.text new.place
   -- until a fault: once at each character before the place, and once at what is there, a character or the end
   pub each : new.failed ≡ false → new.looks + characters_from new.text new.place ≡ characters_from new.text 0 + 1
-  -- always: as if once at each character and once at the end
+  -- always: no more than once for each character and once for the end
   pub at_most : new.looks ≤ characters_from new.text 0 + 1
 
 -- at most so many results come before the last None
