@@ -36,3 +36,5 @@ pub mod Looking
 pub mod Scanning
 pub mod Ahead
 pub mod Parsing
+pub mod ExpressionSizes
+pub mod Pending

@@ -13,6 +13,7 @@ mod display;
 pub mod error;
 mod fact_lines;
 mod facts;
+mod iterative_drop;
 mod json;
 pub mod laws;
 mod order;

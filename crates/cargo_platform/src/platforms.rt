@@ -71,7 +71,11 @@ impl CfgExpr {
         ensures otherwise { IfOk result (λ answer. answer ≡ false → (e : Tree) → IsConditionText key.now (Expression e) → truth (fact_set (map value_of cfg.now)) e ≡ false) }
     {
         match Platform::from_str(alloc, key) {
-            Ok(Platform::Cfg(expression)) => Ok(expression.matches(cfg)),
+            Ok(Platform::Cfg(expression)) => {
+                let is_true = expression.matches(cfg);
+                expression.drop_iteratively(alloc);
+                Ok(is_true)
+            }
             Ok(Platform::Name(_)) => Ok(false),
             Err(ReadError::Parse(_)) => Ok(false),
             Err(ReadError::Memory(error)) => Err(error),

@@ -1,0 +1,18 @@
+-- How many expressions stand in an expression, itself among them.
+use Rattle.std.specs.Prelude.{ℕ, ◌+◌, List, sum, map, box_value}
+use Rattle.cargo_platform.specs.declared.cfg.CfgExpr.{CfgExpr, fold-CfgExpr}
+use Rattle.cargo_platform.specs.declared.cfg.CfgExpr.TheOpen as layer
+
+abbrev pub size_step : layer.CfgExpr-F ℕ → ℕ
+size_step (layer.Not e) = box_value e + 1
+size_step (layer.All es) = sum es.items + 1
+size_step (layer.Any es) = sum es.items + 1
+size_step (layer.Value c) = 1
+size_step layer.True = 1
+size_step layer.False = 1
+
+abbrev pub size : CfgExpr → ℕ
+size = fold-CfgExpr ℕ size_step
+
+abbrev pub sizes : List CfgExpr → ℕ
+sizes es = sum (map size es)
