@@ -48,6 +48,7 @@ pub mod Members
 pub mod Lines
 pub mod TextLines
 pub mod FactLines
+pub mod LastMembers
 pub mod TargetNames
 pub mod Conditions
 pub mod Changes

@@ -38,3 +38,4 @@ pub mod Ahead
 pub mod Parsing
 pub mod ExpressionSizes
 pub mod Pending
+pub mod Asking

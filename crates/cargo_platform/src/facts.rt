@@ -1,11 +1,12 @@
 //! Facts, and the truth of an expression over them.
 
-ghost use Rattle.std.specs.Prelude.{◌≡◌, map, IfOk, string_bytes};
+ghost use Rattle.std.specs.Prelude.{◌≡◌, ◌≤◌, map, IfOk, MatchResult, string_bytes};
 ghost use Rattle.std.specs.Ordering.{eq_by_cmp};
 ghost use Rattle.std.specs.FinSet.{contains};
 ghost use Rattle.cargo_platform.specs.Key.{value_cmp};
-ghost use Rattle.cargo_platform.specs.Trees.{Alone, KeyPair, name_of, value_of, tree_of};
-ghost use Rattle.cargo_platform.specs.Facts.{FactSet, pair_of, fact_set, truth};
+ghost use Rattle.cargo_platform.specs.Trees.{Alone, KeyPair, name_of, value_of, tree_of, trees_of};
+ghost use Rattle.cargo_platform.specs.Facts.{FactSet, pair_of, fact_set, truth, all_true, any_true};
+ghost use Rattle.cargo_platform.specs.ExpressionSizes.{size, sizes};
 
 use crate::cfg::{Cfg, CfgExpr, Ident};
 use std::alloc::{AllocError, Global};
@@ -103,30 +104,77 @@ impl CfgExpr {
     }
 
     /// Whether the expression is true over the set of facts that the holder means.
+    // Goes down the last members in a loop, so that what recurses are the members before them.
+    #[cycle(matches)]
+    #[tactic(auto, using(crate::proofs::LastMembers::asked_not))]
     pub fn matches_in<F: Facts>(&self, facts: &F) -> bool
         ensures { result ≡ truth (F.meant facts.now) (tree_of self.now) }
     {
-        match self {
-            CfgExpr::Not(e) => !e.matches_in(facts),
-            CfgExpr::All(es) => {
-                for e in es {
-                    if !e.matches_in(facts) {
-                        return false;
-                    }
+        let mut e = self;
+        let mut is_asked = true;
+        'levels: loop {
+            let rest = match e {
+                CfgExpr::Not(inner) => {
+                    is_asked = !is_asked;
+                    e = inner;
+                    continue;
                 }
-                true
+                CfgExpr::All(members) => CfgExpr::all_but_last(members, facts),
+                CfgExpr::Any(members) => CfgExpr::any_but_last(members, facts),
+                CfgExpr::Value(c) => Err(facts.holds(c)),
+                CfgExpr::True => Err(true),
+                CfgExpr::False => Err(false),
+            };
+            match rest {
+                Ok(last) => e = last,
+                Err(is_true) => return if is_asked { is_true } else { !is_true },
             }
-            CfgExpr::Any(es) => {
-                for e in es {
-                    if e.matches_in(facts) {
-                        return true;
-                    }
-                }
-                false
-            }
-            CfgExpr::Value(c) => facts.holds(c),
-            CfgExpr::True => true,
-            CfgExpr::False => false,
         }
+    }
+
+    // The last member, which all of them hang on, or whether they are true.
+    #[cycle(matches)]
+    #[inline(always)]
+    #[tactic(auto, using(crate::proofs::LastMembers::and_true))]
+    fn all_but_last<'a, F: Facts>(members: &'a [CfgExpr], facts: &F) -> Result<&'a CfgExpr, bool>
+        ensures truth { MatchResult result (λ last. truth (F.meant facts.now) (tree_of last.now) ≡ all_true (F.meant facts.now) (trees_of (map tree_of members.now))) (λ is_true. is_true ≡ all_true (F.meant facts.now) (trees_of (map tree_of members.now))) }
+        ensures size { IfOk result (λ last. size last.now ≤ sizes members.now) }
+    {
+        let Some((first, others)) = members.split_first() else {
+            return Err(true);
+        };
+        let mut e = first;
+        let mut left = others;
+        'members: while let Some((next, others)) = left.split_first() {
+            if !e.matches_in(facts) {
+                return Err(false);
+            }
+            e = next;
+            left = others;
+        }
+        Ok(e)
+    }
+
+    // The same of any of them.
+    #[cycle(matches)]
+    #[inline(always)]
+    #[tactic(auto, using(crate::proofs::LastMembers::or_false))]
+    fn any_but_last<'a, F: Facts>(members: &'a [CfgExpr], facts: &F) -> Result<&'a CfgExpr, bool>
+        ensures truth { MatchResult result (λ last. truth (F.meant facts.now) (tree_of last.now) ≡ any_true (F.meant facts.now) (trees_of (map tree_of members.now))) (λ is_true. is_true ≡ any_true (F.meant facts.now) (trees_of (map tree_of members.now))) }
+        ensures size { IfOk result (λ last. size last.now ≤ sizes members.now) }
+    {
+        let Some((first, others)) = members.split_first() else {
+            return Err(false);
+        };
+        let mut e = first;
+        let mut left = others;
+        'members: while let Some((next, others)) = left.split_first() {
+            if e.matches_in(facts) {
+                return Err(true);
+            }
+            e = next;
+            left = others;
+        }
+        Ok(e)
     }
 }
