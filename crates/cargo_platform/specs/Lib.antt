@@ -39,3 +39,4 @@ pub mod Parsing
 pub mod ExpressionSizes
 pub mod Pending
 pub mod Asking
+pub mod Copying

@@ -1,10 +1,14 @@
 //! Copies of names, pairs, expressions and platforms, with their raw marks.
 
-ghost use Rattle.std.specs.Prelude.{◌≡◌, map, IfOk};
-ghost use Rattle.cargo_platform.specs.Trees.{name_of, value_of, tree_of, condition_of};
+ghost use Rattle.std.specs.Prelude.{◌≡◌, ◌≤◌, ◌+◌, ◌*◌, IfOk, IfSome, OnOk, MatchOption};
+ghost use Rattle.cargo_platform.specs.Trees.{Tree, name_of, value_of, tree_of, condition_of};
+ghost use Rattle.cargo_platform.specs.Sizes.{size};
+ghost use Rattle.cargo_platform.specs.Copying.{around, whole, left_in, work};
 
 use crate::Platform;
 use crate::cfg::{Cfg, CfgExpr, Ident};
+use crate::iterative_drop::drop_members;
+use crate::parser::{Listing, close_list, negation, push_member};
 use std::alloc::{AllocError, Global};
 
 impl Ident {
@@ -36,32 +40,126 @@ impl Cfg {
 
 impl CfgExpr {
     /// A copy of the whole tree, with its raw marks. It refuses only where memory is refused.
-    #[cycle(clone)]
     pub fn clone(&self, alloc: Global) -> Result<CfgExpr, AllocError>
         ensures { IfOk result (λ copy. tree_of copy ≡ tree_of self.now) }
     {
-        match self {
-            CfgExpr::Not(e) => {
-                let negated: &CfgExpr = e;
-                Ok(CfgExpr::Not(Box::new(alloc, negated.clone(alloc)?)?))
-            }
-            CfgExpr::All(es) => Ok(CfgExpr::All(CfgExpr::clone_members(alloc, es)?)),
-            CfgExpr::Any(es) => Ok(CfgExpr::Any(CfgExpr::clone_members(alloc, es)?)),
-            CfgExpr::Value(c) => Ok(CfgExpr::Value(c.clone(alloc)?)),
-            CfgExpr::True => Ok(CfgExpr::True),
-            CfgExpr::False => Ok(CfgExpr::False),
+        let mut groups = CopiedGroups::new(alloc);
+        let mut copy = copy_first(alloc, self, &mut groups)?;
+        'groups: loop {
+            copy = match groups.pop() {
+                None => return Ok(copy),
+                Some(CopiedGroup::Not) => negation(alloc, copy)?,
+                Some(CopiedGroup::List(word, mut copies, left)) => {
+                    push_member(&mut copies, copy)?;
+                    match left.split_first() {
+                        Some((next, left)) => {
+                            groups.push(CopiedGroup::List(word, copies, left))?;
+                            copy_first(alloc, next, &mut groups)?
+                        }
+                        None => close_list(word, copies),
+                    }
+                }
+            };
+        }
+    }
+}
+
+/// A group that is being copied.
+#[derive(Drop)]
+enum CopiedGroup<'a> {
+    Not,
+    /// Its word, the copies that are made, and the members behind the one that is being copied.
+    List(Listing, Vec<CfgExpr>, &'a [CfgExpr]),
+}
+
+/// The groups that are being copied, the innermost last.
+struct CopiedGroups<'a> {
+    groups: Vec<CopiedGroup<'a>>,
+}
+
+impl<'a> CopiedGroups<'a> {
+    fn new(alloc: Global) -> CopiedGroups<'a>
+        ensures whole { (e : Tree) → whole result e ≡ e }
+    {
+        CopiedGroups {
+            groups: Vec::new(alloc),
         }
     }
 
-    #[cycle(clone)]
-    fn clone_members(alloc: Global, es: &[CfgExpr]) -> Result<Vec<CfgExpr>, AllocError>
-        ensures { IfOk result (λ copies. map tree_of copies.items ≡ map tree_of es.now) }
+    fn push(&mut self, group: CopiedGroup<'a>) -> Result<(), AllocError>
+        ensures whole { OnOk result ((e : Tree) → whole self.new e ≡ whole self.old (around group.entry e)) }
+        ensures work { OnOk result (work self.new ≡ work self.old + left_in group.entry) }
     {
-        let mut copies = Vec::with_capacity(alloc, es.len())?;
-        for e in es {
-            copies.push(e.clone(alloc)?)?;
+        match self.groups.push(group) {
+            Ok(()) => Ok(()),
+            Err(refused) => {
+                drop_group(refused.value);
+                Err(AllocError)
+            }
         }
-        Ok(copies)
+    }
+
+    fn pop(&mut self) -> Option<CopiedGroup<'a>>
+        ensures whole { MatchOption result ((e : Tree) → whole self.old e ≡ e) (λ group. (e : Tree) → whole self.old e ≡ whole self.new (around group e)) }
+        ensures work { IfSome result (λ group. work self.old ≡ work self.new + left_in group) }
+    {
+        self.groups.pop()
+    }
+}
+
+impl<'a> Drop for CopiedGroups<'a> {
+    /// Without recursion over the depth of the copies.
+    fn drop(self) {
+        let CopiedGroups { mut groups } = self;
+        'groups: while let Some(group) = groups.pop() {
+            drop_group(group);
+        }
+    }
+}
+
+fn drop_group(group: CopiedGroup<'_>) {
+    match group {
+        CopiedGroup::Not => {}
+        CopiedGroup::List(_word, copies, _left) => drop_members(copies),
+    }
+}
+
+/// Opens the groups that an expression begins with, and copies the first that stands inside them and has none inside.
+fn copy_first<'a>(
+    alloc: Global,
+    e: &'a CfgExpr,
+    groups: &mut CopiedGroups<'a>,
+) -> Result<CfgExpr, AllocError>
+    ensures whole { IfOk result (λ copy. whole groups.new (tree_of copy) ≡ whole groups.old (tree_of e.now)) }
+    ensures work { OnOk result (work groups.new + 1 ≤ work groups.old + 2 * size e.now) }
+{
+    let mut part = e;
+    'groups: loop {
+        match part {
+            CfgExpr::Not(inner) => {
+                groups.push(CopiedGroup::Not)?;
+                part = inner;
+            }
+            CfgExpr::All(members) => match members.split_first() {
+                Some((first, left)) => {
+                    let copies = Vec::with_capacity(alloc, members.len())?;
+                    groups.push(CopiedGroup::List(Listing::All, copies, left))?;
+                    part = first;
+                }
+                None => return Ok(CfgExpr::All(Vec::new(alloc))),
+            },
+            CfgExpr::Any(members) => match members.split_first() {
+                Some((first, left)) => {
+                    let copies = Vec::with_capacity(alloc, members.len())?;
+                    groups.push(CopiedGroup::List(Listing::Any, copies, left))?;
+                    part = first;
+                }
+                None => return Ok(CfgExpr::Any(Vec::new(alloc))),
+            },
+            CfgExpr::Value(c) => return Ok(CfgExpr::Value(c.clone(alloc)?)),
+            CfgExpr::True => return Ok(CfgExpr::True),
+            CfgExpr::False => return Ok(CfgExpr::False),
+        }
     }
 }
 

@@ -80,6 +80,12 @@ impl CfgExpr {
     }
 }
 
+/// Drops members of a group without recursion over their depth.
+pub(crate) fn drop_members(members: Vec<CfgExpr>) {
+    let alloc = *members.allocator();
+    CfgExpr::All(members).drop_iteratively(alloc);
+}
+
 impl Platform {
     /// Drops the condition without recursion over the depth of its expression, as `CfgExpr::drop_iteratively` does.
     pub fn drop_iteratively(self, alloc: Global) {

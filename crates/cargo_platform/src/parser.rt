@@ -9,12 +9,13 @@ ghost use Rattle.cargo_platform.specs.Spelling.{is_group_word, is_literal_word, 
 ghost use Rattle.cargo_platform.specs.Parsing.{LacksMark, Opening, Negated, Listed, opening, stack, opening_word, IsFresh, is_all, list_tree, Wants, Has, HasName, HasWord, Stands, Reads, Stops, HasRead, ClearBehind, TakesValue, LacksValue, StopsKey, StopsValue, kinds, is_list};
 
 use crate::cfg::{Cfg, CfgExpr, Ident};
+use crate::iterative_drop::drop_members;
 use crate::reader::{Mark, Reader, Refusal, expect_end, refuse};
 use std::alloc::{AllocError, Global};
 
 /// `all` or `any`.
 #[derive(Clone, Copy)]
-enum Listing {
+pub(crate) enum Listing {
     All,
     Any,
 }
@@ -27,7 +28,6 @@ enum Group {
 }
 
 /// The open groups, the innermost last.
-#[derive(Drop)]
 struct OpenGroups {
     groups: Vec<Group>,
 }
@@ -44,14 +44,36 @@ impl OpenGroups {
     fn push(&mut self, group: Group) -> Result<(), AllocError>
         ensures { OnOk result (stack self.new ≡ opening group ∷ stack self.old) }
     {
-        self.groups.push(group)?;
-        Ok(())
+        match self.groups.push(group) {
+            Ok(()) => Ok(()),
+            Err(refused) => {
+                drop_group(refused.value);
+                Err(AllocError)
+            }
+        }
     }
 
     fn pop(&mut self) -> Option<Group>
         ensures { MatchOption result ((stack self.old ≡ []) × (stack self.new ≡ [])) (λ group. stack self.old ≡ opening group ∷ stack self.new) }
     {
         self.groups.pop()
+    }
+}
+
+impl Drop for OpenGroups {
+    /// Without recursion over the depth of the members.
+    fn drop(self) {
+        let OpenGroups { mut groups } = self;
+        'groups: while let Some(group) = groups.pop() {
+            drop_group(group);
+        }
+    }
+}
+
+fn drop_group(group: Group) {
+    match group {
+        Group::Not => {}
+        Group::List(_word, members) => drop_members(members),
     }
 }
 
@@ -180,6 +202,7 @@ fn end_list(reader: &mut Reader<'_>, groups: &mut OpenGroups) -> Option<CfgExpr>
     match groups.pop() {
         Some(Group::List(word, members)) => {
             if !reader.eat(Mark::RightParen) {
+                drop_members(members);
                 return None;
             }
             Some(close_list(word, members))
@@ -209,7 +232,7 @@ fn begin<'a>(
     Err(refuse(reader, "identifier", "start of a cfg expression"))
 }
 
-fn close_list(word: Listing, members: Vec<CfgExpr>) -> CfgExpr
+pub(crate) fn close_list(word: Listing, members: Vec<CfgExpr>) -> CfgExpr
     ensures { tree_of result ≡ list_tree (is_all word) (map tree_of members.items) }
 {
     match word {
@@ -218,17 +241,28 @@ fn close_list(word: Listing, members: Vec<CfgExpr>) -> CfgExpr
     }
 }
 
-fn negation(alloc: Global, negated: CfgExpr) -> Result<CfgExpr, AllocError>
+pub(crate) fn negation(alloc: Global, negated: CfgExpr) -> Result<CfgExpr, AllocError>
     ensures { IfOk result (λ e. tree_of e ≡ Not (tree_of negated)) }
 {
-    Ok(CfgExpr::Not(Box::new(alloc, negated)?))
+    match Box::new(alloc, negated) {
+        Ok(inner) => Ok(CfgExpr::Not(inner)),
+        Err(refused) => {
+            refused.value.drop_iteratively(alloc);
+            Err(AllocError)
+        }
+    }
 }
 
-fn push_member(members: &mut Vec<CfgExpr>, member: CfgExpr) -> Result<(), AllocError>
+pub(crate) fn push_member(members: &mut Vec<CfgExpr>, member: CfgExpr) -> Result<(), AllocError>
     ensures { OnOk result (map tree_of members.new.items ≡ map tree_of members.old.items ++ tree_of member ∷ []) }
 {
-    members.push(member)?;
-    Ok(())
+    match members.push(member) {
+        Ok(()) => Ok(()),
+        Err(refused) => {
+            refused.value.drop_iteratively(*members.allocator());
+            Err(AllocError)
+        }
+    }
 }
 
 /// Reads the `)` of a negation.
@@ -243,6 +277,7 @@ fn close_negation<'a>(
     ensures shorter { OnOk result (items_left reader.new < items_left reader.old) }
 {
     if !reader.eat(Mark::RightParen) {
+        negated.drop_iteratively(alloc);
         return Err(refuse(reader, "`)`", "`)`"));
     }
     Ok(negation(alloc, negated)?)
@@ -269,6 +304,7 @@ fn behind_member<'a>(
     if reader.eat(Mark::RightParen) {
         return Ok(Some(close_list(word, members)));
     }
+    drop_members(members);
     Err(refuse(reader, "`)`", "`)`"))
 }
 
@@ -309,8 +345,11 @@ pub(crate) fn read_expression<'a>(
             Some(e) => match groups.pop() {
                 Some(group) => go_on(alloc, reader, &mut groups, group, e)?,
                 None => {
-                    expect_end(reader)?;
-                    return Ok(e);
+                    let Err(refusal) = expect_end(reader) else {
+                        return Ok(e);
+                    };
+                    e.drop_iteratively(alloc);
+                    return Err(refusal);
                 }
             },
         };

@@ -64,14 +64,13 @@ returns-in_err-done-in-Some-pop-clause-refused c =
     let p = err_from_is_err_and c.from_residual-in_err-done-in-Some-pop.result c.from_residual-in_err-done-in-Some-pop.ensures.1 in
     rw (p.1, p.2) ((stops_then a l Nothing (Has os e l.item) r (subst G c.in-Some-pop.ensures (subst D c.in-Some.is c.groups.invariant.reads)) c.in_err-done-in-Some-pop.ensures.refused))
 
-pub returns-in_err-expect_end-in-None-pop-clause-refused : goal.returns-in_err-expect_end-in-None-pop-clause-refused
-returns-in_err-expect_end-in-None-pop-clause-refused c =
+pub returns-in-None-pop-clause-refused : goal.returns-in-None-pop-clause-refused
+returns-in-None-pop-clause-refused c =
     let a = c.args.reader.now in
     let l = c.groups.reader in
     let gs = stack c.groups.groups in
     let e = tree_of c.in-Some.e in
     let D : Option CfgExpr → Type 0 = λ z. Reads a l Nothing (Stands gs z l.item) in
     let G : List Opening → Type 0 = λ z. Reads a l Nothing (Has z e l.item) in
-    let r = c.in_err-expect_end-in-None-pop.field-0.0 in
-    let p = err_from_is_err_and c.from_residual-in_err-expect_end-in-None-pop.result c.from_residual-in_err-expect_end-in-None-pop.ensures.1 in
-    rw (p.1, p.2) ((stops_then a l Nothing (Has [] e l.item) r (subst G c.in-None-pop.ensures.0 (subst D c.in-Some.is c.groups.invariant.reads)) (stops_behind l e r c.in_err-expect_end-in-None-pop.ensures.more)))
+    let r = c.in-Err.refusal in
+    stops_then a l Nothing (Has [] e l.item) r (subst G c.in-None-pop.ensures.0 (subst D c.in-Some.is c.groups.invariant.reads)) (stops_behind l e r c.in-Err.ensures.more)

@@ -1,0 +1,11 @@
+use Rattle.std.proofs.Common.{◌≡◌}
+use Rattle.cargo_platform.specs.Trees.{tree_of}
+use Rattle.cargo_platform.specs.Copying.{whole, work}
+use Rattle.cargo_platform.proofs.cfg.CfgExpr.clone.Given as goal
+
+-- the copy, in the groups around it, is the whole
+abbrev pub invariant-groups : goal.invariant-groups
+invariant-groups l = whole l.groups (tree_of l.copy) ≡ tree_of l.self
+
+abbrev pub decreases-groups : goal.decreases-groups
+decreases-groups l = work l.groups

@@ -1,0 +1,29 @@
+-- What a copy is a part of: the groups that are being copied around it.
+use Rattle.std.specs.Prelude.{ℕ, ◌+◌, ◌*◌, List, [], ◌∷◌, ◌++◌, map, reverse, sum}
+use Rattle.cargo_platform.specs.declared.clone.CopiedGroup.{CopiedGroup}
+use Rattle.cargo_platform.specs.declared.clone.CopiedGroup.TheVariants as group
+use Rattle.cargo_platform.specs.declared.clone.CopiedGroups.{CopiedGroups}
+use Rattle.cargo_platform.specs.Trees.{Tree, Not, tree_of}
+use Rattle.cargo_platform.specs.Parsing.{is_all, list_tree}
+use Rattle.cargo_platform.specs.Sizes.{sizes}
+
+-- the group with this member in its place
+abbrev pub around : CopiedGroup → Tree → Tree
+around group.Not e = Not e
+around (group.List word copies left) e = list_tree (is_all word) (map tree_of copies.items ++ e ∷ map tree_of left.now)
+
+-- from the innermost group to the outermost
+abbrev pub within : List CopiedGroup → Tree → Tree
+within [] e = e
+within (g ∷ gs) e = within gs (around g e)
+
+abbrev pub whole : CopiedGroups → Tree → Tree
+whole c e = within (reverse c.groups.items) e
+
+-- what falls while the members of a group are copied
+abbrev pub left_in : CopiedGroup → ℕ
+left_in group.Not = 1
+left_in (group.List word copies left) = 2 * sizes left.now + 1
+
+abbrev pub work : CopiedGroups → ℕ
+work c = sum (map left_in c.groups.items)
