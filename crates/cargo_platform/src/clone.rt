@@ -100,7 +100,9 @@ impl<'a> CopiedGroups<'a> {
     }
 
     fn pop(&mut self) -> Option<CopiedGroup<'a>>
-        ensures whole { MatchOption result ((e : Tree) → whole self.old e ≡ e) (λ group. (e : Tree) → whole self.old e ≡ whole self.new (around group e)) }
+        ensures whole { MatchOption result
+            ((e : Tree) → whole self.old e ≡ e)
+            (λ group. (e : Tree) → whole self.old e ≡ whole self.new (around group e)) }
         ensures work { IfSome result (λ group. work self.old ≡ work self.new + left_in group) }
     {
         self.groups.pop()

@@ -137,7 +137,10 @@ impl CfgExpr {
     #[inline(always)]
     #[tactic(auto, using(crate::proofs::LastMembers::and_true))]
     fn all_but_last<'a, F: Facts>(members: &'a [CfgExpr], facts: &F) -> Result<&'a CfgExpr, bool>
-        ensures truth { MatchResult result (λ last. truth (F.meant facts.now) (tree_of last.now) ≡ all_true (F.meant facts.now) (trees_of (map tree_of members.now))) (λ is_true. is_true ≡ all_true (F.meant facts.now) (trees_of (map tree_of members.now))) }
+        ensures truth { MatchResult result
+            (λ last. truth (F.meant facts.now) (tree_of last.now)
+            ≡ all_true (F.meant facts.now) (trees_of (map tree_of members.now)))
+            (λ is_true. is_true ≡ all_true (F.meant facts.now) (trees_of (map tree_of members.now))) }
         ensures size { IfOk result (λ last. size last.now ≤ sizes members.now) }
     {
         let Some((first, others)) = members.split_first() else {
@@ -160,7 +163,10 @@ impl CfgExpr {
     #[inline(always)]
     #[tactic(auto, using(crate::proofs::LastMembers::or_false))]
     fn any_but_last<'a, F: Facts>(members: &'a [CfgExpr], facts: &F) -> Result<&'a CfgExpr, bool>
-        ensures truth { MatchResult result (λ last. truth (F.meant facts.now) (tree_of last.now) ≡ any_true (F.meant facts.now) (trees_of (map tree_of members.now))) (λ is_true. is_true ≡ any_true (F.meant facts.now) (trees_of (map tree_of members.now))) }
+        ensures truth { MatchResult result
+            (λ last. truth (F.meant facts.now) (tree_of last.now)
+            ≡ any_true (F.meant facts.now) (trees_of (map tree_of members.now)))
+            (λ is_true. is_true ≡ any_true (F.meant facts.now) (trees_of (map tree_of members.now))) }
         ensures size { IfOk result (λ last. size last.now ≤ sizes members.now) }
     {
         let Some((first, others)) = members.split_first() else {

@@ -68,9 +68,9 @@ fn drop_outermost(e: CfgExpr, pending: &mut Pending) -> Option<CfgExpr>
 impl CfgExpr {
     /// Drops the expression without recursion over its depth.
     ///
-    /// What the compiler does where an expression goes out of scope takes stack for each level of it. This call keeps the
-    /// members that are still to be dropped in a list instead; where memory for the list is refused, it drops these as
-    /// the compiler does.
+    /// What the compiler does where an expression goes out of scope takes stack for each level of it. This call keeps
+    /// the members that are still to be dropped in a list instead; where memory for the list is refused, it drops these
+    /// as the compiler does.
     pub fn drop_iteratively(self, alloc: Global) {
         let mut pending = Pending::new(alloc);
         let mut e = self;

@@ -6,7 +6,8 @@ use Rattle.cargo_platform.proofs.clone.copy_first.Given as goal
 
 abbrev pub invariant-groups : goal.invariant-groups
 invariant-groups l =
-    (whole l.groups (tree_of l.part) ≡ whole l.initial.groups (tree_of l.e)) × (work l.groups + 2 * size l.part ≤ work l.initial.groups + 2 * size l.e)
+    (whole l.groups (tree_of l.part) ≡ whole l.initial.groups (tree_of l.e))
+    × (work l.groups + 2 * size l.part ≤ work l.initial.groups + 2 * size l.e)
 
 abbrev pub decreases-groups : goal.decreases-groups
 decreases-groups l = size l.part

@@ -73,4 +73,6 @@ returns-in-None-pop-clause-refused c =
     let D : Option CfgExpr → Type 0 = λ z. Reads a l Nothing (Stands gs z l.item) in
     let G : List Opening → Type 0 = λ z. Reads a l Nothing (Has z e l.item) in
     let r = c.in-Err.refusal in
-    stops_then a l Nothing (Has [] e l.item) r (subst G c.in-None-pop.ensures.0 (subst D c.in-Some.is c.groups.invariant.reads)) (stops_behind l e r c.in-Err.ensures.more)
+    stops_then a l Nothing (Has [] e l.item) r
+    (subst G c.in-None-pop.ensures.0 (subst D c.in-Some.is c.groups.invariant.reads))
+    (stops_behind l e r c.in-Err.ensures.more)

@@ -17,7 +17,8 @@ decreases-any_but_last g l = 2 * sizes l.members.now + 1
 -- the answer hangs on what the loop has come to
 abbrev pub invariant-matches_in-levels : goal.invariant-matches_in-levels
 invariant-matches_in-levels g l =
-    (asked l.is_asked (truth (g.F.Facts.meant l.facts) (tree_of l.e)) ≡ truth (g.F.Facts.meant l.facts) (tree_of l.self)) × (size l.e ≤ size l.self)
+    (asked l.is_asked (truth (g.F.Facts.meant l.facts) (tree_of l.e)) ≡ truth (g.F.Facts.meant l.facts) (tree_of l.self))
+    × (size l.e ≤ size l.self)
 
 abbrev pub decreases-matches_in-levels : goal.decreases-matches_in-levels
 decreases-matches_in-levels g l = size l.e
@@ -25,14 +26,18 @@ decreases-matches_in-levels g l = size l.e
 -- the answer hangs on the members that are left
 abbrev pub invariant-all_but_last-members : goal.invariant-all_but_last-members
 invariant-all_but_last-members g l =
-    (all_true (g.F.Facts.meant l.facts) (trees_of (map tree_of (l.e ∷ l.left))) ≡ all_true (g.F.Facts.meant l.facts) (trees_of (map tree_of l.members))) × (size l.e + sizes l.left ≤ sizes l.members)
+    (all_true (g.F.Facts.meant l.facts) (trees_of (map tree_of (l.e ∷ l.left)))
+    ≡ all_true (g.F.Facts.meant l.facts) (trees_of (map tree_of l.members)))
+    × (size l.e + sizes l.left ≤ sizes l.members)
 
 abbrev pub decreases-all_but_last-members : goal.decreases-all_but_last-members
 decreases-all_but_last-members g l = length l.left
 
 abbrev pub invariant-any_but_last-members : goal.invariant-any_but_last-members
 invariant-any_but_last-members g l =
-    (any_true (g.F.Facts.meant l.facts) (trees_of (map tree_of (l.e ∷ l.left))) ≡ any_true (g.F.Facts.meant l.facts) (trees_of (map tree_of l.members))) × (size l.e + sizes l.left ≤ sizes l.members)
+    (any_true (g.F.Facts.meant l.facts) (trees_of (map tree_of (l.e ∷ l.left)))
+    ≡ any_true (g.F.Facts.meant l.facts) (trees_of (map tree_of l.members)))
+    × (size l.e + sizes l.left ≤ sizes l.members)
 
 abbrev pub decreases-any_but_last-members : goal.decreases-any_but_last-members
 decreases-any_but_last-members g l = length l.left
