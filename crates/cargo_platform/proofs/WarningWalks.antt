@@ -1,36 +1,30 @@
--- The warnings on a list of members grow by one member, and a cut takes all of them back.
-use Rattle.std.proofs.Common.{◌≡◌, sym, ap, ◌∙◌, ℕ, ◌+◌, ◌<◌, List, [], ◌∷◌, ◌++◌, length, take, get_or, map, String, Vec, Global, string_bytes, vec_len, append_assoc, append-nil, flat_map, arith}
-use Rattle.std.proofs.lemmas.List.{length-map, map_more, take-map, take_all, take-append-le}
-use Rattle.std.proofs.lemmas.List.Concat.{flat_map-append}
-use Rattle.cargo_platform.specs.declared.cfg.CfgExpr.{CfgExpr}
-use Rattle.cargo_platform.specs.Trees.{CfgValue, Tree, tree_of, trees_of}
+-- The warnings on values grow by those on the next one, and a cut takes all of them back.
+use Rattle.std.proofs.Common.{◌≡◌, sym, ap, ◌∙◌, ℕ, List, [], ◌∷◌, ◌++◌, length, take, map, String, Vec, Global, string_bytes, vec_len, append_assoc, flat_map, arith}
+use Rattle.std.proofs.lemmas.List.{length-map, map-append, take-map, take_all, take-append-le}
+use Rattle.cargo_platform.specs.Trees.{CfgValue}
 use Rattle.cargo_platform.specs.Errors.{texts}
-use Rattle.cargo_platform.specs.Warnings.{values, members_values, IsLonger}
+use Rattle.cargo_platform.specs.Warnings.{IsLonger}
 
-values_more : (ts : List Tree) (e : Tree) → members_values (trees_of (ts ++ e ∷ [])) ≡ members_values (trees_of ts) ++ values e
-values_more [] e = append-nil (values e)
-values_more (t ∷ ts) e = ap (λ vs. values t ++ vs) (values_more ts e) ∙ sym (append_assoc (values t) (members_values (trees_of ts)) (values e))
+-- the warnings so far, and those of a value that comes next
+pub warned_on : (f : CfgValue → List (List ℕ)) (old now new more all : List (List ℕ)) (c : CfgValue) (left come : List CfgValue)
+    → now ≡ old ++ more → more ++ flat_map f left ≡ all → left ≡ c ∷ come → new ≡ now ++ f c
+    → (m : List (List ℕ)) × (new ≡ old ++ m) × (m ++ flat_map f come ≡ all)
+warned_on f old now new more all c left come so_far whole is next = (
+  more ++ f c,
+  next ∙ ap (λ ws. ws ++ f c) so_far ∙ append_assoc old more (f c),
+  append_assoc more (f c) (flat_map f come) ∙ ap (λ vs. more ++ flat_map f vs) (sym is) ∙ whole,
+)
 
--- the warnings on the first members
-abbrev pub warned : (CfgValue → List (List ℕ)) → List CfgExpr → ℕ → List (List ℕ)
-warned f es i = flat_map f (members_values (trees_of (map tree_of (take i es))))
-
-pub warned_more : (f : CfgValue → List (List ℕ)) (es : List CfgExpr) (i : ℕ) (e : CfgExpr)
-    → i < length es → e ≡ get_or es i e
-    → warned f es (i + 1) ≡ warned f es i ++ flat_map f (values (tree_of e))
-warned_more f es i e below is =
-    ap (λ ts. flat_map f (members_values (trees_of ts))) (map_more tree_of es i e below)
-    ∙ ap (λ z. flat_map f (members_values (trees_of (map tree_of (take i es) ++ tree_of z ∷ [])))) (sym is)
-    ∙ ap (flat_map f) (values_more (map tree_of (take i es)) (tree_of e))
-    ∙ flat_map-append f (members_values (trees_of (map tree_of (take i es)))) (values (tree_of e))
+pub pushed_warning : (now new : Vec (String Global) Global) (s : String Global) (ws : List (List ℕ))
+    → new.items ≡ now.items ++ s ∷ [] → ws ≡ string_bytes s ∷ [] → texts new ≡ texts now ++ ws
+pushed_warning now new s ws is warning =
+    ap (map (λ z. string_bytes z)) is
+    ∙ map-append (λ z. string_bytes z) now.items (s ∷ [])
+    ∙ ap (λ z. texts now ++ z) (sym warning)
 
 -- a list that goes on behind what was appended is longer than the old one
 pub longer_still : (old now new more : List (List ℕ)) → now ≡ old ++ more → IsLonger new now → IsLonger new old
 longer_still old now new more h longer = (more ++ longer.0, longer.1 ∙ ap (λ ws. ws ++ longer.0) h ∙ append_assoc old more longer.0)
-
--- one more member is walked
-pub walked_more : (old now new more here all : List (List ℕ)) → now ≡ old ++ more → new ≡ now ++ here → all ≡ more ++ here → new ≡ old ++ all
-walked_more old now new more here all h next is = next ∙ ap (λ ws. ws ++ here) h ∙ append_assoc old more here ∙ ap (λ ws. old ++ ws) (sym is)
 
 -- cut back to its old length, a longer list is the old one
 pub cut_back : (old longer cut : Vec (String Global) Global) → IsLonger (texts longer) (texts old) → cut.items ≡ take (vec_len old) longer.items → texts cut ≡ texts old

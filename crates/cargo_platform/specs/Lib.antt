@@ -40,3 +40,4 @@ pub mod ExpressionSizes
 pub mod Pending
 pub mod Asking
 pub mod Copying
+pub mod Values

@@ -24,6 +24,7 @@ mod reader;
 mod source;
 pub mod tokens;
 mod tree_order;
+mod values;
 mod warnings;
 
 pub use cfg::{Cfg, CfgExpr, FactIndex, Facts, Ident, Listed};

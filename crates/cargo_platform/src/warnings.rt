@@ -1,11 +1,12 @@
 //! Warnings on conditions that are read without a fault, but do not select dependencies as their writer may expect.
 
-ghost use Rattle.std.specs.Prelude.{◌≡◌, ◌++◌, List, [], ◌∷◌, ℕ, IfOk, OnOk, OnErr, MatchOption, flat_map, map, string_bytes};
-ghost use Rattle.cargo_platform.specs.Trees.{CfgValue, name_of, value_of, tree_of, trees_of, condition_of};
+ghost use Rattle.std.specs.Prelude.{◌≡◌, ◌++◌, List, [], ◌∷◌, ℕ, IfOk, OnOk, OnErr, MatchOption, flat_map, string_bytes};
+ghost use Rattle.cargo_platform.specs.Trees.{CfgValue, name_of, value_of, tree_of, condition_of};
 ghost use Rattle.cargo_platform.specs.Spelling.{is_literal_word};
 ghost use Rattle.cargo_platform.specs.Errors.{texts};
-ghost use Rattle.cargo_platform.specs.Warnings.{values, members_values, attribute_warning, attribute_warnings, keyword_warning, keyword_warning_of, keyword_warnings, condition_values, is_unsupported_name, unsupported_name, unsupported_feature, IsLonger};
+ghost use Rattle.cargo_platform.specs.Warnings.{values, attribute_warning, attribute_warnings, keyword_warning, keyword_warning_of, keyword_warnings, condition_values, is_unsupported_name, unsupported_name, unsupported_feature, IsLonger};
 
+use crate::values::Values;
 use crate::{Cfg, CfgExpr, Ident, Platform};
 use std::alloc::{AllocError, Global};
 
@@ -147,7 +148,6 @@ fn warn<L: Lint>(
 }
 
 // Appends the warnings on the values of an expression, as far as memory is granted.
-#[cycle(walk)]
 fn walk<L: Lint>(
     e: &CfgExpr,
     alloc: Global,
@@ -157,33 +157,11 @@ fn walk<L: Lint>(
     ensures ok { OnOk result (texts warnings.new ≡ texts warnings.old ++ flat_map (L.warnings lint.now) (values (tree_of e.now))) }
     ensures err { OnErr result (IsLonger (texts warnings.new) (texts warnings.old)) }
 {
-    match e {
-        CfgExpr::Not(inner) => walk(inner, alloc, lint, warnings),
-        CfgExpr::All(members) | CfgExpr::Any(members) => walk_members(
-            members, alloc, lint, warnings,
-        ),
-        CfgExpr::Value(c) => {
-            if let Some(text) = lint.warning(alloc, c)? {
-                warnings.push(text)?;
-            }
-            Ok(())
+    let mut values = Values::new(alloc, e);
+    'values: while let Some(c) = values.next()? {
+        if let Some(text) = lint.warning(alloc, c)? {
+            warnings.push(text)?;
         }
-        CfgExpr::True | CfgExpr::False => Ok(()),
-    }
-}
-
-#[cycle(walk)]
-fn walk_members<L: Lint>(
-    members: &[CfgExpr],
-    alloc: Global,
-    lint: &L,
-    warnings: &mut Vec<String>,
-) -> Result<(), AllocError>
-    ensures ok { OnOk result (texts warnings.new ≡ texts warnings.old ++ flat_map (L.warnings lint.now) (members_values (trees_of (map tree_of members.now)))) }
-    ensures err { OnErr result (IsLonger (texts warnings.new) (texts warnings.old)) }
-{
-    for member in members {
-        walk(member, alloc, lint, warnings)?;
     }
     Ok(())
 }
