@@ -5,7 +5,7 @@ use Rattle.cargo_platform.specs.declared.clone.CopiedGroup.TheVariants as group
 use Rattle.cargo_platform.specs.declared.clone.CopiedGroups.{CopiedGroups}
 use Rattle.cargo_platform.specs.Trees.{Tree, Not, tree_of}
 use Rattle.cargo_platform.specs.Parsing.{is_all, list_tree}
-use Rattle.cargo_platform.specs.Sizes.{sizes}
+use Rattle.cargo_platform.specs.ExpressionSizes.{sizes}
 
 -- the group with this member in its place
 abbrev pub around : CopiedGroup → Tree → Tree

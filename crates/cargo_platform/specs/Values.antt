@@ -4,7 +4,7 @@ use Rattle.cargo_platform.specs.declared.cfg.CfgExpr.{CfgExpr}
 use Rattle.cargo_platform.specs.declared.values.Values.{Values}
 use Rattle.cargo_platform.specs.Trees.{CfgValue, tree_of, trees_of}
 use Rattle.cargo_platform.specs.Warnings.{members_values}
-use Rattle.cargo_platform.specs.Sizes.{sizes}
+use Rattle.cargo_platform.specs.ExpressionSizes.{sizes}
 
 abbrev pub values_of : List CfgExpr → List CfgValue
 values_of es = members_values (trees_of (map tree_of es))

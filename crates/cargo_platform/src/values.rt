@@ -3,7 +3,7 @@
 ghost use Rattle.std.specs.Prelude.{◌≡◌, ◌≤◌, ◌+◌, ◌*◌, ◌++◌, [], ◌∷◌, IfOk, OnOk, MatchOption};
 ghost use Rattle.cargo_platform.specs.Trees.{value_of, tree_of};
 ghost use Rattle.cargo_platform.specs.Warnings.{values};
-ghost use Rattle.cargo_platform.specs.Sizes.{sizes};
+ghost use Rattle.cargo_platform.specs.ExpressionSizes.{sizes};
 ghost use Rattle.cargo_platform.specs.Values.{to_come, values_of, work};
 
 use crate::{Cfg, CfgExpr};

@@ -1,6 +1,6 @@
 use Rattle.std.proofs.Common.{◌≡◌, ◌+◌, ◌*◌, ◌≤◌}
 use Rattle.cargo_platform.specs.Trees.{tree_of}
-use Rattle.cargo_platform.specs.Sizes.{size}
+use Rattle.cargo_platform.specs.ExpressionSizes.{size}
 use Rattle.cargo_platform.specs.Copying.{whole, work}
 use Rattle.cargo_platform.proofs.clone.copy_first.Given as goal
 
