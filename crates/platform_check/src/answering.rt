@@ -32,10 +32,17 @@ pub struct Answer {
 }
 
 /// What the lines ask: whether a target with these facts meets the condition.
-#[derive(Drop)]
 struct Query {
     platform: Platform,
     facts: Vec<Cfg>,
+}
+
+impl Drop for Query {
+    /// Without recursion over the depth of the condition.
+    fn drop(self) {
+        let Query { platform, facts } = self;
+        platform.drop_iteratively(*facts.allocator());
+    }
 }
 
 /// Why the lines ask nothing.
@@ -133,8 +140,13 @@ fn read_query(alloc: Global, lines: &[&str]) -> Result<Query, Refusal>
     ensures refused { IfErr result (λ r. IfLine r (λ n orig fault. IsLeast (IsRefusedLine (map (λ x. x.now) lines.now)) n × IsLineFault (map (λ x. x.now) lines.now) n orig fault)) }
 {
     let platform = read_condition(alloc, line_at(lines, 1))?;
+    let mut query = Query {
+        platform,
+        facts: Vec::new(alloc),
+    };
     let facts = read_facts(alloc, lines)?;
-    Ok(Query { platform, facts })
+    query.facts = facts;
+    Ok(query)
 }
 
 /// The answer that is this one line, for an input that asks nothing.
