@@ -1,4 +1,4 @@
-use Rattle.std.proofs.Common.{refl, sym, ap, ◌∙◌}
+use Rattle.std.proofs.Common.{refl, ap, ◌∙◌}
 use Rattle.std.specs.Cmp.{tied_itself}
 use Rattle.cargo_platform.specs.Facts.{pair_cmp}
 use Rattle.cargo_platform.proofs.FactSets.{pairs_total}
