@@ -41,14 +41,23 @@ abbrev SpellEachReleased : Trees → List (List Lexeme) → Type 0
 SpellEachReleased = SpellEachBy MayStandReleased SpellsReleasedLiteral
 
 -- what a name alone spelled
-lone_released : (raw : Bool) (name : List ℕ) → IsFalse (is_group_word (record { raw = raw; name = name })) → (not raw && is_literal_name (record { raw = raw; name = name })) ≡ false
+lone_released : (raw : Bool) (name : List ℕ) → IsFalse (is_group_word (record { raw = raw; name = name }))
+    → (not raw && is_literal_name (record { raw = raw; name = name })) ≡ false
     → SpellsReleased (released (Value (Alone (record { raw = raw; name = name })))) (Ident raw name ∷ [])
 lone_released false name g l = (refl, (g, l))
 lone_released true name g l =
-    elim (bytes_eq name (codes "true")) as (λ b. bytes_eq name (codes "true") ≡ b → SpellsReleased (if b then True else (if bytes_eq name (codes "false") then False else Value (Alone (record { raw = true; name = name })))) (Ident true name ∷ [])) [
+    elim (bytes_eq name (codes "true")) as
+    (λ b. bytes_eq name (codes "true") ≡ b
+    → SpellsReleased
+    (if b then True
+    else (if bytes_eq name (codes "false") then False else Value (Alone (record { raw = true; name = name }))))
+    (Ident true name ∷ [])) [
       | true ↦ λ t. (true, ap (λ z. Ident true z ∷ []) (bytes_eq-true name (codes "true") t))
       | false ↦ λ t.
-          elim (bytes_eq name (codes "false")) as (λ b. bytes_eq name (codes "false") ≡ b → SpellsReleased (if b then False else Value (Alone (record { raw = true; name = name }))) (Ident true name ∷ [])) [
+          elim (bytes_eq name (codes "false")) as
+          (λ b. bytes_eq name (codes "false") ≡ b
+          → SpellsReleased (if b then False else Value (Alone (record { raw = true; name = name })))
+          (Ident true name ∷ [])) [
             | true ↦ λ f. (true, ap (λ z. Ident true z ∷ []) (bytes_eq-true name (codes "false") f))
             | false ↦ λ f. (refl, (refl, λ i. t i || f i))
           ] refl
@@ -66,20 +75,23 @@ mutual
   to_released True s p = (false, p)
   to_released False s p = (false, p)
 
-  each_to_released : (es : Trees) (ss : List (List Lexeme)) → SpellEachTransitional es ss → SpellEachReleased (released_members es) ss
+  each_to_released : (es : Trees) (ss : List (List Lexeme)) → SpellEachTransitional es ss
+      → SpellEachReleased (released_members es) ss
   each_to_released none [] p = tt
   each_to_released none (s ∷ ss) p = absurd p
   each_to_released (tree e es) [] p = absurd p
   each_to_released (tree e es) (s ∷ ss) p = (to_released e s p.0, each_to_released es ss p.1)
 
-picks : {A : Type 0} (m t f : Bool) (x y z : A) → (m && (t || f)) ≡ false → (if m && t then x else (if m && f then y else z)) ≡ z
+picks : {A : Type 0} (m t f : Bool) (x y z : A) → (m && (t || f)) ≡ false
+    → (if m && t then x else (if m && f then y else z)) ≡ z
 picks false t f x y z h = refl
 picks true true f x y z h = absurd (true≢false h)
 picks true false true x y z h = absurd (true≢false h)
 picks true false false x y z h = refl
 
 unmarked : (n : Name) → (n.raw && is_literal_name n) ≡ false → released (Value (Alone n)) ≡ Value (Alone n)
-unmarked n h = picks n.raw (bytes_eq n.name (codes "true")) (bytes_eq n.name (codes "false")) True False (Value (Alone n)) h
+unmarked n h =
+    picks n.raw (bytes_eq n.name (codes "true")) (bytes_eq n.name (codes "false")) True False (Value (Alone n)) h
 
 and-false-right : (m l : Bool) → l ≡ false → (m && l) ≡ false
 and-false-right true l h = h
@@ -93,14 +105,20 @@ mutual
   from_released (Not d) s p = let r = from_released d p.0 p.1 in (Not r.0, (p.0, r.1, p.2), ap Not r.2)
   from_released (All ds) s p = let r = each_from_released ds p.0 p.2 in (All r.0, (p.0, p.1, r.1, p.3, p.4), ap All r.2)
   from_released (Any ds) s p = let r = each_from_released ds p.0 p.2 in (Any r.0, (p.0, p.1, r.1, p.3, p.4), ap Any r.2)
-  from_released (Value (Alone n)) s p = (Value (Alone n), (p.0, (p.1.0, and-false-right (not n.raw) (is_literal_name n) p.1.1)), unmarked n (and-false-right n.raw (is_literal_name n) p.1.1))
+  from_released (Value (Alone n)) s p = (
+    Value (Alone n),
+    (p.0, (p.1.0, and-false-right (not n.raw) (is_literal_name n) p.1.1)),
+    unmarked n (and-false-right n.raw (is_literal_name n) p.1.1),
+  )
   from_released (Value (KeyPair k v)) s p = (Value (KeyPair k v), p, refl)
   from_released True s (true, p) = (Value (Alone (record { raw = true; name = codes "true" })), (p, (refl, refl)), refl)
   from_released True s (false, p) = (True, p, refl)
-  from_released False s (true, p) = (Value (Alone (record { raw = true; name = codes "false" })), (p, (refl, refl)), refl)
+  from_released False s (true, p) =
+      (Value (Alone (record { raw = true; name = codes "false" })), (p, (refl, refl)), refl)
   from_released False s (false, p) = (False, p, refl)
 
-  each_from_released : (ds : Trees) (ss : List (List Lexeme)) → SpellEachReleased ds ss → (es : Trees) × SpellEachTransitional es ss × (released_members es ≡ ds)
+  each_from_released : (ds : Trees) (ss : List (List Lexeme)) → SpellEachReleased ds ss
+      → (es : Trees) × SpellEachTransitional es ss × (released_members es ≡ ds)
   each_from_released none [] p = (none, tt, refl)
   each_from_released none (s ∷ ss) p = absurd p
   each_from_released (tree d ds) [] p = absurd p
@@ -144,7 +162,8 @@ accepted_as_released ts = (
 )
 
 -- What is accepted tells what is refused, and with which fault.
-refused_alike : (p q : List Lexeme → Type 0) → ((ts : List Lexeme) → p ts ↔ q ts) → (g : Grammar) (text : List ℕ) (fault : Fault)
+refused_alike : (p q : List Lexeme → Type 0) → ((ts : List Lexeme) → p ts ↔ q ts)
+    → (g : Grammar) (text : List ℕ) (fault : Fault)
     → IsRefusedBy p g text fault → IsRefusedBy q g text fault
 refused_alike p q same g text fault r = record {
   ts = r.ts;
@@ -160,7 +179,8 @@ refused_alike p q same g text fault r = record {
   next = r.next;
   follows = r.follows;
   accepted = r.accepted;
-  is_accepted = (λ a. (same (lexemes r.front)).0 (r.is_accepted.0 a), λ a. r.is_accepted.1 ((same (lexemes r.front)).1 a));
+  is_accepted =
+      (λ a. (same (lexemes r.front)).0 (r.is_accepted.0 a), λ a. r.is_accepted.1 ((same (lexemes r.front)).1 a));
   is_fault = r.is_fault;
 }
 
@@ -168,7 +188,8 @@ refused_alike p q same g text fault r = record {
 pub refused_as_released : (text : List ℕ) (fault : Fault) → IsRefusedAsReleased text fault
 refused_as_released text fault = (
   refused_alike IsAcceptedTransitional IsAcceptedReleased accepted_as_released Expressions text fault,
-  refused_alike IsAcceptedReleased IsAcceptedTransitional (λ ts. let s = accepted_as_released ts in (s.1, s.0)) Expressions text fault,
+  refused_alike IsAcceptedReleased IsAcceptedTransitional
+      (λ ts. let s = accepted_as_released ts in (s.1, s.0)) Expressions text fault,
 )
 
 -- A text spells a tree where it did before.
@@ -223,7 +244,8 @@ has_literal_key cs = list_any is_literal_key cs
 none_in : (c : CfgValue) → is_literal_key c ≡ false → has_literal_key (c ∷ []) ≡ false
 none_in c h = ap (λ b. b || false) h
 
-none_in_both : (a b : List CfgValue) → has_literal_key a ≡ false → has_literal_key b ≡ false → has_literal_key (a ++ b) ≡ false
+none_in_both : (a b : List CfgValue) → has_literal_key a ≡ false → has_literal_key b ≡ false
+    → has_literal_key (a ++ b) ≡ false
 none_in_both a b h k = list_any-append is_literal_key a b ∙ λ i. h i || k i
 
 mutual
@@ -239,7 +261,8 @@ mutual
   each_keyless none [] p = refl
   each_keyless none (s ∷ ss) p = absurd p
   each_keyless (tree e es) [] p = absurd p
-  each_keyless (tree e es) (s ∷ ss) p = none_in_both (values e) (members_values es) (keyless e s p.0) (each_keyless es ss p.1)
+  each_keyless (tree e es) (s ∷ ss) p =
+      none_in_both (values e) (members_values es) (keyless e s p.0) (each_keyless es ss p.1)
 
 mutual
   still : (e : Tree) (s : List Lexeme) → SpellsTransitional e s → has_literal_key (values e) ≡ false → Spells e s
@@ -250,7 +273,8 @@ mutual
   still True s p h = p
   still False s p h = p
 
-  each_still : (es : Trees) (ss : List (List Lexeme)) → SpellEachTransitional es ss → has_literal_key (members_values es) ≡ false → SpellEach es ss
+  each_still : (es : Trees) (ss : List (List Lexeme)) → SpellEachTransitional es ss
+      → has_literal_key (members_values es) ≡ false → SpellEach es ss
   each_still none [] p h = tt
   each_still none (s ∷ ss) p h = absurd p
   each_still (tree e es) [] p h = absurd p
@@ -281,10 +305,12 @@ abbrev WellFormedWhere : (CfgValue → Type 0) → (CfgValue → Type 0) → (Cf
 WellFormedWhere less may test e = IsWellFormedBy less e ↔ (IsWellFormedBy may e × IsFalse (list_any test (values e)))
 
 abbrev AreWellFormedWhere : (CfgValue → Type 0) → (CfgValue → Type 0) → (CfgValue → Bool) → Trees → Type 0
-AreWellFormedWhere less may test es = AreWellFormedBy less es ↔ (AreWellFormedBy may es × IsFalse (list_any test (members_values es)))
+AreWellFormedWhere less may test es = AreWellFormedBy less es
+    ↔ (AreWellFormedBy may es × IsFalse (list_any test (members_values es)))
 
 mutual
-  well_formed_where : (less may : CfgValue → Type 0) (test : CfgValue → Bool) → Narrows less may test → (e : Tree) → WellFormedWhere less may test e
+  well_formed_where : (less may : CfgValue → Type 0) (test : CfgValue → Bool) → Narrows less may test → (e : Tree)
+      → WellFormedWhere less may test e
   well_formed_where less may test n (Not e) = well_formed_where less may test n e
   well_formed_where less may test n (All es) = are_well_formed_where less may test n es
   well_formed_where less may test n (Any es) = are_well_formed_where less may test n es
@@ -295,7 +321,8 @@ mutual
   well_formed_where less may test n True = (λ w. (w, refl), λ w. w.0)
   well_formed_where less may test n False = (λ w. (w, refl), λ w. w.0)
 
-  are_well_formed_where : (less may : CfgValue → Type 0) (test : CfgValue → Bool) → Narrows less may test → (es : Trees) → AreWellFormedWhere less may test es
+  are_well_formed_where : (less may : CfgValue → Type 0) (test : CfgValue → Bool) → Narrows less may test
+      → (es : Trees) → AreWellFormedWhere less may test es
   are_well_formed_where less may test n none = (λ w. (w, refl), λ w. w.0)
   are_well_formed_where less may test n (tree e es) =
       let first = well_formed_where less may test n e in
@@ -329,7 +356,8 @@ unmarked_narrows (Alone n) = (
 unmarked_narrows (KeyPair k v) = (λ m. (m, refl), λ m. m.0)
 
 pub well_formed_without_marked_literals : (e : Tree) → WasWellFormedWithoutMarkedLiterals e
-well_formed_without_marked_literals e = well_formed_where MayStandReleased MayStandTransitional is_marked_literal unmarked_narrows e
+well_formed_without_marked_literals e =
+    well_formed_where MayStandReleased MayStandTransitional is_marked_literal unmarked_narrows e
 
 -- ---- keywords
 
@@ -345,11 +373,14 @@ mutual
   warns_not path (Not e) w = warns_not path e w
   warns_not path (All es) w = members_warn_not path es w
   warns_not path (Any es) w = members_warn_not path es w
-  warns_not path (Value c) w = flat_map-cons (keyword_warning_of path) c [] ∙ ap (λ (z : List (List ℕ)). z ++ flat_map (keyword_warning_of path) []) (value_warns_not path c w.1)
+  warns_not path (Value c) w =
+      flat_map-cons (keyword_warning_of path) c []
+      ∙ ap (λ (z : List (List ℕ)). z ++ flat_map (keyword_warning_of path) []) (value_warns_not path c w.1)
   warns_not path True w = refl
   warns_not path False w = refl
 
-  members_warn_not : (path : List ℕ) (es : Trees) → AreWellFormed es → flat_map (keyword_warning_of path) (members_values es) ≡ []
+  members_warn_not : (path : List ℕ) (es : Trees) → AreWellFormed es
+      → flat_map (keyword_warning_of path) (members_values es) ≡ []
   members_warn_not path none w = refl
   members_warn_not path (tree e es) w =
       flat_map-append (keyword_warning_of path) (values e) (members_values es)

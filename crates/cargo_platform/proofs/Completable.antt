@@ -1,16 +1,21 @@
 -- Lists of tokens that can be completed: their fronts, how many tokens complete them, and what can follow them.
-use Rattle.std.proofs.Common.{◌≡◌, refl, sym, ap, subst, ◌∙◌, ℕ, ◌+◌, ◌≤◌, suc, arith, Bool, true, false, not, ◌&&◌, ◌||◌, true≢false, List, [], ◌∷◌, ◌++◌, Option, Some, None, codes, inl, inr, ◌⊎◌, append_assoc, length, length-append, cond}
+use Rattle.std.proofs.Common.{◌≡◌, refl, sym, ap, subst, ◌∙◌, ℕ, ◌+◌, ◌≤◌, suc, arith, Bool, true, false, not, ◌&&◌}
+use Rattle.std.proofs.Common.{◌||◌, true≢false, List, [], ◌∷◌, ◌++◌, Option, Some, None, codes, inl, inr, ◌⊎◌}
+use Rattle.std.proofs.Common.{append_assoc, length, length-append, cond}
 use Rattle.std.specs.Prelude.{◌↔◌, if◌then◌else◌, bytes_eq}
 use Rattle.std.specs.List.{AllByRecursion, count_by, last_or}
 use Rattle.std.proofs.lemmas.List.Sums.{sum_by-cons}
 use Rattle.std.proofs.lemmas.Option.{same_Some}
 use Rattle.cargo_platform.specs.declared.tokens.TokenFaultKind.TheVariants as lexical
-use Rattle.cargo_platform.specs.Tokens.{Lexeme, LeftParen, RightParen, Ident, Comma, Equals, String, Placed, plain, IsWellWritten}
+use Rattle.cargo_platform.specs.Tokens.{Lexeme, LeftParen, RightParen, Ident, Comma, Equals, String, Placed, plain}
+use Rattle.cargo_platform.specs.Tokens.{IsWellWritten}
 use Rattle.cargo_platform.specs.Cut.{lexemes}
 use Rattle.cargo_platform.specs.Trees.{Alone, KeyPair}
 use Rattle.cargo_platform.specs.Spelling.{Grammar, Values, Expressions, IsAccepted}
-use Rattle.cargo_platform.specs.Faults.{IsCompletable, IsFaultFront, Next, Unfit, Broken, End, Fault, UnexpectedToken, IncompleteExpr, expected_token, expected_end, fault_of, IsRefused}
-use Rattle.cargo_platform.specs.Walk.{Word, Several, Negation, State, Wanted, Member, Behind, Named, Keyed, Ended, after_name, after_expression, after, walk_from, walk}
+use Rattle.cargo_platform.specs.Faults.{IsCompletable, IsFaultFront, Next, Unfit, Broken, End, Fault, UnexpectedToken}
+use Rattle.cargo_platform.specs.Faults.{IncompleteExpr, expected_token, expected_end, fault_of, IsRefused}
+use Rattle.cargo_platform.specs.Walk.{Word, Several, Negation, State, Wanted, Member, Behind, Named, Keyed, Ended}
+use Rattle.cargo_platform.specs.Walk.{after_name, after_expression, after, walk_from, walk}
 use Rattle.cargo_platform.specs.Parsing.{is_whole, expects, expects_end}
 use Rattle.cargo_platform.specs.FaultLaws.{is_left_paren, IsCompletedShortly, IsOfClass, CanFollow, Names}
 use Rattle.cargo_platform.proofs.OneCut.{never}
@@ -24,13 +29,15 @@ AreWellWritten ts = AllByRecursion IsWellWritten ts
 
 -- ---- fronts
 
-well_behind : (front after more : List Lexeme) → AreWellWritten (front ++ after) → AreWellWritten more → AreWellWritten (after ++ more)
+well_behind : (front after more : List Lexeme) → AreWellWritten (front ++ after) → AreWellWritten more
+    → AreWellWritten (after ++ more)
 well_behind [] [] more a b = b
 well_behind [] (t ∷ after) more a b = (a.0, well_behind [] after more a.1 b)
 well_behind (t ∷ front) after more a b = well_behind front after more a.1 b
 
 -- a front of a completable list is completable
-pub front_completable : (g : Grammar) (front after : List Lexeme) → AreWellWritten (front ++ after) → IsCompletable g (front ++ after) → IsCompletable g front
+pub front_completable : (g : Grammar) (front after : List Lexeme) → AreWellWritten (front ++ after)
+    → IsCompletable g (front ++ after) → IsCompletable g front
 front_completable g front after well p =
     let A : List Lexeme → Type 0 = λ z. IsAccepted g z in
     (after ++ p.0, well_behind front after p.0 well p.1, subst A (append_assoc front after p.0) p.2)
@@ -64,7 +71,10 @@ needed_depth (Named ws) = omega arith
 needed_depth (Keyed ws) = omega arith
 needed_depth (Ended ws) = omega arith
 
-picks : (m al an ne l : Bool) (ws : List Word) → depth (if not m && ne then Behind Negation ws else (if not m && (al || an) then Behind Several ws else (if not m && l then Ended ws else Named ws))) ≡ length ws
+picks : (m al an ne l : Bool) (ws : List Word)
+    → depth
+    (if not m && ne then Behind Negation ws
+    else (if not m && (al || an) then Behind Several ws else (if not m && l then Ended ws else Named ws))) ≡ length ws
 unfolding depth
 picks true al an ne l ws = refl
 picks false al an true l ws = refl
@@ -74,7 +84,9 @@ picks false false false false true ws = refl
 picks false false false false false ws = refl
 
 name_depth : (raw : Bool) (name : List ℕ) (ws : List Word) → depth (after_name raw name ws) ≡ length ws
-name_depth raw name ws = picks raw (bytes_eq name (codes "all")) (bytes_eq name (codes "any")) (bytes_eq name (codes "not")) (bytes_eq name (codes "true") || bytes_eq name (codes "false")) ws
+name_depth raw name ws =
+    picks raw (bytes_eq name (codes "all")) (bytes_eq name (codes "any")) (bytes_eq name (codes "not"))
+    (bytes_eq name (codes "true") || bytes_eq name (codes "false")) ws
 
 -- a token opens at most what it is counted for
 abbrev Opens : State → Lexeme → State → Type 0
@@ -83,7 +95,8 @@ Opens s t st = depth st ≤ depth s + opened t
 moved : (s u : State) (t : Lexeme) (st : State) → Some u ≡ Some st → Opens s t u → Opens s t st
 moved s u t st h o = let P : State → Type 0 = λ z. Opens s t z in subst P (same_Some _ _ h) o
 
-ended_opens : (s : State) (ws : List Word) (t : Lexeme) (st : State) → depth s ≡ length ws → after_expression ws t ≡ Some st → Opens s t st
+ended_opens : (s : State) (ws : List Word) (t : Lexeme) (st : State) → depth s ≡ length ws
+    → after_expression ws t ≡ Some st → Opens s t st
 unfolding depth opened
 ended_opens s (w ∷ ws) RightParen st d h = moved s (Ended ws) RightParen st h (omega arith)
 ended_opens s (Several ∷ ws) Comma st d h = moved s (Member ws) Comma st h (omega arith)
@@ -91,10 +104,14 @@ ended_opens s ws t st d h = none_some h
 
 after_opens : (s : State) (t : Lexeme) (st : State) → after s t ≡ Some st → Opens s t st
 unfolding depth opened
-after_opens (Wanted ws) (Ident raw name) st h = moved (Wanted ws) (after_name raw name ws) (Ident raw name) st h (omega (arith, name_depth raw name ws))
-after_opens (Member ws) (Ident raw name) st h = moved (Member ws) (after_name raw name (Several ∷ ws)) (Ident raw name) st h (omega (arith, name_depth raw name (Several ∷ ws)))
+after_opens (Wanted ws) (Ident raw name) st h =
+    moved (Wanted ws) (after_name raw name ws) (Ident raw name) st h (omega (arith, name_depth raw name ws))
+after_opens (Member ws) (Ident raw name) st h =
+    moved (Member ws) (after_name raw name (Several ∷ ws)) (Ident raw name) st h
+    (omega (arith, name_depth raw name (Several ∷ ws)))
 after_opens (Member ws) RightParen st h = moved (Member ws) (Ended ws) RightParen st h (omega arith)
-after_opens (Behind Negation ws) LeftParen st h = moved (Behind Negation ws) (Wanted (Negation ∷ ws)) LeftParen st h (omega arith)
+after_opens (Behind Negation ws) LeftParen st h =
+    moved (Behind Negation ws) (Wanted (Negation ∷ ws)) LeftParen st h (omega arith)
 after_opens (Behind Several ws) LeftParen st h = moved (Behind Several ws) (Member ws) LeftParen st h (omega arith)
 after_opens (Named ws) Equals st h = moved (Named ws) (Keyed ws) Equals st h (omega arith)
 after_opens (Keyed ws) (String value) st h = moved (Keyed ws) (Ended ws) (String value) st h (omega arith)
@@ -110,10 +127,12 @@ counted : (t : Lexeme) (ts : List Lexeme) → count_by is_left_paren (t ∷ ts) 
 unfolding opened
 counted t ts = sum_by-cons (λ x. cond (is_left_paren x) 1 0) t ts
 
-walk_opens : (ts : List Lexeme) (s st : State) → walk_from (Some s) ts ≡ Some st → depth st ≤ depth s + count_by is_left_paren ts
+walk_opens : (ts : List Lexeme) (s st : State) → walk_from (Some s) ts ≡ Some st
+    → depth st ≤ depth s + count_by is_left_paren ts
 walk_opens [] s st h = omega (arith, ap depth (same_Some _ _ h))
 walk_opens (t ∷ ts) s st h =
-    elim (after s t) as (λ z. after s t ≡ z → walk_from z ts ≡ Some st → depth st ≤ depth s + count_by is_left_paren (t ∷ ts)) [
+    elim (after s t) as
+    (λ z. after s t ≡ z → walk_from z ts ≡ Some st → depth st ≤ depth s + count_by is_left_paren (t ∷ ts)) [
       | None ↦ λ _ stops. none_some (sym (walk_from-None ts) ∙ stops)
       | Some u ↦ λ is goes.
           let first = after_opens s t u is in
@@ -134,14 +153,16 @@ completed_shortly ts p =
 -- ---- what can follow a list
 
 -- which tokens keep a list completable
-pub kept_by_walk : (ts : List Lexeme) (t : Lexeme) (s : State) → walk ts ≡ Some s → IsCompletable Expressions (ts ++ t ∷ []) ↔ ((next : State) × (after s t ≡ Some next))
+pub kept_by_walk : (ts : List Lexeme) (t : Lexeme) (s : State) → walk ts ≡ Some s
+    → IsCompletable Expressions (ts ++ t ∷ []) ↔ ((next : State) × (after s t ≡ Some next))
 kept_by_walk ts t s h = (
   λ p. let w = completable_walks (ts ++ t ∷ []) p in (w.0, sym (walk_on ts (t ∷ []) s h) ∙ w.1),
   λ n. walked_completes (ts ++ t ∷ []) n.0 (walk_on ts (t ∷ []) s h ∙ n.1),
 )
 
 -- a token that leads on can follow
-leads_on : (ts : List Lexeme) (s next : State) (t : Lexeme) (class : List ℕ) → walk ts ≡ Some s → IsOfClass class t → IsWellWritten t → after s t ≡ Some next → CanFollow Expressions ts class
+leads_on : (ts : List Lexeme) (s next : State) (t : Lexeme) (class : List ℕ) → walk ts ≡ Some s → IsOfClass class t
+    → IsWellWritten t → after s t ≡ Some next → CanFollow Expressions ts class
 leads_on ts s next t class h is well on = (t, is, well, (kept_by_walk ts t s h).1 (next, on))
 
 abbrev FollowsState : List Lexeme → State → Type 0
@@ -151,20 +172,35 @@ abbrev an_a : Lexeme
 an_a = plain (codes "a")
 
 state_followed : (ts : List Lexeme) (s : State) → walk ts ≡ Some s → is_whole s ≡ false → FollowsState ts s
-state_followed ts (Wanted ws) h w = (leads_on ts (Wanted ws) (Named ws) an_a (codes "identifier") h (inl refl) (refl, refl) refl, leads_on ts (Wanted ws) (Named ws) an_a (codes "start of a cfg expression") h (inr refl) (refl, refl) refl)
-state_followed ts (Member ws) h w = (leads_on ts (Member ws) (Named (Several ∷ ws)) an_a (codes "identifier") h (inl refl) (refl, refl) refl, leads_on ts (Member ws) (Named (Several ∷ ws)) an_a (codes "start of a cfg expression") h (inr refl) (refl, refl) refl)
-state_followed ts (Behind Negation ws) h w = let f = leads_on ts (Behind Negation ws) (Wanted (Negation ∷ ws)) LeftParen (codes "`(`") h refl tt refl in (f, f)
-state_followed ts (Behind Several ws) h w = let f = leads_on ts (Behind Several ws) (Member ws) LeftParen (codes "`(`") h refl tt refl in (f, f)
-state_followed ts (Named (v ∷ ws)) h w = let f = leads_on ts (Named (v ∷ ws)) (Ended ws) RightParen (codes "`)`") h refl tt refl in (f, f)
-state_followed ts (Keyed ws) h w = let f = leads_on ts (Keyed ws) (Ended ws) (String []) (codes "a string") h refl (([], (refl, refl)), refl) refl in (f, f)
-state_followed ts (Ended (v ∷ ws)) h w = let f = leads_on ts (Ended (v ∷ ws)) (Ended ws) RightParen (codes "`)`") h refl tt refl in (f, f)
+state_followed ts (Wanted ws) h w = (
+  leads_on ts (Wanted ws) (Named ws) an_a (codes "identifier") h (inl refl) (refl, refl) refl,
+  leads_on ts (Wanted ws) (Named ws) an_a (codes "start of a cfg expression") h (inr refl) (refl, refl) refl,
+)
+state_followed ts (Member ws) h w = (
+  leads_on ts (Member ws) (Named (Several ∷ ws)) an_a (codes "identifier") h (inl refl) (refl, refl) refl,
+  leads_on ts (Member ws) (Named (Several ∷ ws)) an_a (codes "start of a cfg expression") h (inr refl)
+      (refl, refl) refl,
+)
+state_followed ts (Behind Negation ws) h w =
+    let f = leads_on ts (Behind Negation ws) (Wanted (Negation ∷ ws)) LeftParen (codes "`(`") h refl tt refl in (f, f)
+state_followed ts (Behind Several ws) h w =
+    let f = leads_on ts (Behind Several ws) (Member ws) LeftParen (codes "`(`") h refl tt refl in (f, f)
+state_followed ts (Named (v ∷ ws)) h w =
+    let f = leads_on ts (Named (v ∷ ws)) (Ended ws) RightParen (codes "`)`") h refl tt refl in (f, f)
+state_followed ts (Keyed ws) h w =
+    let f = leads_on ts (Keyed ws) (Ended ws) (String []) (codes "a string") h refl (([], (refl, refl)), refl) refl in
+    (f, f)
+state_followed ts (Ended (v ∷ ws)) h w =
+    let f = leads_on ts (Ended (v ∷ ws)) (Ended ws) RightParen (codes "`)`") h refl tt refl in (f, f)
 state_followed ts (Named []) h w = absurd (true≢false w)
 state_followed ts (Ended []) h w = absurd (true≢false w)
 
 abbrev LastIsFollowed : Grammar → List Lexeme → Type 0
-LastIsFollowed g ts = CanFollow g ts (expected_token g (last_or None ts)) × CanFollow g ts (expected_end g (last_or None ts))
+LastIsFollowed g ts =
+    CanFollow g ts (expected_token g (last_or None ts)) × CanFollow g ts (expected_end g (last_or None ts))
 
-expression_followed : (ts : List Lexeme) → IsCompletable Expressions ts → (IsAccepted Expressions ts → ⊥) → LastIsFollowed Expressions ts
+expression_followed : (ts : List Lexeme) → IsCompletable Expressions ts → (IsAccepted Expressions ts → ⊥)
+    → LastIsFollowed Expressions ts
 expression_followed ts p refused =
     let s = completable_walks ts p in
     let unfinished : is_whole s.0 ≡ false = never (is_whole s.0) (λ w. refused (whole_accepted s.0 ts w s.1)) in
@@ -174,31 +210,41 @@ expression_followed ts p refused =
     (subst C (sym m.0) f.0, subst C (sym m.1) f.1)
 
 -- a token behind which the list is a front of a value
-value_leads_on : (ts : List Lexeme) (t : Lexeme) (class : List ℕ) → IsOfClass class t → IsWellWritten t → is_value_front (ts ++ t ∷ []) ≡ true → CanFollow Values ts class
+value_leads_on : (ts : List Lexeme) (t : Lexeme) (class : List ℕ) → IsOfClass class t → IsWellWritten t
+    → is_value_front (ts ++ t ∷ []) ≡ true → CanFollow Values ts class
 value_leads_on ts t class is well h = (t, is, well, (completable_values (ts ++ t ∷ [])).1 h)
 
 value_followed : (ts : List Lexeme) → is_value_front ts ≡ true → (IsAccepted Values ts → ⊥) → LastIsFollowed Values ts
 value_followed [] h refused = let f = value_leads_on [] an_a (codes "identifier") (inl refl) (refl, refl) refl in (f, f)
 value_followed (Ident raw name ∷ []) h refused = absurd (refused (Alone (record { raw = raw; name = name }), refl))
-value_followed (Ident raw name ∷ Equals ∷ []) h refused = let f = value_leads_on (Ident raw name ∷ Equals ∷ []) (String []) (codes "a string") refl (([], (refl, refl)), refl) refl in (f, f)
-value_followed (Ident raw name ∷ Equals ∷ String value ∷ []) h refused = absurd (refused (KeyPair (record { raw = raw; name = name }) value, refl))
+value_followed (Ident raw name ∷ Equals ∷ []) h refused =
+    let f = value_leads_on (Ident raw name ∷ Equals ∷ []) (String []) (codes "a string") refl
+    (([], (refl, refl)), refl) refl in (f, f)
+value_followed (Ident raw name ∷ Equals ∷ String value ∷ []) h refused =
+    absurd (refused (KeyPair (record { raw = raw; name = name }) value, refl))
 value_followed ts h refused = absurd (true≢false (sym h))
 
 -- what is expected behind a list that is completable and not accepted can follow it
-pub expected_follows : (g : Grammar) (ts : List Lexeme) → IsCompletable g ts → (IsAccepted g ts → ⊥) → LastIsFollowed g ts
+pub expected_follows : (g : Grammar) (ts : List Lexeme) → IsCompletable g ts → (IsAccepted g ts → ⊥)
+    → LastIsFollowed g ts
 expected_follows Values ts p refused = value_followed ts ((completable_values ts).0 p) refused
 expected_follows Expressions ts p refused = expression_followed ts p refused
 
 -- ---- the fault front
 
 -- the fault front with the next token is not completable
-pub stopped_by_next : (g : Grammar) (ts front after others : List Placed) (next : Placed) → IsFaultFront g ts front after → after ≡ next ∷ others → IsCompletable g (lexemes (front ++ next ∷ [])) → ⊥
+pub stopped_by_next : (g : Grammar) (ts front after others : List Placed) (next : Placed)
+    → IsFaultFront g ts front after → after ≡ next ∷ others → IsCompletable g (lexemes (front ++ next ∷ [])) → ⊥
 stopped_by_next g ts front after others next f h p =
-    let parts : ts ≡ (front ++ next ∷ []) ++ others = f.parts ∙ ap (λ (z : List Placed). front ++ z) h ∙ sym (append_assoc front (next ∷ []) others) in
+    let parts : ts ≡ (front ++ next ∷ []) ++ others = f.parts ∙ ap (λ (z : List Placed). front ++ z) h
+    ∙ sym (append_assoc front (next ∷ []) others) in
     omega (arith, f.longest (front ++ next ∷ []) others parts p, length-append front (next ∷ []))
 
 -- the class that a fault names is what is expected
-named : (g : Grammar) (accepted : Bool) (last : Option Lexeme) (next : Next) (fault : Fault) (class : List ℕ) → fault_of g accepted last next ≡ Some fault → ((found : List ℕ) × (fault ≡ UnexpectedToken class found)) ⊎ ((fault ≡ IncompleteExpr class) × (next ≡ End)) → (accepted ≡ false) × ((expected_token g last ≡ class) ⊎ (expected_end g last ≡ class))
+named : (g : Grammar) (accepted : Bool) (last : Option Lexeme) (next : Next) (fault : Fault) (class : List ℕ)
+    → fault_of g accepted last next ≡ Some fault
+    → ((found : List ℕ) × (fault ≡ UnexpectedToken class found)) ⊎ ((fault ≡ IncompleteExpr class) × (next ≡ End))
+    → (accepted ≡ false) × ((expected_token g last ≡ class) ⊎ (expected_end g last ≡ class))
 named g true last (Unfit t rest) fault class h (inl n) = absurd (let e = n.1 in cc)
 named g true last (Unfit t rest) fault class h (inr n) = absurd (let e = n.1 in cc)
 named g true last (Broken k rest) fault class h (inl n) = absurd (let e = n.1 in cc)
@@ -214,9 +260,11 @@ named g false last End fault class h (inl n) = absurd (let e = n.1 in cc)
 named g false last End fault class h (inr n) = (refl, inr (let e = n.0 in cc))
 
 -- what the fault of a refused text names as expected can follow its fault front
-pub named_follows : (g : Grammar) (text : List ℕ) (fault : Fault) (r : IsRefused g text fault) (class : List ℕ) → Names r class → CanFollow g (lexemes r.front) class
+pub named_follows : (g : Grammar) (text : List ℕ) (fault : Fault) (r : IsRefused g text fault) (class : List ℕ)
+    → Names r class → CanFollow g (lexemes r.front) class
 named_follows g text fault r class n =
     let is = named g r.accepted (last_or None (lexemes r.front)) r.next fault class r.is_fault n in
-    let f = expected_follows g (lexemes r.front) r.is_front.completable (λ p. true≢false (sym (r.is_accepted.1 p) ∙ is.0)) in
+    let f = expected_follows g (lexemes r.front) r.is_front.completable
+    (λ p. true≢false (sym (r.is_accepted.1 p) ∙ is.0)) in
     let C : List ℕ → Type 0 = λ z. CanFollow g (lexemes r.front) z in
     elim is.1 [ inl e ↦ subst C e f.0 | inr e ↦ subst C e f.1 ]

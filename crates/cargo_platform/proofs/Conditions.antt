@@ -15,9 +15,11 @@ use Rattle.cargo_platform.proofs.TargetNames.{name_is_bare}
 -- one text stands between `cfg(` and `)`
 pub one_inner : (text i j : List ℕ) → IsCfgOf text i → IsCfgOf text j → i ≡ j
 one_inner text i j p q =
-    append_cancel_left (codes "cfg(") i j (append_cancel_right (codes "cfg(" ++ i) (codes "cfg(" ++ j) (codes ")") (sym p ∙ q))
+    append_cancel_left (codes "cfg(") i j
+    (append_cancel_right (codes "cfg(" ++ i) (codes "cfg(" ++ j) (codes ")") (sym p ∙ q))
 
-pub one_expression : (text : List ℕ) (d e : Tree) → IsConditionText text (Expression d) → IsConditionText text (Expression e) → d ≡ e
+pub one_expression : (text : List ℕ) (d e : Tree) → IsConditionText text (Expression d)
+    → IsConditionText text (Expression e) → d ≡ e
 one_expression text d e p q =
     let P : List ℕ → Type 0 = λ z. IsTreeText z e in
     one_tree_text p.0 d e p.2 (subst P (one_inner text q.0 p.0 q.1 p.1) q.2)
@@ -30,7 +32,8 @@ one_condition text (Expression d) (Target n) p q = absurd (q.1 p.0 p.1)
 one_condition text (Expression d) (Expression e) p q = ap Expression (one_expression text d e p q)
 
 -- what one expression of a text is not, none is
-pub none_true : (text : List ℕ) (facts : FactSet) (d : Tree) (b : Bool) → IsConditionText text (Expression d) → b ≡ truth facts d → b ≡ false → (e : Tree) → IsConditionText text (Expression e) → truth facts e ≡ false
+pub none_true : (text : List ℕ) (facts : FactSet) (d : Tree) (b : Bool) → IsConditionText text (Expression d)
+    → b ≡ truth facts d → b ≡ false → (e : Tree) → IsConditionText text (Expression e) → truth facts e ≡ false
 none_true text facts d b p is no_truth e q = ap (truth facts) (one_expression text e d q p) ∙ sym is ∙ no_truth
 
 -- A text spells only well-formed conditions.
@@ -44,11 +47,13 @@ printed_condition_spells (Target m) w = (refl, name_is_bare m w, w)
 printed_condition_spells (Expression e) w = (print e, refl, printed_spells e w)
 
 -- the print of a well-formed condition is no text that may be refused
-pub is_print_condition : (text : List ℕ) (p : Condition) → IsWellFormedCondition p → text ≡ print_condition p → IsConditionText text p
+pub is_print_condition : (text : List ℕ) (p : Condition) → IsWellFormedCondition p → text ≡ print_condition p
+    → IsConditionText text p
 is_print_condition text p w h =
     let P : List ℕ → Type 0 = λ z. IsConditionText z p in
     subst P (sym h) (printed_condition_spells p w)
 
 -- what is read from the print of a well-formed condition is that condition
-pub reads_back_condition : (text : List ℕ) (p q : Condition) → IsWellFormedCondition q → text ≡ print_condition q → IsConditionText text p → p ≡ q
+pub reads_back_condition : (text : List ℕ) (p q : Condition) → IsWellFormedCondition q → text ≡ print_condition q
+    → IsConditionText text p → p ≡ q
 reads_back_condition text p q w h s = one_condition text p q s (is_print_condition text q w h)

@@ -1,12 +1,15 @@
 -- The cuts of some texts, and what is none.
-use Rattle.std.proofs.Common.{refl, sym, ap, ◌∙◌, ℕ, true, false, true≢false, List, [], ◌∷◌, ◌++◌, codes, inl, inr, arith, length, drop}
+use Rattle.std.proofs.Common.{refl, sym, ap, ◌∙◌, ℕ, true, false, true≢false, List, [], ◌∷◌, ◌++◌, codes, inl, inr}
+use Rattle.std.proofs.Common.{arith, length, drop}
 use Rattle.std.specs.Prelude.{not, ◌==◌}
 use Rattle.std.specs.List.{list_all}
 use Rattle.std.specs.Char.{encode_utf8}
-use Rattle.cargo_platform.specs.declared.tokens.TokenFaultKind.TheVariants.{UnterminatedString, UnexpectedChar, MissingIdentifier}
+use Rattle.cargo_platform.specs.declared.tokens.TokenFaultKind.TheVariants.{UnterminatedString, UnexpectedChar}
+use Rattle.cargo_platform.specs.declared.tokens.TokenFaultKind.TheVariants.{MissingIdentifier}
 use Rattle.cargo_platform.specs.Chars.{is_space, is_quote, starts}
 use Rattle.cargo_platform.specs.Tokens.{Lexeme, LeftParen, RightParen, Ident, Comma, Equals, String, Placed, plain}
-use Rattle.cargo_platform.specs.Cut.{IsPiece, IsWrittenAt, AreSpaces, AreApart, EndsBefore, IsWhole, BeginsFault, IsTail, IsCut}
+use Rattle.cargo_platform.specs.Cut.{IsPiece, IsWrittenAt, AreSpaces, AreApart, EndsBefore, IsWhole, BeginsFault}
+use Rattle.cargo_platform.specs.Cut.{IsTail, IsCut}
 use Rattle.cargo_platform.specs.Reading.{Progress, GivesToken, GivesFault, GivesNothing, IsRestFrom}
 use Rattle.cargo_platform.proofs.OneCut.{tail_no_space, one_cut_from}
 use Rattle.cargo_platform.proofs.CutTests.{spaces, written_at, cut_by}
@@ -25,7 +28,8 @@ empty = cut_by _ _ _ refl (inl refl)
 two_spaces : IsCut (codes "  ") [] 2
 two_spaces = cut_by _ _ _ refl (inl refl)
 
-pub comma_behind : IsCut (codes "all(a, )") (word (codes "all") 0 3 ∷ at LeftParen 3 4 ∷ word (codes "a") 4 5 ∷ at Comma 5 6 ∷ at RightParen 7 8 ∷ []) 8
+pub comma_behind : IsCut (codes "all(a, )")
+    (word (codes "all") 0 3 ∷ at LeftParen 3 4 ∷ word (codes "a") 4 5 ∷ at Comma 5 6 ∷ at RightParen 7 8 ∷ []) 8
 comma_behind = cut_by _ _ _ refl (inl refl)
 
 -- `r#a="é"`: a character of two bytes
@@ -38,7 +42,8 @@ wide_value = (((0xE9 ∷ [], (refl, refl)), refl), record { ordered = omega arit
 
 wide_pair : IsCut wide (at (Ident true (codes "a")) 0 3 ∷ at Equals 3 4 ∷ at (String (0xC3 ∷ 0xA9 ∷ [])) 4 8 ∷ []) 8
 wide_pair = record {
-  written = (written_at _ (at (Ident true (codes "a")) 0 3) refl, (written_at _ (at Equals 3 4) refl, (wide_value, tt)));
+  written =
+      (written_at _ (at (Ident true (codes "a")) 0 3) refl, (written_at _ (at Equals 3 4) refl, (wide_value, tt)));
   apart = (spaces _ _ _ refl, (spaces _ _ _ refl, (spaces _ _ _ refl, spaces _ _ _ refl)));
   whole = ((refl, refl), (tt, (tt, tt)));
   rest = inl refl;
@@ -50,7 +55,8 @@ string_first = cut_by _ _ _ refl (inl refl)
 -- a marked `r`, and then `#a`
 pub marked_twice : IsCut (codes "r#r#a") (at (Ident true (codes "r")) 0 3 ∷ []) 3
 unfolding encode_utf8
-marked_twice = cut_by _ _ _ refl (inr (UnexpectedChar 0x23, inr (codes "a", record { scalar = refl; parts = refl }, refl)))
+marked_twice =
+    cut_by _ _ _ refl (inr (UnexpectedChar 0x23, inr (codes "a", record { scalar = refl; parts = refl }, refl)))
 
 -- an `r` inside a name begins no mark
 pub late_mark : IsCut (codes "ar#") (word (codes "ar") 0 2 ∷ []) 2
@@ -60,12 +66,15 @@ late_mark = cut_by _ _ _ refl (inr (UnexpectedChar 0x23, inr ([], record { scala
 -- nor does an `r` with a space behind it
 pub apart_mark : IsCut (codes "r #foo") (word (codes "r") 0 1 ∷ []) 2
 unfolding encode_utf8
-apart_mark = cut_by _ _ _ refl (inr (UnexpectedChar 0x23, inr (codes "foo", record { scalar = refl; parts = refl }, refl)))
+apart_mark =
+    cut_by _ _ _ refl (inr (UnexpectedChar 0x23, inr (codes "foo", record { scalar = refl; parts = refl }, refl)))
 
 -- `a r#é`: a mark, and a character that begins no name
 wide_name : IsCut (codes "a r#" ++ (0xC3 ∷ 0xA9 ∷ [])) (word (codes "a") 0 1 ∷ []) 2
 unfolding encode_utf8
-wide_name = cut_by _ _ _ refl (inr (UnexpectedChar 0xE9, inl (0xC3 ∷ 0xA9 ∷ [], [], refl, record { scalar = refl; parts = refl }, refl)))
+wide_name =
+    cut_by _ _ _ refl
+    (inr (UnexpectedChar 0xE9, inl (0xC3 ∷ 0xA9 ∷ [], [], refl, record { scalar = refl; parts = refl }, refl)))
 
 -- a mark at the end of the text
 pub last_mark : IsCut (codes "all r#") (word (codes "all") 0 3 ∷ []) 4
@@ -123,7 +132,8 @@ not_whole p = true≢false p.0
 
 closed_string : BeginsFault (codes "\"a\"") UnterminatedString → ⊥
 unfolding encode_utf8
-closed_string p = true≢false (sym p.2 ∙ sym (ap (λ (z : List ℕ). list_all (λ c. not (is_quote c)) (drop 1 z)) p.1.parts))
+closed_string p =
+    true≢false (sym p.2 ∙ sym (ap (λ (z : List ℕ). list_all (λ c. not (is_quote c)) (drop 1 z)) p.1.parts))
 
 named_mark : BeginsFault (codes "r#a") MissingIdentifier → ⊥
 named_mark p = absurd (omega (arith, ap length p))
@@ -139,7 +149,8 @@ last_mark_is_missing (inl p) = absurd (omega (arith, ap length p.2, ap length p.
 last_mark_is_missing (inr p) = true≢false p.2
 
 name_is_no_tail : IsTail (codes "a") → ⊥
-name_is_no_tail t = absurd (omega (arith, ap length (one_cut_from (codes "a") _ _ 0 0 1 (cut_by (codes "a") [] 0 refl t) lone_a).0))
+name_is_no_tail t =
+    absurd (omega (arith, ap length (one_cut_from (codes "a") _ _ 0 0 1 (cut_by (codes "a") [] 0 refl t) lone_a).0))
 
 space_is_no_tail : IsTail (codes " a") → ⊥
 space_is_no_tail t = true≢false (tail_no_space (codes " a") t)
@@ -153,20 +164,44 @@ abbrev over : List ℕ → ℕ → Progress
 over text place = record { text = text; place = place; failed = true; looks = 0 }
 
 gives_second : GivesToken (going (codes "a b") 1) (going (codes "a b") 3) (word (codes "b") 2 3)
-gives_second = record { going = refl; apart = spaces _ _ _ refl; written = written_at _ (word (codes "b") 2 3) refl; whole = (refl, refl); moves = record { same_text = refl; place_is = refl; failed_is = refl } }
+gives_second =
+    record {
+      going = refl;
+      apart = spaces _ _ _ refl;
+      written = written_at _ (word (codes "b") 2 3) refl;
+      whole =
+          (refl, refl);
+      moves = record { same_text = refl; place_is = refl; failed_is = refl };
+    }
 
 gives_no_token_after_fault : (new : Progress) (t : Placed) → GivesToken (over (codes "# a") 0) new t → ⊥
 gives_no_token_after_fault new t p = true≢false p.going
 
 gives_fault : GivesFault (going (codes "a #") 1) (over (codes "a #") 2) (UnexpectedChar 0x23) 2
 unfolding encode_utf8
-gives_fault = record { going = refl; apart = spaces _ _ _ refl; begins = inr ([], record { scalar = refl; parts = refl }, refl); moves = record { same_text = refl; place_is = refl; failed_is = refl } }
+gives_fault =
+    record {
+      going = refl;
+      apart = spaces _ _ _ refl;
+      begins = inr (
+        [],
+        record { scalar = refl; parts = refl },
+        refl,
+      );
+      moves = record { same_text = refl; place_is = refl; failed_is = refl };
+    }
 
 gives_fault_once : (new : Progress) (at : ℕ) → GivesFault (over (codes "#") 0) new (UnexpectedChar 0x23) at → ⊥
 gives_fault_once new at p = true≢false p.going
 
 gives_nothing : GivesNothing (going (codes "a  ") 1) (going (codes "a  ") 3)
-gives_nothing = inr (record { going = refl; apart = spaces _ _ _ refl; moves = record { same_text = refl; place_is = refl; failed_is = refl } })
+gives_nothing =
+    inr (record {
+      going = refl;
+      apart = spaces _ _ _ refl;
+      moves =
+          record { same_text = refl; place_is = refl; failed_is = refl };
+    })
 
 gives_something : (new : Progress) → GivesNothing (going (codes "a") 0) new → ⊥
 gives_something new (inl e) = true≢false (sym e.0)

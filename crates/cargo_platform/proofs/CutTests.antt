@@ -1,5 +1,6 @@
 -- A test of whether tokens with their places are cut so from a text, for worked rows: it computes.
-use Rattle.std.proofs.Common.{◌≡◌, refl, sym, ℕ, Bool, true, false, not, ◌&&◌, true≢false, List, [], ◌∷◌, codes, length, drop, slice_range, lit<, zero, suc}
+use Rattle.std.proofs.Common.{◌≡◌, refl, sym, ℕ, Bool, true, false, not, ◌&&◌, true≢false, List, [], ◌∷◌, codes, length}
+use Rattle.std.proofs.Common.{drop, slice_range, lit<, zero, suc}
 use Rattle.std.specs.Prelude.{bytes_eq}
 use Rattle.std.specs.Str.{IsAscii}
 use Rattle.std.specs.Char.{is_ascii}
@@ -8,8 +9,10 @@ use Rattle.std.proofs.Math.Dec.{leb}
 use Rattle.std.proofs.lemmas.Bool.{leb-true, ltb-true}
 use Rattle.std.proofs.lemmas.Str.{IsUtf8-from_ascii}
 use Rattle.std.proofs.lemmas.Slice.Eq.{bytes_eq-Decides}
-use Rattle.cargo_platform.specs.Chars.{is_identifier_start, is_identifier_rest, is_space, is_quote, is_number_sign, starts}
-use Rattle.cargo_platform.specs.Tokens.{Lexeme, LeftParen, RightParen, Ident, Comma, Equals, String, Placed, written, IsWellWritten}
+use Rattle.cargo_platform.specs.Chars.{is_identifier_start, is_identifier_rest, is_space, is_quote, is_number_sign}
+use Rattle.cargo_platform.specs.Chars.{starts}
+use Rattle.cargo_platform.specs.Tokens.{Lexeme, LeftParen, RightParen, Ident, Comma, Equals, String, Placed, written}
+use Rattle.cargo_platform.specs.Tokens.{IsWellWritten}
 use Rattle.cargo_platform.specs.Cut.{IsPiece, IsWrittenAt, AreSpaces, EndsBefore, IsTail, IsCutFrom, IsCut}
 use Rattle.cargo_platform.proofs.OneCut.{both_first, both_second}
 
@@ -35,7 +38,8 @@ well_written Comma h = tt
 well_written Equals h = tt
 
 abbrev pub ends_before : Lexeme → List ℕ → Bool
-ends_before (Ident raw name) rest = not (starts is_identifier_rest rest) && not (not raw && bytes_eq name (codes "r") && starts is_number_sign rest)
+ends_before (Ident raw name) rest =
+    not (starts is_identifier_rest rest) && not (not raw && bytes_eq name (codes "r") && starts is_number_sign rest)
 ends_before t rest = true
 
 false_of : (b : Bool) → not b ≡ true → b ≡ false
@@ -53,30 +57,44 @@ ends (String value) rest h = tt
 abbrev is_range : List ℕ → ℕ → ℕ → Bool
 is_range text i j = leb i j && leb j (length text)
 
-piece : (text : List ℕ) (i j : ℕ) (p : List ℕ) → is_range text i j ≡ true → slice_range text i j ≡ p → IsPiece text i j p
-piece text i j p h e = record { ordered = leb-true i j (both_first _ _ h); inside = leb-true j (length text) (both_second _ _ h); bytes = e }
+piece : (text : List ℕ) (i j : ℕ) (p : List ℕ) → is_range text i j ≡ true → slice_range text i j ≡ p
+    → IsPiece text i j p
+piece text i j p h e =
+    record {
+      ordered = leb-true i j (both_first _ _ h);
+      inside = leb-true j (length text)
+          (both_second _ _ h);
+      bytes = e;
+    }
 
 abbrev are_spaces : List ℕ → ℕ → ℕ → Bool
 are_spaces text i j = is_range text i j && list_all is_space (slice_range text i j)
 
 pub spaces : (text : List ℕ) (i j : ℕ) → are_spaces text i j ≡ true → AreSpaces text i j
-spaces text i j h = (slice_range text i j, piece text i j (slice_range text i j) (both_first _ _ h) refl, both_second _ _ h)
+spaces text i j h =
+    (slice_range text i j, piece text i j (slice_range text i j) (both_first _ _ h) refl, both_second _ _ h)
 
 abbrev is_written_at : List ℕ → Placed → Bool
-is_written_at text t = is_well_written t.token && is_range text t.start t.end && bytes_eq (slice_range text t.start t.end) (written t.token)
+is_written_at text t =
+    is_well_written t.token && is_range text t.start t.end
+    && bytes_eq (slice_range text t.start t.end) (written t.token)
 
 pub written_at : (text : List ℕ) (t : Placed) → is_written_at text t ≡ true → IsWrittenAt text t
 written_at text t h = (
   well_written t.token (both_first _ _ (both_first _ _ h)),
-  piece text t.start t.end (written t.token) (both_second _ _ (both_first _ _ h)) ((bytes_eq-Decides (slice_range text t.start t.end) (written t.token)).0 (both_second _ _ h)),
+  piece text t.start t.end (written t.token) (both_second _ _ (both_first _ _ h))
+      ((bytes_eq-Decides (slice_range text t.start t.end) (written t.token)).0 (both_second _ _ h)),
 )
 
 -- the tokens are cut so from a place on, up to the tail
 abbrev pub is_cut_from : List ℕ → ℕ → List Placed → ℕ → Bool
 is_cut_from text from [] tail = are_spaces text from tail
-is_cut_from text from (t ∷ ts) tail = are_spaces text from t.start && (is_written_at text t && (ends_before t.token (drop t.end text) && is_cut_from text t.end ts tail))
+is_cut_from text from (t ∷ ts) tail =
+    are_spaces text from t.start
+    && (is_written_at text t && (ends_before t.token (drop t.end text) && is_cut_from text t.end ts tail))
 
-cut_from : (text : List ℕ) (from : ℕ) (ts : List Placed) (tail : ℕ) → is_cut_from text from ts tail ≡ true → IsTail (drop tail text) → IsCutFrom text from ts tail
+cut_from : (text : List ℕ) (from : ℕ) (ts : List Placed) (tail : ℕ) → is_cut_from text from ts tail ≡ true
+    → IsTail (drop tail text) → IsCutFrom text from ts tail
 cut_from text from [] tail h rest = record { written = tt; apart = spaces text from tail h; whole = tt; rest = rest }
 cut_from text from (t ∷ ts) tail h rest =
     let behind = both_second (are_spaces text from t.start) _ h in
@@ -90,5 +108,6 @@ cut_from text from (t ∷ ts) tail h rest =
     }
 
 -- what passes the test, before a tail, is the cut
-pub cut_by : (text : List ℕ) (ts : List Placed) (tail : ℕ) → is_cut_from text 0 ts tail ≡ true → IsTail (drop tail text) → IsCut text ts tail
+pub cut_by : (text : List ℕ) (ts : List Placed) (tail : ℕ) → is_cut_from text 0 ts tail ≡ true
+    → IsTail (drop tail text) → IsCut text ts tail
 cut_by text ts tail h rest = cut_from text 0 ts tail h rest

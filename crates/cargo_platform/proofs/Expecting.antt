@@ -1,12 +1,14 @@
 -- The last token of a list that is walked tells what is expected behind it, as the state does.
-use Rattle.std.proofs.Common.{◌≡◌, refl, sym, subst, ◌∙◌, ℕ, Bool, true, false, not, ◌&&◌, ◌||◌, List, [], ◌∷◌, Option, Some, None, codes}
+use Rattle.std.proofs.Common.{◌≡◌, refl, sym, subst, ◌∙◌, ℕ, Bool, true, false, not, ◌&&◌, ◌||◌, List, [], ◌∷◌, Option}
+use Rattle.std.proofs.Common.{Some, None, codes}
 use Rattle.std.specs.Prelude.{if◌then◌else◌, bytes_eq}
 use Rattle.std.specs.List.{last_or}
 use Rattle.std.proofs.lemmas.Option.{same_Some}
 use Rattle.cargo_platform.specs.Tokens.{Lexeme, LeftParen, RightParen, Ident, Comma, Equals, String}
 use Rattle.cargo_platform.specs.Spelling.{Expressions}
 use Rattle.cargo_platform.specs.Faults.{expected_token, expected_end}
-use Rattle.cargo_platform.specs.Walk.{Word, Several, Negation, State, Wanted, Member, Behind, Named, Keyed, Ended, after, after_name, after_expression, walk_from}
+use Rattle.cargo_platform.specs.Walk.{Word, Several, Negation, State, Wanted, Member, Behind, Named, Keyed, Ended}
+use Rattle.cargo_platform.specs.Walk.{after, after_name, after_expression, walk_from}
 use Rattle.cargo_platform.specs.Parsing.{expects, expects_end}
 use Rattle.cargo_platform.proofs.Walk.{none_some, walk_from-None}
 
@@ -15,9 +17,13 @@ abbrev pub Matches : Option Lexeme → State → Type 0
 Matches o s = (expected_token Expressions o ≡ expects s) × (expected_end Expressions o ≡ expects_end s)
 
 abbrev Picks : Bool → State → Type 0
-Picks b s = ((if b then codes "`(`" else codes "`)`") ≡ expects s) × ((if b then codes "`(`" else codes "`)`") ≡ expects_end s)
+Picks b s =
+    ((if b then codes "`(`" else codes "`)`") ≡ expects s) × ((if b then codes "`(`" else codes "`)`") ≡ expects_end s)
 
-picks : (m al an ne l : Bool) (ws : List Word) → Picks (not m && (al || an || ne)) (if not m && ne then Behind Negation ws else (if not m && (al || an) then Behind Several ws else (if not m && l then Ended ws else Named ws)))
+picks : (m al an ne l : Bool) (ws : List Word)
+    → Picks (not m && (al || an || ne))
+    (if not m && ne then Behind Negation ws
+    else (if not m && (al || an) then Behind Several ws else (if not m && l then Ended ws else Named ws)))
 picks true al an ne l ws = (refl, refl)
 picks false true an true l ws = (refl, refl)
 picks false true an false l ws = (refl, refl)
@@ -28,7 +34,9 @@ picks false false false false true ws = (refl, refl)
 picks false false false false false ws = (refl, refl)
 
 named_matches : (raw : Bool) (name : List ℕ) (ws : List Word) → Matches (Some (Ident raw name)) (after_name raw name ws)
-named_matches raw name ws = picks raw (bytes_eq name (codes "all")) (bytes_eq name (codes "any")) (bytes_eq name (codes "not")) (bytes_eq name (codes "true") || bytes_eq name (codes "false")) ws
+named_matches raw name ws =
+    picks raw (bytes_eq name (codes "all")) (bytes_eq name (codes "any")) (bytes_eq name (codes "not"))
+    (bytes_eq name (codes "true") || bytes_eq name (codes "false")) ws
 
 moved : (o : Option Lexeme) (s t : State) → Some s ≡ Some t → Matches o s → Matches o t
 moved o s t h m = let P : State → Type 0 = λ z. Matches o z in subst P (same_Some _ _ h) m
@@ -39,8 +47,10 @@ ended_matches (Several ∷ ws) Comma st h = moved (Some Comma) (Member ws) st h 
 ended_matches ws t st h = none_some h
 
 after_matches : (s : State) (t : Lexeme) (st : State) → after s t ≡ Some st → Matches (Some t) st
-after_matches (Wanted ws) (Ident raw name) st h = moved (Some (Ident raw name)) (after_name raw name ws) st h (named_matches raw name ws)
-after_matches (Member ws) (Ident raw name) st h = moved (Some (Ident raw name)) (after_name raw name (Several ∷ ws)) st h (named_matches raw name (Several ∷ ws))
+after_matches (Wanted ws) (Ident raw name) st h =
+    moved (Some (Ident raw name)) (after_name raw name ws) st h (named_matches raw name ws)
+after_matches (Member ws) (Ident raw name) st h =
+    moved (Some (Ident raw name)) (after_name raw name (Several ∷ ws)) st h (named_matches raw name (Several ∷ ws))
 after_matches (Member ws) RightParen st h = moved (Some RightParen) (Ended ws) st h (refl, refl)
 after_matches (Behind Negation ws) LeftParen st h = moved (Some LeftParen) (Wanted (Negation ∷ ws)) st h (refl, refl)
 after_matches (Behind Several ws) LeftParen st h = moved (Some LeftParen) (Member ws) st h (refl, refl)
@@ -54,7 +64,8 @@ after_matches (Named ws) (String value) st h = ended_matches ws (String value) s
 after_matches (Ended ws) t st h = ended_matches ws t st h
 after_matches s t st h = none_some h
 
-pub walk_matches : (ts : List Lexeme) (s : State) (o : Option Lexeme) (st : State) → Matches o s → walk_from (Some s) ts ≡ Some st → Matches (last_or o ts) st
+pub walk_matches : (ts : List Lexeme) (s : State) (o : Option Lexeme) (st : State) → Matches o s
+    → walk_from (Some s) ts ≡ Some st → Matches (last_or o ts) st
 walk_matches [] s o st m h = moved o s st h m
 walk_matches (t ∷ ts) s o st m h =
     elim (after s t) as (λ z. after s t ≡ z → walk_from z ts ≡ Some st → Matches (last_or (Some t) ts) st) [

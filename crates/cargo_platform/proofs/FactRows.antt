@@ -1,11 +1,13 @@
 -- The pairs of some values, and the truth of some expressions over some sets of facts.
-use Rattle.std.proofs.Common.{◌≡◌, refl, sym, ap, ◌∙◌, Bool, true, false, not, ◌&&◌, ◌||◌, true≢false, List, [], ◌∷◌, codes, map}
+use Rattle.std.proofs.Common.{◌≡◌, refl, sym, ap, ◌∙◌, Bool, true, false, not, ◌&&◌, ◌||◌, true≢false, List, [], ◌∷◌}
+use Rattle.std.proofs.Common.{codes, map}
 use Rattle.std.specs.Prelude.{bytes_eq}
 use Rattle.std.specs.Ordering.{eq_by_cmp}
 use Rattle.std.specs.List.{list_any}
 use Rattle.std.specs.FinSet.{contains-from_list}
 use Rattle.std.specs.declared.cmp.Ordering.TheVariants.{Less, Equal, Greater}
-use Rattle.cargo_platform.specs.Trees.{CfgValue, Alone, KeyPair, Not, All, Any, Value, True, False, none, trees_of, Target, Expression}
+use Rattle.cargo_platform.specs.Trees.{CfgValue, Alone, KeyPair, Not, All, Any, Value, True, False, none, trees_of}
+use Rattle.cargo_platform.specs.Trees.{Target, Expression}
 use Rattle.cargo_platform.specs.Facts.{pair_of, pair_cmp, fact_set, truth, IsTrueCondition}
 use Rattle.cargo_platform.proofs.FactSets.{pairs_total}
 use Rattle.cargo_platform.proofs.RowTrees.{name, marked}
@@ -23,7 +25,8 @@ k_1 = KeyPair (name (codes "k")) (codes "1")
 -- ---- pairs
 
 -- the mark is no part of the pair
-one_pair : (pair_of (Alone (marked (codes "foo"))) ≡ pair_of foo) × (pair_of (KeyPair (marked (codes "k")) (codes "1")) ≡ pair_of k_1)
+one_pair : (pair_of (Alone (marked (codes "foo"))) ≡ pair_of foo)
+    × (pair_of (KeyPair (marked (codes "k")) (codes "1")) ≡ pair_of k_1)
 one_pair = (refl, refl)
 
 -- a name is no pair with an empty value
@@ -34,13 +37,16 @@ two_names : pair_of foo ≡ pair_of bar → ⊥
 two_names p = true≢false (ap (λ z. bytes_eq z.name (codes "foo")) p)
 
 -- by the name, and then by the value, which none comes before
-pair_order : (pair_cmp (pair_of bar) (pair_of foo) ≡ Less) × (pair_cmp (pair_of k_1) (pair_of (Alone (name (codes "k")))) ≡ Greater) × (pair_cmp (pair_of foo) (pair_of (Alone (marked (codes "foo")))) ≡ Equal)
+pair_order : (pair_cmp (pair_of bar) (pair_of foo) ≡ Less)
+    × (pair_cmp (pair_of k_1) (pair_of (Alone (name (codes "k")))) ≡ Greater)
+    × (pair_cmp (pair_of foo) (pair_of (Alone (marked (codes "foo")))) ≡ Equal)
 pair_order = (refl, refl, refl)
 
 -- ---- names and pairs over sets of facts
 
 -- a value is true where some fact has its pair
-by_pairs : (cs : List CfgValue) (c : CfgValue) (b : Bool) → list_any (eq_by_cmp pair_cmp (pair_of c)) (map pair_of cs) ≡ b → truth (fact_set cs) (Value c) ≡ b
+by_pairs : (cs : List CfgValue) (c : CfgValue) (b : Bool)
+    → list_any (eq_by_cmp pair_cmp (pair_of c)) (map pair_of cs) ≡ b → truth (fact_set cs) (Value c) ≡ b
 by_pairs cs c b h = contains-from_list pairs_total (map pair_of cs) (pair_of c) ∙ h
 
 foo_over_foo : truth (fact_set (foo ∷ [])) (Value foo) ≡ true
@@ -70,15 +76,18 @@ pair_over_other : truth (fact_set (k_1 ∷ [])) (Value (KeyPair (name (codes "k"
 pair_over_other = by_pairs (k_1 ∷ []) (KeyPair (name (codes "k")) (codes "2")) false refl
 
 -- a key may have several values
-pair_over_both : truth (fact_set (k_1 ∷ KeyPair (name (codes "k")) (codes "2") ∷ [])) (Value (KeyPair (name (codes "k")) (codes "2"))) ≡ true
-pair_over_both = by_pairs (k_1 ∷ KeyPair (name (codes "k")) (codes "2") ∷ []) (KeyPair (name (codes "k")) (codes "2")) true refl
+pair_over_both : truth (fact_set (k_1 ∷ KeyPair (name (codes "k")) (codes "2") ∷ []))
+    (Value (KeyPair (name (codes "k")) (codes "2"))) ≡ true
+pair_over_both =
+    by_pairs (k_1 ∷ KeyPair (name (codes "k")) (codes "2") ∷ []) (KeyPair (name (codes "k")) (codes "2")) true refl
 
 -- ---- expressions
 
 literals : (truth (fact_set []) True ≡ true) × (truth (fact_set (foo ∷ [])) False ≡ false)
 literals = (refl, refl)
 
-empty_groups : (truth (fact_set []) (All none) ≡ true) × (truth (fact_set []) (Any none) ≡ false) × (truth (fact_set []) (Not (Any none)) ≡ true)
+empty_groups : (truth (fact_set []) (All none) ≡ true) × (truth (fact_set []) (Any none) ≡ false)
+    × (truth (fact_set []) (Not (Any none)) ≡ true)
 empty_groups = (refl, refl, refl)
 
 not_foo : truth (fact_set []) (Not (Value foo)) ≡ true

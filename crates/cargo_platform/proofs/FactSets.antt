@@ -14,7 +14,9 @@ use Rattle.cargo_platform.specs.Facts.{Pair, pair_of, pair_cmp, fact_set}
 use Rattle.cargo_platform.specs.OrderLaws.{value_total}
 
 pub pairs_total : IsTotalOrder pair_cmp
-pairs_total = then_total (on_total (λ (p : Pair). p.name) nat_list_cmp_total) (on_total (λ (p : Pair). p.value) (options_total nat_list_cmp_total))
+pairs_total =
+    then_total (on_total (λ (p : Pair). p.name) nat_list_cmp_total)
+    (on_total (λ (p : Pair). p.value) (options_total nat_list_cmp_total))
 
 untied_after : (a b : Ordering) → is_eq b ≡ false → is_eq (ordering_then a b) ≡ false
 untied_after Less b h = refl
@@ -33,19 +35,30 @@ same_pair (Alone m) (KeyPair k v) = sym (untied_after (name_cmp m k) Less refl)
 same_pair (KeyPair j u) (Alone n) = sym (untied_after (name_cmp j n) Greater refl)
 same_pair (KeyPair j u) (KeyPair k v) = refl
 
-searched : (c : CfgValue) (facts : List Cfg) → list_any (λ f. eq_by_cmp value_cmp c (value_of f)) facts ≡ list_any (eq_by_cmp pair_cmp (pair_of c)) (map pair_of (map value_of facts))
+searched : (c : CfgValue) (facts : List Cfg)
+    → list_any
+    (λ f. eq_by_cmp value_cmp c (value_of f)) facts ≡ list_any (eq_by_cmp pair_cmp (pair_of c))
+    (map pair_of (map value_of facts))
 searched c [] = refl
 searched c (f ∷ facts) = λ i. same_pair c (value_of f) i || searched c facts i
 
-found : (c : CfgValue) (facts : List Cfg) → list_any (λ f. eq_by_cmp value_cmp c (value_of f)) facts ≡ contains (fact_set (map value_of facts)) (pair_of c)
+found : (c : CfgValue) (facts : List Cfg)
+    → list_any (λ f. eq_by_cmp value_cmp c (value_of f)) facts ≡ contains (fact_set (map value_of facts)) (pair_of c)
 found c facts = searched c facts ∙ sym (contains-from_list pairs_total (map pair_of (map value_of facts)) (pair_of c))
 
-turned : (c : CfgValue) (facts : List Cfg) → list_any (λ f. eq_by_cmp value_cmp (value_of f) c) facts ≡ list_any (λ f. eq_by_cmp value_cmp c (value_of f)) facts
+turned : (c : CfgValue) (facts : List Cfg)
+    → list_any (λ f. eq_by_cmp value_cmp (value_of f) c) facts ≡ list_any
+    (λ f. eq_by_cmp value_cmp c (value_of f)) facts
 turned c facts = ap (λ test. list_any test facts) (λ i f. (eq_by_cmp_equiv value_total).symm (value_of f) c i)
 
--- whether some fact equals the value is whether the pair is in the fact set: each fact compared with the value, and the other way round
-pub is_listed : (c : CfgValue) (facts : List Cfg) (answer : Bool) → answer ≡ list_any (λ f. eq_by_cmp value_cmp (value_of f) c) facts → answer ≡ contains (fact_set (map value_of facts)) (pair_of c)
+-- whether some fact equals the value is whether the pair is in the fact set: each fact compared with the value, and the
+-- other way round
+pub is_listed : (c : CfgValue) (facts : List Cfg) (answer : Bool)
+    → answer ≡ list_any (λ f. eq_by_cmp value_cmp (value_of f) c) facts
+    → answer ≡ contains (fact_set (map value_of facts)) (pair_of c)
 is_listed c facts answer is = is ∙ turned c facts ∙ found c facts
 
-pub is_indexed : (c : CfgValue) (facts : List Cfg) (answer : Bool) → answer ≡ list_any (λ f. eq_by_cmp value_cmp c (value_of f)) facts → answer ≡ contains (fact_set (map value_of facts)) (pair_of c)
+pub is_indexed : (c : CfgValue) (facts : List Cfg) (answer : Bool)
+    → answer ≡ list_any (λ f. eq_by_cmp value_cmp c (value_of f)) facts
+    → answer ≡ contains (fact_set (map value_of facts)) (pair_of c)
 is_indexed c facts answer is = is ∙ found c facts

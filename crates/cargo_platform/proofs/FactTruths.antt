@@ -1,5 +1,6 @@
 -- The truth of a tree as its facts change.
-use Rattle.std.proofs.Common.{◌≡◌, refl, sym, ap, ◌∙◌, Bool, true, false, not, ◌&&◌, ◌||◌, List, map, Some, None, true≢false}
+use Rattle.std.proofs.Common.{◌≡◌, refl, sym, ap, ◌∙◌, Bool, true, false, not, ◌&&◌, ◌||◌, List, map, Some, None}
+use Rattle.std.proofs.Common.{true≢false}
 use Rattle.std.specs.Prelude.{IsTrue, Option, ℕ}
 use Rattle.std.specs.declared.cmp.Ordering.TheVariants.{Equal}
 use Rattle.std.specs.Ordering.{is_lt, is_gt, nat_cmp}
@@ -10,7 +11,8 @@ use Rattle.std.specs.FinSet.{contains-from_list, same_set, IsAntisymmetric}
 use Rattle.std.proofs.lemmas.Map.Views.{list_any-from_Contains, Contains-from_any}
 use Rattle.cargo_platform.specs.Trees.{CfgValue, Tree, Not, All, Any, Value, True, False, Trees, none, tree}
 use Rattle.cargo_platform.specs.Facts.{Pair, pair_of, pair_cmp, FactSet, fact_set, truth, all_true, any_true}
-use Rattle.cargo_platform.specs.FactLaws.{IsInWhereListed, HaveSamePairs, HaveSameFacts, HasAllFacts, is_without_not, are_without_not, negations}
+use Rattle.cargo_platform.specs.FactLaws.{IsInWhereListed, HaveSamePairs, HaveSameFacts, HasAllFacts, is_without_not}
+use Rattle.cargo_platform.specs.FactLaws.{are_without_not, negations}
 use Rattle.cargo_platform.specs.OrderLaws.{first_tied, second_tied, text_tie}
 use Rattle.cargo_platform.proofs.FactSets.{pairs_total}
 
@@ -30,16 +32,20 @@ pair_tie p q h =
 pub listed : (cs : List CfgValue) (p : Pair) → IsInWhereListed cs p
 listed cs p =
     let by_test = contains-from_list pairs_total (map pair_of cs) p in (
-      λ inside. Contains-from_any (λ x y same. pair_tie x y ((Equal-is (pair_cmp x y)).0 same)) p (map pair_of cs) (sym by_test ∙ inside),
+      λ inside. Contains-from_any
+          (λ x y same. pair_tie x y ((Equal-is (pair_cmp x y)).0 same)) p (map pair_of cs) (sym by_test ∙ inside),
       λ member. by_test ∙ list_any-from_Contains (eq_by_cmp_equiv pairs_total) p (map pair_of cs) member,
     )
 
 pub same_facts_truth : (s t : FactSet) (e : Tree) → HaveSameFacts s t → truth s e ≡ truth t e
 same_facts_truth s t e same = ap (λ facts. truth facts e) (same_set pairs_total pair_tie s t same)
 
-pub same_pairs_truth : (cs ds : List CfgValue) (e : Tree) → HaveSamePairs cs ds → truth (fact_set cs) e ≡ truth (fact_set ds) e
+pub same_pairs_truth : (cs ds : List CfgValue) (e : Tree) → HaveSamePairs cs ds
+    → truth (fact_set cs) e ≡ truth (fact_set ds) e
 same_pairs_truth cs ds e same =
-    same_facts_truth (fact_set cs) (fact_set ds) e (λ p. both_ways _ _ (λ h. (listed ds p).1 ((same p).0 ((listed cs p).0 h))) (λ h. (listed cs p).1 ((same p).1 ((listed ds p).0 h))))
+    same_facts_truth (fact_set cs) (fact_set ds) e
+    (λ p. both_ways _ _ (λ h. (listed ds p).1 ((same p).0 ((listed cs p).0 h)))
+    (λ h. (listed cs p).1 ((same p).1 ((listed ds p).0 h))))
 
 either : (a b c d : Bool) → (a ≡ true → b ≡ true) → (c ≡ true → d ≡ true) → (a || c) ≡ true → (b || d) ≡ true
 either true b c d f g h = ap (λ x. x || d) (f refl)
@@ -63,7 +69,9 @@ module _ (fewer more : FactSet) (all : HasAllFacts fewer more) where
 
     more_any : (es : Trees) → IsTrue (are_without_not es) → IsTrue (any_true fewer es) → IsTrue (any_true more es)
     more_any none w h = h
-    more_any (tree e es) w h = either (truth fewer e) (truth more e) (any_true fewer es) (any_true more es) (more_true e (first_so _ _ w)) (more_any es (second_so _ _ w)) h
+    more_any (tree e es) w h =
+        either (truth fewer e) (truth more e) (any_true fewer es) (any_true more es) (more_true e (first_so _ _ w))
+        (more_any es (second_so _ _ w)) h
 
 not_both : (a b : Bool) → not (a && b) ≡ (not a || not b)
 not_both true b = refl
@@ -71,4 +79,5 @@ not_both false b = refl
 
 pub not_all : (facts : FactSet) (es : Trees) → not (all_true facts es) ≡ any_true facts (negations es)
 not_all facts none = refl
-not_all facts (tree e es) = not_both (truth facts e) (all_true facts es) ∙ ap (λ b. not (truth facts e) || b) (not_all facts es)
+not_all facts (tree e es) =
+    not_both (truth facts e) (all_true facts es) ∙ ap (λ b. not (truth facts e) || b) (not_all facts es)

@@ -1,5 +1,6 @@
 -- What can be completed, what is expected, and the faults of some texts read as expressions.
-use Rattle.std.proofs.Common.{◌≡◌, refl, sym, ◌∙◌, ℕ, lit≤, true, false, true≢false, List, [], ◌∷◌, ◌++◌, Some, None, codes, inl, inr, arith, drop}
+use Rattle.std.proofs.Common.{◌≡◌, refl, sym, ◌∙◌, ℕ, lit≤, true, false, true≢false, List, [], ◌∷◌, ◌++◌, Some, None}
+use Rattle.std.proofs.Common.{codes, inl, inr, arith, drop}
 use Rattle.std.specs.Char.{encode_utf8}
 use Rattle.std.specs.List.{last_or}
 use Rattle.cargo_platform.specs.declared.tokens.TokenFaultKind.TheVariants as lexical
@@ -7,7 +8,10 @@ use Rattle.cargo_platform.specs.Tokens.{Lexeme, LeftParen, RightParen, Ident, Co
 use Rattle.cargo_platform.specs.Cut.{BeginsFault, IsTail, lexemes}
 use Rattle.cargo_platform.specs.Trees.{Alone, Value}
 use Rattle.cargo_platform.specs.Spelling.{Values, Expressions}
-use Rattle.cargo_platform.specs.Faults.{IsCompletable, IsFaultFront, Next, Broken, End, Follows, Fault, UnterminatedString, UnexpectedChar, UnexpectedToken, IncompleteExpr, UnterminatedExpression, expected_token, expected_end, lexical_fault, fault_of, IsRefused}
+use Rattle.cargo_platform.specs.Faults.{IsCompletable, IsFaultFront, Next, Broken, End, Follows, Fault}
+use Rattle.cargo_platform.specs.Faults.{UnterminatedString, UnexpectedChar, UnexpectedToken, IncompleteExpr}
+use Rattle.cargo_platform.specs.Faults.{UnterminatedExpression, expected_token, expected_end, lexical_fault, fault_of}
+use Rattle.cargo_platform.specs.Faults.{IsRefused}
 use Rattle.cargo_platform.specs.Walk.{Several, State, Named, walk}
 use Rattle.cargo_platform.specs.Parsing.{is_whole}
 use Rattle.cargo_platform.proofs.Walk.{none_some, completable_walks}
@@ -59,7 +63,13 @@ all_a_b = word (codes "all") 0 3 ∷ at LeftParen 3 4 ∷ word (codes "a") 4 5 �
 
 -- a completable front that is not the longest
 short_front : (after : List Placed) → IsFaultFront Expressions all_a_b (word (codes "all") 0 3 ∷ []) after → ⊥
-short_front after p = absurd (omega (arith, p.longest (word (codes "all") 0 3 ∷ at LeftParen 3 4 ∷ word (codes "a") 4 5 ∷ []) (word (codes "b") 6 7 ∷ []) refl open_group))
+short_front after p =
+    absurd
+    (omega (
+      arith,
+      p.longest (word (codes "all") 0 3 ∷ at LeftParen 3 4 ∷ word (codes "a") 4 5 ∷ [])
+          (word (codes "b") 6 7 ∷ []) refl open_group,
+    ))
 
 long_front : (after : List Placed) → IsFaultFront Expressions all_a_b all_a_b after → ⊥
 long_front after p = unwalked (lexemes all_a_b) refl p.completable
@@ -72,27 +82,42 @@ tail_before_end : Follows (codes "a #") [] 2 End → ⊥
 tail_before_end h = absurd (omega arith)
 
 -- a lexical fault does not follow where a token is left
-token_before_tail : (ts : List Placed) (rest : List ℕ) → Follows (codes "a \"") (word (codes "a") 0 1 ∷ ts) 2 (Broken lexical.UnterminatedString rest) → ⊥
+token_before_tail : (ts : List Placed) (rest : List ℕ)
+    → Follows (codes "a \"") (word (codes "a") 0 1 ∷ ts) 2 (Broken lexical.UnterminatedString rest) → ⊥
 token_before_tail ts rest h = absurd cc
 
 -- ---- what is expected
 
-expected_first : (expected_token Values None ≡ codes "identifier") × (expected_token Expressions None ≡ codes "identifier") × (expected_end Values None ≡ codes "identifier") × (expected_end Expressions None ≡ codes "start of a cfg expression")
+expected_first : (expected_token Values None ≡ codes "identifier")
+    × (expected_token Expressions None ≡ codes "identifier") × (expected_end Values None ≡ codes "identifier")
+    × (expected_end Expressions None ≡ codes "start of a cfg expression")
 expected_first = (refl, refl, refl, refl)
 
-expected_member : (expected_token Expressions (Some LeftParen) ≡ codes "identifier") × (expected_token Expressions (Some Comma) ≡ codes "identifier") × (expected_end Expressions (Some LeftParen) ≡ codes "start of a cfg expression") × (expected_end Expressions (Some Comma) ≡ codes "start of a cfg expression")
+expected_member : (expected_token Expressions (Some LeftParen) ≡ codes "identifier")
+    × (expected_token Expressions (Some Comma) ≡ codes "identifier")
+    × (expected_end Expressions (Some LeftParen) ≡ codes "start of a cfg expression")
+    × (expected_end Expressions (Some Comma) ≡ codes "start of a cfg expression")
 expected_member = (refl, refl, refl, refl)
 
-expected_value : (expected_token Values (Some Equals) ≡ codes "a string") × (expected_token Expressions (Some Equals) ≡ codes "a string") × (expected_end Values (Some Equals) ≡ codes "a string") × (expected_end Expressions (Some Equals) ≡ codes "a string")
+expected_value : (expected_token Values (Some Equals) ≡ codes "a string")
+    × (expected_token Expressions (Some Equals) ≡ codes "a string")
+    × (expected_end Values (Some Equals) ≡ codes "a string")
+    × (expected_end Expressions (Some Equals) ≡ codes "a string")
 expected_value = (refl, refl, refl, refl)
 
-expected_group : (expected_token Expressions (Some (plain (codes "not"))) ≡ codes "`(`") × (expected_end Expressions (Some (plain (codes "any"))) ≡ codes "`(`") × (expected_end Expressions (Some (Ident true (codes "any"))) ≡ codes "`)`")
+expected_group : (expected_token Expressions (Some (plain (codes "not"))) ≡ codes "`(`")
+    × (expected_end Expressions (Some (plain (codes "any"))) ≡ codes "`(`")
+    × (expected_end Expressions (Some (Ident true (codes "any"))) ≡ codes "`)`")
 expected_group = (refl, refl, refl)
 
-expected_close : (expected_token Expressions (Some word_a) ≡ codes "`)`") × (expected_token Expressions (Some (String [])) ≡ codes "`)`") × (expected_end Expressions (Some RightParen) ≡ codes "`)`")
+expected_close : (expected_token Expressions (Some word_a) ≡ codes "`)`")
+    × (expected_token Expressions (Some (String [])) ≡ codes "`)`")
+    × (expected_end Expressions (Some RightParen) ≡ codes "`)`")
 expected_close = (refl, refl, refl)
 
-lexical_faults : (lexical_fault lexical.UnterminatedString ≡ UnterminatedString) × (lexical_fault (lexical.UnexpectedChar 0x23) ≡ UnexpectedChar 0x23) × (lexical_fault lexical.MissingIdentifier ≡ IncompleteExpr (codes "identifier"))
+lexical_faults : (lexical_fault lexical.UnterminatedString ≡ UnterminatedString)
+    × (lexical_fault (lexical.UnexpectedChar 0x23) ≡ UnexpectedChar 0x23)
+    × (lexical_fault lexical.MissingIdentifier ≡ IncompleteExpr (codes "identifier"))
 lexical_faults = (refl, refl, refl)
 
 accepted_at_end : fault_of Expressions true (Some word_a) End ≡ None
@@ -101,8 +126,14 @@ accepted_at_end = refl
 -- ---- refused texts
 
 -- a text, by its fault front and the tokens behind it
-row : (text : List ℕ) (front behind : List Placed) (tail : ℕ) (s : State) (next : Next) (fault : Fault) → is_cut_from text 0 (front ++ behind) tail ≡ true → IsTail (drop tail text) → walk (lexemes front) ≡ Some s → goes_on s behind ≡ None → Follows text behind tail next → fault_of Expressions (is_whole s) (last_or None (lexemes front)) next ≡ Some fault → IsRefused Expressions text fault
-row text front behind tail s next fault cut rest walked stops follows table = refused_walked text (front ++ behind) front behind tail s next fault (cut_by text (front ++ behind) tail cut rest) refl walked stops follows table
+row : (text : List ℕ) (front behind : List Placed) (tail : ℕ) (s : State) (next : Next) (fault : Fault)
+    → is_cut_from text 0 (front ++ behind) tail ≡ true → IsTail (drop tail text) → walk (lexemes front) ≡ Some s
+    → goes_on s behind ≡ None → Follows text behind tail next
+    → fault_of Expressions (is_whole s) (last_or None (lexemes front)) next ≡ Some fault
+    → IsRefused Expressions text fault
+row text front behind tail s next fault cut rest walked stops follows table =
+    refused_walked text (front ++ behind) front behind tail s next fault
+    (cut_by text (front ++ behind) tail cut rest) refl walked stops follows table
 
 one_space : IsRefused Expressions (codes " ") (IncompleteExpr (codes "start of a cfg expression"))
 one_space = row _ [] [] 1 _ End _ refl (inl refl) refl refl (lit≤ tt) refl
@@ -111,47 +142,68 @@ word_alone : IsRefused Expressions (codes " all") (IncompleteExpr (codes "`(`"))
 word_alone = row _ (word (codes "all") 1 4 ∷ []) [] 4 _ End _ refl (inl refl) refl refl (lit≤ tt) refl
 
 group_not_closed : IsRefused Expressions (codes "not(a") (IncompleteExpr (codes "`)`"))
-group_not_closed = row _ (word (codes "not") 0 3 ∷ at LeftParen 3 4 ∷ word (codes "a") 4 5 ∷ []) [] 5 _ End _ refl (inl refl) refl refl (lit≤ tt) refl
+group_not_closed =
+    row _ (word (codes "not") 0 3 ∷ at LeftParen 3 4 ∷ word (codes "a") 4 5 ∷ []) [] 5 _ End _ refl
+    (inl refl) refl refl (lit≤ tt) refl
 
 group_just_open : IsRefused Expressions (codes "all(") (IncompleteExpr (codes "start of a cfg expression"))
-group_just_open = row _ (word (codes "all") 0 3 ∷ at LeftParen 3 4 ∷ []) [] 4 _ End _ refl (inl refl) refl refl (lit≤ tt) refl
+group_just_open =
+    row _ (word (codes "all") 0 3 ∷ at LeftParen 3 4 ∷ []) [] 4 _ End _ refl (inl refl) refl refl (lit≤ tt) refl
 
 value_missing : IsRefused Expressions (codes "a = ") (IncompleteExpr (codes "a string"))
 value_missing = row _ (word (codes "a") 0 1 ∷ at Equals 2 3 ∷ []) [] 4 _ End _ refl (inl refl) refl refl (lit≤ tt) refl
 
 -- one pair, and no comma, stands in `not(..)`
 comma_behind_pair : IsRefused Expressions (codes "not(a = \"1\",") (UnexpectedToken (codes "`)`") (codes "`,`"))
-comma_behind_pair = row _ (word (codes "not") 0 3 ∷ at LeftParen 3 4 ∷ word (codes "a") 4 5 ∷ at Equals 6 7 ∷ at (String (codes "1")) 8 11 ∷ []) (at Comma 11 12 ∷ []) 12 _ _ _ refl (inl refl) refl refl refl refl
+comma_behind_pair =
+    row _ (word (codes "not") 0 3 ∷ at LeftParen 3 4 ∷ word (codes "a") 4 5 ∷ at Equals 6 7 ∷ at
+    (String (codes "1")) 8 11 ∷ []) (at Comma 11 12 ∷ []) 12 _ _ _ refl (inl refl) refl refl refl refl
 
 -- behind a comma a member may come
 member_missing : IsRefused Expressions (codes "any(a,") (IncompleteExpr (codes "start of a cfg expression"))
-member_missing = row _ (word (codes "any") 0 3 ∷ at LeftParen 3 4 ∷ word (codes "a") 4 5 ∷ at Comma 5 6 ∷ []) [] 6 _ End _ refl (inl refl) refl refl (lit≤ tt) refl
+member_missing =
+    row _ (word (codes "any") 0 3 ∷ at LeftParen 3 4 ∷ word (codes "a") 4 5 ∷ at Comma 5 6 ∷ []) [] 6 _ End _ refl
+    (inl refl) refl refl (lit≤ tt) refl
 
 -- nothing is read before the `)`
 pub lone_parenthesis : IsRefused Expressions (codes ")") (UnexpectedToken (codes "identifier") (codes "`)`"))
 lone_parenthesis = row _ [] (at RightParen 0 1 ∷ []) 1 _ _ _ refl (inl refl) refl refl refl refl
 
 paren_for_value : IsRefused Expressions (codes "a = )") (UnexpectedToken (codes "a string") (codes "`)`"))
-paren_for_value = row _ (word (codes "a") 0 1 ∷ at Equals 2 3 ∷ []) (at RightParen 4 5 ∷ []) 5 _ _ _ refl (inl refl) refl refl refl refl
+paren_for_value =
+    row _ (word (codes "a") 0 1 ∷ at Equals 2 3 ∷ []) (at RightParen 4 5 ∷ []) 5 _ _ _ refl
+    (inl refl) refl refl refl refl
 
 empty_negation : IsRefused Expressions (codes "all(not())") (UnexpectedToken (codes "identifier") (codes "`)`"))
-empty_negation = row _ (word (codes "all") 0 3 ∷ at LeftParen 3 4 ∷ word (codes "not") 4 7 ∷ at LeftParen 7 8 ∷ []) (at RightParen 8 9 ∷ at RightParen 9 10 ∷ []) 10 _ _ _ refl (inl refl) refl refl refl refl
+empty_negation =
+    row _ (word (codes "all") 0 3 ∷ at LeftParen 3 4 ∷ word (codes "not") 4 7 ∷ at LeftParen 7 8 ∷ [])
+    (at RightParen 8 9 ∷ at RightParen 9 10 ∷ []) 10 _ _ _ refl (inl refl) refl refl refl refl
 
 lone_comma : IsRefused Expressions (codes "all(,)") (UnexpectedToken (codes "identifier") (codes "`,`"))
-lone_comma = row _ (word (codes "all") 0 3 ∷ at LeftParen 3 4 ∷ []) (at Comma 4 5 ∷ at RightParen 5 6 ∷ []) 6 _ _ _ refl (inl refl) refl refl refl refl
+lone_comma =
+    row _ (word (codes "all") 0 3 ∷ at LeftParen 3 4 ∷ []) (at Comma 4 5 ∷ at RightParen 5 6 ∷ []) 6 _ _ _ refl
+    (inl refl) refl refl refl refl
 
 comma_in_negation : IsRefused Expressions (codes "not(a,)") (UnexpectedToken (codes "`)`") (codes "`,`"))
-comma_in_negation = row _ (word (codes "not") 0 3 ∷ at LeftParen 3 4 ∷ word (codes "a") 4 5 ∷ []) (at Comma 5 6 ∷ at RightParen 6 7 ∷ []) 7 _ _ _ refl (inl refl) refl refl refl refl
+comma_in_negation =
+    row _ (word (codes "not") 0 3 ∷ at LeftParen 3 4 ∷ word (codes "a") 4 5 ∷ [])
+    (at Comma 5 6 ∷ at RightParen 6 7 ∷ []) 7 _ _ _ refl (inl refl) refl refl refl refl
 
 equals_for_paren : IsRefused Expressions (codes "all = \"x\"") (UnexpectedToken (codes "`(`") (codes "`=`"))
-equals_for_paren = row _ (word (codes "all") 0 3 ∷ []) (at Equals 4 5 ∷ at (String (codes "x")) 6 9 ∷ []) 9 _ _ _ refl (inl refl) refl refl refl refl
+equals_for_paren =
+    row _ (word (codes "all") 0 3 ∷ []) (at Equals 4 5 ∷ at (String (codes "x")) 6 9 ∷ []) 9 _ _ _ refl
+    (inl refl) refl refl refl refl
 
 -- a whole expression, and more
 more_than_name : IsRefused Expressions (codes "foo(a)") (UnterminatedExpression (codes "(a)"))
-more_than_name = row _ (word (codes "foo") 0 3 ∷ []) (at LeftParen 3 4 ∷ word (codes "a") 4 5 ∷ at RightParen 5 6 ∷ []) 6 _ _ _ refl (inl refl) refl refl refl refl
+more_than_name =
+    row _ (word (codes "foo") 0 3 ∷ []) (at LeftParen 3 4 ∷ word (codes "a") 4 5 ∷ at RightParen 5 6 ∷ []) 6 _ _ _ refl
+    (inl refl) refl refl refl refl
 
 more_than_marked : IsRefused Expressions (codes "r#all()") (UnterminatedExpression (codes "()"))
-more_than_marked = row _ (at (Ident true (codes "all")) 0 5 ∷ []) (at LeftParen 5 6 ∷ at RightParen 6 7 ∷ []) 7 _ _ _ refl (inl refl) refl refl refl refl
+more_than_marked =
+    row _ (at (Ident true (codes "all")) 0 5 ∷ []) (at LeftParen 5 6 ∷ at RightParen 6 7 ∷ []) 7 _ _ _ refl
+    (inl refl) refl refl refl refl
 
 -- `all(true`
 abbrev true_in_all : List Placed
@@ -174,37 +226,52 @@ literal_as_key_in_group = row _ true_in_all (at Equals 9 10 ∷ []) 10 _ _ _ ref
 literal_in_open_group : IsRefused Expressions (codes "all(true") (IncompleteExpr (codes "`)`"))
 literal_in_open_group = row _ true_in_all [] 8 _ End _ refl (inl refl) refl refl (lit≤ tt) refl
 
-literal_as_key_in_negation : IsRefused Expressions (codes "not(true = \"x\")") (UnexpectedToken (codes "`)`") (codes "`=`"))
+literal_as_key_in_negation : IsRefused Expressions (codes "not(true = \"x\")")
+    (UnexpectedToken (codes "`)`") (codes "`=`"))
 literal_as_key_in_negation = row _ true_in_not pair_goes_on 15 _ _ _ refl (inl refl) refl refl refl refl
 
 -- a bad token before a string that does not end, in a group and behind an expression
 token_before_string : IsRefused Expressions (codes "all(a b \"") (UnexpectedToken (codes "`)`") (codes "an identifier"))
 unfolding encode_utf8
-token_before_string = row _ (word (codes "all") 0 3 ∷ at LeftParen 3 4 ∷ word (codes "a") 4 5 ∷ []) (word (codes "b") 6 7 ∷ []) 8 _ _ _ refl (inr (lexical.UnterminatedString, ([], record { scalar = refl; parts = refl }, refl))) refl refl refl refl
+token_before_string =
+    row _ (word (codes "all") 0 3 ∷ at LeftParen 3 4 ∷ word (codes "a") 4 5 ∷ [])
+    (word (codes "b") 6 7 ∷ []) 8 _ _ _ refl
+    (inr (lexical.UnterminatedString, ([], record { scalar = refl; parts = refl }, refl))) refl refl refl refl
 
 more_before_string : IsRefused Expressions (codes "a b \"") (UnterminatedExpression (codes "b \""))
 unfolding encode_utf8
-more_before_string = row _ (word (codes "a") 0 1 ∷ []) (word (codes "b") 2 3 ∷ []) 4 _ _ _ refl (inr (lexical.UnterminatedString, ([], record { scalar = refl; parts = refl }, refl))) refl refl refl refl
+more_before_string =
+    row _ (word (codes "a") 0 1 ∷ []) (word (codes "b") 2 3 ∷ []) 4 _ _ _ refl
+    (inr (lexical.UnterminatedString, ([], record { scalar = refl; parts = refl }, refl))) refl refl refl refl
 
 -- a lexical fault in a group is the fault, and behind an expression it is not
 string_in_group : IsRefused Expressions (codes "all(a \"") UnterminatedString
 unfolding encode_utf8
 string_in_group =
-    let begins : BeginsFault (codes "\"") lexical.UnterminatedString = ([], record { scalar = refl; parts = refl }, refl) in
-    row _ (word (codes "all") 0 3 ∷ at LeftParen 3 4 ∷ word (codes "a") 4 5 ∷ []) [] 6 _ (Broken lexical.UnterminatedString (codes "\"")) _ refl (inr (lexical.UnterminatedString, begins)) refl refl (refl, begins) refl
+    let begins : BeginsFault (codes "\"") lexical.UnterminatedString =
+    ([], record { scalar = refl; parts = refl }, refl) in
+    row _ (word (codes "all") 0 3 ∷ at LeftParen 3 4 ∷ word (codes "a") 4 5 ∷ []) [] 6 _
+    (Broken lexical.UnterminatedString (codes "\"")) _ refl (inr (lexical.UnterminatedString, begins)) refl refl
+    (refl, begins) refl
 
 string_behind : IsRefused Expressions (codes "a \"") (UnterminatedExpression (codes "\""))
 unfolding encode_utf8
 string_behind =
-    let begins : BeginsFault (codes "\"") lexical.UnterminatedString = ([], record { scalar = refl; parts = refl }, refl) in
-    row _ (word (codes "a") 0 1 ∷ []) [] 2 _ (Broken lexical.UnterminatedString (codes "\"")) _ refl (inr (lexical.UnterminatedString, begins)) refl refl (refl, begins) refl
+    let begins : BeginsFault (codes "\"") lexical.UnterminatedString =
+    ([], record { scalar = refl; parts = refl }, refl) in
+    row _ (word (codes "a") 0 1 ∷ []) [] 2 _ (Broken lexical.UnterminatedString (codes "\"")) _ refl
+    (inr (lexical.UnterminatedString, begins)) refl refl (refl, begins) refl
 
 -- a mark with no name is called a missing identifier, also where none may come
 mark_behind_word : IsRefused Expressions (codes "all r#") (IncompleteExpr (codes "identifier"))
-mark_behind_word = row _ (word (codes "all") 0 3 ∷ []) [] 4 _ (Broken lexical.MissingIdentifier (codes "r#")) _ refl (inr (lexical.MissingIdentifier, refl)) refl refl (refl, refl) refl
+mark_behind_word =
+    row _ (word (codes "all") 0 3 ∷ []) [] 4 _ (Broken lexical.MissingIdentifier (codes "r#")) _ refl
+    (inr (lexical.MissingIdentifier, refl)) refl refl (refl, refl) refl
 
 mark_behind_name : IsRefused Expressions (codes "a r#") (UnterminatedExpression (codes "r#"))
-mark_behind_name = row _ (word (codes "a") 0 1 ∷ []) [] 2 _ (Broken lexical.MissingIdentifier (codes "r#")) _ refl (inr (lexical.MissingIdentifier, refl)) refl refl (refl, refl) refl
+mark_behind_name =
+    row _ (word (codes "a") 0 1 ∷ []) [] 2 _ (Broken lexical.MissingIdentifier (codes "r#")) _ refl
+    (inr (lexical.MissingIdentifier, refl)) refl refl (refl, refl) refl
 
 -- a text has no second fault
 no_other_fault : (rest : List ℕ) → IsRefused Expressions (codes "all(a b \"") (UnterminatedExpression rest) → ⊥
@@ -212,4 +279,6 @@ no_other_fault rest r = let same = one_fault Expressions _ _ _ token_before_stri
 
 -- a text that spells a tree has no fault
 pub whole_is_not_refused : (fault : Fault) → IsRefused Expressions (codes "a") fault → ⊥
-whole_is_not_refused fault r = refused_spells_none (codes "a") fault (Value (Alone (record { raw = false; name = codes "a" }))) r (_, lone_a, (refl, (refl, refl)))
+whole_is_not_refused fault r =
+    refused_spells_none (codes "a") fault (Value (Alone (record { raw = false; name = codes "a" }))) r
+    (_, lone_a, (refl, (refl, refl)))

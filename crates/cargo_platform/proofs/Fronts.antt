@@ -1,5 +1,6 @@
 -- The longest front that is completable.
-use Rattle.std.proofs.Common.{◌≡◌, refl, sym, ap, subst, ◌∙◌, ℕ, ◌≤◌, zero-le, suc-le-suc, List, [], ◌∷◌, ◌++◌, Option, Some, None, inl, inr, ◌⊎◌, append_assoc, length, length-append, arith}
+use Rattle.std.proofs.Common.{◌≡◌, refl, sym, ap, subst, ◌∙◌, ℕ, ◌≤◌, zero-le, suc-le-suc, List, [], ◌∷◌, ◌++◌, Option}
+use Rattle.std.proofs.Common.{Some, None, inl, inr, ◌⊎◌, append_assoc, length, length-append, arith}
 use Rattle.std.specs.List.{last_or}
 use Rattle.cargo_platform.specs.Tokens.{Lexeme, Placed}
 use Rattle.cargo_platform.specs.Cut.{IsCut, lexemes}
@@ -16,7 +17,8 @@ lexemes-append [] us = refl
 lexemes-append (t ∷ ts) us = ap (λ z. t.token ∷ z) (lexemes-append ts us)
 
 -- of two fronts of one list, the second is no longer, or goes on with the next token
-longer_or : (front others longer rest : List Placed) (t : Placed) → front ++ (t ∷ rest) ≡ longer ++ others → (length longer ≤ length front) ⊎ ((more : List Placed) × (longer ≡ front ++ (t ∷ more)))
+longer_or : (front others longer rest : List Placed) (t : Placed) → front ++ (t ∷ rest) ≡ longer ++ others
+    → (length longer ≤ length front) ⊎ ((more : List Placed) × (longer ≡ front ++ (t ∷ more)))
 longer_or front others [] rest t h = inl (zero-le)
 longer_or [] others (u ∷ us) rest t h = inr (us, λ i. sym (head_is h) i ∷ us)
 longer_or (f ∷ fs) others (u ∷ us) rest t h =
@@ -30,7 +32,10 @@ pub none_longer : (front longer others : List Placed) → front ++ [] ≡ longer
 none_longer front longer others h = omega (arith, ap length h, length-append longer others, length-append front [])
 
 -- where the front with the next token is the front of no completable list, no longer front is completable
-pub longest_where : (g : Grammar) (front after : List Placed) → ((t : Placed) (us : List Placed) → after ≡ t ∷ us → (more : List Lexeme) → IsCompletable g (lexemes front ++ (t.token ∷ more)) → ⊥) → (longer others : List Placed) → front ++ after ≡ longer ++ others → IsCompletable g (lexemes longer) → length longer ≤ length front
+pub longest_where : (g : Grammar) (front after : List Placed)
+    → ((t : Placed) (us : List Placed) → after ≡ t ∷ us → (more : List Lexeme)
+    → IsCompletable g (lexemes front ++ (t.token ∷ more)) → ⊥) → (longer others : List Placed)
+    → front ++ after ≡ longer ++ others → IsCompletable g (lexemes longer) → length longer ≤ length front
 longest_where g front [] unfit longer others h p = none_longer front longer others h
 longest_where g front (t ∷ rest) unfit longer others h p =
     elim (longer_or front others longer rest t h) [
@@ -41,12 +46,16 @@ longest_where g front (t ∷ rest) unfit longer others h p =
     ]
 
 -- where nothing that begins with the front and the next token is accepted, no longer front is completable
-pub longest_before : (g : Grammar) (front rest : List Placed) (t : Placed) → ((more : List Lexeme) → IsAccepted g ((lexemes front ++ (t.token ∷ [])) ++ more) → ⊥) → (longer others : List Placed) → front ++ (t ∷ rest) ≡ longer ++ others → IsCompletable g (lexemes longer) → length longer ≤ length front
+pub longest_before : (g : Grammar) (front rest : List Placed) (t : Placed)
+    → ((more : List Lexeme) → IsAccepted g ((lexemes front ++ (t.token ∷ [])) ++ more) → ⊥)
+    → (longer others : List Placed) → front ++ (t ∷ rest) ≡ longer ++ others → IsCompletable g (lexemes longer)
+    → length longer ≤ length front
 longest_before g front rest t never longer others h p =
     longest_where g front (t ∷ rest) (λ u us e more c.
     let Q : List Lexeme → Type 0 = λ z. IsAccepted g z in
     let Next : Placed → Type 0 = λ z. IsAccepted g ((lexemes front ++ (z.token ∷ [])) ++ (more ++ c.0)) in
-    let parts = append_assoc (lexemes front) (u.token ∷ more) c.0 ∙ sym (append_assoc (lexemes front) (u.token ∷ []) (more ++ c.0)) in
+    let parts = append_assoc (lexemes front) (u.token ∷ more) c.0
+    ∙ sym (append_assoc (lexemes front) (u.token ∷ []) (more ++ c.0)) in
     never (more ++ c.0) (subst Next (sym (head_is e)) (subst Q parts c.2))) longer others h p
 
 -- the next token does not go on with the tokens that lead to the state
@@ -55,7 +64,11 @@ goes_on s [] = None
 goes_on s (t ∷ ts) = after s t.token
 
 -- where a front is walked, and what follows does not go on with it, the text is refused
-pub refused_walked : (text : List ℕ) (ts front behind : List Placed) (tail : ℕ) (s : State) (next : Next) (fault : Fault) → IsCut text ts tail → ts ≡ front ++ behind → walk (lexemes front) ≡ Some s → goes_on s behind ≡ None → Follows text behind tail next → fault_of Expressions (is_whole s) (last_or None (lexemes front)) next ≡ Some fault → IsRefused Expressions text fault
+pub refused_walked : (text : List ℕ) (ts front behind : List Placed) (tail : ℕ) (s : State) (next : Next)
+    (fault : Fault) → IsCut text ts tail → ts ≡ front ++ behind → walk (lexemes front) ≡ Some s
+    → goes_on s behind ≡ None → Follows text behind tail next
+    → fault_of Expressions (is_whole s) (last_or None (lexemes front)) next ≡ Some fault
+    → IsRefused Expressions text fault
 refused_walked text ts front behind tail s next fault cut parts walked stops follows table = record {
   ts = ts;
   tail = tail;
@@ -74,6 +87,11 @@ refused_walked text ts front behind tail s next fault cut parts walked stops fol
   is_fault = table;
 }
   where
-    no_longer : (front behind : List Placed) (s : State) → walk (lexemes front) ≡ Some s → goes_on s behind ≡ None → (longer others : List Placed) → front ++ behind ≡ longer ++ others → IsCompletable Expressions (lexemes longer) → length longer ≤ length front
+    no_longer : (front behind : List Placed) (s : State) → walk (lexemes front) ≡ Some s → goes_on s behind ≡ None
+        → (longer others : List Placed) → front ++ behind ≡ longer ++ others
+        → IsCompletable Expressions (lexemes longer) → length longer ≤ length front
     no_longer front [] s walked stops longer others h p = none_longer front longer others h
-    no_longer front (t ∷ rest) s walked stops longer others h p = longest_before Expressions front rest t (λ more a. stopped (lexemes front ++ (t.token ∷ [])) more (walk_on (lexemes front) (t.token ∷ []) s walked ∙ stops) a) longer others h p
+    no_longer front (t ∷ rest) s walked stops longer others h p =
+        longest_before Expressions front rest t
+        (λ more a. stopped (lexemes front ++ (t.token ∷ [])) more
+        (walk_on (lexemes front) (t.token ∷ []) s walked ∙ stops) a) longer others h p

@@ -20,9 +20,11 @@ pub text_is : (value : Data) (text : List ℕ) → as_str value ≡ Some text �
 text_is (string t) text h = cc
 text_is value text h = none_some h
 
-pub text_refused : (value : Data) (text : List ℕ) (e : ParseError) → value ≡ string text → ReadsCondition text (Err (read.Parse e)) → ReadsJson value (Err (json.Parse e))
+pub text_refused : (value : Data) (text : List ℕ) (e : ParseError) → value ≡ string text
+    → ReadsCondition text (Err (read.Parse e)) → ReadsJson value (Err (json.Parse e))
 text_refused value text e is r =
-    let same : (t : List ℕ) → value ≡ string t → text ≡ t = λ t h. let both : string text ≡ string t = sym is ∙ h in cc in
+    let same : (t : List ℕ) → value ≡ string t
+    → text ≡ t = λ t h. let both : string text ≡ string t = sym is ∙ h in cc in
     let N : List ℕ → Type 0 = λ z. (c : Condition) → IsConditionText z c → ⊥ in
     let F : List ℕ → Type 0 = λ z. IsRefusedCondition z (orig_of e) (fault_in e) in
     record {

@@ -1,5 +1,7 @@
 -- A text has at most one cut.
-use Rattle.std.proofs.Common.{◌≡◌, refl, sym, ap, subst, ◌∙◌, ℕ, ◌+◌, ◌-◌, ◌<◌, Bool, true, false, not, ◌&&◌, ◌||◌, List, [], ◌∷◌, ◌++◌, codes, inl, inr, ◌⊎◌, true≢false, append_assoc, arith, length, drop, lit≤, length-take, length-drop, take-append-drop}
+use Rattle.std.proofs.Common.{◌≡◌, refl, sym, ap, subst, ◌∙◌, ℕ, ◌+◌, ◌-◌, ◌<◌, Bool, true, false, not, ◌&&◌, ◌||◌}
+use Rattle.std.proofs.Common.{List, [], ◌∷◌, ◌++◌, codes, inl, inr, ◌⊎◌, true≢false, append_assoc, arith, length, drop}
+use Rattle.std.proofs.Common.{lit≤, length-take, length-drop, take-append-drop}
 use Rattle.std.specs.Prelude.{IsFalse, bytes_eq, if◌then◌else◌, ◌==◌, slice_range}
 use Rattle.std.specs.List.{list_all}
 use Rattle.std.specs.Char.{encode_utf8, is_ascii_alphabetic}
@@ -11,10 +13,14 @@ use Rattle.std.proofs.lemmas.Str.{char_from_byte, encode_ascii}
 use Rattle.std.proofs.lemmas.List.{drop-drop}
 use Rattle.std.proofs.lemmas.List.Folds.{list_all-append}
 use Rattle.cargo_platform.specs.declared.tokens.TokenFaultKind.{TokenFaultKind}
-use Rattle.cargo_platform.specs.declared.tokens.TokenFaultKind.TheVariants.{UnterminatedString, UnexpectedChar, MissingIdentifier}
-use Rattle.cargo_platform.specs.Chars.{is_identifier_start, is_identifier_rest, is_space, is_quote, is_number_sign, is_mark, is_known_start, starts}
-use Rattle.cargo_platform.specs.Tokens.{Lexeme, LeftParen, RightParen, Ident, Comma, Equals, String, written, IsIdentifierName, IsWellWritten, Placed}
-use Rattle.cargo_platform.specs.Cut.{IsPiece, IsWrittenAt, AreSpaces, AreApart, EndsBefore, IsWhole, BeginsFault, IsTail, IsCutFrom}
+use Rattle.cargo_platform.specs.declared.tokens.TokenFaultKind.TheVariants.{UnterminatedString, UnexpectedChar}
+use Rattle.cargo_platform.specs.declared.tokens.TokenFaultKind.TheVariants.{MissingIdentifier}
+use Rattle.cargo_platform.specs.Chars.{is_identifier_start, is_identifier_rest, is_space, is_quote, is_number_sign}
+use Rattle.cargo_platform.specs.Chars.{is_mark, is_known_start, starts}
+use Rattle.cargo_platform.specs.Tokens.{Lexeme, LeftParen, RightParen, Ident, Comma, Equals, String, written}
+use Rattle.cargo_platform.specs.Tokens.{IsIdentifierName, IsWellWritten, Placed}
+use Rattle.cargo_platform.specs.Cut.{IsPiece, IsWrittenAt, AreSpaces, AreApart, EndsBefore, IsWhole, BeginsFault}
+use Rattle.cargo_platform.specs.Cut.{IsTail, IsCutFrom}
 
 pub both_true : (a b : Bool) → a ≡ true → b ≡ true → (a && b) ≡ true
 both_true true b h k = k
@@ -35,19 +41,26 @@ tail_of : {a b : ℕ} {s t : List ℕ} → a ∷ s ≡ b ∷ t → s ≡ t
 tail_of h = cc
 
 -- two longest runs at the front of one list
-runs_same : (p : ℕ → Bool) (xs ys r s : List ℕ) → list_all p xs ≡ true → list_all p ys ≡ true → xs ++ r ≡ ys ++ s → starts p r ≡ false → starts p s ≡ false → (xs ≡ ys) × (r ≡ s)
+runs_same : (p : ℕ → Bool) (xs ys r s : List ℕ) → list_all p xs ≡ true → list_all p ys ≡ true → xs ++ r ≡ ys ++ s
+    → starts p r ≡ false → starts p s ≡ false → (xs ≡ ys) × (r ≡ s)
 runs_same p [] [] r s a b h nr ns = (refl, h)
-runs_same p [] (y ∷ ys) r s a b h nr ns = absurd (true≢false (sym (both_first (p y) (list_all p ys) b) ∙ sym (ap (starts p) h) ∙ nr))
-runs_same p (x ∷ xs) [] r s a b h nr ns = absurd (true≢false (sym (both_first (p x) (list_all p xs) a) ∙ ap (starts p) h ∙ ns))
+runs_same p [] (y ∷ ys) r s a b h nr ns =
+    absurd (true≢false (sym (both_first (p y) (list_all p ys) b) ∙ sym (ap (starts p) h) ∙ nr))
+runs_same p (x ∷ xs) [] r s a b h nr ns =
+    absurd (true≢false (sym (both_first (p x) (list_all p xs) a) ∙ ap (starts p) h ∙ ns))
 runs_same p (x ∷ xs) (y ∷ ys) r s a b h nr ns =
-    let t = runs_same p xs ys r s (both_second (p x) (list_all p xs) a) (both_second (p y) (list_all p ys) b) (tail_of h) nr ns in
+    let t = runs_same p xs ys r s (both_second (p x) (list_all p xs) a) (both_second (p y) (list_all p ys) b)
+    (tail_of h) nr ns in
     (λ i. head_of h i ∷ t.0 i, t.1)
 
 -- ---- which token, by the first byte
 
 abbrev class_of : Bool → ℕ → ℕ
 class_of start b =
-    if start then 5 else (if b == 0x28 then 0 else (if b == 0x29 then 1 else (if b == 0x2C then 2 else (if b == 0x3D then 3 else (if is_quote b then 4 else 6)))))
+    if start then 5
+    else (if b == 0x28 then 0
+    else (if b == 0x29 then 1
+    else (if b == 0x2C then 2 else (if b == 0x3D then 3 else (if is_quote b then 4 else 6)))))
 
 abbrev class : List ℕ → ℕ
 class [] = 7
@@ -72,7 +85,8 @@ class_is (Ident false []) r w = absurd w
 class_is (Ident false (c ∷ cs)) r w = ap (λ b. class_of b c) w.0
 
 -- a name that is no marked one
-mark_is_no_name : (c : ℕ) (cs r more : List ℕ) → IsIdentifierName (c ∷ cs) → EndsBefore (Ident false (c ∷ cs)) r → 0x72 ∷ 0x23 ∷ more ≡ (c ∷ cs) ++ r → ⊥
+mark_is_no_name : (c : ℕ) (cs r more : List ℕ) → IsIdentifierName (c ∷ cs) → EndsBefore (Ident false (c ∷ cs)) r
+    → 0x72 ∷ 0x23 ∷ more ≡ (c ∷ cs) ++ r → ⊥
 mark_is_no_name c [] r more w e h =
     let lone : IsFalse (bytes_eq (c ∷ []) (codes "r") && starts is_number_sign r) = e.1 in
     let this : IsFalse (bytes_eq (0x72 ∷ []) (codes "r") && starts is_number_sign (0x23 ∷ more)) =
@@ -80,9 +94,12 @@ mark_is_no_name c [] r more w e h =
     ∙ ap (λ (z : List ℕ). bytes_eq (c ∷ []) (codes "r") && starts is_number_sign z) (tail_of h) ∙ lone in
     true≢false this
 mark_is_no_name c (d ∷ ds) r more w e h =
-    true≢false (sym (both_first (is_identifier_rest d) (list_all is_identifier_rest ds) w.1) ∙ sym (ap is_identifier_rest (head_of (tail_of h))))
+    true≢false
+    (sym (both_first (is_identifier_rest d) (list_all is_identifier_rest ds) w.1)
+    ∙ sym (ap is_identifier_rest (head_of (tail_of h))))
 
-names_same : (m n r s : List ℕ) → IsIdentifierName m → IsIdentifierName n → IsFalse (starts is_identifier_rest r) → IsFalse (starts is_identifier_rest s) → m ++ r ≡ n ++ s → (m ≡ n) × (r ≡ s)
+names_same : (m n r s : List ℕ) → IsIdentifierName m → IsIdentifierName n → IsFalse (starts is_identifier_rest r)
+    → IsFalse (starts is_identifier_rest s) → m ++ r ≡ n ++ s → (m ≡ n) × (r ≡ s)
 names_same [] n r s v w a b h = absurd v
 names_same (c ∷ cs) [] r s v w a b h = absurd w
 names_same (c ∷ cs) (d ∷ ds) r s v w a b h =
@@ -90,13 +107,15 @@ names_same (c ∷ cs) (d ∷ ds) r s v w a b h =
     (λ i. head_of h i ∷ t.0 i, t.1)
 
 -- two tokens at one place
-tokens_same : (t u : Lexeme) (r s : List ℕ) → IsWellWritten t → IsWellWritten u → EndsBefore t r → EndsBefore u s → written t ++ r ≡ written u ++ s → (t ≡ u) × (r ≡ s)
+tokens_same : (t u : Lexeme) (r s : List ℕ) → IsWellWritten t → IsWellWritten u → EndsBefore t r → EndsBefore u s
+    → written t ++ r ≡ written u ++ s → (t ≡ u) × (r ≡ s)
 tokens_same LeftParen LeftParen r s v w e f h = (refl, tail_of h)
 tokens_same RightParen RightParen r s v w e f h = (refl, tail_of h)
 tokens_same Comma Comma r s v w e f h = (refl, tail_of h)
 tokens_same Equals Equals r s v w e f h = (refl, tail_of h)
 tokens_same (String x) (String y) r s v w e f h =
-    let inner : x ++ (0x22 ∷ r) ≡ y ++ (0x22 ∷ s) = sym (append_assoc x (codes "\"") r) ∙ tail_of h ∙ append_assoc y (codes "\"") s in
+    let inner : x ++ (0x22 ∷ r) ≡ y ++ (0x22 ∷ s) = sym (append_assoc x (codes "\"") r) ∙ tail_of h
+    ∙ append_assoc y (codes "\"") s in
     let t = runs_same (λ c. not (is_quote c)) x y (0x22 ∷ r) (0x22 ∷ s) v.1 w.1 inner refl refl in
     (ap String t.0, tail_of t.1)
 tokens_same (Ident true m) (Ident true n) r s v w e f h =
@@ -144,12 +163,26 @@ record Begins (text : List ℕ) : Type 0 where
   no_space : is_space byte ≡ false
 
 token_begins : (t : Lexeme) (r : List ℕ) → IsWellWritten t → Begins (written t ++ r)
-token_begins LeftParen r w = record { byte = 0x28; others = r; parts = refl; known = refl; ascii = lit≤ tt; no_space = refl }
-token_begins RightParen r w = record { byte = 0x29; others = r; parts = refl; known = refl; ascii = lit≤ tt; no_space = refl }
-token_begins Comma r w = record { byte = 0x2C; others = r; parts = refl; known = refl; ascii = lit≤ tt; no_space = refl }
-token_begins Equals r w = record { byte = 0x3D; others = r; parts = refl; known = refl; ascii = lit≤ tt; no_space = refl }
-token_begins (String v) r w = record { byte = 0x22; others = (v ++ codes "\"") ++ r; parts = refl; known = refl; ascii = lit≤ tt; no_space = refl }
-token_begins (Ident true name) r w = record { byte = 0x72; others = 0x23 ∷ (name ++ r); parts = refl; known = refl; ascii = lit≤ tt; no_space = refl }
+token_begins LeftParen r w =
+    record { byte = 0x28; others = r; parts = refl; known = refl; ascii = lit≤ tt; no_space = refl }
+token_begins RightParen r w =
+    record { byte = 0x29; others = r; parts = refl; known = refl; ascii = lit≤ tt; no_space = refl }
+token_begins Comma r w =
+    record { byte = 0x2C; others = r; parts = refl; known = refl; ascii = lit≤ tt; no_space = refl }
+token_begins Equals r w =
+    record { byte = 0x3D; others = r; parts = refl; known = refl; ascii = lit≤ tt; no_space = refl }
+token_begins (String v) r w =
+    record {
+      byte = 0x22;
+      others =
+          (v ++ codes "\"") ++ r;
+      parts = refl;
+      known = refl;
+      ascii = lit≤ tt;
+      no_space = refl;
+    }
+token_begins (Ident true name) r w =
+    record { byte = 0x72; others = 0x23 ∷ (name ++ r); parts = refl; known = refl; ascii = lit≤ tt; no_space = refl }
 token_begins (Ident false []) r w = absurd w
 token_begins (Ident false (c ∷ cs)) r w = record {
   byte = c;
@@ -165,12 +198,20 @@ char_is : (text rest : List ℕ) (c b : ℕ) (bs : List ℕ) → text ≡ encode
 char_is text rest c b bs h e lt = char_from_byte (b ∷ bs) rest c (sym e ∙ h) lt (omega arith)
 
 -- a text that begins with a token begins no lexical fault
-token_is_no_fault : (t : Lexeme) (r : List ℕ) (fault : TokenFaultKind) → IsWellWritten t → EndsBefore t r → BeginsFault (written t ++ r) fault → ⊥
+token_is_no_fault : (t : Lexeme) (r : List ℕ) (fault : TokenFaultKind) → IsWellWritten t → EndsBefore t r
+    → BeginsFault (written t ++ r) fault → ⊥
 token_is_no_fault (String v) r UnterminatedString w e f =
-    let inner : v ++ (0x22 ∷ r) ≡ f.0 = sym (append_assoc v (codes "\"") r) ∙ tail_of (f.1.parts ∙ ap (λ (z : List ℕ). z ++ f.0) (encode_ascii 0x22 (lit≤ tt))) in
-    true≢false (sym (ap (list_all (λ c. not (is_quote c))) inner ∙ f.2) ∙ (list_all-append (λ c. not (is_quote c)) v (0x22 ∷ r) ∙ and-false (list_all (λ c. not (is_quote c)) v)))
+    let inner : v ++ (0x22 ∷ r) ≡ f.0 = sym (append_assoc v (codes "\"") r)
+    ∙ tail_of (f.1.parts ∙ ap (λ (z : List ℕ). z ++ f.0) (encode_ascii 0x22 (lit≤ tt))) in
+    true≢false
+    (sym (ap (list_all (λ c. not (is_quote c))) inner ∙ f.2)
+    ∙ (list_all-append (λ c. not (is_quote c)) v (0x22 ∷ r) ∙ and-false (list_all (λ c. not (is_quote c)) v)))
 token_is_no_fault t r UnterminatedString w e f =
-    omega (arith, sym (class_is t r w) ∙ ap class (f.1.parts ∙ ap (λ (z : List ℕ). z ++ f.0) (encode_ascii 0x22 (lit≤ tt))))
+    omega (
+      arith,
+      sym (class_is t r w)
+          ∙ ap class (f.1.parts ∙ ap (λ (z : List ℕ). z ++ f.0) (encode_ascii 0x22 (lit≤ tt))),
+    )
 token_is_no_fault (Ident true []) r MissingIdentifier w e f = w
 token_is_no_fault (Ident true (c ∷ cs)) r MissingIdentifier w e f = absurd cc
 token_is_no_fault (Ident false []) r MissingIdentifier w e f = w
@@ -197,7 +238,8 @@ token_is_no_tail t r w e (inr f) = token_is_no_fault t r f.0 w e f.1
 
 -- no tail begins with a space
 fault_no_space : (text : List ℕ) (fault : TokenFaultKind) → BeginsFault text fault → starts is_space text ≡ false
-fault_no_space text UnterminatedString f = ap (starts is_space) (f.1.parts ∙ ap (λ (z : List ℕ). z ++ f.0) (encode_ascii 0x22 (lit≤ tt)))
+fault_no_space text UnterminatedString f =
+    ap (starts is_space) (f.1.parts ∙ ap (λ (z : List ℕ). z ++ f.0) (encode_ascii 0x22 (lit≤ tt)))
 fault_no_space text MissingIdentifier f = ap (starts is_space) f
 fault_no_space text (UnexpectedChar c) (inl f) = ap (starts is_space) f.2
 fault_no_space [] (UnexpectedChar c) (inr f) = refl
@@ -227,38 +269,54 @@ piece_rest text i j p h =
     ∙ ap (λ (z : List ℕ). p ++ z) (drop-drop (j - i) i text ∙ ap (λ k. drop k text) at)
 
 -- the first place from which on no space stands
-pub same_start : (text : List ℕ) (from i j : ℕ) → AreSpaces text from i → AreSpaces text from j → starts is_space (drop i text) ≡ false → starts is_space (drop j text) ≡ false → i ≡ j
+pub same_start : (text : List ℕ) (from i j : ℕ) → AreSpaces text from i → AreSpaces text from j
+    → starts is_space (drop i text) ≡ false → starts is_space (drop j text) ≡ false → i ≡ j
 same_start text from i j p q a b =
-    let both : p.0 ++ drop i text ≡ q.0 ++ drop j text = sym (piece_rest text from i p.0 p.1) ∙ piece_rest text from j q.0 q.1 in
+    let both : p.0 ++ drop i text ≡ q.0 ++ drop j text = sym (piece_rest text from i p.0 p.1)
+    ∙ piece_rest text from j q.0 q.1 in
     let same = runs_same is_space p.0 q.0 (drop i text) (drop j text) p.2 q.2 both a b in
     piece_end text from i p.0 p.1 ∙ ap (λ (z : List ℕ). from + length z) same.0 ∙ sym (piece_end text from j q.0 q.1)
 
-written_rest : (text : List ℕ) (t : Placed) → IsWrittenAt text t → drop t.start text ≡ written t.token ++ drop t.end text
+written_rest : (text : List ℕ) (t : Placed) → IsWrittenAt text t
+    → drop t.start text ≡ written t.token ++ drop t.end text
 written_rest text t w = piece_rest text t.start t.end (written t.token) w.1
 
 starts_clear : (text : List ℕ) (t : Placed) → IsWrittenAt text t → starts is_space (drop t.start text) ≡ false
 starts_clear text t w = ap (starts is_space) (written_rest text t w) ∙ token_no_space t.token (drop t.end text) w.0
 
 -- no tail begins where a token does
-pub not_both : (text : List ℕ) (from i : ℕ) (t : Placed) → AreSpaces text from i → IsTail (drop i text) → AreSpaces text from t.start → IsWrittenAt text t → IsWhole text t → ⊥
+pub not_both : (text : List ℕ) (from i : ℕ) (t : Placed) → AreSpaces text from i → IsTail (drop i text)
+    → AreSpaces text from t.start → IsWrittenAt text t → IsWhole text t → ⊥
 not_both text from i t p tail q w whole =
-    let same : i ≡ t.start = same_start text from i t.start p q (tail_no_space (drop i text) tail) (starts_clear text t w) in
+    let same : i ≡ t.start = same_start text from i t.start p q (tail_no_space (drop i text) tail)
+    (starts_clear text t w) in
     let P : List ℕ → Type 0 = λ z. IsTail z in
-    token_is_no_tail t.token (drop t.end text) w.0 whole (subst P (ap (λ k. drop k text) same ∙ written_rest text t w) tail)
+    token_is_no_tail t.token (drop t.end text) w.0 whole
+    (subst P (ap (λ k. drop k text) same ∙ written_rest text t w) tail)
 
-pub same_token : (text : List ℕ) (from : ℕ) (t u : Placed) → AreSpaces text from t.start → AreSpaces text from u.start → IsWrittenAt text t → IsWrittenAt text u → IsWhole text t → IsWhole text u → t ≡ u
+pub same_token : (text : List ℕ) (from : ℕ) (t u : Placed) → AreSpaces text from t.start → AreSpaces text from u.start
+    → IsWrittenAt text t → IsWrittenAt text u → IsWhole text t → IsWhole text u → t ≡ u
 same_token text from t u p q v w e f =
-    let start : t.start ≡ u.start = same_start text from t.start u.start p q (starts_clear text t v) (starts_clear text u w) in
-    let token = tokens_same t.token u.token (drop t.end text) (drop u.end text) v.0 w.0 e f (sym (written_rest text t v) ∙ ap (λ k. drop k text) start ∙ written_rest text u w) in
+    let start : t.start ≡ u.start = same_start text from t.start u.start p q (starts_clear text t v)
+    (starts_clear text u w) in
+    let token = tokens_same t.token u.token (drop t.end text) (drop u.end text) v.0 w.0 e f
+    (sym (written_rest text t v) ∙ ap (λ k. drop k text) start ∙ written_rest text u w) in
     let end : t.end ≡ u.end =
-    piece_end text t.start t.end (written t.token) v.1 ∙ (λ i. start i + length (written (token.0 i))) ∙ sym (piece_end text u.start u.end (written u.token) w.1) in
+    piece_end text t.start t.end (written t.token) v.1 ∙ (λ i. start i + length (written (token.0 i)))
+    ∙ sym (piece_end text u.start u.end (written u.token) w.1) in
     λ i. record { token = token.0 i; start = start i; end = end i }
 
-pub one_cut_from : (text : List ℕ) (ts us : List Placed) (from i j : ℕ) → IsCutFrom text from ts i → IsCutFrom text from us j → (ts ≡ us) × (i ≡ j)
-one_cut_from text [] [] from i j p q =
-    (refl, same_start text from i j p.apart q.apart (tail_no_space (drop i text) p.rest) (tail_no_space (drop j text) q.rest))
-one_cut_from text [] (u ∷ us) from i j p q = absurd (not_both text from i u p.apart p.rest q.apart.0 q.written.0 q.whole.0)
-one_cut_from text (t ∷ ts) [] from i j p q = absurd (not_both text from j t q.apart q.rest p.apart.0 p.written.0 p.whole.0)
+pub one_cut_from : (text : List ℕ) (ts us : List Placed) (from i j : ℕ) → IsCutFrom text from ts i
+    → IsCutFrom text from us j → (ts ≡ us) × (i ≡ j)
+one_cut_from text [] [] from i j p q = (
+  refl,
+  same_start text from i j p.apart q.apart (tail_no_space (drop i text) p.rest)
+      (tail_no_space (drop j text) q.rest),
+)
+one_cut_from text [] (u ∷ us) from i j p q =
+    absurd (not_both text from i u p.apart p.rest q.apart.0 q.written.0 q.whole.0)
+one_cut_from text (t ∷ ts) [] from i j p q =
+    absurd (not_both text from j t q.apart q.rest p.apart.0 p.written.0 p.whole.0)
 one_cut_from text (t ∷ ts) (u ∷ us) from i j p q =
     let same = same_token text from t u p.apart.0 q.apart.0 p.written.0 q.written.0 p.whole.0 q.whole.0 in
     let apart : AreApart text t.end us j = subst (λ (k : Placed). AreApart text k.end us j) (sym same) q.apart.1 in

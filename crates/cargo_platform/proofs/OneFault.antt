@@ -1,5 +1,6 @@
 -- A text has at most one fault.
-use Rattle.std.proofs.Common.{◌≡◌, refl, sym, ap, subst, ◌∙◌, ℕ, ◌≤◌, Bool, true, false, true≢false, List, [], ◌∷◌, ◌++◌, None, codes, inl, inr, arith, length, take, drop, drop_of_length-le}
+use Rattle.std.proofs.Common.{◌≡◌, refl, sym, ap, subst, ◌∙◌, ℕ, ◌≤◌, Bool, true, false, true≢false, List, [], ◌∷◌}
+use Rattle.std.proofs.Common.{◌++◌, None, codes, inl, inr, arith, length, take, drop, drop_of_length-le}
 use Rattle.std.proofs.Math.Seq.{take-append_seam, drop-append_seam}
 use Rattle.std.specs.Prelude.{IsFalse}
 use Rattle.std.specs.List.{last_or}
@@ -23,26 +24,33 @@ unfolding encode_utf8
 string_no_mark text more f h = true≢false (sym (ap (starts is_quote) f.1.parts) ∙ ap (starts is_quote) h)
 
 -- a text that begins with a known character does not begin with an unknown one
-known_or_not : (text r s : List ℕ) (c d : ℕ) → text ≡ encode_utf8 d ++ r → is_known_start d ≡ true → text ≡ encode_utf8 c ++ s → IsFalse (is_known_start c) → ⊥
-known_or_not text r s c d p known q h = true≢false (sym known ∙ ap is_known_start (encode_same d c r s (sym p ∙ q)).0 ∙ h)
+known_or_not : (text r s : List ℕ) (c d : ℕ) → text ≡ encode_utf8 d ++ r → is_known_start d ≡ true
+    → text ≡ encode_utf8 c ++ s → IsFalse (is_known_start c) → ⊥
+known_or_not text r s c d p known q h =
+    true≢false (sym known ∙ ap is_known_start (encode_same d c r s (sym p ∙ q)).0 ∙ h)
 
 mark_first : (more : List ℕ) → codes "r#" ++ more ≡ encode_utf8 0x72 ++ (0x23 ∷ more)
 unfolding encode_utf8
 mark_first more = refl
 
-mark_is_known : (text more s : List ℕ) (c : ℕ) → text ≡ codes "r#" ++ more → text ≡ encode_utf8 c ++ s → IsFalse (is_known_start c) → ⊥
+mark_is_known : (text more s : List ℕ) (c : ℕ) → text ≡ codes "r#" ++ more → text ≡ encode_utf8 c ++ s
+    → IsFalse (is_known_start c) → ⊥
 mark_is_known text more s c p q h = known_or_not text (0x23 ∷ more) s c 0x72 (p ∙ mark_first more) refl q h
 
-string_no_char : (text : List ℕ) (c : ℕ) → BeginsFault text lexical.UnterminatedString → BeginsFault text (lexical.UnexpectedChar c) → ⊥
+string_no_char : (text : List ℕ) (c : ℕ) → BeginsFault text lexical.UnterminatedString
+    → BeginsFault text (lexical.UnexpectedChar c) → ⊥
 string_no_char text c f (inl g) = string_no_mark text g.0 f g.2
 string_no_char text c f (inr g) = known_or_not text f.0 g.0 c 0x22 f.1.parts refl g.1.parts g.2
 
-mark_no_char : (text : List ℕ) (c : ℕ) → BeginsFault text lexical.MissingIdentifier → BeginsFault text (lexical.UnexpectedChar c) → ⊥
+mark_no_char : (text : List ℕ) (c : ℕ) → BeginsFault text lexical.MissingIdentifier
+    → BeginsFault text (lexical.UnexpectedChar c) → ⊥
 mark_no_char text c f (inl g) = no_char c g.1 (ap (drop 2) (sym f ∙ g.2) ∙ g.3.parts)
 mark_no_char text c f (inr g) = mark_is_known text [] g.0 c f g.1.parts g.2
 
-one_char : (text : List ℕ) (c d : ℕ) → BeginsFault text (lexical.UnexpectedChar c) → BeginsFault text (lexical.UnexpectedChar d) → c ≡ d
-one_char text c d (inl f) (inl g) = (encode_same c d f.1 g.1 (sym f.3.parts ∙ ap (drop 2) (sym f.2 ∙ g.2) ∙ g.3.parts)).0
+one_char : (text : List ℕ) (c d : ℕ) → BeginsFault text (lexical.UnexpectedChar c)
+    → BeginsFault text (lexical.UnexpectedChar d) → c ≡ d
+one_char text c d (inl f) (inl g) =
+    (encode_same c d f.1 g.1 (sym f.3.parts ∙ ap (drop 2) (sym f.2 ∙ g.2) ∙ g.3.parts)).0
 one_char text c d (inl f) (inr g) = absurd (mark_is_known text f.0 g.0 d f.2 g.1.parts g.2)
 one_char text c d (inr f) (inl g) = absurd (mark_is_known text g.0 f.0 c g.2 f.1.parts f.2)
 one_char text c d (inr f) (inr g) = (encode_same c d f.0 g.0 (sym f.1.parts ∙ g.1.parts)).0
@@ -57,14 +65,18 @@ one_lexical_fault text lexical.MissingIdentifier lexical.MissingIdentifier f g =
 one_lexical_fault text lexical.MissingIdentifier (lexical.UnexpectedChar d) f g = absurd (mark_no_char text d f g)
 one_lexical_fault text (lexical.UnexpectedChar c) lexical.UnterminatedString f g = absurd (string_no_char text c g f)
 one_lexical_fault text (lexical.UnexpectedChar c) lexical.MissingIdentifier f g = absurd (mark_no_char text c g f)
-one_lexical_fault text (lexical.UnexpectedChar c) (lexical.UnexpectedChar d) f g = ap lexical.UnexpectedChar (one_char text c d f g)
+one_lexical_fault text (lexical.UnexpectedChar c) (lexical.UnexpectedChar d) f g =
+    ap lexical.UnexpectedChar (one_char text c d f g)
 
 -- ---- what follows a front
 
-no_fault_at_end : (text : List ℕ) (tail : ℕ) (k : TokenFaultKind) (rest : List ℕ) → (rest ≡ drop tail text) × BeginsFault rest k → length text ≤ tail → ⊥
-no_fault_at_end text tail k rest f le = let B : List ℕ → Type 0 = λ z. BeginsFault z k in no_fault k (subst B (f.0 ∙ drop_of_length-le text le) f.1)
+no_fault_at_end : (text : List ℕ) (tail : ℕ) (k : TokenFaultKind) (rest : List ℕ)
+    → (rest ≡ drop tail text) × BeginsFault rest k → length text ≤ tail → ⊥
+no_fault_at_end text tail k rest f le = let B : List ℕ
+    → Type 0 = λ z. BeginsFault z k in no_fault k (subst B (f.0 ∙ drop_of_length-le text le) f.1)
 
-one_next : (text : List ℕ) (after : List Placed) (tail : ℕ) (n m : Next) → Follows text after tail n → Follows text after tail m → n ≡ m
+one_next : (text : List ℕ) (after : List Placed) (tail : ℕ) (n m : Next) → Follows text after tail n
+    → Follows text after tail m → n ≡ m
 one_next text (t ∷ after) tail n m f g = f ∙ sym g
 one_next text [] tail (Unfit t rest) m f g = absurd f
 one_next text [] tail n (Unfit t rest) f g = absurd g
@@ -80,7 +92,8 @@ one_next text [] tail End End f g = refl
 -- ---- the fault
 
 -- two fronts of one list that are as long are the same
-same_front : (front after longer others : List Placed) → front ++ after ≡ longer ++ others → length front ≡ length longer → (front ≡ longer) × (after ≡ others)
+same_front : (front after longer others : List Placed) → front ++ after ≡ longer ++ others
+    → length front ≡ length longer → (front ≡ longer) × (after ≡ others)
 same_front front after longer others h len = (
   sym (take-append_seam front after) ∙ (λ i. take (len i) (h i)) ∙ take-append_seam longer others,
   sym (drop-append_seam front after) ∙ (λ i. drop (len i) (h i)) ∙ drop-append_seam longer others,
@@ -101,8 +114,10 @@ one_fault g text e f p q =
     let same = same_front p.front p.after q.front q.after parts (omega (arith, no_longer, no_shorter)) in
     let A : List Placed → Type 0 = λ z. IsAccepted g (lexemes z) in
     let accepted : p.accepted ≡ q.accepted =
-    same_truth p.accepted q.accepted (λ h. q.is_accepted.1 (subst A same.0 (p.is_accepted.0 h))) (λ h. p.is_accepted.1 (subst A (sym same.0) (q.is_accepted.0 h))) in
+    same_truth p.accepted q.accepted (λ h. q.is_accepted.1 (subst A same.0 (p.is_accepted.0 h)))
+    (λ h. p.is_accepted.1 (subst A (sym same.0) (q.is_accepted.0 h))) in
     let F : List Placed → Type 0 = λ z. Follows text z q.tail p.next in
     let T : ℕ → Type 0 = λ z. Follows text p.after z p.next in
     let next = one_next text q.after q.tail p.next q.next (subst F same.1 (subst T cut.1 p.follows)) q.follows in
-    same_Some _ _ (sym p.is_fault ∙ (λ i. fault_of g (accepted i) (last_or None (lexemes (same.0 i))) (next i)) ∙ q.is_fault)
+    same_Some _ _
+    (sym p.is_fault ∙ (λ i. fault_of g (accepted i) (last_or None (lexemes (same.0 i))) (next i)) ∙ q.is_fault)

@@ -1,9 +1,12 @@
 -- A list of tokens spells at most one tree, whatever follows it: also while unmarked `true` and `false` were keys.
-use Rattle.std.proofs.Common.{◌≡◌, refl, sym, ap, ◌∙◌, ℕ, Bool, true, false, not, ◌&&◌, ◌||◌, List, [], ◌∷◌, ◌++◌, codes, inl, inr, ◌⊎◌, true≢false, append_assoc, append-nil, arith, subst, length}
+use Rattle.std.proofs.Common.{◌≡◌, refl, sym, ap, ◌∙◌, ℕ, Bool, true, false, not, ◌&&◌, ◌||◌, List, [], ◌∷◌, ◌++◌}
+use Rattle.std.proofs.Common.{codes, inl, inr, ◌⊎◌, true≢false, append_assoc, append-nil, arith, subst, length}
 use Rattle.std.specs.Prelude.{IsFalse, bytes_eq, if◌then◌else◌}
 use Rattle.cargo_platform.specs.Tokens.{Lexeme, LeftParen, RightParen, Ident, Comma, Equals, String, plain}
-use Rattle.cargo_platform.specs.Trees.{Name, CfgValue, Alone, KeyPair, Tree, Not, All, Any, Value, True, False, Trees, none, tree}
-use Rattle.cargo_platform.specs.Spelling.{value_spelling, is_group_word, is_literal_word, group, joined, IsMemberList, Spells, SpellEach, IsTreeText}
+use Rattle.cargo_platform.specs.Trees.{Name, CfgValue, Alone, KeyPair, Tree, Not, All, Any, Value, True, False, Trees}
+use Rattle.cargo_platform.specs.Trees.{none, tree}
+use Rattle.cargo_platform.specs.Spelling.{value_spelling, is_group_word, is_literal_word, group, joined, IsMemberList}
+use Rattle.cargo_platform.specs.Spelling.{Spells, SpellEach, IsTreeText}
 use Rattle.cargo_platform.specs.Earlier.{MayStandTransitional, SpellsTransitional, SpellEachTransitional}
 use Rattle.cargo_platform.specs.Key.{rank}
 use Rattle.cargo_platform.specs.Cut.{lexemes}
@@ -54,7 +57,10 @@ three = 3
 
 -- a name or a key that may stand in an expression
 picks : (m al an ne e t f : Bool) → (not m && (al || an || ne)) ≡ false → (not e && (not m && (t || f))) ≡ false
-    → (if not m && ne then 0 else (if not m && al then 1 else (if not m && an then 2 else (if e then 3 else (if not m && t then 4 else (if not m && f then 5 else 3)))))) ≡ three
+    → (if not m && ne then 0
+    else (if not m && al then 1
+    else (if not m && an then 2
+    else (if e then 3 else (if not m && t then 4 else (if not m && f then 5 else 3)))))) ≡ three
 picks true al an ne true t f h g = refl
 picks true al an ne false t f h g = refl
 picks false true an ne e t f h g = absurd cc
@@ -65,18 +71,24 @@ picks false false false false false true f h g = absurd cc
 picks false false false false false false true h g = absurd cc
 picks false false false false false false false h g = refl
 
-form_of_word : (n : Name) (equals : Bool) → IsFalse (is_group_word n) → (not equals && is_literal_word n) ≡ false → form_of n.raw n.name equals ≡ 3
+form_of_word : (n : Name) (equals : Bool) → IsFalse (is_group_word n) → (not equals && is_literal_word n) ≡ false
+    → form_of n.raw n.name equals ≡ 3
 form_of_word n equals h g =
-    picks n.raw (bytes_eq n.name (codes "all")) (bytes_eq n.name (codes "any")) (bytes_eq n.name (codes "not")) equals (bytes_eq n.name (codes "true")) (bytes_eq n.name (codes "false")) h g
+    picks n.raw (bytes_eq n.name (codes "all")) (bytes_eq n.name (codes "any")) (bytes_eq n.name (codes "not")) equals
+    (bytes_eq n.name (codes "true")) (bytes_eq n.name (codes "false")) h g
 
-form_of_value : (c : CfgValue) (x : List Lexeme) → MayStandTransitional c → is_equals_next x ≡ false → form (value_spelling c ++ x) ≡ 3
-form_of_value (Alone n) x may ne = form_of_word n (is_equals_next x) may.0 (ap (λ b. not b && is_literal_word n) ne ∙ may.1)
+form_of_value : (c : CfgValue) (x : List Lexeme) → MayStandTransitional c → is_equals_next x ≡ false
+    → form (value_spelling c ++ x) ≡ 3
+form_of_value (Alone n) x may ne =
+    form_of_word n (is_equals_next x) may.0 (ap (λ b. not b && is_literal_word n) ne ∙ may.1)
 form_of_value (KeyPair k v) x may ne = form_of_word k true may refl
 
-form_of_literal : (x : List Lexeme) → is_equals_next x ≡ false → (form (plain (codes "true") ∷ x) ≡ 4) × (form (plain (codes "false") ∷ x) ≡ 5)
+form_of_literal : (x : List Lexeme) → is_equals_next x ≡ false
+    → (form (plain (codes "true") ∷ x) ≡ 4) × (form (plain (codes "false") ∷ x) ≡ 5)
 form_of_literal x ne = (ap (form_of false (codes "true")) ne, ap (form_of false (codes "false")) ne)
 
-pub form_is : (e : Tree) (s x : List Lexeme) → SpellsTransitional e s → is_equals_next x ≡ false → form (s ++ x) ≡ rank e
+pub form_is : (e : Tree) (s x : List Lexeme) → SpellsTransitional e s → is_equals_next x ≡ false
+    → form (s ++ x) ≡ rank e
 form_is (Not e) s x p ne = ap (λ s. form (s ++ x)) p.2
 form_is (All es) s x p ne = ap (λ s. form (s ++ x)) p.4
 form_is (Any es) s x p ne = ap (λ s. form (s ++ x)) p.4
@@ -84,15 +96,18 @@ form_is (Value c) s x p ne = ap (λ s. form (s ++ x)) p.0 ∙ form_of_value c x 
 form_is True s x p ne = ap (λ s. form (s ++ x)) p ∙ (form_of_literal x ne).0
 form_is False s x p ne = ap (λ s. form (s ++ x)) p ∙ (form_of_literal x ne).1
 
-pub same_rank : (e f : Tree) (s t x y : List Lexeme) → SpellsTransitional e s → SpellsTransitional f t → is_equals_next x ≡ false → is_equals_next y ≡ false → s ++ x ≡ t ++ y → rank e ≡ rank f
+pub same_rank : (e f : Tree) (s t x y : List Lexeme) → SpellsTransitional e s → SpellsTransitional f t
+    → is_equals_next x ≡ false → is_equals_next y ≡ false → s ++ x ≡ t ++ y → rank e ≡ rank f
 same_rank e f s t x y p q nx ny h = sym (form_is e s x p nx) ∙ ap form h ∙ form_is f t y q ny
 
 -- ---- the parts
 
 -- what stands in the parentheses of two groups that begin alike
-pub inside : (w v : List ℕ) (i j x y s t : List Lexeme) → s ≡ group w i → t ≡ group v j → s ++ x ≡ t ++ y → i ++ (RightParen ∷ x) ≡ j ++ (RightParen ∷ y)
+pub inside : (w v : List ℕ) (i j x y s t : List Lexeme) → s ≡ group w i → t ≡ group v j → s ++ x ≡ t ++ y
+    → i ++ (RightParen ∷ x) ≡ j ++ (RightParen ∷ y)
 inside w v i j x y s t p q h =
-    let e : group w i ++ x ≡ group v j ++ y = ap (λ (s : List Lexeme). s ++ x) (sym p) ∙ h ∙ ap (λ (t : List Lexeme). t ++ y) q in
+    let e : group w i ++ x ≡ group v j ++ y = ap (λ (s : List Lexeme). s ++ x) (sym p) ∙ h
+    ∙ ap (λ (t : List Lexeme). t ++ y) q in
     sym (append_assoc i (RightParen ∷ []) x) ∙ tail_is (tail_is e) ∙ append_assoc j (RightParen ∷ []) y
 
 same_name : (m n : Name) → m.raw ≡ n.raw → m.name ≡ n.name → m ≡ n
@@ -102,7 +117,8 @@ equals_is : (x y : List Lexeme) → is_equals_next x ≡ false → x ≡ Equals 
 equals_is x y ne h = true≢false (sym (ap is_equals_next h) ∙ ne)
 
 -- a name or a pair is told by its tokens
-pub value_of : (c d : CfgValue) (x y : List Lexeme) → is_equals_next x ≡ false → is_equals_next y ≡ false → value_spelling c ++ x ≡ value_spelling d ++ y → (c ≡ d) × (x ≡ y)
+pub value_of : (c d : CfgValue) (x y : List Lexeme) → is_equals_next x ≡ false → is_equals_next y ≡ false
+    → value_spelling c ++ x ≡ value_spelling d ++ y → (c ≡ d) × (x ≡ y)
 value_of (Alone m) (Alone n) x y nx ny h =
     let raws : m.raw ≡ n.raw = cc in
     let names : m.name ≡ n.name = cc in
@@ -121,18 +137,23 @@ IsAfter [] ts = (ts ≡ []) ⊎ (ts ≡ Comma ∷ [])
 IsAfter (s ∷ ss) ts = (rest : List Lexeme) × (ts ≡ Comma ∷ (s ++ rest)) × IsAfter ss rest
 
 -- members and commas, as what stands after the first member
-pub after_first : (s : List Lexeme) (ss : List (List Lexeme)) (ts : List Lexeme) → IsMemberList (s ∷ ss) ts → (rest : List Lexeme) × (ts ≡ s ++ rest) × IsAfter ss rest
+pub after_first : (s : List Lexeme) (ss : List (List Lexeme)) (ts : List Lexeme) → IsMemberList (s ∷ ss) ts
+    → (rest : List Lexeme) × (ts ≡ s ++ rest) × IsAfter ss rest
 after_first s [] ts (inl h) = ([], h ∙ sym (append-nil s), inl refl)
 after_first s [] ts (inr h) = (Comma ∷ [], h, inr refl)
 after_first s (t ∷ ss) ts (inl h) =
     let r = after_first t ss (joined (t ∷ ss)) (inl refl) in
     (Comma ∷ joined (t ∷ ss), h, (r.0, ap (λ (z : List Lexeme). Comma ∷ z) r.1, r.2))
 after_first s (t ∷ ss) ts (inr h) =
-    let r = after_first t ss (joined (t ∷ ss) ++ Comma ∷ []) (inr refl) in
-    (Comma ∷ (joined (t ∷ ss) ++ Comma ∷ []), h ∙ append_assoc s (Comma ∷ joined (t ∷ ss)) (Comma ∷ []), (r.0, ap (λ (z : List Lexeme). Comma ∷ z) r.1, r.2))
+    let r = after_first t ss (joined (t ∷ ss) ++ Comma ∷ []) (inr refl) in (
+      Comma ∷ (joined (t ∷ ss) ++ Comma ∷ []),
+      h ∙ append_assoc s (Comma ∷ joined (t ∷ ss)) (Comma ∷ []),
+      (r.0, ap (λ (z : List Lexeme). Comma ∷ z) r.1, r.2),
+    )
 
 -- no `=` stands there
-pub after_no_equals : (ss : List (List Lexeme)) (ts x : List Lexeme) → IsAfter ss ts → is_equals_next (ts ++ (RightParen ∷ x)) ≡ false
+pub after_no_equals : (ss : List (List Lexeme)) (ts x : List Lexeme) → IsAfter ss ts
+    → is_equals_next (ts ++ (RightParen ∷ x)) ≡ false
 after_no_equals [] ts x (inl h) = ap (λ (z : List Lexeme). is_equals_next (z ++ (RightParen ∷ x))) h
 after_no_equals [] ts x (inr h) = ap (λ (z : List Lexeme). is_equals_next (z ++ (RightParen ∷ x))) h
 after_no_equals (s ∷ ss) ts x h = ap (λ (z : List Lexeme). is_equals_next (z ++ (RightParen ∷ x))) h.1
@@ -171,11 +192,18 @@ paren_comma h = true≢false (ap is_paren_next h)
     is_paren_next (_ ∷ ts) = false
 
 -- the end of a list of members is no further member
-last_or_more : (f : Tree) (n : List Lexeme) (ns : List (List Lexeme)) (i j x y : List Lexeme) → SpellsTransitional f n → IsAfter [] i → IsAfter (n ∷ ns) j → i ++ (RightParen ∷ x) ≡ j ++ (RightParen ∷ y) → ⊥
+last_or_more : (f : Tree) (n : List Lexeme) (ns : List (List Lexeme)) (i j x y : List Lexeme) → SpellsTransitional f n
+    → IsAfter [] i → IsAfter (n ∷ ns) j → i ++ (RightParen ∷ x) ≡ j ++ (RightParen ∷ y) → ⊥
 last_or_more f n ns i j x y q (inl a) b h =
-    paren_comma (ap (λ (z : List Lexeme). z ++ (RightParen ∷ x)) (sym a) ∙ h ∙ ap (λ (z : List Lexeme). z ++ (RightParen ∷ y)) b.1)
+    paren_comma
+    (ap (λ (z : List Lexeme). z ++ (RightParen ∷ x)) (sym a) ∙ h
+    ∙ ap (λ (z : List Lexeme). z ++ (RightParen ∷ y)) b.1)
 last_or_more f n ns i j x y q (inr a) b h =
-    differ _ _ (tail_is (ap (λ (z : List Lexeme). z ++ (RightParen ∷ x)) (sym a) ∙ h ∙ ap (λ (z : List Lexeme). z ++ (RightParen ∷ y)) b.1) ∙ append_assoc n b.0 (RightParen ∷ y)) refl (begins f n (b.0 ++ (RightParen ∷ y)) q)
+    differ _ _
+    (tail_is
+    (ap (λ (z : List Lexeme). z ++ (RightParen ∷ x)) (sym a) ∙ h
+    ∙ ap (λ (z : List Lexeme). z ++ (RightParen ∷ y)) b.1) ∙ append_assoc n b.0 (RightParen ∷ y)) refl
+    (begins f n (b.0 ++ (RightParen ∷ y)) q)
 
 -- ---- two readings of one list of tokens
 
@@ -185,53 +213,92 @@ no_members ts [] p q = q
 no_members ts (s ∷ ss) p q = absurd p
 
 mutual
-  pub one : (e f : Tree) (s t x y : List Lexeme) → SpellsTransitional e s → SpellsTransitional f t → is_equals_next x ≡ false → is_equals_next y ≡ false → s ++ x ≡ t ++ y → (e ≡ f) × (x ≡ y)
+  pub one : (e f : Tree) (s t x y : List Lexeme) → SpellsTransitional e s → SpellsTransitional f t
+      → is_equals_next x ≡ false → is_equals_next y ≡ false → s ++ x ≡ t ++ y → (e ≡ f) × (x ≡ y)
   one (Not e) (Not f) s t x y p q nx ny h =
-      let r = one e f p.0 q.0 (RightParen ∷ x) (RightParen ∷ y) p.1 q.1 refl refl (inside (codes "not") (codes "not") p.0 q.0 x y s t p.2 q.2 h) in
+      let r = one e f p.0 q.0 (RightParen ∷ x) (RightParen ∷ y) p.1 q.1 refl refl
+      (inside (codes "not") (codes "not") p.0 q.0 x y s t p.2 q.2 h) in
       (ap Not r.0, tail_is r.1)
   one (All es) (All fs) s t x y p q nx ny h =
-      let r = one_list es fs p.0 q.0 p.1 q.1 x y p.2 q.2 p.3 q.3 (inside (codes "all") (codes "all") p.1 q.1 x y s t p.4 q.4 h) in
+      let r = one_list es fs p.0 q.0 p.1 q.1 x y p.2 q.2 p.3 q.3
+      (inside (codes "all") (codes "all") p.1 q.1 x y s t p.4 q.4 h) in
       (ap All r.0, r.1)
   one (Any es) (Any fs) s t x y p q nx ny h =
-      let r = one_list es fs p.0 q.0 p.1 q.1 x y p.2 q.2 p.3 q.3 (inside (codes "any") (codes "any") p.1 q.1 x y s t p.4 q.4 h) in
+      let r = one_list es fs p.0 q.0 p.1 q.1 x y p.2 q.2 p.3 q.3
+      (inside (codes "any") (codes "any") p.1 q.1 x y s t p.4 q.4 h) in
       (ap Any r.0, r.1)
   one (Value c) (Value d) s t x y p q nx ny h =
-      let r = value_of c d x y nx ny (ap (λ (z : List Lexeme). z ++ x) (sym p.0) ∙ h ∙ ap (λ (z : List Lexeme). z ++ y) q.0) in
+      let r = value_of c d x y nx ny
+      (ap (λ (z : List Lexeme). z ++ x) (sym p.0) ∙ h ∙ ap (λ (z : List Lexeme). z ++ y) q.0) in
       (ap Value r.0, r.1)
-  one True True s t x y p q nx ny h = (refl, tail_is (ap (λ (z : List Lexeme). z ++ x) (sym p) ∙ h ∙ ap (λ (z : List Lexeme). z ++ y) q))
-  one False False s t x y p q nx ny h = (refl, tail_is (ap (λ (z : List Lexeme). z ++ x) (sym p) ∙ h ∙ ap (λ (z : List Lexeme). z ++ y) q))
+  one True True s t x y p q nx ny h =
+      (refl, tail_is (ap (λ (z : List Lexeme). z ++ x) (sym p) ∙ h ∙ ap (λ (z : List Lexeme). z ++ y) q))
+  one False False s t x y p q nx ny h =
+      (refl, tail_is (ap (λ (z : List Lexeme). z ++ x) (sym p) ∙ h ∙ ap (λ (z : List Lexeme). z ++ y) q))
   one e f s t x y p q nx ny h = absurd (omega (arith, same_rank e f s t x y p q nx ny h))
 
-  one_list : (es fs : Trees) (ms ns : List (List Lexeme)) (i j x y : List Lexeme) → SpellEachTransitional es ms → SpellEachTransitional fs ns → IsMemberList ms i → IsMemberList ns j → i ++ (RightParen ∷ x) ≡ j ++ (RightParen ∷ y) → (es ≡ fs) × (x ≡ y)
-  one_list none none [] [] i j x y p q a b h = (refl, tail_is (ap (λ (z : List Lexeme). z ++ (RightParen ∷ x)) (sym a) ∙ h ∙ ap (λ (z : List Lexeme). z ++ (RightParen ∷ y)) b))
+  one_list : (es fs : Trees) (ms ns : List (List Lexeme)) (i j x y : List Lexeme) → SpellEachTransitional es ms
+      → SpellEachTransitional fs ns → IsMemberList ms i → IsMemberList ns j
+      → i ++ (RightParen ∷ x) ≡ j ++ (RightParen ∷ y) → (es ≡ fs) × (x ≡ y)
+  one_list none none [] [] i j x y p q a b h = (
+    refl,
+    tail_is
+        (ap (λ (z : List Lexeme). z ++ (RightParen ∷ x)) (sym a) ∙ h ∙ ap (λ (z : List Lexeme). z ++ (RightParen ∷ y)) b),
+  )
   one_list none none [] (n ∷ ns) i j x y p q a b h = absurd q
   one_list none none (m ∷ ms) ns i j x y p q a b h = absurd p
   one_list none (tree f fs) (m ∷ ms) ns i j x y p q a b h = absurd p
   one_list none (tree f fs) [] [] i j x y p q a b h = absurd q
   one_list none (tree f fs) [] (n ∷ ns) i j x y p q a b h =
       let d = after_first n ns j b in
-      absurd (differ _ _ (ap (λ (z : List Lexeme). z ++ (RightParen ∷ x)) (sym a) ∙ h ∙ ap (λ (z : List Lexeme). z ++ (RightParen ∷ y)) d.1 ∙ append_assoc n d.0 (RightParen ∷ y)) refl (begins f n (d.0 ++ (RightParen ∷ y)) q.0))
+      absurd
+      (differ _ _
+      (ap (λ (z : List Lexeme). z ++ (RightParen ∷ x)) (sym a) ∙ h
+      ∙ ap (λ (z : List Lexeme). z ++ (RightParen ∷ y)) d.1 ∙ append_assoc n d.0 (RightParen ∷ y)) refl
+      (begins f n (d.0 ++ (RightParen ∷ y)) q.0))
   one_list (tree e es) none [] ns i j x y p q a b h = absurd p
   one_list (tree e es) none (m ∷ ms) (n ∷ ns) i j x y p q a b h = absurd q
   one_list (tree e es) none (m ∷ ms) [] i j x y p q a b h =
       let c = after_first m ms i a in
-      absurd (differ _ _ (ap (λ (z : List Lexeme). z ++ (RightParen ∷ y)) (sym b) ∙ sym h ∙ ap (λ (z : List Lexeme). z ++ (RightParen ∷ x)) c.1 ∙ append_assoc m c.0 (RightParen ∷ x)) refl (begins e m (c.0 ++ (RightParen ∷ x)) p.0))
+      absurd
+      (differ _ _
+      (ap (λ (z : List Lexeme). z ++ (RightParen ∷ y)) (sym b) ∙ sym h
+      ∙ ap (λ (z : List Lexeme). z ++ (RightParen ∷ x)) c.1 ∙ append_assoc m c.0 (RightParen ∷ x)) refl
+      (begins e m (c.0 ++ (RightParen ∷ x)) p.0))
   one_list (tree e es) (tree f fs) [] ns i j x y p q a b h = absurd p
   one_list (tree e es) (tree f fs) (m ∷ ms) [] i j x y p q a b h = absurd q
   one_list (tree e es) (tree f fs) (m ∷ ms) (n ∷ ns) i j x y p q a b h =
       let c = after_first m ms i a in
       let d = after_first n ns j b in
       let whole : m ++ (c.0 ++ (RightParen ∷ x)) ≡ n ++ (d.0 ++ (RightParen ∷ y)) =
-      sym (append_assoc m c.0 (RightParen ∷ x)) ∙ ap (λ (z : List Lexeme). z ++ (RightParen ∷ x)) (sym c.1) ∙ h ∙ ap (λ (z : List Lexeme). z ++ (RightParen ∷ y)) d.1 ∙ append_assoc n d.0 (RightParen ∷ y) in
-      let first = one e f m n (c.0 ++ (RightParen ∷ x)) (d.0 ++ (RightParen ∷ y)) p.0 q.0 (after_no_equals ms c.0 x c.2) (after_no_equals ns d.0 y d.2) whole in
+      sym (append_assoc m c.0 (RightParen ∷ x)) ∙ ap (λ (z : List Lexeme). z ++ (RightParen ∷ x)) (sym c.1) ∙ h
+      ∙ ap (λ (z : List Lexeme). z ++ (RightParen ∷ y)) d.1 ∙ append_assoc n d.0 (RightParen ∷ y) in
+      let first = one e f m n (c.0 ++ (RightParen ∷ x)) (d.0 ++ (RightParen ∷ y)) p.0 q.0
+      (after_no_equals ms c.0 x c.2) (after_no_equals ns d.0 y d.2) whole in
       let others = one_after es fs ms ns c.0 d.0 x y p.1 q.1 c.2 d.2 first.1 in
       (λ i. tree (first.0 i) (others.0 i), others.1)
 
-  one_after : (es fs : Trees) (ms ns : List (List Lexeme)) (i j x y : List Lexeme) → SpellEachTransitional es ms → SpellEachTransitional fs ns → IsAfter ms i → IsAfter ns j → i ++ (RightParen ∷ x) ≡ j ++ (RightParen ∷ y) → (es ≡ fs) × (x ≡ y)
-  one_after none none [] [] i j x y p q (inl a) (inl b) h = (refl, tail_is (ap (λ (z : List Lexeme). z ++ (RightParen ∷ x)) (sym a) ∙ h ∙ ap (λ (z : List Lexeme). z ++ (RightParen ∷ y)) b))
-  one_after none none [] [] i j x y p q (inl a) (inr b) h = let e : RightParen ∷ x ≡ Comma ∷ RightParen ∷ y = ap (λ (z : List Lexeme). z ++ (RightParen ∷ x)) (sym a) ∙ h ∙ ap (λ (z : List Lexeme). z ++ (RightParen ∷ y)) b in absurd (paren_comma e)
-  one_after none none [] [] i j x y p q (inr a) (inl b) h = let e : Comma ∷ RightParen ∷ x ≡ RightParen ∷ y = ap (λ (z : List Lexeme). z ++ (RightParen ∷ x)) (sym a) ∙ h ∙ ap (λ (z : List Lexeme). z ++ (RightParen ∷ y)) b in absurd (paren_comma (sym e))
-  one_after none none [] [] i j x y p q (inr a) (inr b) h = (refl, tail_is (tail_is (ap (λ (z : List Lexeme). z ++ (RightParen ∷ x)) (sym a) ∙ h ∙ ap (λ (z : List Lexeme). z ++ (RightParen ∷ y)) b)))
+  one_after : (es fs : Trees) (ms ns : List (List Lexeme)) (i j x y : List Lexeme) → SpellEachTransitional es ms
+      → SpellEachTransitional fs ns → IsAfter ms i → IsAfter ns j → i ++ (RightParen ∷ x) ≡ j ++ (RightParen ∷ y)
+      → (es ≡ fs) × (x ≡ y)
+  one_after none none [] [] i j x y p q (inl a) (inl b) h = (
+    refl,
+    tail_is
+        (ap (λ (z : List Lexeme). z ++ (RightParen ∷ x)) (sym a) ∙ h ∙ ap (λ (z : List Lexeme). z ++ (RightParen ∷ y)) b),
+  )
+  one_after none none [] [] i j x y p q (inl a) (inr b) h =
+      let e : RightParen ∷ x ≡ Comma ∷ RightParen ∷ y = ap (λ (z : List Lexeme). z ++ (RightParen ∷ x)) (sym a) ∙ h
+      ∙ ap (λ (z : List Lexeme). z ++ (RightParen ∷ y)) b in absurd (paren_comma e)
+  one_after none none [] [] i j x y p q (inr a) (inl b) h =
+      let e : Comma ∷ RightParen ∷ x ≡ RightParen ∷ y = ap (λ (z : List Lexeme). z ++ (RightParen ∷ x)) (sym a) ∙ h
+      ∙ ap (λ (z : List Lexeme). z ++ (RightParen ∷ y)) b in absurd (paren_comma (sym e))
+  one_after none none [] [] i j x y p q (inr a) (inr b) h = (
+    refl,
+    tail_is
+        (tail_is
+        (ap (λ (z : List Lexeme). z ++ (RightParen ∷ x)) (sym a) ∙ h
+        ∙ ap (λ (z : List Lexeme). z ++ (RightParen ∷ y)) b)),
+  )
   one_after none none [] (n ∷ ns) i j x y p q a b h = absurd q
   one_after none none (m ∷ ms) ns i j x y p q a b h = absurd p
   one_after none (tree f fs) (m ∷ ms) ns i j x y p q a b h = absurd p
@@ -244,8 +311,12 @@ mutual
   one_after (tree e es) (tree f fs) (m ∷ ms) [] i j x y p q a b h = absurd q
   one_after (tree e es) (tree f fs) (m ∷ ms) (n ∷ ns) i j x y p q a b h =
       let whole : m ++ (a.0 ++ (RightParen ∷ x)) ≡ n ++ (b.0 ++ (RightParen ∷ y)) =
-      sym (append_assoc m a.0 (RightParen ∷ x)) ∙ tail_is (ap (λ (z : List Lexeme). z ++ (RightParen ∷ x)) (sym a.1) ∙ h ∙ ap (λ (z : List Lexeme). z ++ (RightParen ∷ y)) b.1) ∙ append_assoc n b.0 (RightParen ∷ y) in
-      let first = one e f m n (a.0 ++ (RightParen ∷ x)) (b.0 ++ (RightParen ∷ y)) p.0 q.0 (after_no_equals ms a.0 x a.2) (after_no_equals ns b.0 y b.2) whole in
+      sym (append_assoc m a.0 (RightParen ∷ x))
+      ∙ tail_is
+      (ap (λ (z : List Lexeme). z ++ (RightParen ∷ x)) (sym a.1) ∙ h
+      ∙ ap (λ (z : List Lexeme). z ++ (RightParen ∷ y)) b.1) ∙ append_assoc n b.0 (RightParen ∷ y) in
+      let first = one e f m n (a.0 ++ (RightParen ∷ x)) (b.0 ++ (RightParen ∷ y)) p.0 q.0
+      (after_no_equals ms a.0 x a.2) (after_no_equals ns b.0 y b.2) whole in
       let others = one_after es fs ms ns a.0 b.0 x y p.1 q.1 a.2 b.2 first.1 in
       (λ i. tree (first.0 i) (others.0 i), others.1)
 

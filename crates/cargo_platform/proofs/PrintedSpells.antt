@@ -1,13 +1,18 @@
 -- The print of a well-formed tree spells it.
-use Rattle.std.proofs.Common.{◌≡◌, refl, sym, ap, subst, ◌∙◌, ℕ, ◌+◌, ◌-◌, ◌≤◌, Bool, true, false, not, ◌&&◌, List, [], ◌∷◌, ◌++◌, codes, inl, append_assoc, append-nil, arith, length, take, drop, map, length-drop}
+use Rattle.std.proofs.Common.{◌≡◌, refl, sym, ap, subst, ◌∙◌, ℕ, ◌+◌, ◌-◌, ◌≤◌, Bool, true, false, not, ◌&&◌, List, []}
+use Rattle.std.proofs.Common.{◌∷◌, ◌++◌, codes, inl, append_assoc, append-nil, arith, length, take, drop, map}
+use Rattle.std.proofs.Common.{length-drop}
 use Rattle.std.proofs.Math.Bool.{and-false}
 use Rattle.std.specs.Prelude.{IsTrue, IsFalse, bytes_eq}
 use Rattle.std.specs.List.{list_all}
 use Rattle.cargo_platform.specs.Chars.{is_identifier_rest, is_space, is_number_sign, starts}
-use Rattle.cargo_platform.specs.Tokens.{Lexeme, LeftParen, RightParen, Ident, Comma, Equals, String, plain, written, IsWellWritten, Placed}
+use Rattle.cargo_platform.specs.Tokens.{Lexeme, LeftParen, RightParen, Ident, Comma, Equals, String, plain, written}
+use Rattle.cargo_platform.specs.Tokens.{IsWellWritten, Placed}
 use Rattle.cargo_platform.specs.Cut.{EndsBefore, IsCutFrom, lexemes}
-use Rattle.cargo_platform.specs.Trees.{CfgValue, Alone, KeyPair, Tree, Not, All, Any, Value, True, False, Trees, none, tree}
-use Rattle.cargo_platform.specs.Spelling.{identifier, value_spelling, group, joined, IsMemberList, Spells, SpellEach, IsValueText, IsTreeText}
+use Rattle.cargo_platform.specs.Trees.{CfgValue, Alone, KeyPair, Tree, Not, All, Any, Value, True, False, Trees, none}
+use Rattle.cargo_platform.specs.Trees.{tree}
+use Rattle.cargo_platform.specs.Spelling.{identifier, value_spelling, group, joined, IsMemberList, Spells, SpellEach}
+use Rattle.cargo_platform.specs.Spelling.{IsValueText, IsTreeText}
 use Rattle.cargo_platform.specs.WellFormed.{IsWellFormedValue, IsWellFormed, AreWellFormed}
 use Rattle.cargo_platform.specs.Print.{print_name, print_value, print, print_members, print_others}
 use Rattle.cargo_platform.proofs.SomeCut.{piece_at, rest_at, take_none}
@@ -46,7 +51,8 @@ gap_is true = refl
 gap_is false = refl
 
 -- what is laid so is cut so
-cut_laid : (text : List ℕ) (from : ℕ) (ps : List Piece) → from ≤ length text → drop from text ≡ laid ps → AreSeparate ps → CutAs text from (tokens ps)
+cut_laid : (text : List ℕ) (from : ℕ) (ps : List Piece) → from ≤ length text → drop from text ≡ laid ps
+    → AreSeparate ps → CutAs text from (tokens ps)
 cut_laid text from [] le h s =
     let len : length (drop from text) ≡ 0 = ap length h in
     record {
@@ -56,7 +62,16 @@ cut_laid text from [] le h s =
         written = tt;
         whole = tt;
         rest = inl (over (length text) (omega (arith, length-drop (length text) text)));
-        apart = ([], record { ordered = le; inside = omega arith; bytes = ap (take (length text - from)) h ∙ take_none (length text - from) }, refl);
+        apart = (
+          [],
+          record {
+            ordered = le;
+            inside = omega arith;
+            bytes = ap (take (length text - from)) h
+                ∙ take_none (length text - from);
+          },
+          refl,
+        );
       };
     }
   where
@@ -70,7 +85,8 @@ cut_laid text from (p ∷ ps) le h s =
     let at = from + length (gap p.space) in
     let end = at + length (written p.token) in
     let space = piece_at text from (gap p.space) (written p.token ++ laid ps) le h in
-    let here : drop at text ≡ written p.token ++ laid ps = rest_at text from (gap p.space) (written p.token ++ laid ps) h in
+    let here : drop at text ≡ written p.token ++ laid ps = rest_at text from (gap p.space)
+    (written p.token ++ laid ps) h in
     let word = piece_at text at (written p.token) (laid ps) space.inside here in
     let behind : drop end text ≡ laid ps = rest_at text at (written p.token) (laid ps) here in
     let E : List ℕ → Type 0 = λ z. EndsBefore p.token z in
@@ -94,9 +110,12 @@ value_pieces b (KeyPair k v) ps = piece b (identifier k) ∷ piece true Equals �
 
 abbrev mutual
   pieces : Tree → Bool → List Piece → List Piece
-  pieces (Not e) b ps = piece b (plain (codes "not")) ∷ piece false LeftParen ∷ pieces e false (piece false RightParen ∷ ps)
-  pieces (All es) b ps = piece b (plain (codes "all")) ∷ piece false LeftParen ∷ members es (piece false RightParen ∷ ps)
-  pieces (Any es) b ps = piece b (plain (codes "any")) ∷ piece false LeftParen ∷ members es (piece false RightParen ∷ ps)
+  pieces (Not e) b ps =
+      piece b (plain (codes "not")) ∷ piece false LeftParen ∷ pieces e false (piece false RightParen ∷ ps)
+  pieces (All es) b ps =
+      piece b (plain (codes "all")) ∷ piece false LeftParen ∷ members es (piece false RightParen ∷ ps)
+  pieces (Any es) b ps =
+      piece b (plain (codes "any")) ∷ piece false LeftParen ∷ members es (piece false RightParen ∷ ps)
   pieces (Value c) b ps = value_pieces b c ps
   pieces True b ps = piece b (plain (codes "true")) ∷ ps
   pieces False b ps = piece b (plain (codes "false")) ∷ ps
@@ -109,17 +128,25 @@ abbrev mutual
   others none ps = ps
   others (tree e es) ps = piece false Comma ∷ pieces e true (others es ps)
 
-laid_pair : (k v rest : List ℕ) → k ++ (codes " = " ++ ((codes "\"" ++ v ++ codes "\"") ++ rest)) ≡ (k ++ codes " = \"" ++ v ++ codes "\"") ++ rest
+laid_pair : (k v rest : List ℕ)
+    → k ++ (codes " = " ++ ((codes "\"" ++ v ++ codes "\"") ++ rest)) ≡ (k ++ codes " = \"" ++ v ++ codes "\"") ++ rest
 laid_pair k v rest =
     let q = codes " = \"" in
     let w = codes "\"" in
-    ap (λ (z : List ℕ). k ++ (q ++ z)) (append_assoc v w rest) ∙ sym (append_assoc k q (v ++ (w ++ rest))) ∙ sym (append_assoc (k ++ q) v (w ++ rest)) ∙ sym (append_assoc ((k ++ q) ++ v) w rest)
+    ap (λ (z : List ℕ). k ++ (q ++ z)) (append_assoc v w rest) ∙ sym (append_assoc k q (v ++ (w ++ rest)))
+    ∙ sym (append_assoc (k ++ q) v (w ++ rest)) ∙ sym (append_assoc ((k ++ q) ++ v) w rest)
 
 mutual
   laid_is : (e : Tree) (b : Bool) (ps : List Piece) → laid (pieces e b ps) ≡ gap b ++ (print e ++ laid ps)
-  laid_is (Not e) b ps = ap (λ (z : List ℕ). gap b ++ (codes "not(" ++ z)) (laid_is e false (piece false RightParen ∷ ps) ∙ sym (append_assoc (print e) (codes ")") (laid ps)))
-  laid_is (All es) b ps = ap (λ (z : List ℕ). gap b ++ (codes "all(" ++ z)) (laid_members es (piece false RightParen ∷ ps) ∙ sym (append_assoc (print_members es) (codes ")") (laid ps)))
-  laid_is (Any es) b ps = ap (λ (z : List ℕ). gap b ++ (codes "any(" ++ z)) (laid_members es (piece false RightParen ∷ ps) ∙ sym (append_assoc (print_members es) (codes ")") (laid ps)))
+  laid_is (Not e) b ps =
+      ap (λ (z : List ℕ). gap b ++ (codes "not(" ++ z))
+      (laid_is e false (piece false RightParen ∷ ps) ∙ sym (append_assoc (print e) (codes ")") (laid ps)))
+  laid_is (All es) b ps =
+      ap (λ (z : List ℕ). gap b ++ (codes "all(" ++ z))
+      (laid_members es (piece false RightParen ∷ ps) ∙ sym (append_assoc (print_members es) (codes ")") (laid ps)))
+  laid_is (Any es) b ps =
+      ap (λ (z : List ℕ). gap b ++ (codes "any(" ++ z))
+      (laid_members es (piece false RightParen ∷ ps) ∙ sym (append_assoc (print_members es) (codes ")") (laid ps)))
   laid_is (Value (Alone n)) b ps = refl
   laid_is (Value (KeyPair k v)) b ps = ap (λ (z : List ℕ). gap b ++ z) (laid_pair (print_name k) v (laid ps))
   laid_is True b ps = refl
@@ -127,46 +154,68 @@ mutual
 
   laid_members : (es : Trees) (ps : List Piece) → laid (members es ps) ≡ print_members es ++ laid ps
   laid_members none ps = refl
-  laid_members (tree e es) ps = laid_is e false (others es ps) ∙ ap (λ (z : List ℕ). print e ++ z) (laid_others es ps) ∙ sym (append_assoc (print e) (print_others es) (laid ps))
+  laid_members (tree e es) ps =
+      laid_is e false (others es ps) ∙ ap (λ (z : List ℕ). print e ++ z) (laid_others es ps)
+      ∙ sym (append_assoc (print e) (print_others es) (laid ps))
 
   laid_others : (es : Trees) (ps : List Piece) → laid (others es ps) ≡ print_others es ++ laid ps
   laid_others none ps = refl
   laid_others (tree e es) ps =
       ap (λ (z : List ℕ). codes "," ++ z) (laid_is e true (others es ps))
-      ∙ ap (λ (z : List ℕ). codes ", " ++ z) (ap (λ (z : List ℕ). print e ++ z) (laid_others es ps) ∙ sym (append_assoc (print e) (print_others es) (laid ps)))
+      ∙ ap (λ (z : List ℕ). codes ", " ++ z)
+      (ap (λ (z : List ℕ). print e ++ z) (laid_others es ps)
+      ∙ sym (append_assoc (print e) (print_others es) (laid ps)))
 
 -- ---- what follows a printed tree ends its last token
 
 abbrev IsClean : List Piece → Type 0
 IsClean ps = IsFalse (starts is_identifier_rest (laid ps)) × IsFalse (starts is_number_sign (laid ps))
 
-ends : (raw : Bool) (name rest : List ℕ) → IsFalse (starts is_identifier_rest rest) → IsFalse (starts is_number_sign rest) → EndsBefore (Ident raw name) rest
-ends raw name rest a b = (a, ap (λ v. not raw && bytes_eq name (codes "r") && v) b ∙ and-false (not raw && bytes_eq name (codes "r")))
+ends : (raw : Bool) (name rest : List ℕ) → IsFalse (starts is_identifier_rest rest)
+    → IsFalse (starts is_number_sign rest) → EndsBefore (Ident raw name) rest
+ends raw name rest a b =
+    (a, ap (λ v. not raw && bytes_eq name (codes "r") && v) b ∙ and-false (not raw && bytes_eq name (codes "r")))
 
 others_clean : (es : Trees) (ps : List Piece) → IsClean ps → IsClean (others es ps)
 others_clean none ps c = c
 others_clean (tree e es) ps c = (refl, refl)
 
-value_separate : (c : CfgValue) (b : Bool) (ps : List Piece) → IsWellFormedValue c → IsClean ps → AreSeparate ps → AreSeparate (value_pieces b c ps)
+value_separate : (c : CfgValue) (b : Bool) (ps : List Piece) → IsWellFormedValue c → IsClean ps → AreSeparate ps
+    → AreSeparate (value_pieces b c ps)
 value_separate (Alone n) b ps w c s = (w, ends n.raw n.name (laid ps) c.0 c.1, s)
-value_separate (KeyPair k v) b ps w c s = (w.0, ends k.raw k.name (laid (piece true Equals ∷ piece true (String v) ∷ ps)) refl refl, (tt, tt, (w.1, tt, s)))
+value_separate (KeyPair k v) b ps w c s =
+    (w.0, ends k.raw k.name (laid (piece true Equals ∷ piece true (String v) ∷ ps)) refl refl, (tt, tt, (w.1, tt, s)))
 
 mutual
-  separate : (e : Tree) (b : Bool) (ps : List Piece) → IsWellFormed e → IsClean ps → AreSeparate ps → AreSeparate (pieces e b ps)
-  separate (Not e) b ps w c s = ((refl, refl), (refl, refl), (tt, tt, separate e false (piece false RightParen ∷ ps) w (refl, refl) (tt, tt, s)))
-  separate (All es) b ps w c s = ((refl, refl), (refl, refl), (tt, tt, separate_members es (piece false RightParen ∷ ps) w (refl, refl) (tt, tt, s)))
-  separate (Any es) b ps w c s = ((refl, refl), (refl, refl), (tt, tt, separate_members es (piece false RightParen ∷ ps) w (refl, refl) (tt, tt, s)))
+  separate : (e : Tree) (b : Bool) (ps : List Piece) → IsWellFormed e → IsClean ps → AreSeparate ps
+      → AreSeparate (pieces e b ps)
+  separate (Not e) b ps w c s =
+      ((refl, refl), (refl, refl), (tt, tt, separate e false (piece false RightParen ∷ ps) w (refl, refl) (tt, tt, s)))
+  separate (All es) b ps w c s = (
+    (refl, refl),
+    (refl, refl),
+    (tt, tt, separate_members es (piece false RightParen ∷ ps) w (refl, refl) (tt, tt, s)),
+  )
+  separate (Any es) b ps w c s = (
+    (refl, refl),
+    (refl, refl),
+    (tt, tt, separate_members es (piece false RightParen ∷ ps) w (refl, refl) (tt, tt, s)),
+  )
   separate (Value v) b ps w c s = value_separate v b ps w.0 c s
   separate True b ps w c s = ((refl, refl), ends false (codes "true") (laid ps) c.0 c.1, s)
   separate False b ps w c s = ((refl, refl), ends false (codes "false") (laid ps) c.0 c.1, s)
 
-  separate_members : (es : Trees) (ps : List Piece) → AreWellFormed es → IsClean ps → AreSeparate ps → AreSeparate (members es ps)
+  separate_members : (es : Trees) (ps : List Piece) → AreWellFormed es → IsClean ps → AreSeparate ps
+      → AreSeparate (members es ps)
   separate_members none ps w c s = s
-  separate_members (tree e es) ps w c s = separate e false (others es ps) w.0 (others_clean es ps c) (separate_others es ps w.1 c s)
+  separate_members (tree e es) ps w c s =
+      separate e false (others es ps) w.0 (others_clean es ps c) (separate_others es ps w.1 c s)
 
-  separate_others : (es : Trees) (ps : List Piece) → AreWellFormed es → IsClean ps → AreSeparate ps → AreSeparate (others es ps)
+  separate_others : (es : Trees) (ps : List Piece) → AreWellFormed es → IsClean ps → AreSeparate ps
+      → AreSeparate (others es ps)
   separate_others none ps w c s = s
-  separate_others (tree e es) ps w c s = (tt, tt, separate e true (others es ps) w.0 (others_clean es ps c) (separate_others es ps w.1 c s))
+  separate_others (tree e es) ps w c s =
+      (tt, tt, separate e true (others es ps) w.0 (others_clean es ps c) (separate_others es ps w.1 c s))
 
 -- ---- the tokens of a printed tree spell it
 
@@ -182,41 +231,67 @@ joined_is : (s : List Lexeme) (ss : List (List Lexeme)) → s ++ behind_commas s
 joined_is s [] = append-nil s
 joined_is s (t ∷ ss) = ap (λ (z : List Lexeme). s ++ (Comma ∷ z)) (joined_is t ss)
 
-group_is : (w : List ℕ) (inner after : List Lexeme) → plain w ∷ LeftParen ∷ (inner ++ (RightParen ∷ after)) ≡ group w inner ++ after
-group_is w inner after = ap (λ (z : List Lexeme). plain w ∷ LeftParen ∷ z) (sym (append_assoc inner (RightParen ∷ []) after))
+group_is : (w : List ℕ) (inner after : List Lexeme)
+    → plain w ∷ LeftParen ∷ (inner ++ (RightParen ∷ after)) ≡ group w inner ++ after
+group_is w inner after =
+    ap (λ (z : List Lexeme). plain w ∷ LeftParen ∷ z) (sym (append_assoc inner (RightParen ∷ []) after))
 
-value_spelled : (c : CfgValue) (b : Bool) (ps : List Piece) → IsWellFormed (Value c) → Spelled (Value c) (tokens (value_pieces b c ps)) (tokens ps)
+value_spelled : (c : CfgValue) (b : Bool) (ps : List Piece) → IsWellFormed (Value c)
+    → Spelled (Value c) (tokens (value_pieces b c ps)) (tokens ps)
 value_spelled (Alone n) b ps w = (identifier n ∷ [], (refl, w.1), refl)
 value_spelled (KeyPair k v) b ps w = (identifier k ∷ Equals ∷ String v ∷ [], (refl, w.1), refl)
 
 mutual
   spelled : (e : Tree) (b : Bool) (ps : List Piece) → IsWellFormed e → Spelled e (tokens (pieces e b ps)) (tokens ps)
   spelled (Not e) b ps w =
-      let r = spelled e false (piece false RightParen ∷ ps) w in
-      (group (codes "not") r.0, (r.0, r.1, refl), ap (λ (z : List Lexeme). plain (codes "not") ∷ LeftParen ∷ z) r.2 ∙ group_is (codes "not") r.0 (tokens ps))
+      let r = spelled e false (piece false RightParen ∷ ps) w in (
+        group (codes "not") r.0,
+        (r.0, r.1, refl),
+        ap (λ (z : List Lexeme). plain (codes "not") ∷ LeftParen ∷ z) r.2
+            ∙ group_is (codes "not") r.0 (tokens ps),
+      )
   spelled (All es) b ps w =
-      let r = spelled_members es (piece false RightParen ∷ ps) w in
-      (group (codes "all") r.1, (r.0, r.1, r.2, r.3, refl), ap (λ (z : List Lexeme). plain (codes "all") ∷ LeftParen ∷ z) r.4 ∙ group_is (codes "all") r.1 (tokens ps))
+      let r = spelled_members es (piece false RightParen ∷ ps) w in (
+        group (codes "all") r.1,
+        (r.0, r.1, r.2, r.3, refl),
+        ap (λ (z : List Lexeme). plain (codes "all") ∷ LeftParen ∷ z) r.4 ∙ group_is (codes "all") r.1 (tokens ps),
+      )
   spelled (Any es) b ps w =
-      let r = spelled_members es (piece false RightParen ∷ ps) w in
-      (group (codes "any") r.1, (r.0, r.1, r.2, r.3, refl), ap (λ (z : List Lexeme). plain (codes "any") ∷ LeftParen ∷ z) r.4 ∙ group_is (codes "any") r.1 (tokens ps))
+      let r = spelled_members es (piece false RightParen ∷ ps) w in (
+        group (codes "any") r.1,
+        (r.0, r.1, r.2, r.3, refl),
+        ap (λ (z : List Lexeme). plain (codes "any") ∷ LeftParen ∷ z) r.4 ∙ group_is (codes "any") r.1 (tokens ps),
+      )
   spelled (Value c) b ps w = value_spelled c b ps w
   spelled True b ps w = (plain (codes "true") ∷ [], refl, refl)
   spelled False b ps w = (plain (codes "false") ∷ [], refl, refl)
 
-  spelled_members : (es : Trees) (ps : List Piece) → AreWellFormed es → (ss : List (List Lexeme)) × (inner : List Lexeme) × SpellEach es ss × IsMemberList ss inner × (tokens (members es ps) ≡ inner ++ tokens ps)
+  spelled_members : (es : Trees) (ps : List Piece) → AreWellFormed es
+      → (ss : List (List Lexeme)) × (inner : List Lexeme) × SpellEach es ss × IsMemberList ss inner
+      × (tokens (members es ps) ≡ inner ++ tokens ps)
   spelled_members none ps w = ([], [], tt, refl, refl)
   spelled_members (tree e es) ps w =
       let r = spelled e false (others es ps) w.0 in
-      let o = spelled_others es ps w.1 in
-      (r.0 ∷ o.0, r.0 ++ behind_commas o.0, (r.1, o.1), inl (joined_is r.0 o.0), r.2 ∙ ap (λ (z : List Lexeme). r.0 ++ z) o.2 ∙ sym (append_assoc r.0 (behind_commas o.0) (tokens ps)))
+      let o = spelled_others es ps w.1 in (
+        r.0 ∷ o.0,
+        r.0 ++ behind_commas o.0,
+        (r.1, o.1),
+        inl (joined_is r.0 o.0),
+        r.2
+            ∙ ap (λ (z : List Lexeme). r.0 ++ z) o.2 ∙ sym (append_assoc r.0 (behind_commas o.0) (tokens ps)),
+      )
 
-  spelled_others : (es : Trees) (ps : List Piece) → AreWellFormed es → (ss : List (List Lexeme)) × SpellEach es ss × (tokens (others es ps) ≡ behind_commas ss ++ tokens ps)
+  spelled_others : (es : Trees) (ps : List Piece) → AreWellFormed es
+      → (ss : List (List Lexeme)) × SpellEach es ss × (tokens (others es ps) ≡ behind_commas ss ++ tokens ps)
   spelled_others none ps w = ([], tt, refl)
   spelled_others (tree e es) ps w =
       let r = spelled e true (others es ps) w.0 in
-      let o = spelled_others es ps w.1 in
-      (r.0 ∷ o.0, (r.1, o.1), ap (λ (z : List Lexeme). Comma ∷ z) (r.2 ∙ ap (λ (z : List Lexeme). r.0 ++ z) o.2 ∙ sym (append_assoc r.0 (behind_commas o.0) (tokens ps))))
+      let o = spelled_others es ps w.1 in (
+        r.0 ∷ o.0,
+        (r.1, o.1),
+        ap (λ (z : List Lexeme). Comma ∷ z)
+            (r.2 ∙ ap (λ (z : List Lexeme). r.0 ++ z) o.2 ∙ sym (append_assoc r.0 (behind_commas o.0) (tokens ps))),
+      )
 
 -- the tokens of a tree as it is printed
 abbrev pub canonical : Tree → List Lexeme
@@ -241,6 +316,8 @@ value_tokens (KeyPair k v) = refl
 -- The print of a well-formed value is accepted, with that value.
 pub printed_value_spells : (c : CfgValue) → IsWellFormedValue c → IsValueText (print_value c) c
 printed_value_spells c w =
-    let text : laid (value_pieces false c []) ≡ print_value c = laid_is (Value c) false [] ∙ append-nil (print_value c) in
-    let cut = cut_laid (print_value c) 0 (value_pieces false c []) (omega arith) (sym text) (value_separate c false [] w (refl, refl) tt) in
+    let text : laid (value_pieces false c []) ≡ print_value c = laid_is (Value c) false []
+    ∙ append-nil (print_value c) in
+    let cut = cut_laid (print_value c) 0 (value_pieces false c []) (omega arith) (sym text)
+    (value_separate c false [] w (refl, refl) tt) in
     (cut.places, cut.cut, cut.are ∙ value_tokens c)

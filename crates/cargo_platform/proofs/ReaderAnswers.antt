@@ -17,11 +17,15 @@ use Rattle.cargo_platform.proofs.Parsing.{spelled}
 use Rattle.cargo_platform.proofs.Refusing.{path_cut}
 
 -- a value that was read up to the end is what the text spells
-pub value_read : (text : List ℕ) (l m : Ahead) (c : CfgValue) → IsUtf8 text → l.text ≡ text → Comes text 0 l.item l.place → HasRead l m (value_spelling c) → m.item ≡ Nothing → IsValueText text c
-value_read text l m c utf8 same comes a done = (a.us, path_cut text l m a.us utf8 same comes a.path done, a.leads [] refl)
+pub value_read : (text : List ℕ) (l m : Ahead) (c : CfgValue) → IsUtf8 text → l.text ≡ text
+    → Comes text 0 l.item l.place → HasRead l m (value_spelling c) → m.item ≡ Nothing → IsValueText text c
+value_read text l m c utf8 same comes a done =
+    (a.us, path_cut text l m a.us utf8 same comes a.path done, a.leads [] refl)
 
-pub expression_read : (text : List ℕ) (l m : Ahead) (e : Tree) → IsUtf8 text → l.text ≡ text → Comes text 0 l.item l.place → Reads l m (λ ts. ts ≡ []) (Has [] e m.item) → m.item ≡ Nothing → IsTreeText text e
-expression_read text l m e utf8 same comes a done = (a.us, path_cut text l m a.us utf8 same comes a.path done, spelled l m e a)
+pub expression_read : (text : List ℕ) (l m : Ahead) (e : Tree) → IsUtf8 text → l.text ≡ text
+    → Comes text 0 l.item l.place → Reads l m (λ ts. ts ≡ []) (Has [] e m.item) → m.item ≡ Nothing → IsTreeText text e
+expression_read text l m e utf8 same comes a done =
+    (a.us, path_cut text l m a.us utf8 same comes a.path done, spelled l m e a)
 
 at : (g f : Fault) (P : Fault → Type 0) → Some g ≡ Some f → P g → P f
 at g f P h p = let same : g ≡ f = cc in subst P same p
@@ -34,6 +38,7 @@ fault_is (refusal.Unterminated rest) f P h p = at _ f P h p
 fault_is (refusal.Memory e) f P h p = absurd cc
 
 -- what is said of the fault that a refusal stands for is said of its error
-pub parse_is : (A : Type 0) (r : Refusal) (orig : List ℕ) (x : ReadError) (P : ParseError → Type 0) → Becomes r orig x → ((e : ParseError) → orig_of e ≡ orig → refused_fault r ≡ Some (fault_in e) → P e) → IfParse {A = A} (Err x) P
+pub parse_is : (A : Type 0) (r : Refusal) (orig : List ℕ) (x : ReadError) (P : ParseError → Type 0) → Becomes r orig x
+    → ((e : ParseError) → orig_of e ≡ orig → refused_fault r ≡ Some (fault_in e) → P e) → IfParse {A = A} (Err x) P
 parse_is A r orig (errors.Parse e) P b f = f e b.0 b.1
 parse_is A r orig (errors.Memory e) P b f = tt

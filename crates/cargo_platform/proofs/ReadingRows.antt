@@ -1,5 +1,6 @@
 -- Some calls of a tokenizer one after another, what they cost, and what no calls give.
-use Rattle.std.proofs.Common.{◌≡◌, refl, sym, ap, ◌∙◌, ℕ, lit≤, lit<, true, false, true≢false, List, [], ◌∷◌, codes, inl, inr, arith, length, Option, Result, None, Some, Err}
+use Rattle.std.proofs.Common.{◌≡◌, refl, sym, ap, ◌∙◌, ℕ, lit≤, lit<, true, false, true≢false, List, [], ◌∷◌, codes}
+use Rattle.std.proofs.Common.{inl, inr, arith, length, Option, Result, None, Some, Err}
 use Rattle.std.specs.Char.{encode_utf8}
 use Rattle.std.specs.List.{list_all}
 use Rattle.std.specs.Str.{chars}
@@ -9,7 +10,8 @@ use Rattle.cargo_platform.specs.declared.tokens.TokenFaultKind.{TokenFaultKind}
 use Rattle.cargo_platform.specs.declared.tokens.TokenFaultKind.TheVariants.{UnexpectedChar}
 use Rattle.cargo_platform.specs.Chars.{is_space}
 use Rattle.cargo_platform.specs.Tokens.{LeftParen, IsStringValue}
-use Rattle.cargo_platform.specs.Reading.{Progress, MovesTo, GivesToken, GivesEnd, NextGives, BeginsCharacter, Next, characters_from, results_left, ReadsTo, EndsAt, Reads}
+use Rattle.cargo_platform.specs.Reading.{Progress, MovesTo, GivesToken, GivesEnd, NextGives, BeginsCharacter, Next}
+use Rattle.cargo_platform.specs.Reading.{characters_from, results_left, ReadsTo, EndsAt, Reads}
 use Rattle.cargo_platform.proofs.OneCut.{tail_no_space, one_cut_from}
 use Rattle.cargo_platform.proofs.Runs.{cuts_are_read}
 use Rattle.cargo_platform.proofs.CutTests.{spaces, written_at, cut_by}
@@ -35,7 +37,13 @@ other_place : (looks : ℕ) → MovesTo (reached (codes "a") 0 0) (reached (code
 other_place looks p = absurd (omega (arith, p.place_is))
 
 gives_end : GivesEnd (reached (codes "a  ") 1 0) (reached (codes "a  ") 3 0)
-gives_end = record { going = refl; apart = spaces _ _ _ refl; moves = record { same_text = refl; place_is = refl; failed_is = refl } }
+gives_end =
+    record {
+      going = refl;
+      apart = spaces _ _ _ refl;
+      moves =
+          record { same_text = refl; place_is = refl; failed_is = refl };
+    }
 
 no_end_before_token : (new : Progress) → GivesEnd (reached (codes " a") 0 0) new → ⊥
 no_end_before_token new p = true≢false (sym p.apart.2 ∙ sym (ap (list_all is_space) p.apart.1.bytes))
@@ -52,16 +60,26 @@ other_looks_after_fault (inl p) = absurd (omega (arith, ap (λ z. z.looks) p.1))
 other_looks_after_fault (inr p) = true≢false p.going
 
 -- inside `é` no character begins
-begins_inside : (kind : TokenFaultKind) → BeginsCharacter (0xC3 ∷ 0xA9 ∷ []) (Some (Err (record { kind = kind; at = 1 }))) → ⊥
+begins_inside : (kind : TokenFaultKind)
+    → BeginsCharacter (0xC3 ∷ 0xA9 ∷ []) (Some (Err (record { kind = kind; at = 1 }))) → ⊥
 begins_inside kind p = absurd (omega (arith, p.1 (lit< tt) (lit≤ tt)))
 
-begins_at_end : (kind : TokenFaultKind) → BeginsCharacter (0xC3 ∷ 0xA9 ∷ []) (Some (Err (record { kind = kind; at = 2 })))
+begins_at_end : (kind : TokenFaultKind)
+    → BeginsCharacter (0xC3 ∷ 0xA9 ∷ []) (Some (Err (record { kind = kind; at = 2 })))
 begins_at_end kind = (lit≤ tt, λ below high. absurd (omega (arith, below)))
 
 -- ---- calls one after another
 
 gives_a : (looks new : ℕ) → GivesToken (reached (codes "a") 0 looks) (reached (codes "a") 1 new) (word (codes "a") 0 1)
-gives_a looks new = record { going = refl; apart = spaces _ _ _ refl; written = written_at _ (word (codes "a") 0 1) refl; whole = (refl, refl); moves = record { same_text = refl; place_is = refl; failed_is = refl } }
+gives_a looks new =
+    record {
+      going = refl;
+      apart = spaces _ _ _ refl;
+      written = written_at _ (word (codes "a") 0 1) refl;
+      whole =
+          (refl, refl);
+      moves = record { same_text = refl; place_is = refl; failed_is = refl };
+    }
 
 reads_a : ReadsTo (reached (codes "a") 0 0) (word (codes "a") 0 1 ∷ []) (reached (codes "a") 1 2)
 reads_a = (reached (codes "a") 1 2, gives_a 0 2, refl)
@@ -73,15 +91,40 @@ reads_nothing = refl
 no_step : ReadsTo (reached (codes "a") 0 0) [] (reached (codes "a") 1 0) → ⊥
 no_step p = absurd (omega (arith, ap (λ z. z.place) p))
 
-not_read_twice : (last : Progress) → ReadsTo (reached (codes "a") 0 0) (word (codes "a") 0 1 ∷ word (codes "a") 0 1 ∷ []) last → ⊥
+not_read_twice : (last : Progress)
+    → ReadsTo (reached (codes "a") 0 0) (word (codes "a") 0 1 ∷ word (codes "a") 0 1 ∷ []) last → ⊥
 not_read_twice last p = absurd (omega (arith, p.1.moves.place_is, p.2.1.apart.1.ordered))
 
 ends_behind_spaces : EndsAt (reached (codes "a ") 1 2) 2
-ends_behind_spaces = inr (refl, reached (codes "a ") 2 4, record { going = refl; apart = spaces _ _ _ refl; moves = record { same_text = refl; place_is = refl; failed_is = refl } })
+ends_behind_spaces =
+    inr (
+      refl,
+      reached (codes "a ") 2 4,
+      record {
+        going = refl;
+        apart = spaces _ _ _ refl;
+        moves =
+            record { same_text = refl; place_is = refl; failed_is = refl };
+      },
+    )
 
 ends_at_fault : EndsAt (reached (codes "a #") 1 2) 2
 unfolding encode_utf8
-ends_at_fault = inl (UnexpectedChar 0x23, stopped (codes "a #") 2 5, record { going = refl; apart = spaces _ _ _ refl; begins = inr ([], record { scalar = refl; parts = refl }, refl); moves = record { same_text = refl; place_is = refl; failed_is = refl } })
+ends_at_fault =
+    inl (
+      UnexpectedChar 0x23,
+      stopped (codes "a #") 2 5,
+      record {
+        going = refl;
+        apart = spaces _ _ _ refl;
+        begins = inr (
+          [],
+          record { scalar = refl; parts = refl },
+          refl,
+        );
+        moves = record { same_text = refl; place_is = refl; failed_is = refl };
+      },
+    )
 
 -- neither before a space nor before a token
 no_end_at_space : EndsAt (reached (codes " (") 0 0) 0 → ⊥
@@ -95,19 +138,25 @@ reads_paren : Reads (codes " (") (at LeftParen 1 2 ∷ []) 2
 reads_paren = (cuts_are_read (codes " (") (at LeftParen 1 2 ∷ []) 2).1 (cut_by _ _ _ refl (inl refl))
 
 no_token_left_out : (tail : ℕ) → Reads (codes "a") [] tail → ⊥
-no_token_left_out tail r = absurd (omega (arith, ap length (one_cut_from (codes "a") [] _ 0 tail 1 ((cuts_are_read (codes "a") [] tail).0 r) lone_a).0))
+no_token_left_out tail r =
+    absurd
+    (omega
+    (arith, ap length (one_cut_from (codes "a") [] _ 0 tail 1 ((cuts_are_read (codes "a") [] tail).0 r) lone_a).0))
 
 no_other_tail : Reads (codes "a") (word (codes "a") 0 1 ∷ []) 0 → ⊥
-no_other_tail r = absurd (omega (arith, (one_cut_from (codes "a") _ _ 0 0 1 ((cuts_are_read (codes "a") _ 0).0 r) lone_a).1))
+no_other_tail r =
+    absurd (omega (arith, (one_cut_from (codes "a") _ _ 0 0 1 ((cuts_are_read (codes "a") _ 0).0 r) lone_a).1))
 
 -- ---- what calls cost
 
 -- `aé(` has three characters
-counted : (characters_from (0x61 ∷ 0xC3 ∷ 0xA9 ∷ 0x28 ∷ []) 0 ≡ 3) × (characters_from (0x61 ∷ 0xC3 ∷ 0xA9 ∷ 0x28 ∷ []) 3 ≡ 1) × (characters_from (codes "a") 1 ≡ 0)
+counted : (characters_from (0x61 ∷ 0xC3 ∷ 0xA9 ∷ 0x28 ∷ []) 0 ≡ 3)
+    × (characters_from (0x61 ∷ 0xC3 ∷ 0xA9 ∷ 0x28 ∷ []) 3 ≡ 1) × (characters_from (codes "a") 1 ≡ 0)
 unfolding chars
 counted = (refl, refl, refl)
 
-results_are_few : (results_left (reached (codes " (") 0 0) ≡ 3) × (results_left (reached (codes " (") 2 0) ≡ 1) × (results_left (stopped (codes " (") 1 0) ≡ 0)
+results_are_few : (results_left (reached (codes " (") 0 0) ≡ 3) × (results_left (reached (codes " (") 2 0) ≡ 1)
+    × (results_left (stopped (codes " (") 1 0) ≡ 0)
 results_are_few = (refl, refl, refl)
 
 -- a call after the fault costs nothing

@@ -1,5 +1,6 @@
 -- What a reader keeps from one item to the next.
-use Rattle.std.proofs.Common.{◌≡◌, sym, ap, subst, ◌∙◌, ℕ, ◌+◌, false, true≢false, List, Option, Some, None, Result, Ok, Err, inl, inr, length, arith}
+use Rattle.std.proofs.Common.{◌≡◌, sym, ap, subst, ◌∙◌, ℕ, ◌+◌, false, true≢false, List, Option, Some, None, Result, Ok}
+use Rattle.std.proofs.Common.{Err, inl, inr, length, arith}
 use Rattle.cargo_platform.specs.declared.tokens.Spanned.{Spanned}
 use Rattle.cargo_platform.specs.declared.tokens.TokenFault.{TokenFault}
 use Rattle.cargo_platform.specs.Reading.{Progress, NextGives, BeginsCharacter, characters_from, Next}
@@ -8,17 +9,20 @@ use Rattle.cargo_platform.specs.Ahead.{Nothing, Token, item_of, Comes, IsItem, I
 use Rattle.cargo_platform.proofs.Looking.{characters_end}
 
 -- what a call of `next` gives before a fault, as an item that comes
-pub gives_comes : (p q : Progress) (r : Option (Result Spanned TokenFault)) → p.failed ≡ false → NextGives p r q → (q.text ≡ p.text) × Comes p.text p.place (item_of r) q.place × IsItem q r
+pub gives_comes : (p q : Progress) (r : Option (Result Spanned TokenFault)) → p.failed ≡ false → NextGives p r q
+    → (q.text ≡ p.text) × Comes p.text p.place (item_of r) q.place × IsItem q r
 gives_comes p q None going (inl over) = absurd (true≢false (sym over.0 ∙ going))
 gives_comes p q None going (inr e) = (
   e.moves.same_text,
   (e.apart, e.moves.place_is),
   (e.moves.failed_is, e.moves.place_is ∙ ap length (sym e.moves.same_text)),
 )
-gives_comes p q (Some (Ok s)) going g = (g.moves.same_text, (g.apart, g.written, g.whole, g.moves.place_is), g.moves.failed_is)
+gives_comes p q (Some (Ok s)) going g =
+    (g.moves.same_text, (g.apart, g.written, g.whole, g.moves.place_is), g.moves.failed_is)
 gives_comes p q (Some (Err f)) going g = (g.moves.same_text, (g.apart, g.begins, g.moves.place_is), tt)
 
-pub goes_on : (p q : Progress) (s r : Option (Result Spanned TokenFault)) → p.failed ≡ false → Next p r q → GoesOn (ahead_of p s) (ahead_of q r)
+pub goes_on : (p q : Progress) (s r : Option (Result Spanned TokenFault)) → p.failed ≡ false → Next p r q
+    → GoesOn (ahead_of p s) (ahead_of q r)
 goes_on p q s r going n = let c = gives_comes p q r going n.gives in record { same_text = c.0; comes = c.1 }
 
 -- the next item is looked at as the last one was
@@ -42,5 +46,6 @@ token_going p (Some (Ok s)) t a h = a.item
 token_going p None t a h = absurd cc
 token_going p (Some (Err f)) t a h = absurd cc
 
-pub advanced : (p q : Progress) (s r : Option (Result Spanned TokenFault)) (t : Placed) → IsReading p s → item_of s ≡ Token t → Next p r q → IsReading q r × GoesOn (ahead_of p s) (ahead_of q r)
+pub advanced : (p q : Progress) (s r : Option (Result Spanned TokenFault)) (t : Placed) → IsReading p s
+    → item_of s ≡ Token t → Next p r q → IsReading q r × GoesOn (ahead_of p s) (ahead_of q r)
 advanced p q s r t a h n = let going = token_going p s t a h in (reading_on p q r going n, goes_on p q s r going n)

@@ -26,21 +26,28 @@ is_print_value text c w h =
 pub reads_back : (text : List ℕ) (d e : Tree) → IsWellFormed e → text ≡ print e → IsTreeText text d → d ≡ e
 reads_back text d e w h p = one_tree_text text d e p (is_print text e w h)
 
-pub reads_back_value : (text : List ℕ) (c d : CfgValue) → IsWellFormedValue d → text ≡ print_value d → IsValueText text c → c ≡ d
+pub reads_back_value : (text : List ℕ) (c d : CfgValue) → IsWellFormedValue d → text ≡ print_value d
+    → IsValueText text c → c ≡ d
 reads_back_value text c d w h p = one_value_text text c d p (is_print_value text d w h)
 
 -- a text that spells no tree is the print of no well-formed one
-pub none_is_print : (text : List ℕ) → ((t : Tree) → IsTreeText text t → ⊥) → (e : Tree) → IsWellFormed e → text ≡ print e → ⊥
+pub none_is_print : (text : List ℕ) → ((t : Tree) → IsTreeText text t → ⊥) → (e : Tree) → IsWellFormed e
+    → text ≡ print e → ⊥
 none_is_print text none e w h = none e (is_print text e w h)
 
-pub none_is_print_value : (text : List ℕ) → ((d : CfgValue) → IsValueText text d → ⊥) → (c : CfgValue) → IsWellFormedValue c → text ≡ print_value c → ⊥
+pub none_is_print_value : (text : List ℕ) → ((d : CfgValue) → IsValueText text d → ⊥) → (c : CfgValue)
+    → IsWellFormedValue c → text ≡ print_value c → ⊥
 none_is_print_value text none c w h = none c (is_print_value text c w h)
 
 -- so a reader that refuses only such texts refuses no print
-pub refused_is_no_print : (A : Type 0) (x : ReadError) (text : List ℕ) → IfParse {A = A} (Err x) (λ _. (t : Tree) → IsTreeText text t → ⊥) → (e : Tree) → IsWellFormed e → text ≡ print e → IfParse {A = A} (Err x) (λ _. ⊥)
+pub refused_is_no_print : (A : Type 0) (x : ReadError) (text : List ℕ)
+    → IfParse {A = A} (Err x) (λ _. (t : Tree) → IsTreeText text t → ⊥) → (e : Tree) → IsWellFormed e → text ≡ print e
+    → IfParse {A = A} (Err x) (λ _. ⊥)
 refused_is_no_print A (errors.Parse _) text none e w h = none_is_print text none e w h
 refused_is_no_print A (errors.Memory _) text none e w h = tt
 
-pub refused_is_no_print_value : (A : Type 0) (x : ReadError) (text : List ℕ) → IfParse {A = A} (Err x) (λ _. (d : CfgValue) → IsValueText text d → ⊥) → (c : CfgValue) → IsWellFormedValue c → text ≡ print_value c → IfParse {A = A} (Err x) (λ _. ⊥)
+pub refused_is_no_print_value : (A : Type 0) (x : ReadError) (text : List ℕ)
+    → IfParse {A = A} (Err x) (λ _. (d : CfgValue) → IsValueText text d → ⊥) → (c : CfgValue) → IsWellFormedValue c
+    → text ≡ print_value c → IfParse {A = A} (Err x) (λ _. ⊥)
 refused_is_no_print_value A (errors.Parse _) text none c w h = none_is_print_value text none c w h
 refused_is_no_print_value A (errors.Memory _) text none c w h = tt

@@ -1,5 +1,6 @@
 -- A text with a first fault spells nothing of the grammar.
-use Rattle.std.proofs.Common.{◌≡◌, refl, sym, ap, subst, ◌∙◌, ℕ, ◌≤◌, Bool, true, List, [], ◌∷◌, ◌++◌, Option, Some, None, append-nil, arith, length, length-append, drop_of_length-le, inl, inr}
+use Rattle.std.proofs.Common.{◌≡◌, refl, sym, ap, subst, ◌∙◌, ℕ, ◌≤◌, Bool, true, List, [], ◌∷◌, ◌++◌, Option, Some}
+use Rattle.std.proofs.Common.{None, append-nil, arith, length, length-append, drop_of_length-le, inl, inr}
 use Rattle.std.specs.List.{last_or}
 use Rattle.std.specs.Char.{encode_utf8}
 use Rattle.std.proofs.lemmas.Str.{length-encode, len_utf8_bounds}
@@ -14,7 +15,8 @@ use Rattle.cargo_platform.proofs.OneCut.{one_cut_from}
 
 -- what is accepted needs no further tokens
 pub accepted_completes : (g : Grammar) (ts : List Lexeme) → IsAccepted g ts → IsCompletable g ts
-accepted_completes g ts p = let A : List Lexeme → Type 0 = λ z. IsAccepted g z in ([], tt, subst A (sym (append-nil ts)) p)
+accepted_completes g ts p = let A : List Lexeme
+    → Type 0 = λ z. IsAccepted g z in ([], tt, subst A (sym (append-nil ts)) p)
 
 -- nothing is behind a front that is as long as the list
 no_more : (front after : List Placed) → length (front ++ after) ≤ length front → after ≡ []
@@ -26,7 +28,8 @@ none_some h = absurd cc
 
 pub no_char : (c : ℕ) (rest : List ℕ) → [] ≡ encode_utf8 c ++ rest → ⊥
 unfolding encode_utf8
-no_char c rest h = absurd (omega (arith, ap length h, length-append (encode_utf8 c) rest, length-encode c, (len_utf8_bounds c).0))
+no_char c rest h =
+    absurd (omega (arith, ap length h, length-append (encode_utf8 c) rest, length-encode c, (len_utf8_bounds c).0))
 
 -- at the end of the text no lexical fault begins
 pub no_fault : (k : TokenFaultKind) → BeginsFault [] k → ⊥
@@ -35,29 +38,40 @@ no_fault lexical.MissingIdentifier p = absurd cc
 no_fault (lexical.UnexpectedChar c) (inl p) = absurd (let h = p.2 in cc)
 no_fault (lexical.UnexpectedChar c) (inr p) = no_char c p.0 p.1.parts
 
-at_end : (g : Grammar) (text : List ℕ) (o : Option Lexeme) (next : Next) (f : Fault) → Follows text [] (length text) next → fault_of g true o next ≡ Some f → ⊥
+at_end : (g : Grammar) (text : List ℕ) (o : Option Lexeme) (next : Next) (f : Fault)
+    → Follows text [] (length text) next → fault_of g true o next ≡ Some f → ⊥
 at_end g text o (Unfit t rest) f h e = absurd h
-at_end g text o (Broken k rest) f h e = let B : List ℕ → Type 0 = λ z. BeginsFault z k in no_fault k (subst B (h.0 ∙ drop_of_length-le text (omega arith)) h.1)
+at_end g text o (Broken k rest) f h e = let B : List ℕ
+    → Type 0 = λ z. BeginsFault z k in no_fault k (subst B (h.0 ∙ drop_of_length-le text (omega arith)) h.1)
 at_end g text o End f h e = none_some e
 
 -- the tokens of a refused text, where it has an empty tail, are not accepted
-pub refused_accepts_none : (g : Grammar) (text : List ℕ) (f : Fault) (ts : List Placed) → IsRefused g text f → IsCut text ts (length text) → IsAccepted g (lexemes ts) → ⊥
+pub refused_accepts_none : (g : Grammar) (text : List ℕ) (f : Fault) (ts : List Placed) → IsRefused g text f
+    → IsCut text ts (length text) → IsAccepted g (lexemes ts) → ⊥
 refused_accepts_none g text f ts r cut p =
     let same = one_cut_from text r.ts ts 0 r.tail (length text) r.cut cut in
     let A : List Placed → Type 0 = λ z. IsAccepted g (lexemes z) in
     let whole : IsAccepted g (lexemes r.ts) = subst A (sym same.0) p in
-    let none = no_more r.front r.after (let L : List Placed → Type 0 = λ z. length z ≤ length r.front in subst L r.is_front.parts (r.is_front.longest r.ts [] (sym (append-nil r.ts)) (accepted_completes g (lexemes r.ts) whole))) in
-    let front_is : r.ts ≡ r.front = r.is_front.parts ∙ ap (λ (z : List Placed). r.front ++ z) none ∙ append-nil r.front in
+    let none = no_more r.front r.after
+    (let L : List Placed
+    → Type 0 =
+    λ z. length z ≤ length r.front in
+    subst L r.is_front.parts
+    (r.is_front.longest r.ts [] (sym (append-nil r.ts)) (accepted_completes g (lexemes r.ts) whole))) in
+    let front_is : r.ts ≡ r.front = r.is_front.parts ∙ ap (λ (z : List Placed). r.front ++ z) none
+    ∙ append-nil r.front in
     let yes : r.accepted ≡ true = r.is_accepted.1 (subst A front_is whole) in
     let N : List Placed → Type 0 = λ z. Follows text z r.tail r.next in
     let M : ℕ → Type 0 = λ z. Follows text [] z r.next in
     let F : Bool → Type 0 = λ z. fault_of g z (last_or None (lexemes r.front)) r.next ≡ Some f in
-    at_end g text (last_or None (lexemes r.front)) r.next f (subst M same.1 (subst N none r.follows)) (subst F yes r.is_fault)
+    at_end g text (last_or None (lexemes r.front)) r.next f (subst M same.1 (subst N none r.follows))
+    (subst F yes r.is_fault)
 
 -- a text that is refused as an expression spells no tree
 pub refused_spells_none : (text : List ℕ) (f : Fault) (e : Tree) → IsRefused Expressions text f → IsTreeText text e → ⊥
 refused_spells_none text f e r t = refused_accepts_none Expressions text f t.0 r t.1 (e, t.2)
 
 -- a text that is refused as a value spells none
-pub refused_spells_no_value : (text : List ℕ) (f : Fault) (c : CfgValue) → IsRefused Values text f → IsValueText text c → ⊥
+pub refused_spells_no_value : (text : List ℕ) (f : Fault) (c : CfgValue) → IsRefused Values text f → IsValueText text c
+    → ⊥
 refused_spells_no_value text f c r t = refused_accepts_none Values text f t.0 r t.1 (c, t.2)

@@ -1,11 +1,14 @@
 -- One call of `next` after another gives the cut.
-use Rattle.std.proofs.Common.{◌≡◌, refl, sym, ap, subst, ◌∙◌, ℕ, Bool, true, false, List, [], ◌∷◌, inl, inr, arith, length, drop, drop_of_length-le, length-drop, length-append, true≢false, Option, Some, None, Result, Ok, Err}
+use Rattle.std.proofs.Common.{◌≡◌, refl, sym, ap, subst, ◌∙◌, ℕ, Bool, true, false, List, [], ◌∷◌, inl, inr, arith}
+use Rattle.std.proofs.Common.{length, drop, drop_of_length-le, length-drop, length-append, true≢false, Option, Some}
+use Rattle.std.proofs.Common.{None, Result, Ok, Err}
 use Rattle.std.specs.Char.{encode_utf8}
 use Rattle.std.proofs.lemmas.Str.{length-encode, len_utf8_bounds}
 use Rattle.cargo_platform.specs.declared.tokens.Spanned.{Spanned}
 use Rattle.cargo_platform.specs.declared.tokens.TokenFault.{TokenFault}
 use Rattle.cargo_platform.specs.declared.tokens.TokenFaultKind.{TokenFaultKind}
-use Rattle.cargo_platform.specs.declared.tokens.TokenFaultKind.TheVariants.{UnterminatedString, UnexpectedChar, MissingIdentifier}
+use Rattle.cargo_platform.specs.declared.tokens.TokenFaultKind.TheVariants.{UnterminatedString, UnexpectedChar}
+use Rattle.cargo_platform.specs.declared.tokens.TokenFaultKind.TheVariants.{MissingIdentifier}
 use Rattle.cargo_platform.specs.Chars.{BeginsWith}
 use Rattle.cargo_platform.specs.Tokens.{Placed, placed}
 use Rattle.cargo_platform.specs.Cut.{AreSpaces, BeginsFault, IsCutFrom}
@@ -26,13 +29,22 @@ read_end p tail (inr e) = record {
   rest = inl (drop_of_length-le p.text (omega (arith, e.0)));
 }
 
-read_cut : (old new : Progress) (ts : List Placed) (tail : ℕ) → ReadsTo old ts new → EndsAt new tail → IsCutFrom old.text old.place ts tail
-read_cut old new [] tail same ends = subst (λ (p : Progress). IsCutFrom p.text p.place [] tail) same (read_end new tail ends)
+read_cut : (old new : Progress) (ts : List Placed) (tail : ℕ) → ReadsTo old ts new → EndsAt new tail
+    → IsCutFrom old.text old.place ts tail
+read_cut old new [] tail same ends =
+    subst (λ (p : Progress). IsCutFrom p.text p.place [] tail) same (read_end new tail ends)
 read_cut old new (t ∷ ts) tail (behind, g, more) ends =
     let left = read_cut behind new ts tail more ends in
     let T : List ℕ → Type 0 = λ bs. IsCutFrom bs t.end ts tail in
-    let others : IsCutFrom old.text t.end ts tail = subst T g.moves.same_text (subst (λ z. IsCutFrom behind.text z ts tail) g.moves.place_is left) in
-    record { written = (g.written, others.written); apart = (g.apart, others.apart); whole = (g.whole, others.whole); rest = others.rest }
+    let others : IsCutFrom old.text t.end ts tail = subst T g.moves.same_text
+    (subst (λ z. IsCutFrom behind.text z ts tail) g.moves.place_is left) in
+    record {
+      written = (g.written, others.written);
+      apart = (g.apart, others.apart);
+      whole =
+          (g.whole, others.whole);
+      rest = others.rest;
+    }
 
 -- ---- the cut is read
 
@@ -42,27 +54,49 @@ moved p place failed = record { text = p.text; place = place; failed = failed; l
 abbrev moves : (p : Progress) (place : ℕ) (failed : Bool) → MovesTo p (moved p place failed) place failed
 moves p place failed = record { same_text = refl; place_is = refl; failed_is = refl }
 
-cut_read : (p : Progress) → p.failed ≡ false → (ts : List Placed) (tail : ℕ) → IsCutFrom p.text p.place ts tail → (last : Progress) × ReadsTo p ts last × EndsAt last tail
+cut_read : (p : Progress) → p.failed ≡ false → (ts : List Placed) (tail : ℕ) → IsCutFrom p.text p.place ts tail
+    → (last : Progress) × ReadsTo p ts last × EndsAt last tail
 cut_read p going [] tail cut = (
   p,
   refl,
   elim cut.rest [
-    | inr f ↦ inl (f.0, moved p tail true, record { going = going; apart = cut.apart; begins = f.1; moves = moves p tail true })
+    | inr f ↦ inl
+        (f.0, moved p tail true, record { going = going; apart = cut.apart; begins = f.1; moves = moves p tail true })
     | inl none ↦
         let end : tail ≡ length p.text = omega (arith, cut.apart.1.inside, ap length none, length-drop tail p.text) in
-        inr (end, moved p (length p.text) false, record { going = going; apart = subst (AreSpaces p.text p.place) end cut.apart; moves = moves p (length p.text) false })
+        inr (
+          end,
+          moved p (length p.text) false,
+          record {
+            going = going;
+            apart = subst (AreSpaces p.text p.place) end cut.apart;
+            moves = moves p
+                (length p.text) false;
+          },
+        )
   ],
 )
 cut_read p going (t ∷ ts) tail cut =
     let behind = moved p t.end false in
-    let left = cut_read behind refl ts tail (record { written = cut.written.1; apart = cut.apart.1; whole = cut.whole.1; rest = cut.rest }) in
-    let gives : GivesToken p behind t = record { going = going; apart = cut.apart.0; written = cut.written.0; whole = cut.whole.0; moves = moves p t.end false } in
+    let left = cut_read behind refl ts tail
+    (record { written = cut.written.1; apart = cut.apart.1; whole = cut.whole.1; rest = cut.rest }) in
+    let gives : GivesToken p behind t =
+    record {
+      going = going;
+      apart = cut.apart.0;
+      written = cut.written.0;
+      whole = cut.whole.0;
+      moves = moves p
+          t.end false;
+    } in
     (left.0, (behind, gives, left.1), left.2)
 
 reads_cut : (text : List ℕ) (ts : List Placed) (tail : ℕ) → Reads text ts tail → IsCutFrom text 0 ts tail
 reads_cut text ts tail r =
     let T : List ℕ → Type 0 = λ bs. IsCutFrom bs 0 ts tail in
-    subst T r.starts.same_text (subst (λ z. IsCutFrom r.first.text z ts tail) r.starts.place_is (read_cut r.first r.last ts tail r.tokens r.ends))
+    subst T r.starts.same_text
+    (subst
+    (λ z. IsCutFrom r.first.text z ts tail) r.starts.place_is (read_cut r.first r.last ts tail r.tokens r.ends))
 
 pub cuts_are_read : (text : List ℕ) → CutsAreRead text
 cuts_are_read text = λ ts tail. (
@@ -87,7 +121,8 @@ failed_gives p failed = λ r new g. go r new g
     go (Some (Err f)) new g = absurd (true≢false (sym failed ∙ g.going))
 
 no_character : (c : ℕ) (rest : List ℕ) → BeginsWith [] c rest → ⊥
-no_character c rest b = omega (arith, ap length b.parts, length-append (encode_utf8 c) rest, length-encode c, (len_utf8_bounds c).0)
+no_character c rest b =
+    omega (arith, ap length b.parts, length-append (encode_utf8 c) rest, length-encode c, (len_utf8_bounds c).0)
 
 no_fault : (fault : TokenFaultKind) → BeginsFault [] fault → ⊥
 no_fault UnterminatedString f = no_character 0x22 f.0 f.1
@@ -110,7 +145,8 @@ end_gives p at_end = λ r new g. go r new g
 
     go : (r : Option (Result Spanned TokenFault)) (new : Progress) → NextGives p r new → r ≡ None
     go None new g = refl
-    go (Some (Ok s)) new g = let left = step_token p new (placed s) [] p.place cut g in absurd (no_token (placed s) left.0 left.1)
+    go (Some (Ok s)) new g =
+        let left = step_token p new (placed s) [] p.place cut g in absurd (no_token (placed s) left.0 left.1)
     go (Some (Err f)) new g =
         let at = (step_fault p new f.kind f.at [] p.place cut g).1 in
         absurd (no_fault f.kind (subst (λ z. BeginsFault z f.kind) (ap (λ k. drop k p.text) (sym at) ∙ none) g.begins))

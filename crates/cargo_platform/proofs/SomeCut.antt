@@ -1,5 +1,7 @@
 -- Each text has a cut.
-use Rattle.std.proofs.Common.{◌≡◌, refl, sym, ap, subst, ◌∙◌, ℕ, zero, suc, ◌+◌, ◌-◌, ◌<◌, ◌≤◌, Bool, true, false, not, ◌&&◌, ◌||◌, List, [], ◌∷◌, ◌++◌, codes, inl, inr, ◌⊎◌, true≢false, append_assoc, arith, length, take, drop, length-drop, length-append, drop_of_length-le, lit≤}
+use Rattle.std.proofs.Common.{◌≡◌, refl, sym, ap, subst, ◌∙◌, ℕ, zero, suc, ◌+◌, ◌-◌, ◌<◌, ◌≤◌, Bool, true, false, not}
+use Rattle.std.proofs.Common.{◌&&◌, ◌||◌, List, [], ◌∷◌, ◌++◌, codes, inl, inr, ◌⊎◌, true≢false, append_assoc, arith}
+use Rattle.std.proofs.Common.{length, take, drop, length-drop, length-append, drop_of_length-le, lit≤}
 use Rattle.std.proofs.Math.Seq.{take-append_seam, drop-append_seam, get_or-append_seam}
 use Rattle.std.specs.Prelude.{IsUtf8, bytes_eq, ◌==◌}
 use Rattle.std.specs.List.{list_all}
@@ -11,9 +13,12 @@ use Rattle.std.proofs.lemmas.List.{drop-drop}
 use Rattle.std.proofs.lemmas.Bool.{eqb-true, leb-true}
 use Rattle.std.proofs.Math.Dec.{leb}
 use Rattle.std.specs.Int.{is_in_range}
-use Rattle.cargo_platform.specs.declared.tokens.TokenFaultKind.TheVariants.{UnterminatedString, UnexpectedChar, MissingIdentifier}
-use Rattle.cargo_platform.specs.Chars.{is_identifier_start, is_identifier_rest, is_space, is_quote, is_number_sign, is_mark, is_known_start, starts, BeginsWith}
-use Rattle.cargo_platform.specs.Tokens.{Lexeme, LeftParen, RightParen, Ident, Comma, Equals, String, written, IsWellWritten, Placed}
+use Rattle.cargo_platform.specs.declared.tokens.TokenFaultKind.TheVariants.{UnterminatedString, UnexpectedChar}
+use Rattle.cargo_platform.specs.declared.tokens.TokenFaultKind.TheVariants.{MissingIdentifier}
+use Rattle.cargo_platform.specs.Chars.{is_identifier_start, is_identifier_rest, is_space, is_quote, is_number_sign}
+use Rattle.cargo_platform.specs.Chars.{is_mark, is_known_start, starts, BeginsWith}
+use Rattle.cargo_platform.specs.Tokens.{Lexeme, LeftParen, RightParen, Ident, Comma, Equals, String, written}
+use Rattle.cargo_platform.specs.Tokens.{IsWellWritten, Placed}
 use Rattle.cargo_platform.specs.Cut.{IsPiece, AreSpaces, EndsBefore, IsTail, IsCutFrom, IsCut}
 use Rattle.cargo_platform.proofs.OneCut.{either, never, both_first, both_second, start_is_ascii}
 use lib.Utf8.{scalars, scalar, encodes}
@@ -40,7 +45,15 @@ run p ascii (b ∷ bs) u =
     elim (p b) as (λ v. p b ≡ v → Run p (b ∷ bs)) [
       | true ↦ λ h.
           let t = run p ascii bs (ascii_rest b bs (ascii b h) u) in
-          record { xs = b ∷ t.xs; rest = t.rest; parts = ap (λ (z : List ℕ). b ∷ z) t.parts; pass = ap (λ v. v && list_all p t.xs) h ∙ t.pass; stops = t.stops; utf8 = t.utf8 }
+          record {
+            xs = b ∷ t.xs;
+            rest = t.rest;
+            parts = ap (λ (z : List ℕ). b ∷ z) t.parts;
+            pass = ap
+                (λ v. v && list_all p t.xs) h ∙ t.pass;
+            stops = t.stops;
+            utf8 = t.utf8;
+          }
       | false ↦ λ h. record { xs = []; rest = b ∷ bs; parts = refl; pass = refl; stops = h; utf8 = u }
     ] refl
 
@@ -64,12 +77,14 @@ quoted (b ∷ bs) =
     ] refl
 
 -- both sides of an ASCII byte are text
-pub ascii_sides : (b : ℕ) (text v rest : List ℕ) → b < 128 → IsUtf8 text → text ≡ v ++ (b ∷ rest) → IsUtf8 v × IsUtf8 rest
+pub ascii_sides : (b : ℕ) (text v rest : List ℕ) → b < 128 → IsUtf8 text → text ≡ v ++ (b ∷ rest)
+    → IsUtf8 v × IsUtf8 rest
 ascii_sides b text v rest ascii u h =
     let P : List ℕ → Type 0 = λ z. IsUtf8 z in
     let w : IsUtf8 (v ++ (b ∷ rest)) = subst P h u in
     let at : IsCharBoundary (v ++ (b ∷ rest)) (length v) =
-    IsCharBoundary-before_ascii (v ++ (b ∷ rest)) (length v) (omega (arith, length-append v (b ∷ rest))) (omega (arith, ascii, get_or-append_seam v b rest 0)) in (
+    IsCharBoundary-before_ascii (v ++ (b ∷ rest)) (length v) (omega (arith, length-append v (b ∷ rest)))
+    (omega (arith, ascii, get_or-append_seam v b rest 0)) in (
       subst P (take-append_seam v (b ∷ rest)) (IsUtf8-take (v ++ (b ∷ rest)) (length v) w at),
       ascii_rest b rest ascii (subst P (drop-append_seam v (b ∷ rest)) (IsUtf8-drop (v ++ (b ∷ rest)) (length v) w at)),
     )
@@ -77,10 +92,12 @@ ascii_sides b text v rest ascii u h =
 -- the first character
 first_char : (b : ℕ) (bs : List ℕ) → IsUtf8 (b ∷ bs) → (c : ℕ) × (rest : List ℕ) × BeginsWith (b ∷ bs) c rest
 first_char b bs ([], (s, e)) = absurd cc
-first_char b bs (c ∷ cs, (s, e)) = (c, encodes cs, record { scalar = both_first (scalar c) (scalars cs) s; parts = sym e })
+first_char b bs (c ∷ cs, (s, e)) =
+    (c, encodes cs, record { scalar = both_first (scalar c) (scalars cs) s; parts = sym e })
 
 -- a test of ASCII characters sees the first byte
-char_fails : (p : ℕ → Bool) → IsAsciiTest p → (b : ℕ) (bs : List ℕ) (c : ℕ) (rest : List ℕ) → b ∷ bs ≡ encode_utf8 c ++ rest → p b ≡ false → p c ≡ false
+char_fails : (p : ℕ → Bool) → IsAsciiTest p → (b : ℕ) (bs : List ℕ) (c : ℕ) (rest : List ℕ)
+    → b ∷ bs ≡ encode_utf8 c ++ rest → p b ≡ false → p c ≡ false
 char_fails p ascii b bs c rest h f = never (p c) (λ passes.
     let lt : c < 128 = ascii c passes in
     let e : b ∷ bs ≡ c ∷ rest = h ∙ ap (λ (z : List ℕ). z ++ rest) (encode_ascii c lt) in
@@ -139,10 +156,22 @@ marked (d ∷ ds) u =
     elim (is_identifier_start d) as (λ v. is_identifier_start d ≡ v → Outcome (codes "r#" ++ (d ∷ ds))) [
       | true ↦ λ h.
           let r = run is_identifier_rest rest_is_ascii ds (ascii_rest d ds (start_is_ascii d h) u) in
-          inr (record { token = Ident true (d ∷ r.xs); rest = r.rest; parts = ap (λ (z : List ℕ). 0x72 ∷ 0x23 ∷ d ∷ z) r.parts; well = (h, r.pass); ends = (r.stops, refl); utf8 = r.utf8 })
+          inr (record {
+            token = Ident true (d ∷ r.xs);
+            rest = r.rest;
+            parts = ap
+                (λ (z : List ℕ). 0x72 ∷ 0x23 ∷ d ∷ z) r.parts;
+            well = (h, r.pass);
+            ends =
+                (r.stops, refl);
+            utf8 = r.utf8;
+          })
       | false ↦ λ h.
           let c = first_char d ds u in
-          inl (inr (UnexpectedChar c.0, inl (d ∷ ds, c.1, refl, c.2, char_fails is_identifier_start start_is_ascii d ds c.0 c.1 c.2.parts h)))
+          inl (inr (
+            UnexpectedChar c.0,
+            inl (d ∷ ds, c.1, refl, c.2, char_fails is_identifier_start start_is_ascii d ds c.0 c.1 c.2.parts h),
+          ))
     ] refl
 
 number_sign : (rest : List ℕ) → starts is_number_sign rest ≡ true → (after : List ℕ) × (rest ≡ 0x23 ∷ after)
@@ -156,10 +185,21 @@ name b bs u h =
     let parts : b ∷ bs ≡ (b ∷ r.xs) ++ r.rest = ap (λ (z : List ℕ). b ∷ z) r.parts in
     let test = bytes_eq (b ∷ r.xs) (codes "r") && starts is_number_sign r.rest in
     elim test as (λ v. (bytes_eq (b ∷ r.xs) (codes "r") && starts is_number_sign r.rest) ≡ v → Outcome (b ∷ bs)) [
-      | false ↦ λ f. inr (record { token = Ident false (b ∷ r.xs); rest = r.rest; parts = parts; well = (h, r.pass); ends = (r.stops, f); utf8 = r.utf8 })
+      | false ↦ λ f. inr
+          (record {
+            token = Ident false (b ∷ r.xs);
+            rest = r.rest;
+            parts = parts;
+            well = (h, r.pass);
+            ends =
+                (r.stops, f);
+            utf8 = r.utf8;
+          })
       | true ↦ λ t.
-          let is : b ∷ r.xs ≡ codes "r" = (bytes_eq-Decides (b ∷ r.xs) (codes "r")).0 (both_first (bytes_eq (b ∷ r.xs) (codes "r")) (starts is_number_sign r.rest) t) in
-          let after = number_sign r.rest (both_second (bytes_eq (b ∷ r.xs) (codes "r")) (starts is_number_sign r.rest) t) in
+          let is : b ∷ r.xs ≡ codes "r" = (bytes_eq-Decides (b ∷ r.xs) (codes "r")).0
+          (both_first (bytes_eq (b ∷ r.xs) (codes "r")) (starts is_number_sign r.rest) t) in
+          let after = number_sign r.rest
+          (both_second (bytes_eq (b ∷ r.xs) (codes "r")) (starts is_number_sign r.rest) t) in
           let P : List ℕ → Type 0 = λ z. IsUtf8 z in
           let Q : List ℕ → Type 0 = λ z. Outcome z in
           let whole : codes "r#" ++ after.0 ≡ b ∷ bs = sym (parts ∙ (λ i. is i ++ after.1 i)) in
@@ -173,15 +213,37 @@ string bs u =
     elim (quoted bs) [
       | inl q ↦
           let sides = ascii_sides 0x22 bs q.0 q.1 (lit≤ tt) u q.2 in
-          inr (record { token = String q.0; rest = q.1; parts = ap (λ (z : List ℕ). 0x22 ∷ z) (q.2 ∙ sym (append_assoc q.0 (codes "\"") q.1)); well = (sides.0, q.3); ends = tt; utf8 = sides.1 })
-      | inr a ↦ inl (inr (UnterminatedString, (bs, record { scalar = refl; parts = sym (ap (λ (z : List ℕ). z ++ bs) (encode_ascii 0x22 (lit≤ tt))) }, a)))
+          inr (record {
+            token = String q.0;
+            rest = q.1;
+            parts = ap
+                (λ (z : List ℕ). 0x22 ∷ z) (q.2 ∙ sym (append_assoc q.0 (codes "\"") q.1));
+            well =
+                (sides.0, q.3);
+            ends = tt;
+            utf8 = sides.1;
+          })
+      | inr a ↦ inl
+          (inr (
+            UnterminatedString,
+            (bs, record { scalar = refl; parts = sym (ap (λ (z : List ℕ). z ++ bs) (encode_ascii 0x22 (lit≤ tt))) }, a),
+          ))
     ]
 
 -- at a byte that is one of the marks
-single : (t : Lexeme) (b m : ℕ) (bs : List ℕ) → IsWellWritten t → EndsBefore t bs → written t ++ bs ≡ m ∷ bs → (b == m) ≡ true → m < 128 → IsUtf8 (b ∷ bs) → Outcome (b ∷ bs)
+single : (t : Lexeme) (b m : ℕ) (bs : List ℕ) → IsWellWritten t → EndsBefore t bs → written t ++ bs ≡ m ∷ bs
+    → (b == m) ≡ true → m < 128 → IsUtf8 (b ∷ bs) → Outcome (b ∷ bs)
 single t b m bs w e parts h lt u =
     let is : b ≡ m = eqb-true b m h in
-    inr (record { token = t; rest = bs; parts = ap (λ (z : ℕ). z ∷ bs) is ∙ sym parts; well = w; ends = e; utf8 = ascii_rest b bs (omega (arith, is, lt)) u })
+    inr (record {
+      token = t;
+      rest = bs;
+      parts = ap (λ (z : ℕ). z ∷ bs) is
+          ∙ sym parts;
+      well = w;
+      ends = e;
+      utf8 = ascii_rest b bs (omega (arith, is, lt)) u;
+    })
 
 -- what no token begins
 other : (b : ℕ) (bs : List ℕ) → IsUtf8 (b ∷ bs) → is_known_start b ≡ false → Outcome (b ∷ bs)
@@ -213,7 +275,8 @@ lex (b ∷ bs) u h =
                               | false ↦ λ m2.
                                   elim (b == 0x3D) as (λ v. (b == 0x3D) ≡ v → Outcome (b ∷ bs)) [
                                     | true ↦ λ m. single Equals b 0x3D bs tt tt refl m (lit≤ tt) u
-                                    | false ↦ λ m3. other b bs u (λ i. h i || (m0 i || m1 i || m2 i || m3 i) || q i || e i)
+                                    | false ↦ λ m3. other b bs u
+                                        (λ i. h i || (m0 i || m1 i || m2 i || m3 i) || q i || e i)
                                   ] refl
                             ] refl
                       ] refl
@@ -233,7 +296,8 @@ written_length (Ident true n) w = omega arith
 written_length (Ident false []) w = absurd w
 written_length (Ident false (c ∷ cs)) w = omega arith
 
-pub piece_at : (text : List ℕ) (i : ℕ) (p q : List ℕ) → i ≤ length text → drop i text ≡ p ++ q → IsPiece text i (i + length p) p
+pub piece_at : (text : List ℕ) (i : ℕ) (p q : List ℕ) → i ≤ length text → drop i text ≡ p ++ q
+    → IsPiece text i (i + length p) p
 piece_at text i p q le h =
     let len : length (drop i text) ≡ length p + length q = ap length h ∙ length-append p q in
     let wide : i + length p - i ≡ length p = omega arith in
@@ -255,7 +319,8 @@ pub record SomeCut (text : List ℕ) (from : ℕ) : Type 0 where
   pub tail : ℕ
   pub cut : IsCutFrom text from ts tail
 
-pub cut_from : (n : ℕ) (text : List ℕ) (from : ℕ) → from ≤ length text → IsUtf8 (drop from text) → length text ≤ from + n → SomeCut text from
+pub cut_from : (n : ℕ) (text : List ℕ) (from : ℕ) → from ≤ length text → IsUtf8 (drop from text)
+    → length text ≤ from + n → SomeCut text from
 cut_from zero text from le u enough =
     let over : drop from text ≡ [] = drop_of_length-le text (omega (arith, enough)) in
     record {
@@ -265,7 +330,16 @@ cut_from zero text from le u enough =
         written = tt;
         whole = tt;
         rest = inl over;
-        apart = ([], record { ordered = omega arith; inside = le; bytes = ap (take (from - from)) over ∙ take_none (from - from) }, refl);
+        apart = (
+          [],
+          record {
+            ordered = omega arith;
+            inside = le;
+            bytes = ap (take (from - from)) over
+                ∙ take_none (from - from);
+          },
+          refl,
+        );
       };
     }
 cut_from (suc n) text from le u enough =
@@ -276,15 +350,22 @@ cut_from (suc n) text from le u enough =
     elim (lex r.rest r.utf8 r.stops) [
       | inl tail ↦
           let P : List ℕ → Type 0 = λ z. IsTail z in
-          record { ts = []; tail = at; cut = record { written = tt; whole = tt; rest = subst P (sym left) tail; apart = spaces } }
+          record {
+            ts =
+                [];
+            tail = at;
+            cut = record { written = tt; whole = tt; rest = subst P (sym left) tail; apart = spaces };
+          }
       | inr x ↦
           let end = at + length (written x.token) in
           let here : drop at text ≡ written x.token ++ x.rest = left ∙ x.parts in
-          let piece : IsPiece text at end (written x.token) = piece_at text at (written x.token) x.rest spaces.1.inside here in
+          let piece : IsPiece text at end (written x.token) = piece_at text at
+          (written x.token) x.rest spaces.1.inside here in
           let behind : drop end text ≡ x.rest = rest_at text at (written x.token) x.rest here in
           let P : List ℕ → Type 0 = λ z. IsUtf8 z in
           let E : List ℕ → Type 0 = λ z. EndsBefore x.token z in
-          let others = cut_from n text end piece.inside (subst P (sym behind) x.utf8) (omega (arith, enough, written_length x.token x.well)) in
+          let others = cut_from n text end piece.inside (subst P (sym behind) x.utf8)
+          (omega (arith, enough, written_length x.token x.well)) in
           record {
             ts = record { token = x.token; start = at; end = end } ∷ others.ts;
             tail = others.tail;

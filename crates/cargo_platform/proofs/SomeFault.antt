@@ -1,19 +1,23 @@
 -- In each grammar a text spells something, or has a fault, and not both.
-use Rattle.std.proofs.Common.{◌≡◌, refl, sym, ap, subst, ◌∙◌, ℕ, ◌≤◌, Bool, true, false, true≢false, List, [], ◌∷◌, ◌++◌, Option, Some, None, inl, inr, ◌⊎◌, append_assoc, append-nil, length, length-drop, arith}
+use Rattle.std.proofs.Common.{◌≡◌, refl, sym, ap, subst, ◌∙◌, ℕ, ◌≤◌, Bool, true, false, true≢false, List, [], ◌∷◌}
+use Rattle.std.proofs.Common.{◌++◌, Option, Some, None, inl, inr, ◌⊎◌, append_assoc, append-nil, length, length-drop}
+use Rattle.std.proofs.Common.{arith}
 use Rattle.std.specs.Prelude.{◌↔◌, IsTrue, IsUtf8, drop}
 use Rattle.std.specs.List.{last_or}
 use Rattle.cargo_platform.specs.Tokens.{Lexeme, Ident, Equals, String, Placed}
 use Rattle.cargo_platform.specs.Cut.{IsCut, AreApart, lexemes}
 use Rattle.cargo_platform.specs.Trees.{Alone, KeyPair}
 use Rattle.cargo_platform.specs.Spelling.{Grammar, Values, Expressions, IsAccepted}
-use Rattle.cargo_platform.specs.Faults.{IsCompletable, IsFaultFront, Next, Unfit, Broken, End, Follows, Fault, fault_of, IsRefused}
+use Rattle.cargo_platform.specs.Faults.{IsCompletable, IsFaultFront, Next, Unfit, Broken, End, Follows, Fault, fault_of}
+use Rattle.cargo_platform.specs.Faults.{IsRefused}
 use Rattle.cargo_platform.specs.FaultLaws.{SpellsSomething, SpellsOrIsRefused}
 use Rattle.cargo_platform.specs.Walk.{walk}
 use Rattle.cargo_platform.specs.Parsing.{is_whole}
 use Rattle.cargo_platform.proofs.Walk.{stopped}
 use Rattle.cargo_platform.proofs.Completing.{walked_completes, whole_accepted, accepted_whole}
 use Rattle.cargo_platform.proofs.Fronts.{lexemes-append, none_longer, longest_before}
-use Rattle.cargo_platform.proofs.ValueFaults.{is_value_front, spelled_front, front_completes, completable_values, none_is, key_is}
+use Rattle.cargo_platform.proofs.ValueFaults.{is_value_front, spelled_front, front_completes, completable_values}
+use Rattle.cargo_platform.proofs.ValueFaults.{none_is, key_is}
 use Rattle.cargo_platform.proofs.Refused.{refused_spells_none, refused_spells_no_value}
 use Rattle.cargo_platform.proofs.SomeCut.{some_cut}
 use Rattle.cargo_platform.proofs.Completable.{none_completable}
@@ -41,8 +45,10 @@ IsAcceptedOrNot g ts = (accepted : Bool) × (IsTrue accepted ↔ IsAccepted g ts
 accepted_value_or : (ts : List Lexeme) → is_value_front ts ≡ true → IsAcceptedOrNot Values ts
 accepted_value_or [] h = (false, (λ n. absurd (true≢false (sym n)), λ a. absurd (none_is a)))
 accepted_value_or (Ident raw name ∷ []) h = (true, (λ _. (Alone (record { raw = raw; name = name }), refl), λ _. refl))
-accepted_value_or (Ident raw name ∷ Equals ∷ []) h = (false, (λ n. absurd (true≢false (sym n)), λ a. absurd (key_is raw name a)))
-accepted_value_or (Ident raw name ∷ Equals ∷ String value ∷ []) h = (true, (λ _. (KeyPair (record { raw = raw; name = name }) value, refl), λ _. refl))
+accepted_value_or (Ident raw name ∷ Equals ∷ []) h =
+    (false, (λ n. absurd (true≢false (sym n)), λ a. absurd (key_is raw name a)))
+accepted_value_or (Ident raw name ∷ Equals ∷ String value ∷ []) h =
+    (true, (λ _. (KeyPair (record { raw = raw; name = name }) value, refl), λ _. refl))
 accepted_value_or ts h = absurd (true≢false (sym h))
 
 accepted_or : (g : Grammar) (ts : List Lexeme) → IsCompletable g ts → IsAcceptedOrNot g ts
@@ -59,7 +65,8 @@ record SomeFront (g : Grammar) (ts : List Placed) : Type 0 where
   pub is : IsFaultFront g ts front after
 
 -- from a completable front on, the longest is found
-front_from : (g : Grammar) (front behind : List Placed) → IsCompletable g (lexemes front) → SomeFront g (front ++ behind)
+front_from : (g : Grammar) (front behind : List Placed) → IsCompletable g (lexemes front)
+    → SomeFront g (front ++ behind)
 front_from g front [] p = record {
   front = front;
   after = [];
@@ -70,11 +77,17 @@ front_from g front (t ∷ ts) p =
       | inl q ↦
           let S : List Placed → Type 0 = λ z. SomeFront g z in
           let C : List Lexeme → Type 0 = λ z. IsCompletable g z in
-          subst S (append_assoc front (t ∷ []) ts) (front_from g (front ++ (t ∷ [])) ts (subst C (sym (lexemes-append front (t ∷ []))) q))
+          subst S (append_assoc front (t ∷ []) ts)
+          (front_from g (front ++ (t ∷ [])) ts (subst C (sym (lexemes-append front (t ∷ []))) q))
       | inr never ↦ record {
         front = front;
         after = t ∷ ts;
-        is = record { parts = refl; completable = p; longest = λ longer others h q. longest_before g front ts t never longer others h q };
+        is = record {
+          parts = refl;
+          completable = p;
+          longest = λ longer others h q. longest_before g front ts t never
+              longer others h q;
+        };
       }
     ]
 
@@ -84,7 +97,8 @@ tail_inside text from [] tail apart = apart.1.inside
 tail_inside text from (t ∷ ts) tail apart = tail_inside text t.end ts tail apart.1
 
 -- something follows the front of a cut
-some_next : (text : List ℕ) (front after : List Placed) (tail : ℕ) → IsCut text (front ++ after) tail → (next : Next) × Follows text after tail next
+some_next : (text : List ℕ) (front after : List Placed) (tail : ℕ) → IsCut text (front ++ after) tail
+    → (next : Next) × Follows text after tail next
 some_next text front (t ∷ after) tail cut = (Unfit t.token (drop t.start text), refl)
 some_next text front [] tail cut =
     elim cut.rest [
@@ -93,22 +107,44 @@ some_next text front [] tail cut =
     ]
 
 -- an accepted front at the end is the whole text
-whole_text : (g : Grammar) (text : List ℕ) (front after : List Placed) (tail : ℕ) → IsCut text (front ++ after) tail → Follows text after tail End → IsAccepted g (lexemes front) → SpellsSomething g text
+whole_text : (g : Grammar) (text : List ℕ) (front after : List Placed) (tail : ℕ) → IsCut text (front ++ after) tail
+    → Follows text after tail End → IsAccepted g (lexemes front) → SpellsSomething g text
 whole_text g text front (t ∷ after) tail cut h a = absurd (let e = h in cc)
 whole_text g text front [] tail cut h a =
     let T : ℕ → Type 0 = λ z. IsCut text front z in
     let C : List Placed → Type 0 = λ z. IsCut text z tail in
-    let whole = subst T (omega (arith, h, tail_inside text 0 (front ++ []) tail cut.apart)) (subst C (append-nil front) cut) in
+    let whole = subst T (omega (arith, h, tail_inside text 0 (front ++ []) tail cut.apart))
+    (subst C (append-nil front) cut) in
     spelling g front whole a
   where
-    spelling : (g : Grammar) (ts : List Placed) → IsCut text ts (length text) → IsAccepted g (lexemes ts) → SpellsSomething g text
+    spelling : (g : Grammar) (ts : List Placed) → IsCut text ts (length text) → IsAccepted g (lexemes ts)
+        → SpellsSomething g text
     spelling Values ts whole a = (a.0, (ts, whole, a.1))
     spelling Expressions ts whole a = (a.0, (ts, whole, a.1))
 
-at_next : (g : Grammar) (text : List ℕ) (ts front after : List Placed) (tail : ℕ) (next : Next) (accepted : Bool) → IsCut text ts tail → IsFaultFront g ts front after → Follows text after tail next → (IsTrue accepted ↔ IsAccepted g (lexemes front)) → SpellsOrIsRefused g text
+at_next : (g : Grammar) (text : List ℕ) (ts front after : List Placed) (tail : ℕ) (next : Next) (accepted : Bool)
+    → IsCut text ts tail → IsFaultFront g ts front after → Follows text after tail next
+    → (IsTrue accepted ↔ IsAccepted g (lexemes front)) → SpellsOrIsRefused g text
 at_next g text ts front after tail next accepted cut is follows told =
-    elim (fault_of g accepted (last_or None (lexemes front)) next) as (λ z. fault_of g accepted (last_or None (lexemes front)) next ≡ z → SpellsOrIsRefused g text) [
-      | Some fault ↦ λ table. inr (fault, record { ts = ts; tail = tail; cut = cut; front = front; after = after; is_front = is; next = next; follows = follows; accepted = accepted; is_accepted = told; is_fault = table })
+    elim (fault_of g accepted (last_or None (lexemes front)) next) as
+    (λ z. fault_of g accepted (last_or None (lexemes front)) next ≡ z → SpellsOrIsRefused g text) [
+      | Some fault ↦ λ table. inr (
+        fault,
+        record {
+          ts = ts;
+          tail = tail;
+          cut = cut;
+          front = front;
+          after = after;
+          is_front = is;
+          next = next;
+          follows =
+              follows;
+          accepted = accepted;
+          is_accepted = told;
+          is_fault = table;
+        },
+      )
       | None ↦ λ table.
           let C : List Placed → Type 0 = λ z. IsCut text z tail in
           let end = faultless g accepted (last_or None (lexemes front)) next table in
@@ -116,7 +152,8 @@ at_next g text ts front after tail next accepted cut is follows told =
           inl (whole_text g text front after tail (subst C is.parts cut) (subst F end.1 follows) (told.0 end.0))
     ] refl
   where
-    faultless : (g : Grammar) (accepted : Bool) (last : Option Lexeme) (next : Next) → fault_of g accepted last next ≡ None → (accepted ≡ true) × (next ≡ End)
+    faultless : (g : Grammar) (accepted : Bool) (last : Option Lexeme) (next : Next)
+        → fault_of g accepted last next ≡ None → (accepted ≡ true) × (next ≡ End)
     faultless g true last End h = (refl, refl)
     faultless g true last (Unfit t rest) h = absurd cc
     faultless g true last (Broken fault rest) h = absurd cc
@@ -135,6 +172,7 @@ spells_or_is_refused g text utf8 =
     at_next g text c.0 f.front f.after c.1 n.0 a.0 c.2 f.is n.1 a.1
 
 -- and never both
-pub refused_spells_nothing : (g : Grammar) (text : List ℕ) (fault : Fault) → IsRefused g text fault → SpellsSomething g text → ⊥
+pub refused_spells_nothing : (g : Grammar) (text : List ℕ) (fault : Fault) → IsRefused g text fault
+    → SpellsSomething g text → ⊥
 refused_spells_nothing Values text fault r s = refused_spells_no_value text fault s.0 r s.1
 refused_spells_nothing Expressions text fault r s = refused_spells_none text fault s.0 r s.1

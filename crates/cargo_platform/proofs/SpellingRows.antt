@@ -1,9 +1,13 @@
 -- What some lists of tokens and some texts spell, and that others spell nothing.
-use Rattle.std.proofs.Common.{◌≡◌, refl, sym, ap, subst, Bool, true, false, true≢false, List, [], ◌∷◌, None, codes, inl, inr, append-nil, arith, length}
+use Rattle.std.proofs.Common.{◌≡◌, refl, sym, ap, subst, Bool, true, false, true≢false, List, [], ◌∷◌, None, codes, inl}
+use Rattle.std.proofs.Common.{inr, append-nil, arith, length}
 use Rattle.std.specs.Prelude.{IsTrue, IsFalse}
 use Rattle.cargo_platform.specs.Tokens.{Lexeme, LeftParen, RightParen, Ident, Comma, Equals, String, plain}
-use Rattle.cargo_platform.specs.Trees.{CfgValue, Alone, KeyPair, Not, All, Any, Value, True, False, none, tree, trees_of}
-use Rattle.cargo_platform.specs.Spelling.{SpellsValue, is_group_word, is_literal_word, MayStand, group, joined, IsMemberList, Spells, SpellEach, Values, Expressions, IsAccepted, IsValueText, IsTreeText}
+use Rattle.cargo_platform.specs.Trees.{CfgValue, Alone, KeyPair, Not, All, Any, Value, True, False, none, tree}
+use Rattle.cargo_platform.specs.Trees.{trees_of}
+use Rattle.cargo_platform.specs.Spelling.{SpellsValue, is_group_word, is_literal_word, MayStand, group, joined}
+use Rattle.cargo_platform.specs.Spelling.{IsMemberList, Spells, SpellEach, Values, Expressions, IsAccepted, IsValueText}
+use Rattle.cargo_platform.specs.Spelling.{IsTreeText}
 use Rattle.cargo_platform.specs.Walk.{walk}
 use Rattle.cargo_platform.proofs.OneCut.{one_cut_from}
 use Rattle.cargo_platform.proofs.Walk.{stopped}
@@ -19,7 +23,8 @@ word_a = plain (codes "a")
 raw_spelled : SpellsValue (Alone (marked (codes "a"))) (Ident true (codes "a") ∷ [])
 raw_spelled = refl
 
-pair_spelled : SpellsValue (KeyPair (name (codes "all")) (codes "x")) (plain (codes "all") ∷ Equals ∷ String (codes "x") ∷ [])
+pair_spelled : SpellsValue (KeyPair (name (codes "all")) (codes "x"))
+    (plain (codes "all") ∷ Equals ∷ String (codes "x") ∷ [])
 pair_spelled = refl
 
 is_raw : List Lexeme → Bool
@@ -35,16 +40,20 @@ two_names : IsAccepted Values (word_a ∷ plain (codes "b") ∷ []) → ⊥
 two_names (Alone n, p) = absurd (omega (arith, ap length p))
 two_names (KeyPair k v, p) = absurd (omega (arith, ap length p))
 
-group_words : IsTrue (is_group_word (name (codes "all"))) × IsTrue (is_group_word (name (codes "any"))) × IsTrue (is_group_word (name (codes "not")))
+group_words : IsTrue (is_group_word (name (codes "all"))) × IsTrue (is_group_word (name (codes "any")))
+    × IsTrue (is_group_word (name (codes "not")))
 group_words = (refl, refl, refl)
 
-no_group_words : IsFalse (is_group_word (marked (codes "all"))) × IsFalse (is_group_word (name (codes "al"))) × IsFalse (is_group_word (name (codes "true")))
+no_group_words : IsFalse (is_group_word (marked (codes "all"))) × IsFalse (is_group_word (name (codes "al")))
+    × IsFalse (is_group_word (name (codes "true")))
 no_group_words = (refl, refl, refl)
 
-literal_words : IsTrue (is_literal_word (name (codes "true"))) × IsFalse (is_literal_word (marked (codes "false"))) × IsFalse (is_literal_word (name (codes "True")))
+literal_words : IsTrue (is_literal_word (name (codes "true"))) × IsFalse (is_literal_word (marked (codes "false")))
+    × IsFalse (is_literal_word (name (codes "True")))
 literal_words = (refl, refl, refl)
 
-may_stand : MayStand (Alone (marked (codes "any"))) × MayStand (Alone (marked (codes "true"))) × MayStand (KeyPair (marked (codes "true")) [])
+may_stand : MayStand (Alone (marked (codes "any"))) × MayStand (Alone (marked (codes "true")))
+    × MayStand (KeyPair (marked (codes "true")) [])
 may_stand = ((refl, refl), (refl, refl), (refl, refl))
 
 no_word_alone : MayStand (Alone (name (codes "any"))) → ⊥
@@ -73,10 +82,14 @@ all_a_spelled : Spells (All (tree a none)) (plain (codes "all") ∷ LeftParen �
 all_a_spelled = ((word_a ∷ []) ∷ [], word_a ∷ Comma ∷ [], (a_spelled, tt), inr refl, refl)
 
 -- `any(a, not(true), b = "1")`
-any_spelled : Spells (Any (trees_of (a ∷ Not True ∷ Value (KeyPair (name (codes "b")) (codes "1")) ∷ []))) (plain (codes "any") ∷ LeftParen ∷ word_a ∷ Comma ∷ plain (codes "not") ∷ LeftParen ∷ plain (codes "true") ∷ RightParen ∷ Comma ∷ plain (codes "b") ∷ Equals ∷ String (codes "1") ∷ RightParen ∷ [])
+any_spelled : Spells (Any (trees_of (a ∷ Not True ∷ Value (KeyPair (name (codes "b")) (codes "1")) ∷ [])))
+    (plain (codes "any") ∷ LeftParen ∷ word_a ∷ Comma ∷ plain (codes "not") ∷ LeftParen ∷ plain
+    (codes "true") ∷ RightParen ∷ Comma ∷ plain (codes "b") ∷ Equals ∷ String (codes "1") ∷ RightParen ∷ [])
 any_spelled = (
-  (word_a ∷ []) ∷ group (codes "not") (plain (codes "true") ∷ []) ∷ (plain (codes "b") ∷ Equals ∷ String (codes "1") ∷ []) ∷ [],
-  word_a ∷ Comma ∷ plain (codes "not") ∷ LeftParen ∷ plain (codes "true") ∷ RightParen ∷ Comma ∷ plain (codes "b") ∷ Equals ∷ String (codes "1") ∷ [],
+  (word_a ∷ []) ∷ group (codes "not") (plain (codes "true") ∷ []) ∷
+      (plain (codes "b") ∷ Equals ∷ String (codes "1") ∷ []) ∷ [],
+  word_a ∷ Comma ∷ plain (codes "not") ∷ LeftParen ∷ plain (codes "true") ∷ RightParen ∷ Comma ∷ plain
+      (codes "b") ∷ Equals ∷ String (codes "1") ∷ [],
   (a_spelled, ((plain (codes "true") ∷ [], refl, refl), ((refl, (refl, refl)), tt))),
   inl refl,
   refl,
@@ -113,7 +126,8 @@ two_commas (inr p) = absurd (omega (arith, ap length p))
 
 -- where no walk is, nothing is spelled
 unwalked : (ts : List Lexeme) → walk ts ≡ None → IsAccepted Expressions ts → ⊥
-unwalked ts h p = let A : List Lexeme → Type 0 = λ z. IsAccepted Expressions z in stopped ts [] h (subst A (sym (append-nil ts)) p)
+unwalked ts h p = let A : List Lexeme
+    → Type 0 = λ z. IsAccepted Expressions z in stopped ts [] h (subst A (sym (append-nil ts)) p)
 
 no_tokens : IsAccepted Expressions [] → ⊥
 no_tokens p = true≢false (sym (accepted_whole _ [] refl p))

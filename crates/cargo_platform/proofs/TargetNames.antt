@@ -1,11 +1,15 @@
 -- Target names: what none of them holds, where a text stops being one, and what is said of it.
-use Rattle.std.proofs.Common.{◌≡◌, refl, sym, ap, ◌∙◌, subst, ℕ, Bool, true, false, true≢false, not, ◌<◌, cond, List, [], ◌∷◌, ◌++◌, length, codes, get_or, Option, Some, None, MatchOption, find, IsTrue, IsFalse, IsUtf8, MatchBool, option_map, inl, inr, ◌==◌, ◌||◌, eq-eqb, eqb-true, chars, encode_utf8, encode_utf8_all, append_assoc, length-append, arith}
+use Rattle.std.proofs.Common.{◌≡◌, refl, sym, ap, ◌∙◌, subst, ℕ, Bool, true, false, true≢false, not, ◌<◌, cond, List}
+use Rattle.std.proofs.Common.{[], ◌∷◌, ◌++◌, length, codes, get_or, Option, Some, None, MatchOption, find, IsTrue}
+use Rattle.std.proofs.Common.{IsFalse, IsUtf8, MatchBool, option_map, inl, inr, ◌==◌, ◌||◌, eq-eqb, eqb-true, chars}
+use Rattle.std.proofs.Common.{encode_utf8, encode_utf8_all, append_assoc, length-append, arith}
 use Rattle.std.specs.Char.{IsScalar}
 use Rattle.std.specs.List.{list_all, list_any}
 use Rattle.std.specs.Str.{all_scalars, NonePass}
 use Rattle.std.specs.Str.Pattern.{FindsChar, HasMatch}
 use Rattle.std.proofs.lemmas.Bool.{and_parts, agree_below_at}
-use Rattle.std.proofs.lemmas.Str.{NoCharPasses-byte, encode_ascii, encode_same, length-encode, len_utf8_bounds, chars_from_encodes}
+use Rattle.std.proofs.lemmas.Str.{NoCharPasses-byte, encode_ascii, encode_same, length-encode, len_utf8_bounds}
+use Rattle.std.proofs.lemmas.Str.{chars_from_encodes}
 use Rattle.std.proofs.lemmas.Str.Pattern.{contains_char}
 use Rattle.std.proofs.lemmas.List.{get_or_default}
 use Rattle.std.proofs.lemmas.List.Folds.{Any-from_list_any}
@@ -17,7 +21,8 @@ use Rattle.ucd_category.specs.GeneralCategoryRows.{general_category_rows}
 use Rattle.unicode.specs.Binary.{is_alphabetic}
 use Rattle.unicode.specs.GeneralCategory.{general_category}
 use Rattle.cargo_platform.specs.Chars.{BeginsWith, is_identifier_rest}
-use Rattle.cargo_platform.specs.Platforms.{is_target_char, is_plain_byte, IsTargetName, IsFirstRefused, IsTargetMessage, IsBare}
+use Rattle.cargo_platform.specs.Platforms.{is_target_char, is_plain_byte, IsTargetName, IsFirstRefused, IsTargetMessage}
+use Rattle.cargo_platform.specs.Platforms.{IsBare}
 use Rattle.cargo_platform.proofs.OneCut.{both_true, either, never}
 use Rattle.cargo_platform.proofs.SomeCut.{rest_is_ascii}
 
@@ -34,12 +39,15 @@ none_pass t (c ∷ cs) h = let parts = and_parts _ _ h in (ap not parts.0, none_
 -- a text with a `(` is no target name
 no_parenthesis : (text : List ℕ) (i : ℕ) → i < length text → get_or text i 0 ≡ 0x28 → IsTargetName text → ⊥
 no_parenthesis text i below held w =
-    let passed : not (is_target_char (get_or text i 0)) ≡ false = NoCharPasses-byte (λ c. not (is_target_char c)) text i (w.0, sym w.2, none_pass is_target_char w.0 w.3) below (omega (arith, held)) in
+    let passed : not (is_target_char (get_or text i 0)) ≡ false = NoCharPasses-byte
+    (λ c. not (is_target_char c)) text i (w.0, sym w.2, none_pass is_target_char w.0 w.3) below
+    (omega (arith, held)) in
     true≢false (ap not (sym parenthesis_refused) ∙ ap (λ c. not (is_target_char c)) (sym held) ∙ passed)
 
 -- a target name is no `cfg(..)`
 pub name_is_bare : (name : List ℕ) → IsTargetName name → IsBare name
-name_is_bare name w = λ inner h. no_parenthesis (codes "cfg(" ++ inner ++ codes ")") 3 (omega arith) refl (subst IsTargetName h w)
+name_is_bare name w =
+    λ inner h. no_parenthesis (codes "cfg(" ++ inner ++ codes ")") 3 (omega arith) refl (subst IsTargetName h w)
 
 -- ---- plain names
 
@@ -81,14 +89,18 @@ AllPass t text = (cs : List ℕ) × IsTrue (all_scalars cs) × (text ≡ encode_
 
 -- c is the first character of the text that fails a test
 abbrev FirstFails : (ℕ → Bool) → List ℕ → ℕ → Type 0
-FirstFails t text c = (front rest : List ℕ) × (text ≡ front ++ rest) × AllPass t front × ((after : List ℕ) × BeginsWith rest c after) × IsFalse (t c)
+FirstFails t text c =
+    (front rest : List ℕ) × (text ≡ front ++ rest) × AllPass t front × ((after : List ℕ) × BeginsWith rest c after)
+    × IsFalse (t c)
 
 abbrev Found : (ℕ → Bool) → List ℕ → Option ℕ → Type 0
 Found t cs o = MatchOption o (AllPass t (encode_utf8_all cs)) (λ c. FirstFails t (encode_utf8_all cs) c)
 
 -- a character that passes stands before
-further : (t : ℕ → Bool) (c : ℕ) (cs : List ℕ) (o : Option ℕ) → IsTrue (t c) → IsScalar c → Found t cs o → Found t (c ∷ cs) o
-further t c cs None h s m = (c ∷ m.0, both_true _ _ s m.1, ap (λ (z : List ℕ). encode_utf8 c ++ z) m.2, both_true _ _ h m.3)
+further : (t : ℕ → Bool) (c : ℕ) (cs : List ℕ) (o : Option ℕ) → IsTrue (t c) → IsScalar c → Found t cs o
+    → Found t (c ∷ cs) o
+further t c cs None h s m =
+    (c ∷ m.0, both_true _ _ s m.1, ap (λ (z : List ℕ). encode_utf8 c ++ z) m.2, both_true _ _ h m.3)
 further t c cs (Some d) h s m = (
   encode_utf8 c ++ m.0,
   m.1,
@@ -98,9 +110,17 @@ further t c cs (Some d) h s m = (
   m.5,
 )
 
-at_first : (t : ℕ → Bool) (c : ℕ) (cs : List ℕ) (b : Bool) → t c ≡ b → IsScalar c → Found t cs (find (λ d. not (t d)) cs) → Found t (c ∷ cs) (cond (not b) (Some c) (find (λ d. not (t d)) cs))
+at_first : (t : ℕ → Bool) (c : ℕ) (cs : List ℕ) (b : Bool) → t c ≡ b → IsScalar c
+    → Found t cs (find (λ d. not (t d)) cs) → Found t (c ∷ cs) (cond (not b) (Some c) (find (λ d. not (t d)) cs))
 at_first t c cs true h s m = further t c cs (find (λ d. not (t d)) cs) h s m
-at_first t c cs false h s m = ([], encode_utf8_all (c ∷ cs), refl, ([], refl, refl, refl), (encode_utf8_all cs, record { scalar = s; parts = refl }), h)
+at_first t c cs false h s m = (
+  [],
+  encode_utf8_all (c ∷ cs),
+  refl,
+  ([], refl, refl, refl),
+  (encode_utf8_all cs, record { scalar = s; parts = refl }),
+  h,
+)
 
 found : (t : ℕ → Bool) (cs : List ℕ) → IsTrue (all_scalars cs) → Found t cs (find (λ d. not (t d)) cs)
 found t [] s = ([], refl, refl, refl)
@@ -111,35 +131,48 @@ same_option None = refl
 same_option (Some c) = refl
 
 -- a search for a refused character finds the first one, or the text is a target name
-pub first_refused_found : (text : List ℕ) (o : Option ℕ) → IsUtf8 text → option_map (λ (c : ℕ). c) o ≡ find (λ c. not (is_target_char c)) (chars text) → MatchOption o (IsTargetName text) (λ c. IsFirstRefused text c)
+pub first_refused_found : (text : List ℕ) (o : Option ℕ) → IsUtf8 text
+    → option_map (λ (c : ℕ). c) o ≡ find (λ c. not (is_target_char c)) (chars text)
+    → MatchOption o (IsTargetName text) (λ c. IsFirstRefused text c)
 first_refused_found text o u h =
     let P : List ℕ → Type 0 = λ z. MatchOption o (IsTargetName z) (λ c. IsFirstRefused z c) in
-    let Q : Option ℕ → Type 0 = λ z. MatchOption z (IsTargetName (encode_utf8_all u.0)) (λ c. IsFirstRefused (encode_utf8_all u.0) c) in
+    let Q : Option ℕ
+    → Type 0 =
+    λ z. MatchOption z (IsTargetName (encode_utf8_all u.0)) (λ c. IsFirstRefused (encode_utf8_all u.0) c) in
     let cs : u.0 ≡ chars text = chars_from_encodes u.0 text u u.1.1 in
-    let o_is : find (λ c. not (is_target_char c)) u.0 ≡ o = ap (find (λ c. not (is_target_char c))) cs ∙ sym h ∙ same_option o in
+    let o_is : find (λ c. not (is_target_char c)) u.0 ≡ o = ap (find (λ c. not (is_target_char c))) cs ∙ sym h
+    ∙ same_option o in
     subst P u.1.1 (subst Q o_is (found is_target_char u.0 u.1.0))
 
 -- ---- a text with a refused character is no target name
 
 nonempty : (c : ℕ) (rest : List ℕ) → encode_utf8 c ++ rest ≡ [] → ⊥
-nonempty c rest h = absurd (omega (arith, ap length h, length-append (encode_utf8 c) rest, length-encode c, (len_utf8_bounds c).0))
+nonempty c rest h =
+    absurd (omega (arith, ap length h, length-append (encode_utf8 c) rest, length-encode c, (len_utf8_bounds c).0))
 
-fails_not_all : (t : ℕ → Bool) (fs cs after : List ℕ) (c : ℕ) → IsFalse (t c) → IsTrue (list_all t cs) → encode_utf8_all fs ++ (encode_utf8 c ++ after) ≡ encode_utf8_all cs → ⊥
+fails_not_all : (t : ℕ → Bool) (fs cs after : List ℕ) (c : ℕ) → IsFalse (t c) → IsTrue (list_all t cs)
+    → encode_utf8_all fs ++ (encode_utf8 c ++ after) ≡ encode_utf8_all cs → ⊥
 fails_not_all t [] [] after c fails all e = nonempty c after e
 fails_not_all t [] (d ∷ cs) after c fails all e =
     let same = encode_same c d after (encode_utf8_all cs) e in
     true≢false (sym (and_parts _ _ all).0 ∙ sym (ap t same.0) ∙ fails)
-fails_not_all t (f ∷ fs) [] after c fails all e = nonempty f (encode_utf8_all fs ++ (encode_utf8 c ++ after)) (sym (append_assoc (encode_utf8 f) (encode_utf8_all fs) (encode_utf8 c ++ after)) ∙ e)
+fails_not_all t (f ∷ fs) [] after c fails all e =
+    nonempty f (encode_utf8_all fs ++ (encode_utf8 c ++ after))
+    (sym (append_assoc (encode_utf8 f) (encode_utf8_all fs) (encode_utf8 c ++ after)) ∙ e)
 fails_not_all t (f ∷ fs) (d ∷ cs) after c fails all e =
-    let same = encode_same f d _ _ (sym (append_assoc (encode_utf8 f) (encode_utf8_all fs) (encode_utf8 c ++ after)) ∙ e) in
+    let same = encode_same f d _ _
+    (sym (append_assoc (encode_utf8 f) (encode_utf8_all fs) (encode_utf8 c ++ after)) ∙ e) in
     fails_not_all t fs cs after c fails (and_parts _ _ all).1 same.1
 
 -- the characters before the first refused one, that one, and what is behind it
-pub first_parts : (text : List ℕ) (c : ℕ) (r : IsFirstRefused text c) → text ≡ encode_utf8_all r.3.0 ++ (encode_utf8 c ++ r.4.0)
-first_parts text c r = r.2 ∙ ap (λ (z : List ℕ). z ++ r.1) r.3.2 ∙ ap (λ (z : List ℕ). encode_utf8_all r.3.0 ++ z) r.4.1.parts
+pub first_parts : (text : List ℕ) (c : ℕ) (r : IsFirstRefused text c)
+    → text ≡ encode_utf8_all r.3.0 ++ (encode_utf8 c ++ r.4.0)
+first_parts text c r =
+    r.2 ∙ ap (λ (z : List ℕ). z ++ r.1) r.3.2 ∙ ap (λ (z : List ℕ). encode_utf8_all r.3.0 ++ z) r.4.1.parts
 
 pub refused_is_no_name : (text : List ℕ) (c : ℕ) → IsFirstRefused text c → IsTargetName text → ⊥
-refused_is_no_name text c r w = fails_not_all is_target_char r.3.0 w.0 r.4.0 c r.5 w.3 (sym (first_parts text c r) ∙ w.2)
+refused_is_no_name text c r w =
+    fails_not_all is_target_char r.3.0 w.0 r.4.0 c r.5 w.3 (sym (first_parts text c r) ∙ w.2)
 
 -- ---- the message
 
@@ -154,10 +187,13 @@ contained text r m =
     (λ held. let k = here.0 held in (k.0, k.1, eq-eqb _ _ k.2))
     (λ none i below. never (get_or text i 0 == 0x28) (λ e. true≢false (sym (here.1 i below (eqb-true _ _ e)) ∙ none)))
 
-pub parenthesis_message : (text : List ℕ) (r : Bool) → Contains text r → r ≡ true → (message : List ℕ) → message ≡ codes "unexpected `(` character, cfg expressions must start with `cfg(`" → IsTargetMessage text message
+pub parenthesis_message : (text : List ℕ) (r : Bool) → Contains text r → r ≡ true → (message : List ℕ)
+    → message ≡ codes "unexpected `(` character, cfg expressions must start with `cfg(`" → IsTargetMessage text message
 parenthesis_message text r m held message is = inl (sym (contained text r m) ∙ held, is)
 
-pub character_message : (text : List ℕ) (r : Bool) (c : ℕ) → Contains text r → r ≡ false → IsFirstRefused text c → (message : List ℕ) → message ≡ codes "unexpected character " ++ (encode_utf8 c ++ codes " in target name") → IsTargetMessage text message
+pub character_message : (text : List ℕ) (r : Bool) (c : ℕ) → Contains text r → r ≡ false → IsFirstRefused text c
+    → (message : List ℕ) → message ≡ codes "unexpected character " ++ (encode_utf8 c ++ codes " in target name")
+    → IsTargetMessage text message
 character_message text r c m none first message is = inr (sym (contained text r m) ∙ none, (c, first, is))
 
 -- ---- a text that is refused with a message is no target name

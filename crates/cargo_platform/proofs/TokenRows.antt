@@ -1,13 +1,16 @@
 -- Classes of characters and tokens, on some of each.
-use Rattle.std.proofs.Common.{◌≡◌, refl, sym, ap, ◌∙◌, ℕ, ◌≤◌, ◌<◌, Bool, true, false, true≢false, List, [], ◌∷◌, ◌+◌, codes, map, arith, length, length-append}
+use Rattle.std.proofs.Common.{◌≡◌, refl, sym, ap, ◌∙◌, ℕ, ◌≤◌, ◌<◌, Bool, true, false, true≢false, List, [], ◌∷◌, ◌+◌}
+use Rattle.std.proofs.Common.{codes, map, arith, length, length-append}
 use Rattle.std.specs.Prelude.{IsFalse, ◌==◌}
 use Rattle.std.specs.Char.{encode_utf8, len_utf8}
 use Rattle.std.proofs.lemmas.Str.{length-encode, byte_from_char}
 use Rattle.std.proofs.lemmas.Bool.Decides.{nat_tests}
 use Rattle.std.specs.Str.{encode_utf8_all}
 use Rattle.cargo_platform.specs.declared.tokens.Token.TheVariants as token
-use Rattle.cargo_platform.specs.Chars.{is_identifier_start, is_identifier_rest, is_space, is_quote, is_number_sign, is_mark, is_known_start, starts, BeginsWith}
-use Rattle.cargo_platform.specs.Tokens.{LeftParen, RightParen, Ident, Comma, Equals, String, plain, mark, written, IsIdentifierName, IsWellWritten, called, lexeme}
+use Rattle.cargo_platform.specs.Chars.{is_identifier_start, is_identifier_rest, is_space, is_quote, is_number_sign}
+use Rattle.cargo_platform.specs.Chars.{is_mark, is_known_start, starts, BeginsWith}
+use Rattle.cargo_platform.specs.Tokens.{LeftParen, RightParen, Ident, Comma, Equals, String, plain, mark, written}
+use Rattle.cargo_platform.specs.Tokens.{IsIdentifierName, IsWellWritten, called, lexeme}
 
 -- ---- characters
 
@@ -63,7 +66,8 @@ writes_raw = refl
 writes_quotes : written (String (codes "a b")) ≡ codes "\"a b\""
 writes_quotes = refl
 
-writes_marks : (written LeftParen ≡ codes "(") × (written RightParen ≡ codes ")") × (written Comma ≡ codes ",") × (written Equals ≡ codes "=")
+writes_marks : (written LeftParen ≡ codes "(") × (written RightParen ≡ codes ")") × (written Comma ≡ codes ",")
+    × (written Equals ≡ codes "=")
 writes_marks = (refl, refl, refl, refl)
 
 name_is : IsIdentifierName (codes "_a7")
@@ -92,7 +96,8 @@ short_is_ascii c h = grind (arith, nat_tests)
 no_text : (cs : List ℕ) → encode_utf8_all cs ≡ 0xFF ∷ [] → ⊥
 no_text [] h = absurd (omega (arith, ap length h))
 no_text (c ∷ cs) h =
-    let len : length (encode_utf8 c) + length (encode_utf8_all cs) ≡ 1 = sym (length-append (encode_utf8 c) (encode_utf8_all cs)) ∙ ap length h in
+    let len : length (encode_utf8 c) + length (encode_utf8_all cs) ≡ 1 = sym
+    (length-append (encode_utf8 c) (encode_utf8_all cs)) ∙ ap length h in
     let small : c < 128 = short_is_ascii c (omega (arith, len, length-encode c)) in
     absurd (omega (arith, small, byte_from_char (0xFF ∷ []) (encode_utf8_all cs) c (sym h) small))
 
@@ -103,11 +108,14 @@ no_foreign_bytes p = no_text p.0.0 p.0.1.1
 marks_are : IsWellWritten LeftParen × IsWellWritten RightParen × IsWellWritten Comma × IsWellWritten Equals
 marks_are = (tt, tt, tt, tt)
 
-names_in_faults : (called LeftParen ≡ codes "`(`") × (called RightParen ≡ codes "`)`") × (called Comma ≡ codes "`,`") × (called Equals ≡ codes "`=`")
+names_in_faults : (called LeftParen ≡ codes "`(`") × (called RightParen ≡ codes "`)`") × (called Comma ≡ codes "`,`")
+    × (called Equals ≡ codes "`=`")
 names_in_faults = (refl, refl, refl, refl)
 
-names_of_words : (called (plain (codes "all")) ≡ codes "an identifier") × (called (Ident true (codes "a")) ≡ codes "an identifier") × (called (String []) ≡ codes "a string")
+names_of_words : (called (plain (codes "all")) ≡ codes "an identifier")
+    × (called (Ident true (codes "a")) ≡ codes "an identifier") × (called (String []) ≡ codes "a string")
 names_of_words = (refl, refl, refl)
 
-stands_for : (lexeme token.LeftParen ≡ LeftParen) × (lexeme token.RightParen ≡ RightParen) × (lexeme token.Comma ≡ Comma) × (lexeme token.Equals ≡ Equals)
+stands_for : (lexeme token.LeftParen ≡ LeftParen) × (lexeme token.RightParen ≡ RightParen)
+    × (lexeme token.Comma ≡ Comma) × (lexeme token.Equals ≡ Equals)
 stands_for = (refl, refl, refl, refl)

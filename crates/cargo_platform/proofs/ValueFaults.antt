@@ -1,5 +1,6 @@
 -- Which lists of tokens can be completed as a name or a pair, and the fault where a text of one goes wrong.
-use Rattle.std.proofs.Common.{◌≡◌, refl, sym, ap, subst, ◌∙◌, ℕ, Bool, true, false, true≢false, List, [], ◌∷◌, ◌++◌, Some, None, codes}
+use Rattle.std.proofs.Common.{◌≡◌, refl, sym, ap, subst, ◌∙◌, ℕ, Bool, true, false, true≢false, List, [], ◌∷◌, ◌++◌}
+use Rattle.std.proofs.Common.{Some, None, codes}
 use Rattle.std.specs.Prelude.{◌↔◌, IsTrue}
 use Rattle.std.specs.List.{last_or}
 use Rattle.cargo_platform.specs.Tokens.{Lexeme, Ident, Equals, String, Placed}
@@ -29,17 +30,22 @@ spelled_front (Alone n) (t ∷ u ∷ ts) more h = no_token (tail_is h)
 spelled_front (KeyPair k v) [] more h = refl
 spelled_front (KeyPair k v) (t ∷ []) more h = ap (λ z. is_value_front (z ∷ [])) (head_is h)
 spelled_front (KeyPair k v) (t ∷ u ∷ []) more h = λ i. is_value_front (head_is h i ∷ head_is (tail_is h) i ∷ [])
-spelled_front (KeyPair k v) (t ∷ u ∷ w ∷ []) more h = λ i. is_value_front (head_is h i ∷ head_is (tail_is h) i ∷ head_is (tail_is (tail_is h)) i ∷ [])
+spelled_front (KeyPair k v) (t ∷ u ∷ w ∷ []) more h =
+    λ i. is_value_front (head_is h i ∷ head_is (tail_is h) i ∷ head_is (tail_is (tail_is h)) i ∷ [])
 spelled_front (KeyPair k v) (t ∷ u ∷ w ∷ x ∷ ts) more h = no_token (tail_is (tail_is (tail_is h)))
 
 pub front_completes : (ts : List Lexeme) → is_value_front ts ≡ true → IsCompletable Values ts
-front_completes [] h = (Ident false (codes "a") ∷ [], ((refl, refl), tt), (Alone (record { raw = false; name = codes "a" }), refl))
+front_completes [] h =
+    (Ident false (codes "a") ∷ [], ((refl, refl), tt), (Alone (record { raw = false; name = codes "a" }), refl))
 front_completes (Ident raw name ∷ []) h = ([], tt, (Alone (record { raw = raw; name = name }), refl))
-front_completes (Ident raw name ∷ Equals ∷ []) h = (String [] ∷ [], ((([], (refl, refl)), refl), tt), (KeyPair (record { raw = raw; name = name }) [], refl))
-front_completes (Ident raw name ∷ Equals ∷ String value ∷ []) h = ([], tt, (KeyPair (record { raw = raw; name = name }) value, refl))
+front_completes (Ident raw name ∷ Equals ∷ []) h =
+    (String [] ∷ [], ((([], (refl, refl)), refl), tt), (KeyPair (record { raw = raw; name = name }) [], refl))
+front_completes (Ident raw name ∷ Equals ∷ String value ∷ []) h =
+    ([], tt, (KeyPair (record { raw = raw; name = name }) value, refl))
 front_completes ts h = absurd (true≢false (sym h))
 
--- the lists that can be completed are nothing, an identifier, an identifier and `=`, and an identifier, `=` and a string
+-- the lists that can be completed are nothing, an identifier, an identifier and `=`, and an identifier, `=` and a
+-- string
 pub completable_values : (ts : List Lexeme) → IsCompletable Values ts ↔ IsTrue (is_value_front ts)
 completable_values ts = (λ p. spelled_front p.2.0 ts p.0 p.2.1, λ h. front_completes ts h)
 
@@ -47,11 +53,13 @@ first_is : (t : Lexeme) (more : List Lexeme) → is_value_front (t ∷ more) ≡
 first_is (Ident raw name) more h = (raw, name, refl)
 first_is t more h = absurd (true≢false (sym h))
 
-second_is : (raw : Bool) (name : List ℕ) (t : Lexeme) (more : List Lexeme) → is_value_front (Ident raw name ∷ t ∷ more) ≡ true → t ≡ Equals
+second_is : (raw : Bool) (name : List ℕ) (t : Lexeme) (more : List Lexeme)
+    → is_value_front (Ident raw name ∷ t ∷ more) ≡ true → t ≡ Equals
 second_is raw name Equals more h = refl
 second_is raw name t more h = absurd (true≢false (sym h))
 
-third_is : (raw : Bool) (name : List ℕ) (t : Lexeme) (more : List Lexeme) → is_value_front (Ident raw name ∷ Equals ∷ t ∷ more) ≡ true → IsString t
+third_is : (raw : Bool) (name : List ℕ) (t : Lexeme) (more : List Lexeme)
+    → is_value_front (Ident raw name ∷ Equals ∷ t ∷ more) ≡ true → IsString t
 third_is raw name (String value) more h = (value, refl)
 third_is raw name t more h = absurd (true≢false (sym h))
 
@@ -64,7 +72,12 @@ key_is raw name (Alone n, h) = no_token (tail_is h)
 key_is raw name (KeyPair k v, h) = no_token (sym (tail_is (tail_is h)))
 
 -- what comes behind a front of an identifier, `=` and a string, and does not go on with it
-refused_behind : (text : List ℕ) (ts front after : List Placed) (tail : ℕ) (next : Next) (read : List Lexeme) (accepted : Bool) (fault : Fault) → IsCut text ts tail → ts ≡ front ++ after → lexemes front ≡ read → Follows text after tail next → is_value_front read ≡ true → LacksFirst (λ t. (more : List Lexeme) × IsTrue (is_value_front (read ++ (t ∷ more)))) after → (IsTrue accepted ↔ IsAccepted Values read) → fault_of Values accepted (last_or None read) next ≡ Some fault → IsRefused Values text fault
+refused_behind : (text : List ℕ) (ts front after : List Placed) (tail : ℕ) (next : Next) (read : List Lexeme)
+    (accepted : Bool) (fault : Fault) → IsCut text ts tail → ts ≡ front ++ after → lexemes front ≡ read
+    → Follows text after tail next → is_value_front read ≡ true
+    → LacksFirst (λ t. (more : List Lexeme) × IsTrue (is_value_front (read ++ (t ∷ more)))) after
+    → (IsTrue accepted ↔ IsAccepted Values read) → fault_of Values accepted (last_or None read) next ≡ Some fault
+    → IsRefused Values text fault
 refused_behind text ts front after tail next read accepted fault cut parts is follows is_front lacks told table =
     let back = sym is in
     let C : List Lexeme → Type 0 = λ z. IsCompletable Values z in
@@ -82,7 +95,9 @@ refused_behind text ts front after tail next read accepted fault cut parts is fo
         longest = λ longer others h p.
             longest_where Values front after (λ t us e more q.
             let c = (completable_values (lexemes front ++ (t.token ∷ more))).0 q in
-            lacks t us e (more, ap (λ (z : List Lexeme). is_value_front (z ++ (t.token ∷ more))) back ∙ c)) longer others (sym parts ∙ h) p;
+            lacks t us e
+            (more, ap (λ (z : List Lexeme). is_value_front (z ++ (t.token ∷ more))) back ∙ c)) longer others
+            (sym parts ∙ h) p;
       };
       next = next;
       follows = follows;
@@ -91,37 +106,62 @@ refused_behind text ts front after tail next read accepted fault cut parts is fo
       is_fault = subst F back table;
     }
 
-misfit_at_start : (next : Next) (fault : Fault) → fault ≡ misfit (codes "identifier") (codes "identifier") next → fault_of Values false None next ≡ Some fault
+misfit_at_start : (next : Next) (fault : Fault) → fault ≡ misfit (codes "identifier") (codes "identifier") next
+    → fault_of Values false None next ≡ Some fault
 misfit_at_start (Unfit t rest) fault h = ap Some (sym h)
 misfit_at_start (Broken k rest) fault h = ap Some (sym h)
 misfit_at_start End fault h = ap Some (sym h)
 
-misfit_at_value : (next : Next) (fault : Fault) → fault ≡ misfit (codes "a string") (codes "a string") next → fault_of Values false (Some Equals) next ≡ Some fault
+misfit_at_value : (next : Next) (fault : Fault) → fault ≡ misfit (codes "a string") (codes "a string") next
+    → fault_of Values false (Some Equals) next ≡ Some fault
 misfit_at_value (Unfit t rest) fault h = ap Some (sym h)
 misfit_at_value (Broken k rest) fault h = ap Some (sym h)
 misfit_at_value End fault h = ap Some (sym h)
 
-surplus : (last : Lexeme) (next : Next) (fault : Fault) → IsSurplus next fault → fault_of Values true (Some last) next ≡ Some fault
+surplus : (last : Lexeme) (next : Next) (fault : Fault) → IsSurplus next fault
+    → fault_of Values true (Some last) next ≡ Some fault
 surplus last (Unfit t rest) fault h = ap Some (sym h)
 surplus last (Broken k rest) fault h = ap Some (sym h)
 surplus last End fault h = absurd h
 
 -- nothing is read, and no identifier comes next
-pub refused_at_start : (text : List ℕ) (ts front after : List Placed) (tail : ℕ) (next : Next) (fault : Fault) → IsCut text ts tail → ts ≡ front ++ after → lexemes front ≡ [] → Follows text after tail next → LacksFirst IsIdentifier after → fault ≡ misfit (codes "identifier") (codes "identifier") next → IsRefused Values text fault
+pub refused_at_start : (text : List ℕ) (ts front after : List Placed) (tail : ℕ) (next : Next) (fault : Fault)
+    → IsCut text ts tail → ts ≡ front ++ after → lexemes front ≡ [] → Follows text after tail next
+    → LacksFirst IsIdentifier after → fault ≡ misfit (codes "identifier") (codes "identifier") next
+    → IsRefused Values text fault
 refused_at_start text ts front after tail next fault cut parts is follows lacks h =
-    refused_behind text ts front after tail next [] false fault cut parts is follows refl (λ t us e m. lacks t us e (first_is t.token m.0 m.1)) (λ n. absurd (true≢false (sym n)), λ p. absurd (none_is p)) (misfit_at_start next fault h)
+    refused_behind text ts front after tail next [] false fault cut parts is follows refl
+    (λ t us e m. lacks t us e (first_is t.token m.0 m.1))
+    (λ n. absurd (true≢false (sym n)), λ p. absurd (none_is p)) (misfit_at_start next fault h)
 
 -- an identifier is read, and something comes behind it that is no `=`
-pub refused_behind_name : (text : List ℕ) (ts front after : List Placed) (tail : ℕ) (next : Next) (fault : Fault) (raw : Bool) (name : List ℕ) → IsCut text ts tail → ts ≡ front ++ after → lexemes front ≡ Ident raw name ∷ [] → Follows text after tail next → LacksFirst (λ t. t ≡ Equals) after → IsSurplus next fault → IsRefused Values text fault
+pub refused_behind_name : (text : List ℕ) (ts front after : List Placed) (tail : ℕ) (next : Next) (fault : Fault)
+    (raw : Bool) (name : List ℕ) → IsCut text ts tail → ts ≡ front ++ after → lexemes front ≡ Ident raw name ∷ []
+    → Follows text after tail next → LacksFirst (λ t. t ≡ Equals) after → IsSurplus next fault
+    → IsRefused Values text fault
 refused_behind_name text ts front after tail next fault raw name cut parts is follows lacks h =
-    refused_behind text ts front after tail next (Ident raw name ∷ []) true fault cut parts is follows refl (λ t us e m. lacks t us e (second_is raw name t.token m.0 m.1)) (λ _. (Alone (record { raw = raw; name = name }), refl), λ _. refl) (surplus (Ident raw name) next fault h)
+    refused_behind text ts front after tail next (Ident raw name ∷ []) true fault cut parts is follows refl
+    (λ t us e m. lacks t us e (second_is raw name t.token m.0 m.1))
+    (λ _. (Alone (record { raw = raw; name = name }), refl), λ _. refl) (surplus (Ident raw name) next fault h)
 
 -- an identifier and `=` are read, and no string comes next
-pub refused_behind_key : (text : List ℕ) (ts front after : List Placed) (tail : ℕ) (next : Next) (fault : Fault) (raw : Bool) (name : List ℕ) → IsCut text ts tail → ts ≡ front ++ after → lexemes front ≡ Ident raw name ∷ Equals ∷ [] → Follows text after tail next → LacksFirst IsString after → fault ≡ misfit (codes "a string") (codes "a string") next → IsRefused Values text fault
+pub refused_behind_key : (text : List ℕ) (ts front after : List Placed) (tail : ℕ) (next : Next) (fault : Fault)
+    (raw : Bool) (name : List ℕ) → IsCut text ts tail → ts ≡ front ++ after
+    → lexemes front ≡ Ident raw name ∷ Equals ∷ [] → Follows text after tail next → LacksFirst IsString after
+    → fault ≡ misfit (codes "a string") (codes "a string") next → IsRefused Values text fault
 refused_behind_key text ts front after tail next fault raw name cut parts is follows lacks h =
-    refused_behind text ts front after tail next (Ident raw name ∷ Equals ∷ []) false fault cut parts is follows refl (λ t us e m. lacks t us e (third_is raw name t.token m.0 m.1)) (λ n. absurd (true≢false (sym n)), λ p. absurd (key_is raw name p)) (misfit_at_value next fault h)
+    refused_behind text ts front after tail next (Ident raw name ∷ Equals ∷ []) false fault cut parts is follows refl
+    (λ t us e m. lacks t us e (third_is raw name t.token m.0 m.1))
+    (λ n. absurd (true≢false (sym n)), λ p. absurd (key_is raw name p)) (misfit_at_value next fault h)
 
 -- an identifier, `=` and a string are read, and something comes behind them
-pub refused_behind_pair : (text : List ℕ) (ts front after : List Placed) (tail : ℕ) (next : Next) (fault : Fault) (raw : Bool) (name value : List ℕ) → IsCut text ts tail → ts ≡ front ++ after → lexemes front ≡ Ident raw name ∷ Equals ∷ String value ∷ [] → Follows text after tail next → IsSurplus next fault → IsRefused Values text fault
+pub refused_behind_pair : (text : List ℕ) (ts front after : List Placed) (tail : ℕ) (next : Next) (fault : Fault)
+    (raw : Bool) (name value : List ℕ) → IsCut text ts tail → ts ≡ front ++ after
+    → lexemes front ≡ Ident raw name ∷ Equals ∷ String value ∷ [] → Follows text after tail next → IsSurplus next fault
+    → IsRefused Values text fault
 refused_behind_pair text ts front after tail next fault raw name value cut parts is follows h =
-    refused_behind text ts front after tail next (Ident raw name ∷ Equals ∷ String value ∷ []) true fault cut parts is follows refl (λ t us e m. true≢false (sym m.1)) (λ _. (KeyPair (record { raw = raw; name = name }) value, refl), λ _. refl) (surplus (String value) next fault h)
+    refused_behind text ts front after tail next
+    (Ident raw name ∷ Equals ∷ String value ∷ []) true fault cut parts is follows refl
+    (λ t us e m. true≢false (sym m.1))
+    (λ _. (KeyPair (record { raw = raw; name = name }) value, refl), λ _. refl)
+    (surplus (String value) next fault h)

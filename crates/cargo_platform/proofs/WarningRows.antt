@@ -1,8 +1,12 @@
 -- The values of some expressions from left to right, and the warnings on them.
 use Rattle.std.proofs.Common.{◌≡◌, refl, ap, ℕ, true≢false, List, [], ◌∷◌, codes, arith, length, get_or}
 use Rattle.std.specs.Prelude.{bytes_eq, IsTrue, IsFalse}
-use Rattle.cargo_platform.specs.Trees.{CfgValue, Alone, KeyPair, Not, All, Any, Value, True, none, trees_of, Target, Expression}
-use Rattle.cargo_platform.specs.Warnings.{values, members_values, condition_values, unsupported_name, unsupported_feature, keyword_warning, is_unsupported_name, attribute_warning, keyword_warning_at, keyword_warning_of, attribute_warnings, keyword_warnings, IsLonger}
+use Rattle.cargo_platform.specs.Trees.{CfgValue, Alone, KeyPair, Not, All, Any, Value, True, none, trees_of, Target}
+use Rattle.cargo_platform.specs.Trees.{Expression}
+use Rattle.cargo_platform.specs.Warnings.{values, members_values, condition_values, unsupported_name}
+use Rattle.cargo_platform.specs.Warnings.{unsupported_feature, keyword_warning, is_unsupported_name, attribute_warning}
+use Rattle.cargo_platform.specs.Warnings.{keyword_warning_at, keyword_warning_of, attribute_warnings, keyword_warnings}
+use Rattle.cargo_platform.specs.Warnings.{IsLonger}
 use Rattle.cargo_platform.proofs.RowTrees.{name, marked, a}
 
 abbrev alone : List ℕ → CfgValue
@@ -10,25 +14,35 @@ alone s = Alone (name s)
 
 -- ---- values
 
-values_in_order : values (All (trees_of (Value (alone (codes "c")) ∷ Not (Any (trees_of (a ∷ True ∷ []))) ∷ Value (alone (codes "b")) ∷ []))) ≡ alone (codes "c") ∷ alone (codes "a") ∷ alone (codes "b") ∷ []
+values_in_order : values
+    (All (trees_of
+    (Value (alone (codes "c")) ∷ Not (Any (trees_of (a ∷ True ∷ []))) ∷ Value (alone (codes "b")) ∷ []))) ≡ alone
+    (codes "c") ∷ alone (codes "a") ∷ alone (codes "b") ∷ []
 values_in_order = refl
 
 -- what stands twice is there twice
-values_of_members : (members_values (trees_of (a ∷ a ∷ [])) ≡ alone (codes "a") ∷ alone (codes "a") ∷ []) × (members_values none ≡ [])
+values_of_members : (members_values (trees_of (a ∷ a ∷ [])) ≡ alone (codes "a") ∷ alone (codes "a") ∷ [])
+    × (members_values none ≡ [])
 values_of_members = (refl, refl)
 
-values_of_conditions : (condition_values (Target (codes "test")) ≡ []) × (condition_values (Expression a) ≡ alone (codes "a") ∷ [])
+values_of_conditions : (condition_values (Target (codes "test")) ≡ [])
+    × (condition_values (Expression a) ≡ alone (codes "a") ∷ [])
 values_of_conditions = (refl, refl)
 
 -- ---- names and keys that are not supported
 
-unsupported_names : IsTrue (is_unsupported_name (name (codes "test"))) × IsTrue (is_unsupported_name (name (codes "debug_assertions"))) × IsTrue (is_unsupported_name (marked (codes "proc_macro")))
+unsupported_names : IsTrue (is_unsupported_name (name (codes "test")))
+    × IsTrue (is_unsupported_name (name (codes "debug_assertions")))
+    × IsTrue (is_unsupported_name (marked (codes "proc_macro")))
 unsupported_names = (refl, refl, refl)
 
-supported_names : IsFalse (is_unsupported_name (name (codes "unix"))) × IsFalse (is_unsupported_name (name (codes "tests"))) × IsFalse (is_unsupported_name (name (codes "feature")))
+supported_names : IsFalse (is_unsupported_name (name (codes "unix")))
+    × IsFalse (is_unsupported_name (name (codes "tests"))) × IsFalse (is_unsupported_name (name (codes "feature")))
 supported_names = (refl, refl, refl)
 
-test_text : unsupported_name (name (codes "test")) ≡ codes "Found `test` in `target.'cfg(...)'.dependencies`. This value is not supported for selecting dependencies and will not work as expected. To learn more visit https://doc.rust-lang.org/cargo/reference/specifying-dependencies.html#platform-specific-dependencies"
+test_text : unsupported_name
+    (name (codes "test"))
+    ≡ codes "Found `test` in `target.'cfg(...)'.dependencies`. This value is not supported for selecting dependencies and will not work as expected. To learn more visit https://doc.rust-lang.org/cargo/reference/specifying-dependencies.html#platform-specific-dependencies"
 test_text = refl
 
 -- the mark is printed
@@ -38,11 +52,13 @@ mark_is_seen p = absurd (omega (arith, ap length p))
 unix_is_fine : attribute_warning (alone (codes "unix")) ≡ []
 unix_is_fine = refl
 
-test_warns : (attribute_warning (alone (codes "test")) ≡ unsupported_name (name (codes "test")) ∷ []) × (attribute_warning (Alone (marked (codes "test"))) ≡ unsupported_name (marked (codes "test")) ∷ [])
+test_warns : (attribute_warning (alone (codes "test")) ≡ unsupported_name (name (codes "test")) ∷ [])
+    × (attribute_warning (Alone (marked (codes "test"))) ≡ unsupported_name (marked (codes "test")) ∷ [])
 test_warns = (refl, refl)
 
 -- `test = "1"` and `feature` are fine
-forms_are_fine : (attribute_warning (KeyPair (name (codes "test")) (codes "1")) ≡ []) × (attribute_warning (alone (codes "feature")) ≡ [])
+forms_are_fine : (attribute_warning (KeyPair (name (codes "test")) (codes "1")) ≡ [])
+    × (attribute_warning (alone (codes "feature")) ≡ [])
 forms_are_fine = (refl, refl)
 
 -- `feature = "x"`
@@ -61,10 +77,13 @@ true_key = KeyPair (name (codes "true")) (codes "x")
 keyword_warns : keyword_warning_of (codes "p") true_key ≡ keyword_warning (codes "p") true_key (codes "true") ∷ []
 keyword_warns = refl
 
-keyword_text : keyword_warning (codes "p") true_key (codes "true") ≡ codes "[p] future-incompatibility: `cfg(true = \"x\")` is deprecated as `true` is a keyword and not an identifier and should not have have been accepted in this position.\n | this was previously accepted by Cargo but is being phased out; it will become a hard error in a future release!\n |\n | help: use raw-idents instead: `cfg(r#true)`"
+keyword_text : keyword_warning (codes "p") true_key
+    (codes "true")
+    ≡ codes "[p] future-incompatibility: `cfg(true = \"x\")` is deprecated as `true` is a keyword and not an identifier and should not have have been accepted in this position.\n | this was previously accepted by Cargo but is being phased out; it will become a hard error in a future release!\n |\n | help: use raw-idents instead: `cfg(r#true)`"
 keyword_text = refl
 
-keyword_alone_warns : keyword_warning_at [] (alone (codes "false")) (name (codes "false")) ≡ keyword_warning [] (alone (codes "false")) (codes "false") ∷ []
+keyword_alone_warns : keyword_warning_at [] (alone (codes "false")) (name (codes "false")) ≡ keyword_warning []
+    (alone (codes "false")) (codes "false") ∷ []
 keyword_alone_warns = refl
 
 -- `r#true = "x"`
@@ -75,19 +94,26 @@ unmarked_is_not_fine : (path : List ℕ) → keyword_warning_of path true_key �
 unmarked_is_not_fine path p = absurd cc
 
 -- no other word is a keyword, and no value
-other_words_are_fine : (keyword_warning_of [] (alone (codes "all")) ≡ []) × (keyword_warning_of [] (KeyPair (name (codes "k")) (codes "true")) ≡ [])
+other_words_are_fine : (keyword_warning_of [] (alone (codes "all")) ≡ [])
+    × (keyword_warning_of [] (KeyPair (name (codes "k")) (codes "true")) ≡ [])
 other_words_are_fine = (refl, refl)
 
 -- ---- conditions
 
 -- one for each value, also inside `not`, in their order
-all_warn : attribute_warnings (Expression (Any (trees_of (Value (KeyPair (name (codes "feature")) (codes "x")) ∷ a ∷ Not (Value (alone (codes "test"))) ∷ [])))) ≡ unsupported_feature ∷ unsupported_name (name (codes "test")) ∷ []
+all_warn : attribute_warnings
+    (Expression
+    (Any (trees_of
+    (Value (KeyPair (name (codes "feature")) (codes "x")) ∷ a ∷ Not (Value (alone (codes "test"))) ∷ []))))
+    ≡ unsupported_feature ∷ unsupported_name (name (codes "test")) ∷ []
 all_warn = refl
 
 target_is_fine : (attribute_warnings (Target (codes "test")) ≡ []) × (keyword_warnings [] (Target (codes "true")) ≡ [])
 target_is_fine = (refl, refl)
 
-inner_keyword_warns : keyword_warnings (codes "p") (Expression (Not (All (trees_of (Value true_key ∷ True ∷ []))))) ≡ keyword_warning (codes "p") true_key (codes "true") ∷ []
+inner_keyword_warns : keyword_warnings (codes "p")
+    (Expression (Not (All (trees_of (Value true_key ∷ True ∷ []))))) ≡ keyword_warning (codes "p") true_key
+    (codes "true") ∷ []
 inner_keyword_warns = refl
 
 inner_test_is_not_fine : attribute_warnings (Expression (Not (Value (alone (codes "test"))))) ≡ [] → ⊥

@@ -1,12 +1,14 @@
 -- The warnings on values grow by those on the next one, and a cut takes all of them back.
-use Rattle.std.proofs.Common.{◌≡◌, sym, ap, ◌∙◌, ℕ, List, [], ◌∷◌, ◌++◌, length, take, map, String, Vec, Global, string_bytes, vec_len, append_assoc, flat_map, arith}
+use Rattle.std.proofs.Common.{◌≡◌, sym, ap, ◌∙◌, ℕ, List, [], ◌∷◌, ◌++◌, length, take, map, String, Vec, Global}
+use Rattle.std.proofs.Common.{string_bytes, vec_len, append_assoc, flat_map, arith}
 use Rattle.std.proofs.lemmas.List.{length-map, map-append, take-map, take_all, take-append-le}
 use Rattle.cargo_platform.specs.Trees.{CfgValue}
 use Rattle.cargo_platform.specs.Errors.{texts}
 use Rattle.cargo_platform.specs.Warnings.{IsLonger}
 
 -- the warnings so far, and those of a value that comes next
-pub warned_on : (f : CfgValue → List (List ℕ)) (old now new more all : List (List ℕ)) (c : CfgValue) (left come : List CfgValue)
+pub warned_on : (f : CfgValue → List (List ℕ)) (old now new more all : List (List ℕ)) (c : CfgValue)
+    (left come : List CfgValue)
     → now ≡ old ++ more → more ++ flat_map f left ≡ all → left ≡ c ∷ come → new ≡ now ++ f c
     → (m : List (List ℕ)) × (new ≡ old ++ m) × (m ++ flat_map f come ≡ all)
 warned_on f old now new more all c left come so_far whole is next = (
@@ -24,10 +26,12 @@ pushed_warning now new s ws is warning =
 
 -- a list that goes on behind what was appended is longer than the old one
 pub longer_still : (old now new more : List (List ℕ)) → now ≡ old ++ more → IsLonger new now → IsLonger new old
-longer_still old now new more h longer = (more ++ longer.0, longer.1 ∙ ap (λ ws. ws ++ longer.0) h ∙ append_assoc old more longer.0)
+longer_still old now new more h longer =
+    (more ++ longer.0, longer.1 ∙ ap (λ ws. ws ++ longer.0) h ∙ append_assoc old more longer.0)
 
 -- cut back to its old length, a longer list is the old one
-pub cut_back : (old longer cut : Vec (String Global) Global) → IsLonger (texts longer) (texts old) → cut.items ≡ take (vec_len old) longer.items → texts cut ≡ texts old
+pub cut_back : (old longer cut : Vec (String Global) Global) → IsLonger (texts longer) (texts old)
+    → cut.items ≡ take (vec_len old) longer.items → texts cut ≡ texts old
 cut_back old longer cut more is =
     let n : ℕ = vec_len old in
     let same : n ≡ length old.items = old.ok.0 in

@@ -1,7 +1,8 @@
 -- Which values, expressions and conditions are well-formed, and which are not.
 use Rattle.std.proofs.Common.{refl, sym, true≢false, [], ◌∷◌, codes}
 use Rattle.std.specs.Char.{encode_utf8}
-use Rattle.cargo_platform.specs.Trees.{Alone, KeyPair, Not, All, Any, Value, True, False, none, trees_of, Target, Expression}
+use Rattle.cargo_platform.specs.Trees.{Alone, KeyPair, Not, All, Any, Value, True, False, none, trees_of, Target}
+use Rattle.cargo_platform.specs.Trees.{Expression}
 use Rattle.cargo_platform.specs.WellFormed.{IsWellFormedValue, IsWellFormed, AreWellFormed, IsWellFormedCondition}
 use Rattle.cargo_platform.proofs.TargetNames.{refused_is_no_name}
 use Rattle.cargo_platform.proofs.RowTrees.{name, marked, a}

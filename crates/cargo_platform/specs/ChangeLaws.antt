@@ -1,4 +1,5 @@
--- Laws of the changes of the grammar of expressions: from the released one to the transitional, and from that to today's.
+-- Laws of the changes of the grammar of expressions: from the released one to the transitional, and from that to
+-- today's.
 use Rattle.std.specs.Prelude.{◌≡◌, ◌↔◌, ◌&&◌, ℕ, Bool, false, List, [], IsTrue, IsFalse}
 use Rattle.std.specs.List.{list_any}
 use Rattle.cargo_platform.specs.Tokens.{Lexeme}

@@ -1,10 +1,14 @@
 -- How a text is cut into tokens, and what is left that no token begins.
-use Rattle.std.specs.Prelude.{◌≡◌, ◌⊎◌, ℕ, ◌≤◌, List, [], ◌∷◌, ◌++◌, map, length, drop, slice_range, codes, IsTrue, IsFalse, not, ◌&&◌, bytes_eq}
+use Rattle.std.specs.Prelude.{◌≡◌, ◌⊎◌, ℕ, ◌≤◌, List, [], ◌∷◌, ◌++◌, map, length, drop, slice_range, codes, IsTrue}
+use Rattle.std.specs.Prelude.{IsFalse, not, ◌&&◌, bytes_eq}
 use Rattle.std.specs.List.{list_all, AllByRecursion}
 use Rattle.cargo_platform.specs.declared.tokens.TokenFaultKind.{TokenFaultKind}
-use Rattle.cargo_platform.specs.declared.tokens.TokenFaultKind.TheVariants.{UnterminatedString, UnexpectedChar, MissingIdentifier}
-use Rattle.cargo_platform.specs.Chars.{is_identifier_start, is_identifier_rest, is_space, is_quote, is_number_sign, is_known_start, starts, BeginsWith}
-use Rattle.cargo_platform.specs.Tokens.{Lexeme, LeftParen, RightParen, Ident, Comma, Equals, String, Placed, written, IsWellWritten}
+use Rattle.cargo_platform.specs.declared.tokens.TokenFaultKind.TheVariants.{UnterminatedString, UnexpectedChar}
+use Rattle.cargo_platform.specs.declared.tokens.TokenFaultKind.TheVariants.{MissingIdentifier}
+use Rattle.cargo_platform.specs.Chars.{is_identifier_start, is_identifier_rest, is_space, is_quote, is_number_sign}
+use Rattle.cargo_platform.specs.Chars.{is_known_start, starts, BeginsWith}
+use Rattle.cargo_platform.specs.Tokens.{Lexeme, LeftParen, RightParen, Ident, Comma, Equals, String, Placed, written}
+use Rattle.cargo_platform.specs.Tokens.{IsWellWritten}
 
 -- a piece of the text from one place up to another
 pub record IsPiece (text : List ℕ) (start end : ℕ) (piece : List ℕ) : Type 0 where
@@ -27,7 +31,9 @@ AreApart text from (t ∷ ts) tail = AreSpaces text from t.start × AreApart tex
 
 -- what follows does not go on with the token: no rest character follows an identifier, and no `#` an unmarked `r`
 abbrev pub EndsBefore : Lexeme → List ℕ → Type 0
-EndsBefore (Ident raw name) rest = IsFalse (starts is_identifier_rest rest) × IsFalse (not raw && bytes_eq name (codes "r") && starts is_number_sign rest)
+EndsBefore (Ident raw name) rest =
+    IsFalse (starts is_identifier_rest rest)
+    × IsFalse (not raw && bytes_eq name (codes "r") && starts is_number_sign rest)
 EndsBefore LeftParen rest = Unit {0}
 EndsBefore RightParen rest = Unit {0}
 EndsBefore Comma rest = Unit {0}
@@ -40,7 +46,8 @@ IsWhole text t = EndsBefore t.token (drop t.end text)
 -- the text begins a lexical fault
 abbrev pub BeginsFault : List ℕ → TokenFaultKind → Type 0
 -- a `"` that no second `"` follows
-BeginsFault text UnterminatedString = (rest : List ℕ) × BeginsWith text 0x22 rest × IsTrue (list_all (λ c. not (is_quote c)) rest)
+BeginsFault text UnterminatedString =
+    (rest : List ℕ) × BeginsWith text 0x22 rest × IsTrue (list_all (λ c. not (is_quote c)) rest)
 -- `r#` at the end of the text
 BeginsFault text MissingIdentifier = text ≡ codes "r#"
 -- `r#` and a character that is no identifier start, or another character that begins no token

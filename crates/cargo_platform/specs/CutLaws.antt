@@ -9,7 +9,9 @@ use Rattle.cargo_platform.specs.Reading.{Progress, Reads, NextGives, GivesNothin
 
 -- a text has a cut, and no other
 abbrev pub HasOneCut : List ℕ → Type 0
-HasOneCut text = (ts : List Placed) × (tail : ℕ) × IsCut text ts tail × ((us : List Placed) (end : ℕ) → IsCut text us end → (us ≡ ts) × (end ≡ tail))
+HasOneCut text =
+    (ts : List Placed) × (tail : ℕ) × IsCut text ts tail
+    × ((us : List Placed) (end : ℕ) → IsCut text us end → (us ≡ ts) × (end ≡ tail))
 
 -- calls from the start of a text give the tokens of its cut in order, and then its tail
 abbrev pub CutsAreRead : List ℕ → Type 0
@@ -17,7 +19,8 @@ CutsAreRead text = (ts : List Placed) (tail : ℕ) → Reads text ts tail ↔ Is
 
 -- they give no other tokens, and come to no other tail
 abbrev pub IsReadAlike : List ℕ → Type 0
-IsReadAlike text = (ts us : List Placed) (tail end : ℕ) → IsCut text ts tail → Reads text us end → (us ≡ ts) × (end ≡ tail)
+IsReadAlike text = (ts us : List Placed) (tail end : ℕ) → IsCut text ts tail → Reads text us end
+    → (us ≡ ts) × (end ≡ tail)
 
 -- whatever a call gives at this progress, it is nothing
 abbrev pub GivesNoMore : Progress → Type 0

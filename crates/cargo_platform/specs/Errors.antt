@@ -6,7 +6,8 @@ use Rattle.cargo_platform.specs.declared.error.ParseErrorKind.TheVariants as kin
 use Rattle.cargo_platform.specs.declared.error.ParseError.{ParseError}
 use Rattle.cargo_platform.specs.declared.error.ReadError.{ReadError}
 use Rattle.cargo_platform.specs.declared.error.ReadError.TheVariants as errors
-use Rattle.cargo_platform.specs.Faults.{Fault, UnterminatedString, UnexpectedChar, UnexpectedToken, IncompleteExpr, UnterminatedExpression, InvalidTarget}
+use Rattle.cargo_platform.specs.Faults.{Fault, UnterminatedString, UnexpectedChar, UnexpectedToken, IncompleteExpr}
+use Rattle.cargo_platform.specs.Faults.{UnterminatedExpression, InvalidTarget}
 use Rattle.cargo_platform.specs.Print.{print_error}
 
 -- what a kind stands for

@@ -39,7 +39,8 @@ abbrev mutual
 
 -- in a tree with no `Not`, more facts never turn truth into falsehood
 abbrev pub IsMonotone : FactSet → FactSet → Tree → Type 0
-IsMonotone fewer more e = IsTrue (is_without_not e) → HasAllFacts fewer more → IsTrue (truth fewer e) → IsTrue (truth more e)
+IsMonotone fewer more e = IsTrue (is_without_not e) → HasAllFacts fewer more → IsTrue (truth fewer e)
+    → IsTrue (truth more e)
 
 -- the negation of each member
 abbrev pub negations : Trees → Trees

@@ -1,11 +1,14 @@
 -- Laws of completion and of the fault front.
-use Rattle.std.specs.Prelude.{◌≡◌, ◌⊎◌, ◌↔◌, ◌≤◌, ◌+◌, ◌++◌, ℕ, Bool, true, false, List, [], ◌∷◌, Some, None, codes, length}
+use Rattle.std.specs.Prelude.{◌≡◌, ◌⊎◌, ◌↔◌, ◌≤◌, ◌+◌, ◌++◌, ℕ, Bool, true, false, List, [], ◌∷◌, Some, None, codes}
+use Rattle.std.specs.Prelude.{length}
 use Rattle.std.specs.List.{AllByRecursion, count_by, last_or}
-use Rattle.cargo_platform.specs.Tokens.{Lexeme, LeftParen, RightParen, Ident, Comma, Equals, String, Placed, IsWellWritten}
+use Rattle.cargo_platform.specs.Tokens.{Lexeme, LeftParen, RightParen, Ident, Comma, Equals, String, Placed}
+use Rattle.cargo_platform.specs.Tokens.{IsWellWritten}
 use Rattle.cargo_platform.specs.Cut.{lexemes}
 use Rattle.cargo_platform.specs.Trees.{CfgValue, Tree}
 use Rattle.cargo_platform.specs.Spelling.{Grammar, Values, Expressions, IsAccepted, IsValueText, IsTreeText}
-use Rattle.cargo_platform.specs.Faults.{IsCompletable, IsFaultFront, End, Fault, UnexpectedToken, IncompleteExpr, expected_token, expected_end, IsRefused}
+use Rattle.cargo_platform.specs.Faults.{IsCompletable, IsFaultFront, End, Fault, UnexpectedToken, IncompleteExpr}
+use Rattle.cargo_platform.specs.Faults.{expected_token, expected_end, IsRefused}
 use Rattle.cargo_platform.specs.Walk.{State, after, walk}
 
 -- whether a list can be completed as an expression is told by its walk
@@ -14,11 +17,13 @@ IsWalkedIffCompletable ts = IsCompletable Expressions ts ↔ ((s : State) × (wa
 
 -- a front of a completable list is completable
 abbrev pub FrontsAreCompletable : Grammar → List Lexeme → List Lexeme → Type 0
-FrontsAreCompletable g front after = AllByRecursion IsWellWritten (front ++ after) → IsCompletable g (front ++ after) → IsCompletable g front
+FrontsAreCompletable g front after = AllByRecursion IsWellWritten (front ++ after) → IsCompletable g (front ++ after)
+    → IsCompletable g front
 
 -- which tokens keep a list completable as an expression is told by the state that its walk leads to
 abbrev pub IsKeptByWalk : List Lexeme → Lexeme → Type 0
-IsKeptByWalk ts t = (s : State) → walk ts ≡ Some s → (IsCompletable Expressions (ts ++ t ∷ []) ↔ ((next : State) × (after s t ≡ Some next)))
+IsKeptByWalk ts t = (s : State) → walk ts ≡ Some s
+    → (IsCompletable Expressions (ts ++ t ∷ []) ↔ ((next : State) × (after s t ≡ Some next)))
 
 abbrev pub is_left_paren : Lexeme → Bool
 is_left_paren LeftParen = true
@@ -26,7 +31,9 @@ is_left_paren t = false
 
 -- at most three tokens more than the list has `(` complete it as an expression
 abbrev pub IsCompletedShortly : List Lexeme → Type 0
-IsCompletedShortly ts = IsCompletable Expressions ts → (more : List Lexeme) × AllByRecursion IsWellWritten more × IsAccepted Expressions (ts ++ more) × (length more ≤ count_by is_left_paren ts + 3)
+IsCompletedShortly ts = IsCompletable Expressions ts
+    → (more : List Lexeme) × AllByRecursion IsWellWritten more × IsAccepted Expressions (ts ++ more)
+    × (length more ≤ count_by is_left_paren ts + 3)
 
 -- the token is one of those that a fault names so
 abbrev pub IsOfClass : List ℕ → Lexeme → Type 0
@@ -47,21 +54,25 @@ IsFrontCompletable g ts front after = IsFaultFront g ts front after → IsComple
 
 -- the fault front with the next token is not completable
 abbrev pub IsStoppedByNext : Grammar → List Placed → List Placed → List Placed → Type 0
-IsStoppedByNext g ts front after = IsFaultFront g ts front after → (next : Placed) (others : List Placed) → after ≡ next ∷ others → IsCompletable g (lexemes (front ++ next ∷ [])) → ⊥
+IsStoppedByNext g ts front after = IsFaultFront g ts front after → (next : Placed) (others : List Placed)
+    → after ≡ next ∷ others → IsCompletable g (lexemes (front ++ next ∷ [])) → ⊥
 
 -- what is expected behind a fault front that is not accepted can follow it
 abbrev pub IsExpectedToFollow : Grammar → List Placed → List Placed → List Placed → Type 0
 IsExpectedToFollow g ts front after =
     IsFaultFront g ts front after → (IsAccepted g (lexemes front) → ⊥) →
-    CanFollow g (lexemes front) (expected_token g (last_or None (lexemes front))) × CanFollow g (lexemes front) (expected_end g (last_or None (lexemes front)))
+    CanFollow g (lexemes front) (expected_token g (last_or None (lexemes front)))
+    × CanFollow g (lexemes front) (expected_end g (last_or None (lexemes front)))
 
 -- the fault names the class as expected, at a token or at the end
 abbrev pub Names : {g : Grammar} {text : List ℕ} {fault : Fault} → IsRefused g text fault → List ℕ → Type 0
-Names {fault = fault} r class = ((found : List ℕ) × (fault ≡ UnexpectedToken class found)) ⊎ ((fault ≡ IncompleteExpr class) × (r.next ≡ End))
+Names {fault = fault} r class =
+    ((found : List ℕ) × (fault ≡ UnexpectedToken class found)) ⊎ ((fault ≡ IncompleteExpr class) × (r.next ≡ End))
 
 -- what the fault of a refused text names as expected can follow its fault front
 abbrev pub NamesWhatCanFollow : Grammar → List ℕ → Fault → Type 0
-NamesWhatCanFollow g text fault = (r : IsRefused g text fault) (class : List ℕ) → Names r class → CanFollow g (lexemes r.front) class
+NamesWhatCanFollow g text fault = (r : IsRefused g text fault) (class : List ℕ) → Names r class
+    → CanFollow g (lexemes r.front) class
 
 -- a text has at most one fault
 abbrev pub HasOneFault : Grammar → List ℕ → Type 0

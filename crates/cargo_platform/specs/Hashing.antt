@@ -3,7 +3,8 @@ use Rattle.std.specs.Prelude.{◌≡◌, ℕ, suc, [], ◌++◌, refl}
 use Rattle.std.proofs.Common.{ap, ◌∙◌, sym}
 use Rattle.std.specs.Hash as fed
 use Rattle.std.specs.declared.cmp.Ordering.TheVariants.{Equal}
-use Rattle.cargo_platform.specs.Trees.{Name, CfgValue, Alone, KeyPair, Tree, Not, All, Any, Value, True, False, Trees, none, tree, Condition, Target, Expression}
+use Rattle.cargo_platform.specs.Trees.{Name, CfgValue, Alone, KeyPair, Tree, Not, All, Any, Value, True, False, Trees}
+use Rattle.cargo_platform.specs.Trees.{none, tree, Condition, Target, Expression}
 use Rattle.cargo_platform.specs.Key.{value_key, key, keys, condition_key, name_cmp, value_cmp, tree_cmp, condition_cmp}
 use Rattle.cargo_platform.specs.OrderLaws.{name_tie, value_tie, tree_tie, condition_tie}
 

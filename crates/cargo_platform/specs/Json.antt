@@ -29,8 +29,11 @@ pub record ReadsJson (value : Data) (answer : Result Platform JsonError) : Type 
   pub condition : (text : List ℕ) → value ≡ string text → IfOk answer (λ p. IsConditionText text (condition_of p))
   pub well_formed : IfOk answer (λ p. IsWellFormedCondition (condition_of p))
   -- no text that spells a condition is refused
-  pub refused : (text : List ℕ) → value ≡ string text → IfJsonParse answer (λ e. (c : Condition) → IsConditionText text c → ⊥)
+  pub refused : (text : List ℕ) → value ≡ string text
+      → IfJsonParse answer (λ e. (c : Condition) → IsConditionText text c → ⊥)
   -- the error is the fault of the text between `cfg(` and `)`, and else of the whole text
-  pub fault : (text : List ℕ) → value ≡ string text → IfJsonParse answer (λ e. IsRefusedCondition text (orig_of e) (fault_in e))
+  pub fault : (text : List ℕ) → value ≡ string text
+      → IfJsonParse answer (λ e. IsRefusedCondition text (orig_of e) (fault_in e))
   -- the JSON text of a well-formed condition is answered by that very condition, and never refused
-  pub reads_back : (c : Condition) → IsWellFormedCondition c → value ≡ string (print_condition c) → IfOk answer (λ p. condition_of p ≡ c) × IfJsonParse answer (λ e. ⊥)
+  pub reads_back : (c : Condition) → IsWellFormedCondition c → value ≡ string (print_condition c)
+      → IfOk answer (λ p. condition_of p ≡ c) × IfJsonParse answer (λ e. ⊥)

@@ -1,7 +1,8 @@
 -- The fault where what comes next does not go on with the tokens that were read.
 use Rattle.std.specs.Prelude.{◌≡◌, ℕ, Bool, List, ◌∷◌}
 use Rattle.cargo_platform.specs.Tokens.{Lexeme, Ident, String, Placed, called}
-use Rattle.cargo_platform.specs.Faults.{Next, Unfit, Broken, End, Fault, UnexpectedToken, IncompleteExpr, UnterminatedExpression, lexical_fault}
+use Rattle.cargo_platform.specs.Faults.{Next, Unfit, Broken, End, Fault, UnexpectedToken, IncompleteExpr}
+use Rattle.cargo_platform.specs.Faults.{UnterminatedExpression, lexical_fault}
 
 -- the token is an identifier
 abbrev pub IsIdentifier : Lexeme → Type 0

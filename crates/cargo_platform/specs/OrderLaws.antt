@@ -8,8 +8,10 @@ use Rattle.std.specs.Option.{option_cmp}
 use Rattle.std.specs.Cmp.{IsTotalOrder, tied_itself, then_total, on_total, nat_cmp_total}
 use Rattle.std.specs.Cmp.Lexicographic.{slice_cmp, lists_total, options_total, on_texts}
 use Rattle.std.specs.FinSet.{nat_cmp-IsAntisymmetric, slice_cmp-IsAntisymmetric}
-use Rattle.cargo_platform.specs.Trees.{Name, CfgValue, Alone, KeyPair, Tree, Not, All, Any, Value, True, False, Trees, none, tree, Condition, Target, Expression}
-use Rattle.cargo_platform.specs.Key.{name_key, value_key, key, keys, condition_key, text_cmp, name_cmp, value_cmp, tree_cmp, trees_cmp, condition_cmp}
+use Rattle.cargo_platform.specs.Trees.{Name, CfgValue, Alone, KeyPair, Tree, Not, All, Any, Value, True, False, Trees}
+use Rattle.cargo_platform.specs.Trees.{none, tree, Condition, Target, Expression}
+use Rattle.cargo_platform.specs.Key.{name_key, value_key, key, keys, condition_key, text_cmp, name_cmp, value_cmp}
+use Rattle.cargo_platform.specs.Key.{tree_cmp, trees_cmp, condition_cmp}
 
 -- ---- chained answers
 
@@ -57,14 +59,18 @@ abbrev value_part : CfgValue → List ℕ
 value_part (Alone n) = []
 value_part (KeyPair k v) = v
 
-value_by_parts : (c d : CfgValue) → then_cmp (on form nat_cmp) (then_cmp (on name_or_key name_cmp) (on value_part text_cmp)) c d ≡ value_cmp c d
+value_by_parts : (c d : CfgValue)
+    → then_cmp (on form nat_cmp) (then_cmp (on name_or_key name_cmp) (on value_part text_cmp)) c d ≡ value_cmp c d
 value_by_parts (Alone m) (Alone n) = then_Equal (name_cmp m n)
 value_by_parts (Alone m) (KeyPair k v) = refl
 value_by_parts (KeyPair j u) (Alone n) = refl
 value_by_parts (KeyPair j u) (KeyPair k v) = refl
 
 pub value_total : IsTotalOrder value_cmp
-value_total = subst IsTotalOrder (λ i c d. value_by_parts c d i) (then_total (on_total form nat_cmp_total) (then_total (on_total name_or_key name_total) (on_texts value_part)))
+value_total =
+    subst IsTotalOrder
+    (λ i c d. value_by_parts c d i)
+    (then_total (on_total form nat_cmp_total) (then_total (on_total name_or_key name_total) (on_texts value_part)))
 
 -- a step of the walk over a tree from its root: a form, and the value where it has one
 record Step : Type 0 where
@@ -75,7 +81,9 @@ abbrev step_cmp : Step → Step → Ordering
 step_cmp = then_cmp (on (λ s. s.rank) nat_cmp) (on (λ s. s.value) (option_cmp value_cmp))
 
 step_total : IsTotalOrder step_cmp
-step_total = then_total (on_total (λ (s : Step). s.rank) nat_cmp_total) (on_total (λ (s : Step). s.value) (options_total value_total))
+step_total =
+    then_total (on_total (λ (s : Step). s.rank) nat_cmp_total)
+    (on_total (λ (s : Step). s.value) (options_total value_total))
 
 abbrev step : ℕ → Step
 step n = record { rank = n; value = None }
@@ -96,7 +104,8 @@ abbrev mutual
 
 -- trees compare as their walks do
 mutual
-  by_walk : (d e : Tree) (xs ys : List Step) → slice_cmp step_cmp (walked d xs) (walked e ys) ≡ ordering_then (tree_cmp d e) (slice_cmp step_cmp xs ys)
+  by_walk : (d e : Tree) (xs ys : List Step)
+      → slice_cmp step_cmp (walked d xs) (walked e ys) ≡ ordering_then (tree_cmp d e) (slice_cmp step_cmp xs ys)
   by_walk (Not d) (Not e) xs ys = by_walk d e xs ys
   by_walk (All ds) (All es) xs ys = by_walks ds es xs ys
   by_walk (Any ds) (Any es) xs ys = by_walks ds es xs ys
@@ -105,7 +114,9 @@ mutual
   by_walk False False xs ys = refl
   by_walk d e xs ys = refl
 
-  by_walks : (ds es : Trees) (xs ys : List Step) → slice_cmp step_cmp (all_walked ds xs) (all_walked es ys) ≡ ordering_then (trees_cmp ds es) (slice_cmp step_cmp xs ys)
+  by_walks : (ds es : Trees) (xs ys : List Step)
+      → slice_cmp step_cmp (all_walked ds xs) (all_walked es ys) ≡ ordering_then (trees_cmp ds es)
+      (slice_cmp step_cmp xs ys)
   by_walks none none xs ys = refl
   by_walks none (tree e es) xs ys = refl
   by_walks (tree d ds) none xs ys = refl
@@ -117,7 +128,8 @@ mutual
 pub tree_total : IsTotalOrder tree_cmp
 tree_total =
     let walk : Tree → List Step = λ e. walked e [] in
-    let same : (d e : Tree) → on walk (slice_cmp step_cmp) d e ≡ tree_cmp d e = λ d e. by_walk d e [] [] ∙ then_Equal (tree_cmp d e) in
+    let same : (d e : Tree)
+    → on walk (slice_cmp step_cmp) d e ≡ tree_cmp d e = λ d e. by_walk d e [] [] ∙ then_Equal (tree_cmp d e) in
     subst IsTotalOrder (λ i d e. same d e i) (on_total walk (lists_total step_total))
 
 abbrev condition_form : Condition → ℕ
@@ -132,14 +144,20 @@ abbrev tree_part : Condition → Tree
 tree_part (Target s) = True
 tree_part (Expression e) = e
 
-condition_by_parts : (c d : Condition) → then_cmp (on condition_form nat_cmp) (then_cmp (on target_part text_cmp) (on tree_part tree_cmp)) c d ≡ condition_cmp c d
+condition_by_parts : (c d : Condition)
+    → then_cmp (on condition_form nat_cmp)
+    (then_cmp (on target_part text_cmp) (on tree_part tree_cmp)) c d ≡ condition_cmp c d
 condition_by_parts (Target s) (Target t) = then_Equal (text_cmp s t)
 condition_by_parts (Target s) (Expression e) = refl
 condition_by_parts (Expression d) (Target t) = refl
 condition_by_parts (Expression d) (Expression e) = refl
 
 pub condition_total : IsTotalOrder condition_cmp
-condition_total = subst IsTotalOrder (λ i c d. condition_by_parts c d i) (then_total (on_total condition_form nat_cmp_total) (then_total (on_texts target_part) (on_total tree_part tree_total)))
+condition_total =
+    subst IsTotalOrder
+    (λ i c d. condition_by_parts c d i)
+    (then_total (on_total condition_form nat_cmp_total)
+    (then_total (on_texts target_part) (on_total tree_part tree_total)))
 
 -- ---- it sees the key alone
 
@@ -184,7 +202,8 @@ value_tie (Alone m) (Alone n) h = ap Alone (name_tie m n h)
 value_tie (Alone m) (KeyPair k v) h = not_Less _ h
 value_tie (KeyPair j u) (Alone n) h = not_Greater _ h
 value_tie (KeyPair j u) (KeyPair k v) h =
-    λ i. KeyPair (name_tie j k (first_tied (name_cmp j k) (text_cmp u v) h) i) (text_tie u v (second_tied (name_cmp j k) (text_cmp u v) h) i)
+    λ i. KeyPair (name_tie j k (first_tied (name_cmp j k) (text_cmp u v) h) i)
+    (text_tie u v (second_tied (name_cmp j k) (text_cmp u v) h) i)
 
 mutual
   pub tree_tie : (d e : Tree) → tree_cmp d e ≡ Equal → key d ≡ key e
@@ -201,7 +220,8 @@ mutual
   trees_tie none (tree e es) h = not_Less _ h
   trees_tie (tree d ds) none h = not_Greater _ h
   trees_tie (tree d ds) (tree e es) h =
-      λ i. tree (tree_tie d e (first_tied (tree_cmp d e) (trees_cmp ds es) h) i) (trees_tie ds es (second_tied (tree_cmp d e) (trees_cmp ds es) h) i)
+      λ i. tree (tree_tie d e (first_tied (tree_cmp d e) (trees_cmp ds es) h) i)
+      (trees_tie ds es (second_tied (tree_cmp d e) (trees_cmp ds es) h) i)
 
 pub condition_tie : (c d : Condition) → condition_cmp c d ≡ Equal → condition_key c ≡ condition_key d
 condition_tie (Target s) (Target t) h = ap Target (text_tie s t h)
@@ -210,8 +230,10 @@ condition_tie (Expression d) (Target t) h = not_Greater _ h
 condition_tie (Expression d) (Expression e) h = ap Expression (tree_tie d e h)
 
 -- an order that sees the key alone answers `Equal` exactly where the keys are equal
-equal_iff : {K : Type 0} {R : K → K → Ordering} (k : K → K) → IsTotalOrder R → ((x y : K) → R (k x) (k y) ≡ R x y) → ((x y : K) → R x y ≡ Equal → k x ≡ k y) → (x y : K) → (R x y ≡ Equal) ↔ (k x ≡ k y)
-equal_iff {R = R} k total sees ties x y = (ties x y, λ same. sym (sees x y) ∙ ap (λ z. R z (k y)) same ∙ tied_itself total (k y))
+equal_iff : {K : Type 0} {R : K → K → Ordering} (k : K → K) → IsTotalOrder R → ((x y : K) → R (k x) (k y) ≡ R x y)
+    → ((x y : K) → R x y ≡ Equal → k x ≡ k y) → (x y : K) → (R x y ≡ Equal) ↔ (k x ≡ k y)
+equal_iff {R = R} k total sees ties x y =
+    (ties x y, λ same. sym (sees x y) ∙ ap (λ z. R z (k y)) same ∙ tied_itself total (k y))
 
 pub name_equal_iff : (m n : Name) → (name_cmp m n ≡ Equal) ↔ (name_key m ≡ name_key n)
 name_equal_iff = equal_iff name_key name_total (λ m n. refl) name_tie

@@ -1,6 +1,7 @@
 -- What a reader of expressions has read: the groups that are open with their members so far, and the expression that
 -- stands behind them, if one does.
-use Rattle.std.specs.Prelude.{◌≡◌, ℕ, Bool, true, false, List, [], ◌∷◌, ◌++◌, map, reverse, codes, Option, Some, None, Result, IsFalse, ◌&&◌}
+use Rattle.std.specs.Prelude.{◌≡◌, ℕ, Bool, true, false, List, [], ◌∷◌, ◌++◌, map, reverse, codes, Option, Some, None}
+use Rattle.std.specs.Prelude.{Result, IsFalse, ◌&&◌}
 use Rattle.cargo_platform.specs.declared.tokens.Spanned.{Spanned}
 use Rattle.cargo_platform.specs.declared.tokens.Token.{Token}
 use denote.Ref.{Bor}
@@ -15,15 +16,18 @@ use Rattle.cargo_platform.specs.declared.reader.Mark.TheVariants as marks
 use Rattle.cargo_platform.specs.declared.parser.Group.{Group}
 use Rattle.cargo_platform.specs.declared.parser.OpenGroups.{OpenGroups}
 use Rattle.cargo_platform.specs.declared.parser.Group.TheVariants as groups
-use Rattle.cargo_platform.specs.Tokens.{Lexeme, LeftParen, RightParen, Ident, Comma, Equals, String, Placed, plain, lexeme}
+use Rattle.cargo_platform.specs.Tokens.{Lexeme, LeftParen, RightParen, Ident, Comma, Equals, String, Placed, plain}
+use Rattle.cargo_platform.specs.Tokens.{lexeme}
 use Rattle.cargo_platform.specs.Cut.{lexemes}
 use Rattle.cargo_platform.specs.Ahead.{Item, Nothing, item_of, Ahead, GoesOn, Path, next_of}
 use Rattle.cargo_platform.specs.Ahead as ahead
 use Rattle.cargo_platform.specs.Trees.{Name, CfgValue, Alone, KeyPair, Tree, All, Any, trees_of, tree_of}
 use Rattle.cargo_platform.specs.Spelling.{Spells, SpellEach}
-use Rattle.cargo_platform.specs.Faults.{Next, Unfit, Broken, End, Fault, UnexpectedToken, IncompleteExpr, UnterminatedExpression, lexical_fault}
+use Rattle.cargo_platform.specs.Faults.{Next, Unfit, Broken, End, Fault, UnexpectedToken, IncompleteExpr}
+use Rattle.cargo_platform.specs.Faults.{UnterminatedExpression, lexical_fault}
 use Rattle.cargo_platform.specs.Misfits.{IsIdentifier, IsString, misfit, IsSurplus}
-use Rattle.cargo_platform.specs.Walk.{Word, Several, Negation, State, Wanted, Member, Behind, Named, Keyed, Ended, after, walk}
+use Rattle.cargo_platform.specs.Walk.{Word, Several, Negation, State, Wanted, Member, Behind, Named, Keyed, Ended}
+use Rattle.cargo_platform.specs.Walk.{after, walk}
 
 -- the item ahead
 abbrev pub Sees : Ahead → Option (Result Spanned TokenFault) → Type 0
@@ -130,8 +134,11 @@ finished (s ∷ ss) = s ++ (Comma ∷ finished ss)
 -- the tokens open these groups, the innermost first, and spell their members so far
 abbrev pub Opens : List Opening → List Lexeme → Type 0
 Opens [] ts = ts ≡ []
-Opens (Negated ∷ gs) ts = (before : List Lexeme) × Opens gs before × (ts ≡ before ++ (plain (codes "not") ∷ LeftParen ∷ []))
-Opens (Listed all es ∷ gs) ts = (before : List Lexeme) × (ss : List (List Lexeme)) × Opens gs before × SpellEach (trees_of es) ss × (ts ≡ before ++ (plain (list_word all) ∷ LeftParen ∷ finished ss))
+Opens (Negated ∷ gs) ts =
+    (before : List Lexeme) × Opens gs before × (ts ≡ before ++ (plain (codes "not") ∷ LeftParen ∷ []))
+Opens (Listed all es ∷ gs) ts =
+    (before : List Lexeme) × (ss : List (List Lexeme)) × Opens gs before × SpellEach (trees_of es) ss
+    × (ts ≡ before ++ (plain (list_word all) ∷ LeftParen ∷ finished ss))
 
 -- with an expression behind them
 abbrev pub OpensAnd : List Opening → Tree → List Lexeme → Type 0
@@ -189,7 +196,8 @@ pub record HasKey (gs : List Opening) (raw : Bool) (name : List ℕ) (ts : List 
   pub wanted : Wants gs before
   pub is : ts ≡ before ++ (Ident raw name ∷ Equals ∷ [])
 
--- From one item ahead to another some tokens were read. Where P holds of all tokens before them, Q holds of all tokens with them.
+-- From one item ahead to another some tokens were read. Where P holds of all tokens before them, Q holds of all tokens
+-- with them.
 pub record Reads (old new : Ahead) (P Q : List Lexeme → Type 0) : Type 0 where
   pub us : List Placed
   pub path : Path old us new
@@ -280,7 +288,8 @@ LacksValue l r = IfFault r (IsNoString l)
 
 -- behind these tokens of a name or a pair the item ahead does not fit, which is the fault
 abbrev pub IsValueStop : List Lexeme → Ahead → Fault → Type 0
-IsValueStop [] l fault = LacksName l × (fault ≡ misfit (codes "identifier") (codes "identifier") (next_of l.text l.item))
+IsValueStop [] l fault =
+    LacksName l × (fault ≡ misfit (codes "identifier") (codes "identifier") (next_of l.text l.item))
 IsValueStop (Ident raw name ∷ []) l fault = LacksMark l marks.Equals × IsSurplus (next_of l.text l.item) fault
 IsValueStop (Ident raw name ∷ Equals ∷ []) l fault = IsNoString l fault
 IsValueStop (Ident raw name ∷ Equals ∷ String value ∷ []) l fault = IsSurplus (next_of l.text l.item) fault
@@ -293,7 +302,11 @@ ClearBehind (KeyPair k v) l = Unit {0}
 
 -- behind a key and `=` no string is ahead
 abbrev pub StopsKey : Ahead → Lexeme → Refusal → Type 0
-StopsKey l t r = IfFault r (λ fault. (stop : Ahead) × Reads l stop (λ ts. ts ≡ t ∷ []) (λ ts. ts ≡ t ∷ Equals ∷ []) × IsNoString stop fault)
+StopsKey l t r =
+    IfFault r
+    (λ fault. (stop : Ahead) × Reads l stop (λ ts. ts ≡ t ∷ []) (λ ts. ts ≡ t ∷ Equals ∷ [])
+    × IsNoString stop fault)
 
 abbrev pub StopsValue : Ahead → Refusal → Type 0
-StopsValue l r = IfFault r (λ fault. (read : List Lexeme) × (stop : Ahead) × HasRead l stop read × IsValueStop read stop fault)
+StopsValue l r =
+    IfFault r (λ fault. (read : List Lexeme) × (stop : Ahead) × HasRead l stop read × IsValueStop read stop fault)

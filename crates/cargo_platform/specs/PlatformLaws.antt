@@ -20,16 +20,21 @@ PrintSpellsCondition p = IsWellFormedCondition p → IsConditionText (print_cond
 
 -- two well-formed conditions print alike only if they are the same
 abbrev pub PrintsApartConditions : Condition → Condition → Type 0
-PrintsApartConditions p q = IsWellFormedCondition p → IsWellFormedCondition q → print_condition p ≡ print_condition q → p ≡ q
+PrintsApartConditions p q = IsWellFormedCondition p → IsWellFormedCondition q → print_condition p ≡ print_condition q
+    → p ≡ q
 
 -- a text spells a condition, or is refused
 abbrev pub SpellsConditionOrIsRefused : List ℕ → Type 0
-SpellsConditionOrIsRefused text = ((p : Condition) × IsConditionText text p) ⊎ ((orig : List ℕ) × (fault : Fault) × IsRefusedCondition text orig fault)
+SpellsConditionOrIsRefused text =
+    ((p : Condition) × IsConditionText text p)
+    ⊎ ((orig : List ℕ) × (fault : Fault) × IsRefusedCondition text orig fault)
 
 -- a text that is refused spells no condition
 abbrev pub RefusedSpellsNoCondition : List ℕ → List ℕ → Fault → Type 0
-RefusedSpellsNoCondition text orig fault = IsRefusedCondition text orig fault → (p : Condition) → IsConditionText text p → ⊥
+RefusedSpellsNoCondition text orig fault = IsRefusedCondition text orig fault → (p : Condition)
+    → IsConditionText text p → ⊥
 
 -- a text has at most one fault as a condition, and it is the fault of one text
 abbrev pub HasOneConditionFault : List ℕ → Type 0
-HasOneConditionFault text = (o p : List ℕ) (e f : Fault) → IsRefusedCondition text o e → IsRefusedCondition text p f → (o ≡ p) × (e ≡ f)
+HasOneConditionFault text = (o p : List ℕ) (e f : Fault) → IsRefusedCondition text o e → IsRefusedCondition text p f
+    → (o ≡ p) × (e ≡ f)

@@ -9,7 +9,8 @@ use Rattle.cargo_platform.specs.declared.reader.Refusal.{Refusal}
 use Rattle.cargo_platform.specs.declared.reader.Refusal.TheVariants as refusal
 use Rattle.cargo_platform.specs.Trees.{CfgValue, value_of, Tree, tree_of, Condition, condition_of}
 use Rattle.cargo_platform.specs.Spelling.{Values, Expressions, IsValueText, IsTreeText}
-use Rattle.cargo_platform.specs.Faults.{Fault, UnexpectedToken, IncompleteExpr, UnterminatedExpression, lexical_fault, IsRefused}
+use Rattle.cargo_platform.specs.Faults.{Fault, UnexpectedToken, IncompleteExpr, UnterminatedExpression, lexical_fault}
+use Rattle.cargo_platform.specs.Faults.{IsRefused}
 use Rattle.cargo_platform.specs.Platforms.{IsConditionText, IsRefusedCondition}
 use Rattle.cargo_platform.specs.WellFormed.{IsWellFormedValue, IsWellFormed, IsWellFormedCondition}
 use Rattle.cargo_platform.specs.Print.{print_value, print, print_condition}
@@ -26,7 +27,8 @@ pub record ReadsValue (text : List ℕ) (answer : Result Cfg ReadError) : Type 0
   pub orig : IfParse answer (λ e. orig_of e ≡ text)
   pub fault : IfParse answer (λ e. IsRefused Values text (fault_in e))
   -- the print of a well-formed value is answered by that very value, and never refused
-  pub reads_back : (c : CfgValue) → IsWellFormedValue c → text ≡ print_value c → IfOk answer (λ d. value_of d ≡ c) × IfParse answer (λ e. ⊥)
+  pub reads_back : (c : CfgValue) → IsWellFormedValue c → text ≡ print_value c
+      → IfOk answer (λ d. value_of d ≡ c) × IfParse answer (λ e. ⊥)
 
 -- an expression is read from a text
 pub record ReadsExpression (text : List ℕ) (answer : Result CfgExpr ReadError) : Type 0 where
@@ -39,7 +41,8 @@ pub record ReadsExpression (text : List ℕ) (answer : Result CfgExpr ReadError)
   pub orig : IfParse answer (λ e. orig_of e ≡ text)
   pub fault : IfParse answer (λ e. IsRefused Expressions text (fault_in e))
   -- the print of a well-formed tree is answered by that very tree, and never refused
-  pub reads_back : (t : Tree) → IsWellFormed t → text ≡ print t → IfOk answer (λ e. tree_of e ≡ t) × IfParse answer (λ e. ⊥)
+  pub reads_back : (t : Tree) → IsWellFormed t → text ≡ print t
+      → IfOk answer (λ e. tree_of e ≡ t) × IfParse answer (λ e. ⊥)
 
 -- a condition is read from a text
 pub record ReadsCondition (text : List ℕ) (answer : Result Platform ReadError) : Type 0 where
@@ -51,7 +54,8 @@ pub record ReadsCondition (text : List ℕ) (answer : Result Platform ReadError)
   -- the error is the fault of the text between `cfg(` and `)`, and else of the whole text
   pub fault : IfParse answer (λ e. IsRefusedCondition text (orig_of e) (fault_in e))
   -- the print of a well-formed condition is answered by that very condition, and never refused
-  pub reads_back : (c : Condition) → IsWellFormedCondition c → text ≡ print_condition c → IfOk answer (λ p. condition_of p ≡ c) × IfParse answer (λ e. ⊥)
+  pub reads_back : (c : Condition) → IsWellFormedCondition c → text ≡ print_condition c
+      → IfOk answer (λ p. condition_of p ≡ c) × IfParse answer (λ e. ⊥)
 
 -- ---- for proofs
 

@@ -1,6 +1,7 @@
 -- The values of a tree from left to right, and the warnings on them.
 use Rattle.std.specs.Prelude.{◌≡◌, ℕ, Bool, ◌||◌, if◌then◌else◌, List, [], ◌∷◌, ◌++◌, codes, bytes_eq, flat_map}
-use Rattle.cargo_platform.specs.Trees.{Name, CfgValue, Alone, KeyPair, Tree, Not, All, Any, Value, True, False, Trees, none, tree, Condition, Target, Expression}
+use Rattle.cargo_platform.specs.Trees.{Name, CfgValue, Alone, KeyPair, Tree, Not, All, Any, Value, True, False, Trees}
+use Rattle.cargo_platform.specs.Trees.{none, tree, Condition, Target, Expression}
 use Rattle.cargo_platform.specs.Spelling.{is_literal_word}
 use Rattle.cargo_platform.specs.Print.{print_name, print_value}
 
@@ -24,19 +25,25 @@ condition_values (Expression e) = values e
 
 -- the warning on a name that no target sets
 abbrev pub unsupported_name : Name → List ℕ
-unsupported_name n = codes "Found `" ++ print_name n ++ codes "` in `target.'cfg(...)'.dependencies`. This value is not supported for selecting dependencies and will not work as expected. To learn more visit https://doc.rust-lang.org/cargo/reference/specifying-dependencies.html#platform-specific-dependencies"
+unsupported_name n =
+    codes "Found `" ++ print_name n
+    ++ codes "` in `target.'cfg(...)'.dependencies`. This value is not supported for selecting dependencies and will not work as expected. To learn more visit https://doc.rust-lang.org/cargo/reference/specifying-dependencies.html#platform-specific-dependencies"
 
 -- the warning on the key `feature`
 abbrev pub unsupported_feature : List ℕ
-unsupported_feature = codes "Found `feature = ...` in `target.'cfg(...)'.dependencies`. This key is not supported for selecting dependencies and will not work as expected. Use the [features] section instead: https://doc.rust-lang.org/cargo/reference/features.html"
+unsupported_feature =
+    codes "Found `feature = ...` in `target.'cfg(...)'.dependencies`. This key is not supported for selecting dependencies and will not work as expected. Use the [features] section instead: https://doc.rust-lang.org/cargo/reference/features.html"
 
 -- the warning on a keyword in the place of an identifier
 abbrev pub keyword_warning : List ℕ → CfgValue → List ℕ → List ℕ
 keyword_warning path c word =
-    codes "[" ++ path ++ codes "] future-incompatibility: `cfg(" ++ print_value c ++ codes ")` is deprecated as `" ++ word ++ codes "` is a keyword and not an identifier and should not have have been accepted in this position.\n | this was previously accepted by Cargo but is being phased out; it will become a hard error in a future release!\n |\n | help: use raw-idents instead: `cfg(r#" ++ word ++ codes ")`"
+    codes "[" ++ path ++ codes "] future-incompatibility: `cfg(" ++ print_value c ++ codes ")` is deprecated as `"
+    ++ word
+    ++ codes "` is a keyword and not an identifier and should not have have been accepted in this position.\n | this was previously accepted by Cargo but is being phased out; it will become a hard error in a future release!\n |\n | help: use raw-idents instead: `cfg(r#" ++ word ++ codes ")`"
 
 abbrev pub is_unsupported_name : Name → Bool
-is_unsupported_name n = bytes_eq n.name (codes "test") || bytes_eq n.name (codes "debug_assertions") || bytes_eq n.name (codes "proc_macro")
+is_unsupported_name n =
+    bytes_eq n.name (codes "test") || bytes_eq n.name (codes "debug_assertions") || bytes_eq n.name (codes "proc_macro")
 
 -- marked or not, `test`, `debug_assertions` and `proc_macro` alone, and the key `feature`
 abbrev pub attribute_warning : CfgValue → List (List ℕ)

@@ -12,8 +12,8 @@ use crate::reader::Reader;
 use crate::{Looks, parser};
 use std::alloc::Global;
 
-/// An identifier. Of those that are read the name is one `_` or ASCII letter, and such characters or ASCII digits behind
-/// it. Equality, order and hash see the name alone; printing and copies keep the raw mark.
+/// An identifier. Of those that are read the name is one `_` or ASCII letter, and such characters or ASCII digits
+/// behind it. Equality, order and hash see the name alone; printing and copies keep the raw mark.
 #[derive(Debug, Drop)]
 pub struct Ident {
     /// The name, without the raw mark.
@@ -89,9 +89,9 @@ impl CfgExpr {
     ghost use Rattle.std.specs.Str.{chars};
     ghost use Rattle.cargo_platform.specs.Readers.{ReadsExpression};
 
-    /// Reads an expression: a name, a pair, a literal, or `all(..)`, `any(..)` or `not(..)` of expressions, to any depth.
-    /// Unmarked `all`, `any`, `not`, `true` and `false` are words of the language, and no names or keys. A raw mark makes
-    /// each an ordinary name: `r#true` is a name, and `r#all = "x"` a pair.
+    /// Reads an expression: a name, a pair, a literal, or `all(..)`, `any(..)` or `not(..)` of expressions, to any
+    /// depth. Unmarked `all`, `any`, `not`, `true` and `false` are words of the language, and no names or keys. A raw
+    /// mark makes each an ordinary name: `r#true` is a name, and `r#all = "x"` a pair.
     ///
     /// Any other text is refused with `ReadError::Parse` of its first fault: what can't follow the longest front of its
     /// tokens that some tokens would complete. Where memory is refused the answer is `ReadError::Memory`, whatever the
@@ -102,9 +102,9 @@ impl CfgExpr {
         CfgExpr::from_str_counted(alloc, s).0
     }
 
-    /// Reads an expression as `from_str` does, and tells how often the reader asked its source for a character, or whether
-    /// the text ends: with an expression once for each character of the text and once for its end, and whatever it
-    /// answers never more often.
+    /// Reads an expression as `from_str` does, and tells how often the reader asked its source for a character, or
+    /// whether the text ends: with an expression once for each character of the text and once for its end, and whatever
+    /// it answers never more often.
     pub fn from_str_counted(alloc: Global, s: &str) -> (Result<CfgExpr, ReadError>, Looks)
         ensures reads { ReadsExpression s.now result.0 }
         ensures at_most { result.1 ≤ 12 * (length (chars s.now) + 1) }

@@ -10,17 +10,30 @@ ghost use Rattle.cargo_platform.specs.Trees.{Name, CfgValue, Tree, All, Any, Tre
 ghost use Rattle.cargo_platform.specs.Spelling.{Grammar};
 ghost use Rattle.cargo_platform.specs.Faults.{IsCompletable, Fault};
 ghost use Rattle.cargo_platform.specs.CutLaws.{HasOneCut, CutsAreRead, IsReadAlike, EndsForGood, FailsOnce};
-ghost use Rattle.cargo_platform.specs.GrammarLaws.{HasOneTree, IsOneTreeText, HasOneValue, IsOneValueText, SpellsWellFormed, IsWellFormedText};
-ghost use Rattle.cargo_platform.specs.FaultLaws.{FrontsAreCompletable, IsCompletedShortly, IsWalkedIffCompletable, IsKeptByWalk, IsFrontCompletable, IsStoppedByNext, IsExpectedToFollow, NamesWhatCanFollow, HasOneFault, SpellsOrIsRefused, RefusedSpellsNothing};
+ghost use Rattle.cargo_platform.specs.GrammarLaws.{HasOneTree, IsOneTreeText, HasOneValue, IsOneValueText};
+ghost use Rattle.cargo_platform.specs.GrammarLaws.{SpellsWellFormed, IsWellFormedText};
+ghost use Rattle.cargo_platform.specs.FaultLaws.{FrontsAreCompletable, IsCompletedShortly, IsWalkedIffCompletable};
+ghost use Rattle.cargo_platform.specs.FaultLaws.{IsKeptByWalk, IsFrontCompletable, IsStoppedByNext, IsExpectedToFollow};
+ghost use Rattle.cargo_platform.specs.FaultLaws.{NamesWhatCanFollow, HasOneFault, SpellsOrIsRefused};
+ghost use Rattle.cargo_platform.specs.FaultLaws.{RefusedSpellsNothing};
 ghost use Rattle.cargo_platform.specs.PrintLaws.{PrintSpells, PrintsApart, PrintSpellsValue, PrintsApartValues};
-ghost use Rattle.cargo_platform.specs.PlatformLaws.{IsOneConditionText, SpellsWellFormedConditions, PrintSpellsCondition, PrintsApartConditions, SpellsConditionOrIsRefused, RefusedSpellsNoCondition, HasOneConditionFault};
-ghost use Rattle.cargo_platform.specs.ChangeLaws.{SpelledReleased, IsAcceptedAsReleased, IsRefusedAsReleased, IsTreeTextAsReleased, KeepsTree, IsConditionTextAsReleased, KeepsCondition, SpelledTransitional, IsRefusedForLiteralKeys, WasWellFormedWithoutMarkedLiterals, IsWellFormedWithoutLiteralKeys, GivesNoKeyword};
+ghost use Rattle.cargo_platform.specs.PlatformLaws.{IsOneConditionText, SpellsWellFormedConditions};
+ghost use Rattle.cargo_platform.specs.PlatformLaws.{PrintSpellsCondition, PrintsApartConditions};
+ghost use Rattle.cargo_platform.specs.PlatformLaws.{SpellsConditionOrIsRefused, RefusedSpellsNoCondition};
+ghost use Rattle.cargo_platform.specs.PlatformLaws.{HasOneConditionFault};
+ghost use Rattle.cargo_platform.specs.ChangeLaws.{SpelledReleased, IsAcceptedAsReleased, IsRefusedAsReleased};
+ghost use Rattle.cargo_platform.specs.ChangeLaws.{IsTreeTextAsReleased, KeepsTree, IsConditionTextAsReleased};
+ghost use Rattle.cargo_platform.specs.ChangeLaws.{KeepsCondition, SpelledTransitional, IsRefusedForLiteralKeys};
+ghost use Rattle.cargo_platform.specs.ChangeLaws.{WasWellFormedWithoutMarkedLiterals, IsWellFormedWithoutLiteralKeys};
+ghost use Rattle.cargo_platform.specs.ChangeLaws.{GivesNoKeyword};
 ghost use Rattle.cargo_platform.specs.ViewLaws.{IsNotOf, IsAllOf, IsAnyOf, IsValueOf, AreLiterals};
 ghost use Rattle.cargo_platform.specs.Sizes.{size, depth};
 ghost use Rattle.cargo_platform.specs.Facts.{Pair, pair_cmp, FactSet, fact_set, truth};
-ghost use Rattle.cargo_platform.specs.FactLaws.{IsInWhereListed, HaveSamePairs, HaveSameFacts, IsMonotone, IsNotAllAnyNot, IsOrderOfKeys};
+ghost use Rattle.cargo_platform.specs.FactLaws.{IsInWhereListed, HaveSamePairs, HaveSameFacts, IsMonotone};
+ghost use Rattle.cargo_platform.specs.FactLaws.{IsNotAllAnyNot, IsOrderOfKeys};
 ghost use Rattle.cargo_platform.specs.Lines.{lines_of, AreLines};
-ghost use Rattle.cargo_platform.specs.Key.{name_key, value_key, key, condition_key, name_cmp, value_cmp, tree_cmp, condition_cmp};
+ghost use Rattle.cargo_platform.specs.Key.{name_key, value_key, key, condition_key, name_cmp, value_cmp, tree_cmp};
+ghost use Rattle.cargo_platform.specs.Key.{condition_cmp};
 ghost use Rattle.cargo_platform.specs.Hashing.{name_hash, value_hash, tree_hash, condition_hash};
 
 /// Every text has exactly one cut.
@@ -174,17 +187,17 @@ pub fn prints_apart_conditions()
     ensures { (p q : Condition) → PrintsApartConditions p q }
 {}
 
-/// Marked `true` and `false` alone are names; in the Rust crate they are the literals. What tokens spelled there is told
-/// by what they spell; the same lists of tokens are accepted, and the same texts refused, with the same faults. The
-/// transitional grammar is that of the Rust crate with this change alone.
+/// Marked `true` and `false` alone are names; in the Rust crate they are the literals. What tokens spelled there is
+/// told by what they spell; the same lists of tokens are accepted, and the same texts refused, with the same faults.
+/// The transitional grammar is that of the Rust crate with this change alone.
 pub fn marked_literals_are_names()
     ensures spelled { (ts : List Lexeme) → SpelledReleased ts }
     ensures accepted { (ts : List Lexeme) → IsAcceptedAsReleased ts }
     ensures refused { (text : List ℕ) (fault : Fault) → IsRefusedAsReleased text fault }
 {}
 
-/// Whether marked `true` and `false` alone are names or literals, the same texts spell an expression, and the same one if
-/// none of them stands in it.
+/// Whether marked `true` and `false` alone are names or literals, the same texts spell an expression, and the same one
+/// if none of them stands in it.
 pub fn expressions_as_released()
     ensures accepted { (text : List ℕ) → IsTreeTextAsReleased text }
     ensures kept { (text : List ℕ) → KeepsTree text }
@@ -204,8 +217,8 @@ pub fn literals_are_no_keys()
     ensures refused { (ts : List Lexeme) → IsRefusedForLiteralKeys ts }
 {}
 
-/// Which trees are well-formed in the Rust crate's grammar, in the transitional one, and today: the first without marked
-/// literals alone, the last without unmarked ones as keys.
+/// Which trees are well-formed in the Rust crate's grammar, in the transitional one, and today: the first without
+/// marked literals alone, the last without unmarked ones as keys.
 pub fn well_formed_as_before()
     ensures released { (e : Tree) → WasWellFormedWithoutMarkedLiterals e }
     ensures today { (e : Tree) → IsWellFormedWithoutLiteralKeys e }
@@ -224,7 +237,8 @@ pub fn facts_are_pairs_of_members()
 /// Truth depends on the set of facts alone.
 pub fn truth_is_of_facts()
     ensures sets { (s t : FactSet) (e : Tree) → HaveSameFacts s t → truth s e ≡ truth t e }
-    ensures lists { (cs ds : List CfgValue) (e : Tree) → HaveSamePairs cs ds → truth (fact_set cs) e ≡ truth (fact_set ds) e }
+    ensures lists { (cs ds : List CfgValue) (e : Tree) → HaveSamePairs cs ds
+        → truth (fact_set cs) e ≡ truth (fact_set ds) e }
 {}
 
 /// In a tree with no `Not`, more facts never turn truth into falsehood.

@@ -1,9 +1,9 @@
 //! The target conditions of a Cargo manifest: read from text, printed, matched over facts, compared and warned about.
 //!
-//! The key of a `[target.KEY.dependencies]` table is the name of a target, as `x86_64-apple-darwin`, or a `cfg(..)` of an
-//! expression over facts, as `cfg(all(unix, target_os = "linux"))` (Cargo's reference, "Platform specific
-//! dependencies"). The facts of a target are what `rustc --print cfg` prints. What allocates takes the allocator first and
-//! answers a `Result`.
+//! The key of a `[target.KEY.dependencies]` table is the name of a target, as `x86_64-apple-darwin`, or a `cfg(..)` of
+//! an expression over facts, as `cfg(all(unix, target_os = "linux"))` (Cargo's reference, "Platform specific
+//! dependencies"). The facts of a target are what `rustc --print cfg` prints. What allocates takes the allocator first
+//! and answers a `Result`.
 #![tactic(auto)]
 
 pub mod cfg;

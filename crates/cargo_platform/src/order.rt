@@ -1,7 +1,8 @@
 //! Equality, order and hash of names, pairs and expressions, all by the key: the value with every raw mark taken off.
 
 ghost use Rattle.std.specs.Prelude.{refl};
-ghost use Rattle.std.specs.Cmp.{eq_by_cmp_equiv, on_equiv, on_total, partial_equiv_from_equiv, partial_order_from_total, Equal-is};
+ghost use Rattle.std.specs.Cmp.{eq_by_cmp_equiv, on_equiv, on_total, partial_equiv_from_equiv};
+ghost use Rattle.std.specs.Cmp.{partial_order_from_total, Equal-is};
 ghost use Rattle.std.specs.Ordering.{as_partial_cmp, eq_by_cmp, on};
 ghost use Rattle.cargo_platform.specs.Trees.{name_of, value_of};
 ghost use Rattle.cargo_platform.specs.Key.{name_cmp, value_cmp};

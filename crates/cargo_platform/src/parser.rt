@@ -1,12 +1,16 @@
 //! The reader of expressions: a loop over the groups that are open.
 
-ghost use Rattle.std.specs.Prelude.{◌≡◌, ◌≤◌, ◌<◌, false, true, List, [], ◌∷◌, ◌++◌, length, map, IfOk, IfErr, OnOk, IfSome, IfNone, MatchOption, IsTrue, IsFalse};
+ghost use Rattle.std.specs.Prelude.{◌≡◌, ◌≤◌, ◌<◌, false, true, List, [], ◌∷◌, ◌++◌, length, map, IfOk, IfErr, OnOk};
+ghost use Rattle.std.specs.Prelude.{IfSome, IfNone, MatchOption, IsTrue, IsFalse};
 ghost use Rattle.cargo_platform.specs.Tokens.{Ident as ident_token};
 ghost use Rattle.cargo_platform.specs.Ahead.{items_left};
 ghost use Rattle.cargo_platform.specs.Ahead as ahead;
 ghost use Rattle.cargo_platform.specs.Trees.{Alone, Tree, name_of, value_of, tree_of, Not};
 ghost use Rattle.cargo_platform.specs.Spelling.{is_group_word, is_literal_word, value_spelling, MayStand, Spells};
-ghost use Rattle.cargo_platform.specs.Parsing.{LacksMark, Opening, Negated, Listed, opening, stack, opening_word, IsFresh, is_all, list_tree, Wants, Has, HasName, HasWord, Stands, Reads, Stops, HasRead, ClearBehind, TakesValue, LacksValue, StopsKey, StopsValue, kinds, is_list};
+ghost use Rattle.cargo_platform.specs.Parsing.{LacksMark, Opening, Negated, Listed, opening, stack, opening_word};
+ghost use Rattle.cargo_platform.specs.Parsing.{IsFresh, is_all, list_tree, Wants, Has, HasName, HasWord, Stands, Reads};
+ghost use Rattle.cargo_platform.specs.Parsing.{Stops, HasRead, ClearBehind, TakesValue, LacksValue, StopsKey};
+ghost use Rattle.cargo_platform.specs.Parsing.{StopsValue, kinds, is_list};
 
 use crate::cfg::{Cfg, CfgExpr, Ident};
 use crate::iterative_drop::drop_members;
@@ -54,7 +58,8 @@ impl OpenGroups {
     }
 
     fn pop(&mut self) -> Option<Group>
-        ensures { MatchOption result ((stack self.old ≡ []) × (stack self.new ≡ [])) (λ group. stack self.old ≡ opening group ∷ stack self.new) }
+        ensures { MatchOption result ((stack self.old ≡ []) × (stack self.new ≡ []))
+            (λ group. stack self.old ≡ opening group ∷ stack self.new) }
     {
         self.groups.pop()
     }
@@ -79,7 +84,8 @@ fn drop_group(group: Group) {
 
 /// The group that a name opens, if it is an unmarked word of one.
 fn group_named(alloc: Global, raw: bool, name: &str) -> Option<Group>
-    ensures { MatchOption result (IsFalse (is_group_word (record { raw = raw; name = name.now }))) (λ group. (raw ≡ false) × (name.now ≡ opening_word (opening group)) × IsFresh (opening group)) }
+    ensures { MatchOption result (IsFalse (is_group_word (record { raw = raw; name = name.now })))
+        (λ group. (raw ≡ false) × (name.now ≡ opening_word (opening group)) × IsFresh (opening group)) }
 {
     if raw {
         return None;
@@ -103,7 +109,9 @@ fn ident(alloc: Global, raw: bool, name: &str) -> Result<Ident, AllocError>
 
 /// The literal that a name is, if it is an unmarked word of one.
 fn literal_named(raw: bool, name: &str) -> Option<CfgExpr>
-    ensures { MatchOption result (IsFalse (is_literal_word (record { raw = raw; name = name.now }))) (λ e. Spells (tree_of e) (ident_token raw name.now ∷ []) × IsTrue (is_literal_word (record { raw = raw; name = name.now }))) }
+    ensures { MatchOption result (IsFalse (is_literal_word (record { raw = raw; name = name.now })))
+        (λ e. Spells (tree_of e) (ident_token raw name.now ∷ [])
+        × IsTrue (is_literal_word (record { raw = raw; name = name.now }))) }
 {
     if raw {
         return None;
@@ -123,7 +131,8 @@ fn read_pair<'a>(
     name: &str,
 ) -> Result<Cfg, Refusal<'a>>
     ensures same_text { reader.new.text ≡ reader.old.text }
-    ensures pair { IfOk result (λ c. TakesValue reader.old reader.new (record { raw = raw; name = name.now }) (value_of c)) }
+    ensures pair { IfOk result
+        (λ c. TakesValue reader.old reader.new (record { raw = raw; name = name.now }) (value_of c)) }
     ensures refused { IfErr result (LacksValue reader.old) }
 {
     let Some(value) = reader.eat_string() else {
@@ -143,7 +152,9 @@ fn read_value<'a>(
 ) -> Result<CfgExpr, Refusal<'a>>
     requires { MayStand (Alone (record { raw = raw; name = name.now })) }
     ensures same_text { reader.new.text ≡ reader.old.text }
-    ensures value { IfOk result (λ e. (gs : List Opening) → Reads reader.old reader.new (HasName gs raw name.now) (Has gs (tree_of e) reader.new.item)) }
+    ensures value { IfOk result
+        (λ e. (gs : List Opening)
+        → Reads reader.old reader.new (HasName gs raw name.now) (Has gs (tree_of e) reader.new.item)) }
     ensures refused { IfErr result (λ r. (gs : List Opening) → Stops reader.old (HasName gs raw name.now) r) }
 {
     if reader.eat(Mark::Equals) {
@@ -160,7 +171,8 @@ fn open_group<'a>(
     group: Group,
 ) -> Result<(), Refusal<'a>>
     ensures same_text { reader.new.text ≡ reader.old.text }
-    ensures opened { OnOk result (Reads reader.old reader.new (HasWord (stack groups.old) (opening group)) (Wants (stack groups.new))) }
+    ensures opened { OnOk result
+        (Reads reader.old reader.new (HasWord (stack groups.old) (opening group)) (Wants (stack groups.new))) }
     ensures refused { IfErr result (Stops reader.old (HasWord (stack groups.old) (opening group))) }
 {
     if !reader.eat(Mark::LeftParen) {
@@ -179,7 +191,9 @@ fn behind_name<'a>(
     name: &str,
 ) -> Result<Option<CfgExpr>, Refusal<'a>>
     ensures same_text { reader.new.text ≡ reader.old.text }
-    ensures begun { IfOk result (λ done. Reads reader.old reader.new (HasName (stack groups.old) raw name.now) (Stands (stack groups.new) done reader.new.item)) }
+    ensures begun { IfOk result
+        (λ done. Reads reader.old reader.new (HasName (stack groups.old) raw name.now)
+        (Stands (stack groups.new) done reader.new.item)) }
     ensures refused { IfErr result (Stops reader.old (HasName (stack groups.old) raw name.now)) }
 {
     if let Some(group) = group_named(alloc, raw, name) {
@@ -195,9 +209,13 @@ fn behind_name<'a>(
 /// Reads the `)` of a list that has no members yet, or ends with a comma.
 fn end_list(reader: &mut Reader<'_>, groups: &mut OpenGroups) -> Option<CfgExpr>
     ensures same_text { reader.new.text ≡ reader.old.text }
-    ensures closed { IfSome result (λ e. Reads reader.old reader.new (Wants (stack groups.old)) (Has (stack groups.new) (tree_of e) reader.new.item)) }
+    ensures closed { IfSome result
+        (λ e. Reads reader.old reader.new (Wants (stack groups.old))
+        (Has (stack groups.new) (tree_of e) reader.new.item)) }
     ensures shorter { IfSome result (λ e. items_left reader.new < items_left reader.old) }
-    ensures not_closed { IfNone result ((reader.new ≡ reader.old) × (is_list (kinds (stack groups.old)) ≡ true → LacksMark reader.old Mark.RightParen)) }
+    ensures not_closed { IfNone result
+        ((reader.new ≡ reader.old)
+        × (is_list (kinds (stack groups.old)) ≡ true → LacksMark reader.old Mark.RightParen)) }
 {
     match groups.pop() {
         Some(Group::List(word, members)) => {
@@ -219,7 +237,9 @@ fn begin<'a>(
     groups: &mut OpenGroups,
 ) -> Result<Option<CfgExpr>, Refusal<'a>>
     ensures same_text { reader.new.text ≡ reader.old.text }
-    ensures begun { IfOk result (λ done. Reads reader.old reader.new (Wants (stack groups.old)) (Stands (stack groups.new) done reader.new.item)) }
+    ensures begun { IfOk result
+        (λ done. Reads reader.old reader.new (Wants (stack groups.old))
+        (Stands (stack groups.new) done reader.new.item)) }
     ensures refused { IfErr result (Stops reader.old (Wants (stack groups.old))) }
     ensures shorter { OnOk result (items_left reader.new < items_left reader.old) }
 {
@@ -272,8 +292,12 @@ fn close_negation<'a>(
     negated: CfgExpr,
 ) -> Result<CfgExpr, Refusal<'a>>
     ensures same_text { reader.new.text ≡ reader.old.text }
-    ensures closed { IfOk result (λ e. (gs : List Opening) → Reads reader.old reader.new (Has (Negated ∷ gs) (tree_of negated) reader.old.item) (Has gs (tree_of e) reader.new.item)) }
-    ensures refused { IfErr result (λ r. (gs : List Opening) → Stops reader.old (Has (Negated ∷ gs) (tree_of negated) reader.old.item) r) }
+    ensures closed { IfOk result
+        (λ e. (gs : List Opening)
+        → Reads reader.old reader.new (Has (Negated ∷ gs) (tree_of negated) reader.old.item)
+        (Has gs (tree_of e) reader.new.item)) }
+    ensures refused { IfErr result
+        (λ r. (gs : List Opening) → Stops reader.old (Has (Negated ∷ gs) (tree_of negated) reader.old.item) r) }
     ensures shorter { OnOk result (items_left reader.new < items_left reader.old) }
 {
     if !reader.eat(Mark::RightParen) {
@@ -292,8 +316,13 @@ fn behind_member<'a>(
     member: CfgExpr,
 ) -> Result<Option<CfgExpr>, Refusal<'a>>
     ensures same_text { reader.new.text ≡ reader.old.text }
-    ensures closed { IfOk result (λ done. Reads reader.old reader.new (Has (Listed (is_all word) (map tree_of members.items) ∷ stack groups.old) (tree_of member) reader.old.item) (Stands (stack groups.new) done reader.new.item)) }
-    ensures refused { IfErr result (Stops reader.old (Has (Listed (is_all word) (map tree_of members.items) ∷ stack groups.old) (tree_of member) reader.old.item)) }
+    ensures closed { IfOk result
+        (λ done. Reads reader.old reader.new
+        (Has (Listed (is_all word) (map tree_of members.items) ∷ stack groups.old) (tree_of member) reader.old.item)
+        (Stands (stack groups.new) done reader.new.item)) }
+    ensures refused { IfErr result
+        (Stops reader.old
+        (Has (Listed (is_all word) (map tree_of members.items) ∷ stack groups.old) (tree_of member) reader.old.item)) }
     ensures shorter { OnOk result (items_left reader.new < items_left reader.old) }
 {
     push_member(&mut members, member)?;
@@ -317,8 +346,11 @@ fn go_on<'a>(
     member: CfgExpr,
 ) -> Result<Option<CfgExpr>, Refusal<'a>>
     ensures same_text { reader.new.text ≡ reader.old.text }
-    ensures closed { IfOk result (λ done. Reads reader.old reader.new (Has (opening group ∷ stack groups.old) (tree_of member) reader.old.item) (Stands (stack groups.new) done reader.new.item)) }
-    ensures refused { IfErr result (Stops reader.old (Has (opening group ∷ stack groups.old) (tree_of member) reader.old.item)) }
+    ensures closed { IfOk result
+        (λ done. Reads reader.old reader.new (Has (opening group ∷ stack groups.old) (tree_of member) reader.old.item)
+        (Stands (stack groups.new) done reader.new.item)) }
+    ensures refused { IfErr result
+        (Stops reader.old (Has (opening group ∷ stack groups.old) (tree_of member) reader.old.item)) }
     ensures shorter { OnOk result (items_left reader.new < items_left reader.old) }
 {
     match group {
@@ -364,7 +396,9 @@ fn behind_cfg_name<'a>(
     name: &str,
 ) -> Result<Cfg, Refusal<'a>>
     ensures same_text { reader.new.text ≡ reader.old.text }
-    ensures value { IfOk result (λ c. Reads reader.old reader.new (λ ts. ts ≡ ident_token raw name.now ∷ []) (λ ts. ts ≡ value_spelling (value_of c))) }
+    ensures value { IfOk result
+        (λ c. Reads reader.old reader.new (λ ts. ts ≡ ident_token raw name.now ∷ [])
+        (λ ts. ts ≡ value_spelling (value_of c))) }
     ensures clear { IfOk result (λ c. ClearBehind (value_of c) reader.new) }
     ensures refused { IfErr result (StopsKey reader.old (ident_token raw name.now)) }
 {

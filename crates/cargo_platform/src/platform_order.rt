@@ -1,7 +1,8 @@
 //! Equality, order and hash of platforms by the key.
 
 ghost use Rattle.std.specs.Prelude.{refl};
-ghost use Rattle.std.specs.Cmp.{Equal-is, eq_by_cmp_equiv, on_equiv, on_total, partial_equiv_from_equiv, partial_order_from_total};
+ghost use Rattle.std.specs.Cmp.{Equal-is, eq_by_cmp_equiv, on_equiv, on_total, partial_equiv_from_equiv};
+ghost use Rattle.std.specs.Cmp.{partial_order_from_total};
 ghost use Rattle.std.specs.Ordering.{as_partial_cmp, eq_by_cmp, on};
 ghost use Rattle.cargo_platform.specs.Trees.{condition_of};
 ghost use Rattle.cargo_platform.specs.Key.{condition_cmp};
@@ -63,7 +64,8 @@ impl Ord for Platform {
 impl Hash for Platform {
     ghost hash_input = { λ p. condition_hash (condition_of p) };
 
-    ghost respects_eq = { λ a b same. condition_alike (condition_of a) (condition_of b) ((Equal-is (condition_cmp (condition_of a) (condition_of b))).0 same) };
+    ghost respects_eq = { λ a b same. condition_alike (condition_of a) (condition_of b)
+        ((Equal-is (condition_cmp (condition_of a) (condition_of b))).0 same) };
 
     fn hash<H: Hasher>(&self, state: &mut H) {
         match self {

@@ -9,7 +9,8 @@ ghost use Rattle.unicode.specs.GeneralCategory.{general_category};
 ghost use Rattle.cargo_platform.specs.Trees.{Tree, Expression, value_of, condition_of};
 ghost use Rattle.cargo_platform.specs.Facts.{fact_set, truth, IsTrueCondition};
 ghost use Rattle.cargo_platform.specs.Faults.{InvalidTarget};
-ghost use Rattle.cargo_platform.specs.Platforms.{is_number_category, is_target_char, is_plain_byte, IsTargetName, IsFirstRefused, IsTargetMessage, IsCfgOf, IsBare, IsConditionText};
+ghost use Rattle.cargo_platform.specs.Platforms.{is_number_category, is_target_char, is_plain_byte, IsTargetName};
+ghost use Rattle.cargo_platform.specs.Platforms.{IsFirstRefused, IsTargetMessage, IsCfgOf, IsBare, IsConditionText};
 ghost use Rattle.cargo_platform.specs.Errors.{orig_of, fault_in};
 ghost use Rattle.cargo_platform.specs.Readers.{ReadsCondition};
 
@@ -66,9 +67,14 @@ impl CfgExpr {
     /// memory is the only error, and is never taken for false.
     pub fn matches_key(alloc: Global, key: &str, cfg: &[Cfg]) -> Result<bool, AllocError>
         // The key spells a tree that is true over the facts.
-        ensures yes { IfOk result (λ answer. IsTrue answer → (e : Tree) × IsConditionText key.now (Expression e) × IsTrue (truth (fact_set (map value_of cfg.now)) e)) }
+        ensures yes { IfOk result
+            (λ answer. IsTrue answer
+            → (e : Tree) × IsConditionText key.now (Expression e)
+            × IsTrue (truth (fact_set (map value_of cfg.now)) e)) }
         // No tree that the key spells is.
-        ensures otherwise { IfOk result (λ answer. answer ≡ false → (e : Tree) → IsConditionText key.now (Expression e) → truth (fact_set (map value_of cfg.now)) e ≡ false) }
+        ensures otherwise { IfOk result
+            (λ answer. answer ≡ false → (e : Tree) → IsConditionText key.now (Expression e)
+            → truth (fact_set (map value_of cfg.now)) e ≡ false) }
     {
         match Platform::from_str(alloc, key) {
             Ok(Platform::Cfg(expression)) => {
@@ -143,7 +149,8 @@ fn is_number(c: char) -> bool
 fn target_error(alloc: Global, name: &str, refused: char) -> Result<ParseError, AllocError>
     requires { IsFirstRefused name.now refused }
     ensures of { IfOk result (λ e. orig_of e ≡ name.now) }
-    ensures why { IfOk result (λ e. (message : List ℕ) × IsTargetMessage name.now message × (fault_in e ≡ InvalidTarget message)) }
+    ensures why { IfOk result
+        (λ e. (message : List ℕ) × IsTargetMessage name.now message × (fault_in e ≡ InvalidTarget message)) }
 {
     let message = target_message(alloc, name, refused)?;
     ParseError::new(alloc, name, ParseErrorKind::InvalidTarget(message))

@@ -5,7 +5,8 @@ ghost use Rattle.cargo_platform.specs.Tokens.{Ident as ident_token, String as st
 ghost use Rattle.cargo_platform.specs.Reading.{Next, characters_from};
 ghost use Rattle.cargo_platform.specs.Ahead.{Comes, GoesOn};
 ghost use Rattle.cargo_platform.specs.Ahead as ahead;
-ghost use Rattle.cargo_platform.specs.Parsing.{Sees, SeesRest, SeesToken, TakesToken, LacksMark, LacksName, LacksString, lexeme_of, mark_of_lexeme, RefusesNext, RefusesMore};
+ghost use Rattle.cargo_platform.specs.Parsing.{Sees, SeesRest, SeesToken, TakesToken, LacksMark, LacksName};
+ghost use Rattle.cargo_platform.specs.Parsing.{LacksString, lexeme_of, mark_of_lexeme, RefusesNext, RefusesMore};
 
 use crate::Looks;
 use crate::error::{ParseError, ParseErrorKind, ReadError};

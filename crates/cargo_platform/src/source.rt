@@ -4,7 +4,8 @@
 //! that tell of characters are `look` and the three scans, and each counts its looks; `spend` gives the count. A scan
 //! goes over bytes, counts once, and hands on what ended it, so that nobody need look there again.
 
-ghost use Rattle.std.specs.Prelude.{◌≡◌, ◌≢◌, ℕ, ◌+◌, ◌-◌, ◌^◌, ◌<◌, ◌≤◌, true, false, length, drop, slice_index, slice_range, IfSome, IfNone, MatchOption};
+ghost use Rattle.std.specs.Prelude.{◌≡◌, ◌≢◌, ℕ, ◌+◌, ◌-◌, ◌^◌, ◌<◌, ◌≤◌, true, false, length, drop, slice_index};
+ghost use Rattle.std.specs.Prelude.{slice_range, IfSome, IfNone, MatchOption};
 ghost use Rattle.std.specs.Str.{IsCharBoundary};
 ghost use Rattle.cargo_platform.specs.Chars.{is_identifier_rest, is_character_start};
 ghost use Rattle.cargo_platform.specs.Cut.{AreSpaces};

@@ -5,7 +5,8 @@
 //! with no escapes. Where such conditions stand: "Platform specific dependencies" in Cargo's reference, and
 //! "Conditional compilation" in the Rust reference.
 
-ghost use Rattle.std.specs.Prelude.{◌≡◌, ◌≢◌, ◌+◌, ◌≤◌, length, drop, slice_index, IfOk, IfErr, OnErr, OnOk, MatchOption, true, false};
+ghost use Rattle.std.specs.Prelude.{◌≡◌, ◌≢◌, ◌+◌, ◌≤◌, length, drop, slice_index, IfOk, IfErr, OnErr, OnOk};
+ghost use Rattle.std.specs.Prelude.{MatchOption, true, false};
 ghost use Rattle.std.specs.Str.{IsCharBoundary};
 ghost use Rattle.cargo_platform.specs.Chars.{is_identifier_start};
 ghost use Rattle.cargo_platform.specs.Tokens.{lexeme, called};
@@ -245,8 +246,10 @@ fn token_at<'a>(
     ensures fault { IfErr result (λ kind. BeginsFault (drop start source.old.text.now) kind) }
     ensures cost { IfOk result (λ cut.
         Costs source.old.text.now (start + 1) cut.end 1 source.old.looks source.new.looks) }
-    ensures cost_of_fault { OnErr result (source.new.looks ≤ source.old.looks + characters_from source.old.text.now start) }
-    ensures one { OnOk result (characters_from source.old.text.now start ≡ characters_from source.old.text.now (start + 1) + 1) }
+    ensures cost_of_fault { OnErr result
+        (source.new.looks ≤ source.old.looks + characters_from source.old.text.now start) }
+    ensures one { OnOk result
+        (characters_from source.old.text.now start ≡ characters_from source.old.text.now (start + 1) + 1) }
 {
     match first {
         '(' => Ok(mark_at(source, start, Token::LeftParen)),
@@ -293,7 +296,8 @@ fn string_at<'a>(source: &mut Source<'a>, start: usize) -> Result<Cut<'a>, Token
     ensures fault { IfErr result (λ kind. BeginsFault (drop start source.old.text.now) kind) }
     ensures cost { IfOk result (λ cut.
         Costs source.old.text.now (start + 1) cut.end 1 source.old.looks source.new.looks) }
-    ensures cost_of_fault { OnErr result (source.new.looks ≤ source.old.looks + characters_from source.old.text.now start) }
+    ensures cost_of_fault { OnErr result
+        (source.new.looks ≤ source.old.looks + characters_from source.old.text.now start) }
 {
     match source.closing_quote(start + 1) {
         Some(quote) => {
@@ -339,7 +343,8 @@ fn marked_at<'a>(source: &mut Source<'a>, start: usize) -> Result<Cut<'a>, Token
     ensures fault { IfErr result (λ kind. BeginsFault (drop start source.old.text.now) kind) }
     ensures cost { IfOk result (λ cut.
         Costs source.old.text.now (start + 2) cut.end 1 source.old.looks source.new.looks) }
-    ensures cost_of_fault { OnErr result (source.new.looks + 1 ≤ source.old.looks + characters_from source.old.text.now start) }
+    ensures cost_of_fault { OnErr result
+        (source.new.looks + 1 ≤ source.old.looks + characters_from source.old.text.now start) }
 {
     let third = source.look(start + 2);
     match third {

@@ -1,7 +1,8 @@
 //! Equality, order and hash of expressions by the key, at every depth.
 
 ghost use Rattle.std.specs.Prelude.{◌≡◌, map, fold, refl};
-ghost use Rattle.std.specs.Cmp.{Equal-is, eq_by_cmp_equiv, on_equiv, on_total, partial_equiv_from_equiv, partial_order_from_total};
+ghost use Rattle.std.specs.Cmp.{Equal-is, eq_by_cmp_equiv, on_equiv, on_total, partial_equiv_from_equiv};
+ghost use Rattle.std.specs.Cmp.{partial_order_from_total};
 ghost use Rattle.std.specs.Ordering.{as_partial_cmp, eq_by_cmp, on};
 ghost use Rattle.cargo_platform.specs.Trees.{tree_of, trees_of};
 ghost use Rattle.cargo_platform.specs.Key.{rank, tree_cmp, trees_cmp};

@@ -31,7 +31,9 @@ impl<'a> Values<'a> {
 
     /// The next value, or nothing behind the last one. It refuses only where memory is refused.
     pub fn next(&mut self) -> Result<Option<&'a Cfg>, AllocError>
-        ensures { IfOk result (λ next. MatchOption next (to_come self.old ≡ []) (λ c. to_come self.old ≡ value_of c.now ∷ to_come self.new)) }
+        ensures { IfOk result
+            (λ next. MatchOption next (to_come self.old ≡ [])
+            (λ c. to_come self.old ≡ value_of c.now ∷ to_come self.new)) }
     {
         'members: loop {
             let Some((first, others)) = self.members.split_first() else {

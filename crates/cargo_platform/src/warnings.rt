@@ -1,10 +1,13 @@
 //! Warnings on conditions that are read without a fault, but do not select dependencies as their writer may expect.
 
-ghost use Rattle.std.specs.Prelude.{◌≡◌, ◌++◌, List, [], ◌∷◌, ℕ, IfOk, OnOk, OnErr, MatchOption, flat_map, string_bytes};
+ghost use Rattle.std.specs.Prelude.{◌≡◌, ◌++◌, List, [], ◌∷◌, ℕ, IfOk, OnOk, OnErr, MatchOption, flat_map};
+ghost use Rattle.std.specs.Prelude.{string_bytes};
 ghost use Rattle.cargo_platform.specs.Trees.{CfgValue, name_of, value_of, tree_of, condition_of};
 ghost use Rattle.cargo_platform.specs.Spelling.{is_literal_word};
 ghost use Rattle.cargo_platform.specs.Errors.{texts};
-ghost use Rattle.cargo_platform.specs.Warnings.{values, attribute_warning, attribute_warnings, keyword_warning, keyword_warning_of, keyword_warnings, condition_values, is_unsupported_name, unsupported_name, unsupported_feature, IsLonger};
+ghost use Rattle.cargo_platform.specs.Warnings.{values, attribute_warning, attribute_warnings, keyword_warning};
+ghost use Rattle.cargo_platform.specs.Warnings.{keyword_warning_of, keyword_warnings, condition_values};
+ghost use Rattle.cargo_platform.specs.Warnings.{is_unsupported_name, unsupported_name, unsupported_feature, IsLonger};
 
 use crate::values::Values;
 use crate::{Cfg, CfgExpr, Ident, Platform};
@@ -22,16 +25,17 @@ impl Platform {
         alloc: Global,
         warnings: &mut Vec<String>,
     ) -> Result<(), AllocError>
-        ensures ok { OnOk result (texts warnings.new ≡ texts warnings.old ++ attribute_warnings (condition_of self.now)) }
+        ensures ok { OnOk result
+            (texts warnings.new ≡ texts warnings.old ++ attribute_warnings (condition_of self.now)) }
         ensures err { OnErr result (texts warnings.new ≡ texts warnings.old) }
     {
         warn(self, alloc, &Attributes, warnings)
     }
 
     /// Appends a warning for each name or pair of the expression whose name or key is `true` or `false` without the raw
-    /// mark, in their order from left to right. Only a tree that is made by hand has such a value: the readers refuse the
-    /// words as keys, and read them alone as literals. The name of a target gives none. `path` names the manifest, and
-    /// stands in each warning as it is given.
+    /// mark, in their order from left to right. Only a tree that is made by hand has such a value: the readers refuse
+    /// the words as keys, and read them alone as literals. The name of a target gives none. `path` names the manifest,
+    /// and stands in each warning as it is given.
     ///
     /// It refuses only where memory is refused, and the list then holds what it held.
     pub fn check_cfg_keywords(
@@ -40,7 +44,8 @@ impl Platform {
         warnings: &mut Vec<String>,
         path: &str,
     ) -> Result<(), AllocError>
-        ensures ok { OnOk result (texts warnings.new ≡ texts warnings.old ++ keyword_warnings path.now (condition_of self.now)) }
+        ensures ok { OnOk result
+            (texts warnings.new ≡ texts warnings.old ++ keyword_warnings path.now (condition_of self.now)) }
         ensures err { OnErr result (texts warnings.new ≡ texts warnings.old) }
     {
         warn(self, alloc, &Keywords(path), warnings)
@@ -53,7 +58,9 @@ trait Lint {
     ghost warnings: { Self → CfgValue → List (List ℕ) };
 
     fn warning(&self, alloc: Global, c: &Cfg) -> Result<Option<String>, AllocError>
-        ensures { IfOk result (λ w. MatchOption w (warnings self.now (value_of c.now) ≡ []) (λ s. warnings self.now (value_of c.now) ≡ string_bytes s ∷ [])) };
+        ensures { IfOk result
+            (λ w. MatchOption w (warnings self.now (value_of c.now) ≡ [])
+            (λ s. warnings self.now (value_of c.now) ≡ string_bytes s ∷ [])) };
 }
 
 // Names and keys that are not supported for selecting dependencies.
@@ -133,7 +140,9 @@ fn warn<L: Lint>(
     lint: &L,
     warnings: &mut Vec<String>,
 ) -> Result<(), AllocError>
-    ensures ok { OnOk result (texts warnings.new ≡ texts warnings.old ++ flat_map (L.warnings lint.now) (condition_values (condition_of platform.now))) }
+    ensures ok { OnOk result
+        (texts warnings.new ≡ texts warnings.old ++ flat_map (L.warnings lint.now)
+        (condition_values (condition_of platform.now))) }
     ensures err { OnErr result (texts warnings.new ≡ texts warnings.old) }
 {
     let Platform::Cfg(e) = platform else {
@@ -154,7 +163,8 @@ fn walk<L: Lint>(
     lint: &L,
     warnings: &mut Vec<String>,
 ) -> Result<(), AllocError>
-    ensures ok { OnOk result (texts warnings.new ≡ texts warnings.old ++ flat_map (L.warnings lint.now) (values (tree_of e.now))) }
+    ensures ok { OnOk result
+        (texts warnings.new ≡ texts warnings.old ++ flat_map (L.warnings lint.now) (values (tree_of e.now))) }
     ensures err { OnErr result (IsLonger (texts warnings.new) (texts warnings.old)) }
 {
     let mut values = Values::new(alloc, e);

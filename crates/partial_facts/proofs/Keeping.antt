@@ -1,6 +1,6 @@
 -- What is left of a tree holds values of the tree in their order, is well-formed if the tree is, and is no larger or
 -- deeper.
-use Rattle.std.proofs.Common.{◌≡◌, refl, sym, ap, subst, ℕ, ◌+◌, ◌≤◌, max, Bool, true, false, Option, Some, None}
+use Rattle.std.proofs.Common.{◌≡◌, refl, sym, subst, ℕ, ◌+◌, ◌≤◌, max, Bool, true, false, Option, Some, None}
 use Rattle.std.proofs.Common.{List, [], ◌∷◌, ◌++◌, inl, inr, Result, IfOk, arith}
 use Rattle.std.proofs.lemmas.List.{append-nil}
 use Rattle.std.proofs.lemmas.Result.{IfOk-weaker}
@@ -10,7 +10,7 @@ use Rattle.cargo_platform.specs.WellFormed.{IsWellFormed, AreWellFormed}
 use Rattle.cargo_platform.specs.Warnings.{values, members_values}
 use Rattle.cargo_platform.specs.Sizes.{size, sizes, depth, depths}
 use Rattle.partial_facts.specs.Kleene.{kleene}
-use Rattle.partial_facts.specs.Residual.{literal, unless_known, with_unknown, group, unknown_part, unknown_members}
+use Rattle.partial_facts.specs.Residual.{unless_known, with_unknown, group, unknown_part, unknown_members}
 use Rattle.partial_facts.specs.Residual.{residual_tree, IsSubsequence}
 
 -- ---- values in their order

@@ -2,7 +2,7 @@
 use Rattle.std.proofs.Common.{◌≡◌, ◌∙◌, refl, sym, ap, Bool, true, false, not, ◌&&◌, ◌||◌, Option, Some, None, IfSome}
 use Rattle.std.specs.FinSet.{contains}
 use Rattle.cargo_platform.specs.Trees.{Tree, Not, All, Any, Value, True, False, Trees, none, tree}
-use Rattle.cargo_platform.specs.Facts.{Pair, pair_of, FactSet, truth, all_true, any_true}
+use Rattle.cargo_platform.specs.Facts.{Pair, FactSet, truth, all_true, any_true}
 use Rattle.partial_facts.specs.Kleene.{kleene_not, kleene_and, kleene_or, kleene, kleene_all, kleene_any}
 use Rattle.partial_facts.specs.Residual.{literal, unless_known, with_unknown, group, unknown_part, unknown_members}
 use Rattle.partial_facts.specs.Residual.{residual_tree, literal_truth, AreTwoOrMore, IsOpen, AreOpen, IsLiteralOrOpen}

@@ -1,5 +1,5 @@
 -- What is known and what is left of a condition, by what is known of the target's name and of the expression.
-use Rattle.std.proofs.Common.{◌≡◌, ◌∙◌, refl, sym, ap, ℕ, ◌≤◌, Bool, true, false, List, [], Option, Some, None}
+use Rattle.std.proofs.Common.{◌≡◌, ◌∙◌, refl, sym, ℕ, ◌≤◌, Bool, true, false, List, [], Option, Some, None}
 use Rattle.std.proofs.Common.{IfSome, Bor, arith}
 use Rattle.std.specs.Prelude.{◌↔◌, IsTrue, bytes_eq}
 use Rattle.std.specs.Option.{option_copied}

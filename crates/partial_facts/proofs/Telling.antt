@@ -1,5 +1,5 @@
 -- A list of facts rules out no more sets than it says.
-use Rattle.std.proofs.Common.{◌≡◌, ◌∙◌, refl, sym, ap, subst, ℕ, Bool, true, false, Option, Some, None, IfSome, List}
+use Rattle.std.proofs.Common.{◌≡◌, ◌∙◌, refl, sym, ap, subst, ℕ, Bool, true, false, None, IfSome, List}
 use Rattle.std.proofs.Common.{[], ◌∷◌, ◌++◌, map, inl, inr, true≢false}
 use Rattle.std.specs.List.{Contains}
 use Rattle.std.specs.FinSet.{contains}
@@ -8,7 +8,7 @@ use Rattle.std.proofs.lemmas.List.Elements.{Contains-append_left, Contains-push,
 use Rattle.cargo_platform.specs.Trees.{CfgValue}
 use Rattle.cargo_platform.specs.Facts.{Pair, FactSet, pair_of, fact_set}
 use Rattle.cargo_platform.specs.FactLaws.{IsInWhereListed}
-use Rattle.partial_facts.specs.Partly.{is_named, IsPartlyKnown, told_by, partly_told, partly_possible, partly_sound}
+use Rattle.partial_facts.specs.Partly.{is_named, told_by, partly_told, partly_possible, partly_sound}
 use Rattle.partial_facts.specs.Partly.{IsAllowedByTold, IsLeftOpen}
 
 has_by : (l n c : Bool) → IfSome (told_by l n) (λ b. c ≡ b) → l ≡ true → c ≡ true

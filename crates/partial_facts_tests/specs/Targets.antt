@@ -1,7 +1,7 @@
 -- Several sets of facts, of which one is a target's.
 use Rattle.std.specs.Prelude.{◌≡◌, ◌⊎◌, Bool, true, false, List, [], ◌∷◌, map, Option, Some, None, IfSome, Contains}
 use Rattle.std.specs.Prelude.{refl}
-use Rattle.std.proofs.Common.{Bor, inl, inr, sym, ap, subst, arith}
+use Rattle.std.proofs.Common.{Bor, inl, inr, ap, subst, arith}
 use Rattle.std.proofs.lemmas.List.Elements.{Contains-append_left, Contains-push, Contains-push_cases}
 use Rattle.std.proofs.lemmas.List.Elements.{Contains-append_cases}
 use Rattle.std.specs.FinSet.{contains}

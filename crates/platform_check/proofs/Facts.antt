@@ -1,5 +1,6 @@
 -- Facts, and the lines that spell them.
-use Rattle.std.proofs.Common.{◌≡◌, ◌<◌, ◌+◌, ◌-◌, ◌∙◌, ℕ, zero, suc, List, [], ◌∷◌, ◌++◌, length, get_or, take, map, sym, ap, subst, arith, length-drop, length-take}
+use Rattle.std.proofs.Common.{◌≡◌, ◌<◌, ◌+◌, ◌-◌, ◌∙◌, ℕ, zero, suc, List, [], ◌∷◌, ◌++◌, length, get_or, take, map}
+use Rattle.std.proofs.Common.{sym, ap, subst, arith, length-drop, length-take}
 use Rattle.std.specs.Prelude.{slice_range}
 use Rattle.std.proofs.Common.{inl, inr, Result, Ok, Err}
 use Rattle.std.specs.Result.{IfErr, IsErrAnd}
@@ -11,10 +12,12 @@ use Rattle.cargo_platform.specs.Errors.{orig_of, fault_in}
 use Rattle.platform_check.specs.declared.answering.Refusal.{Refusal}
 use Rattle.platform_check.specs.declared.answering.Refusal.TheVariants.{Line, Memory}
 use Rattle.platform_check.specs.Lines.{line_at, fact_lines}
-use Rattle.platform_check.specs.Answering.{SpellFacts, SpellsNoCondition, SpellsNoFact, IsRefusedFact, IsRefusedLine, IsLeast, IsFactFault, IsLineFault, IsQuery, IfLine}
+use Rattle.platform_check.specs.Answering.{SpellFacts, SpellsNoCondition, SpellsNoFact, IsRefusedFact, IsRefusedLine}
+use Rattle.platform_check.specs.Answering.{IsLeast, IsFactFault, IsLineFault, IsQuery, IfLine}
 
 -- one more line that spells one more fact
-pub one_more : (texts : List (List ℕ)) (facts : List CfgValue) (text : List ℕ) (fact : CfgValue) → SpellFacts texts facts → IsValueText text fact
+pub one_more : (texts : List (List ℕ)) (facts : List CfgValue) (text : List ℕ) (fact : CfgValue)
+    → SpellFacts texts facts → IsValueText text fact
     → SpellFacts (texts ++ text ∷ []) (facts ++ fact ∷ [])
 one_more [] [] text fact h v = (v, tt)
 one_more [] (c ∷ facts) text fact h v = absurd h
@@ -22,7 +25,8 @@ one_more (t ∷ texts) [] text fact h v = absurd h
 one_more (t ∷ texts) (c ∷ facts) text fact h v = (h.0, one_more texts facts text fact h.1 v)
 
 -- the next line spells the next fact
-pub next_fact : (texts : List (List ℕ)) (facts : List CfgValue) (i : ℕ) (text : List ℕ) (fact : CfgValue) → SpellFacts (take i texts) facts → i < length texts
+pub next_fact : (texts : List (List ℕ)) (facts : List CfgValue) (i : ℕ) (text : List ℕ) (fact : CfgValue)
+    → SpellFacts (take i texts) facts → i < length texts
     → text ≡ get_or texts i [] → IsValueText text fact → SpellFacts (take (i + 1) texts) (facts ++ fact ∷ [])
 next_fact texts facts i text fact h l e v =
     let P : List ℕ → Type 0 = λ t. IsValueText t fact in
@@ -30,11 +34,13 @@ next_fact texts facts i text fact h l e v =
     subst Q (sym (take_more texts i [] l)) (one_more (take i texts) facts (get_or texts i []) fact h (subst P e v))
 
 -- the lines behind the first two are the lines of facts
-pub behind_two : {X : Type 0} (f : X → List ℕ) (xs rest : List X) → rest ≡ slice_range xs 2 (length xs) → map f rest ≡ fact_lines (map f xs)
+pub behind_two : {X : Type 0} (f : X → List ℕ) (xs rest : List X) → rest ≡ slice_range xs 2 (length xs)
+    → map f rest ≡ fact_lines (map f xs)
 behind_two f xs rest e = ap (map f) (e ∙ take_rest xs 2) ∙ sym (drop-map f 2 xs)
 
 -- no line of those that spell facts is refused
-pub none_refused : (texts : List (List ℕ)) (facts : List CfgValue) (i : ℕ) → SpellFacts texts facts → i < length texts → SpellsNoFact (get_or texts i []) → ⊥
+pub none_refused : (texts : List (List ℕ)) (facts : List CfgValue) (i : ℕ) → SpellFacts texts facts → i < length texts
+    → SpellsNoFact (get_or texts i []) → ⊥
 none_refused [] facts i h l n = absurd (omega arith)
 none_refused (t ∷ texts) [] i h l n = absurd h
 none_refused (t ∷ texts) (c ∷ facts) zero h l n = n c h.0
@@ -57,12 +63,15 @@ first_fact ls facts i n h l none e =
           let below : k < i = omega arith in
           let short : k < length (take i (fact_lines ls)) = omega (arith, length-take i (fact_lines ls)) in
           let number : k + 3 ≡ m = omega arith in
-          let same : get_or (take i (fact_lines ls)) k [] ≡ line_at ls m = get_or-take i (fact_lines ls) k [] below ∙ fact_line ls k ∙ ap (line_at ls) number in
+          let same : get_or (take i (fact_lines ls)) k [] ≡ line_at ls m = get_or-take i (fact_lines ls) k [] below
+          ∙ fact_line ls k ∙ ap (line_at ls) number in
           none_refused (take i (fact_lines ls)) facts k h short (subst P (sym same) refused.2),
     )
 
-pub first_fact_of : (r : Refusal) (ls : List (List ℕ)) (facts : List CfgValue) (i : ℕ) (text : List ℕ) → SpellFacts (take i (fact_lines ls)) facts → i < length (fact_lines ls)
-    → text ≡ get_or (fact_lines ls) i [] → IfLine r (λ n orig fault. (n ≡ i + 3) × SpellsNoFact text × IsFactFault text orig fault)
+pub first_fact_of : (r : Refusal) (ls : List (List ℕ)) (facts : List CfgValue) (i : ℕ) (text : List ℕ)
+    → SpellFacts (take i (fact_lines ls)) facts → i < length (fact_lines ls)
+    → text ≡ get_or (fact_lines ls) i []
+    → IfLine r (λ n orig fault. (n ≡ i + 3) × SpellsNoFact text × IsFactFault text orig fault)
     → IfLine r (λ n orig fault. IsLeast (IsRefusedFact ls) n × IsFactFault (line_at ls n) orig fault)
 first_fact_of (Line n e) ls facts i text h l same refused =
     let P : List ℕ → Type 0 = λ t. SpellsNoFact t in
@@ -77,9 +86,12 @@ no_line_before ls m before (inl one) = absurd (omega arith)
 no_line_before ls m before (inr fact) = absurd (omega arith)
 
 -- line 1 is the first of all
-pub first_line : (r : Refusal) (ls : List (List ℕ)) → IfLine r (λ n orig fault. (n ≡ 1) × SpellsNoCondition (line_at ls 1) × IsRefusedCondition (line_at ls 1) orig fault)
+pub first_line : (r : Refusal) (ls : List (List ℕ))
+    → IfLine r
+    (λ n orig fault. (n ≡ 1) × SpellsNoCondition (line_at ls 1) × IsRefusedCondition (line_at ls 1) orig fault)
     → IfLine r (λ n orig fault. IsLeast (IsRefusedLine ls) n × IsLineFault ls n orig fault)
-first_line (Line n e) ls refused = ((inl (refused.0, refused.1), λ m before. no_line_before ls m (omega arith)), inl (refused.0, refused.2))
+first_line (Line n e) ls refused =
+    ((inl (refused.0, refused.1), λ m before. no_line_before ls m (omega arith)), inl (refused.0, refused.2))
 first_line (Memory e) ls refused = tt
 
 pub not_before : (ls : List (List ℕ)) (p : Condition) (n m : ℕ) → IsConditionText (line_at ls 1) p
@@ -96,16 +108,19 @@ after_first (Line n e) ls p v refused =
 after_first (Memory e) ls p v refused = tt
 
 -- no line of a query is refused
-pub no_refused_line : (ls : List (List ℕ)) (p : Condition) (facts : List CfgValue) (n : ℕ) → IsQuery ls p facts → IsRefusedLine ls n → ⊥
+pub no_refused_line : (ls : List (List ℕ)) (p : Condition) (facts : List CfgValue) (n : ℕ) → IsQuery ls p facts
+    → IsRefusedLine ls n → ⊥
 no_refused_line ls p facts n query (inl one) = one.1 p query.first
 no_refused_line ls p facts n query (inr fact) =
     let P : List ℕ → Type 0 = λ text. SpellsNoFact text in
     let k : ℕ = n - 3 in
     let number : k + 3 ≡ n = omega arith in
     let short : k < length (fact_lines ls) = omega (arith, length-drop 2 ls) in
-    none_refused (fact_lines ls) facts k query.others short (subst P (sym (fact_line ls k ∙ ap (line_at ls) number)) fact.2)
+    none_refused (fact_lines ls) facts k query.others short
+    (subst P (sym (fact_line ls k ∙ ap (line_at ls) number)) fact.2)
 
 -- what is said of a refusal that is passed on
-pub passed_on : {A : Type 0} (P : Refusal → Type 0) (result : Result A Refusal) (r : Refusal) → IsErrAnd result (λ x. x ≡ r) → P r → IfErr result P
+pub passed_on : {A : Type 0} (P : Refusal → Type 0) (result : Result A Refusal) (r : Refusal)
+    → IsErrAnd result (λ x. x ≡ r) → P r → IfErr result P
 passed_on P (Ok a) r h p = tt
 passed_on P (Err x) r h p = subst P (sym h) p

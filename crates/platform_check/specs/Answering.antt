@@ -1,5 +1,6 @@
 -- The output and the outcome, by the input's bytes.
-use Rattle.std.specs.Prelude.{ℕ, ◌≡◌, ◌≤◌, ◌<◌, ◌⊎◌, Bool, true, false, List, [], ◌∷◌, ◌++◌, length, codes, flat_map, bytes_eq, IsUtf8}
+use Rattle.std.specs.Prelude.{ℕ, ◌≡◌, ◌≤◌, ◌<◌, ◌⊎◌, Bool, true, false, List, ◌++◌, length, codes, flat_map}
+use Rattle.std.specs.Prelude.{bytes_eq, IsUtf8}
 use Rattle.std.specs.Fmt.{decimal}
 use Rattle.cargo_platform.specs.Trees.{CfgValue, Condition, Target, Expression}
 use Rattle.cargo_platform.specs.Spelling.{Values}
@@ -21,7 +22,8 @@ use Rattle.platform_check.specs.Lines.{line, lines_of, line_at, fact_lines}
 abbrev pub SpellsNoCondition : List ℕ → Type 0
 SpellsNoCondition text = (p : Condition) → IsConditionText text p → ⊥
 
--- what accepted lines ask: line 1 spells the condition, line 2 is the target's name as it stands, and each further line spells a fact
+-- what accepted lines ask: line 1 spells the condition, line 2 is the target's name as it stands, and each further line
+-- spells a fact
 pub record IsQuery (ls : List (List ℕ)) (condition : Condition) (facts : List CfgValue) : Type 0 where
   pub first : IsConditionText (line_at ls 1) condition
   pub others : SpellFacts (fact_lines ls) facts
@@ -42,9 +44,11 @@ IsLeast P n = P n × ((m : ℕ) → m < n → P m → ⊥)
 abbrev pub IsFactFault : List ℕ → List ℕ → Fault → Type 0
 IsFactFault text orig fault = (orig ≡ text) × IsRefused Values text fault
 
--- the fault of the line of this number, and the text that it is the fault of: line 1 is refused as a condition, and every other line as a fact
+-- the fault of the line of this number, and the text that it is the fault of: line 1 is refused as a condition, and
+-- every other line as a fact
 abbrev pub IsLineFault : List (List ℕ) → ℕ → List ℕ → Fault → Type 0
-IsLineFault ls n orig fault = ((n ≡ 1) × IsRefusedCondition (line_at ls 1) orig fault) ⊎ ((3 ≤ n) × IsFactFault (line_at ls n) orig fault)
+IsLineFault ls n orig fault =
+    ((n ≡ 1) × IsRefusedCondition (line_at ls 1) orig fault) ⊎ ((3 ≤ n) × IsFactFault (line_at ls n) orig fault)
 
 -- whether a target with this name and these facts meets the condition
 abbrev pub is_match : List ℕ → List CfgValue → Condition → Bool
@@ -69,7 +73,9 @@ warning_line warning = line (codes "warning: " ++ warning)
 
 -- what is written of a condition, as it prints, and of whether it is met
 abbrev pub query_text : Condition → Bool → List ℕ
-query_text p met = line (codes "condition: " ++ print_condition p) ++ line (codes "match: " ++ match_word met) ++ flat_map warning_line (warnings p)
+query_text p met =
+    line (codes "condition: " ++ print_condition p) ++ line
+    (codes "match: " ++ match_word met) ++ flat_map warning_line (warnings p)
 
 -- the output and the outcome of a query
 abbrev pub IsAnswerToQuery : List ℕ → Condition → List CfgValue → List ℕ → Outcome → Type 0
@@ -87,8 +93,10 @@ refused_line n orig fault = codes "line " ++ decimal n ++ codes ": " ++ print_er
 -- the output and the outcome of the lines: they ask something, or one of them is the first that is refused
 abbrev pub IsAnswerToLines : List (List ℕ) → List ℕ → Outcome → Type 0
 IsAnswerToLines ls output outcome =
-    ((p : Condition) × (facts : List CfgValue) × IsQuery ls p facts × IsAnswerToQuery (line_at ls 2) p facts output outcome)
-    ⊎ ((n : ℕ) × (orig : List ℕ) × (fault : Fault) × IsLeast (IsRefusedLine ls) n × IsLineFault ls n orig fault × IsRefusedAs (refused_line n orig fault) output outcome)
+    ((p : Condition) × (facts : List CfgValue) × IsQuery ls p facts
+    × IsAnswerToQuery (line_at ls 2) p facts output outcome)
+    ⊎ ((n : ℕ) × (orig : List ℕ) × (fault : Fault) × IsLeast (IsRefusedLine ls) n × IsLineFault ls n orig fault
+    × IsRefusedAs (refused_line n orig fault) output outcome)
 
 -- the output and the outcome of an input of these bytes: the whole input is refused, or its lines are answered
 abbrev pub IsAnswer : List ℕ → List ℕ → Outcome → Type 0

@@ -9,4 +9,5 @@ HasAnswer bs = (output : List ℕ) × (outcome : Outcome) × IsAnswer bs output 
 
 -- an input has at most one output, and one outcome
 abbrev pub HasOneAnswer : List ℕ → Type 0
-HasOneAnswer bs = (output other : List ℕ) (outcome another : Outcome) → IsAnswer bs output outcome → IsAnswer bs other another → (output ≡ other) × (outcome ≡ another)
+HasOneAnswer bs = (output other : List ℕ) (outcome another : Outcome) → IsAnswer bs output outcome
+    → IsAnswer bs other another → (output ≡ other) × (outcome ≡ another)

@@ -7,7 +7,10 @@ ghost use Rattle.cargo_platform.specs.Errors.{orig_of, fault_in, texts};
 ghost use Rattle.cargo_platform.specs.Print.{print_condition};
 ghost use Rattle.platform_check.specs.Reading.{IsGathered};
 ghost use Rattle.platform_check.specs.Lines.{line, lines_of, line_at, fact_lines};
-ghost use Rattle.platform_check.specs.Answering.{SpellsNoCondition, SpellsNoFact, SpellFacts, IsQuery, IsRefusedFact, IsRefusedLine, IsLeast, IsFactFault, IsLineFault, is_match, match_word, match_outcome, warnings, warning_line, IsAnswerToQuery, IsAnswerToLines, IsRefusedAs, IsAnswer, IfLine, refused_line};
+ghost use Rattle.platform_check.specs.Answering.{SpellsNoCondition, SpellsNoFact, SpellFacts, IsQuery, IsRefusedFact};
+ghost use Rattle.platform_check.specs.Answering.{IsRefusedLine, IsLeast, IsFactFault, IsLineFault, is_match};
+ghost use Rattle.platform_check.specs.Answering.{match_word, match_outcome, warnings, warning_line, IsAnswerToQuery};
+ghost use Rattle.platform_check.specs.Answering.{IsAnswerToLines, IsRefusedAs, IsAnswer, IfLine, refused_line};
 
 use crate::reading::{Gathered, MOST_BYTES};
 use cargo_platform::{Cfg, FactIndex, ParseError, Platform, ReadError};
@@ -98,7 +101,9 @@ fn line_at<'a>(lines: &[&'a str], number: usize) -> &'a str
 /// Reads line 1 as a condition.
 fn read_condition(alloc: Global, text: &str) -> Result<Platform, Refusal>
     ensures condition { IfOk result (λ p. IsConditionText text.now (condition_of p)) }
-    ensures refused { IfErr result (λ r. IfLine r (λ n orig fault. (n ≡ 1) × SpellsNoCondition text.now × IsRefusedCondition text.now orig fault)) }
+    ensures refused { IfErr result
+        (λ r. IfLine r
+        (λ n orig fault. (n ≡ 1) × SpellsNoCondition text.now × IsRefusedCondition text.now orig fault)) }
 {
     match Platform::from_str(alloc, text) {
         Ok(platform) => Ok(platform),
@@ -110,7 +115,8 @@ fn read_condition(alloc: Global, text: &str) -> Result<Platform, Refusal>
 /// Reads the line of this number as a fact.
 fn read_fact(alloc: Global, text: &str, number: usize) -> Result<Cfg, Refusal>
     ensures fact { IfOk result (λ c. IsValueText text.now (value_of c)) }
-    ensures refused { IfErr result (λ r. IfLine r (λ n orig fault. (n ≡ number) × SpellsNoFact text.now × IsFactFault text.now orig fault)) }
+    ensures refused { IfErr result
+        (λ r. IfLine r (λ n orig fault. (n ≡ number) × SpellsNoFact text.now × IsFactFault text.now orig fault)) }
 {
     match Cfg::from_str(alloc, text) {
         Ok(fact) => Ok(fact),
@@ -121,8 +127,12 @@ fn read_fact(alloc: Global, text: &str, number: usize) -> Result<Cfg, Refusal>
 
 /// Reads each line from the third on as a fact.
 fn read_facts(alloc: Global, lines: &[&str]) -> Result<Vec<Cfg>, Refusal>
-    ensures facts { IfOk result (λ facts. SpellFacts (fact_lines (map (λ x. x.now) lines.now)) (map value_of facts.items)) }
-    ensures refused { IfErr result (λ r. IfLine r (λ n orig fault. IsLeast (IsRefusedFact (map (λ x. x.now) lines.now)) n × IsFactFault (line_at (map (λ x. x.now) lines.now) n) orig fault)) }
+    ensures facts { IfOk result
+        (λ facts. SpellFacts (fact_lines (map (λ x. x.now) lines.now)) (map value_of facts.items)) }
+    ensures refused { IfErr result
+        (λ r. IfLine r
+        (λ n orig fault. IsLeast (IsRefusedFact (map (λ x. x.now) lines.now)) n
+        × IsFactFault (line_at (map (λ x. x.now) lines.now) n) orig fault)) }
 {
     let mut facts = Vec::new(alloc);
     let Some(fact_lines) = lines.get(2..) else {
@@ -136,8 +146,12 @@ fn read_facts(alloc: Global, lines: &[&str]) -> Result<Vec<Cfg>, Refusal>
 
 /// Reads what the lines ask.
 fn read_query(alloc: Global, lines: &[&str]) -> Result<Query, Refusal>
-    ensures query { IfOk result (λ q. IsQuery (map (λ x. x.now) lines.now) (condition_of q.platform) (map value_of q.facts.items)) }
-    ensures refused { IfErr result (λ r. IfLine r (λ n orig fault. IsLeast (IsRefusedLine (map (λ x. x.now) lines.now)) n × IsLineFault (map (λ x. x.now) lines.now) n orig fault)) }
+    ensures query { IfOk result
+        (λ q. IsQuery (map (λ x. x.now) lines.now) (condition_of q.platform) (map value_of q.facts.items)) }
+    ensures refused { IfErr result
+        (λ r. IfLine r
+        (λ n orig fault. IsLeast (IsRefusedLine (map (λ x. x.now) lines.now)) n
+        × IsLineFault (map (λ x. x.now) lines.now) n orig fault)) }
 {
     let platform = read_condition(alloc, line_at(lines, 1))?;
     let mut query = Query {
@@ -161,7 +175,9 @@ fn refuse(alloc: Global, text: &str) -> Result<Answer, AllocError>
 
 /// The answer to lines of which this one is the first that is refused.
 fn refuse_line(alloc: Global, number: usize, error: &ParseError) -> Result<Answer, AllocError>
-    ensures { IfOk result (λ a. IsRefusedAs (refused_line number (orig_of error.now) (fault_in error.now)) (string_bytes a.text) a.outcome) }
+    ensures { IfOk result
+        (λ a. IsRefusedAs (refused_line number (orig_of error.now) (fault_in error.now))
+        (string_bytes a.text) a.outcome) }
 {
     Ok(Answer {
         text: format!(in alloc; "line {number}: {error}\n")?,
@@ -171,7 +187,8 @@ fn refuse_line(alloc: Global, number: usize, error: &ParseError) -> Result<Answe
 
 /// Whether the target with this name meets the condition.
 fn is_match(alloc: Global, query: &Query, name: &str) -> Result<bool, AllocError>
-    ensures { IfOk result (λ b. b ≡ is_match name.now (map value_of query.now.facts.items) (condition_of query.now.platform)) }
+    ensures { IfOk result
+        (λ b. b ≡ is_match name.now (map value_of query.now.facts.items) (condition_of query.now.platform)) }
 {
     match &query.platform {
         Platform::Cfg(expression) => {
@@ -196,7 +213,9 @@ fn verdict(is_met: bool) -> (&'static str, Outcome)
 
 /// The lines on a condition, as it prints, and on whether it is met.
 fn met_lines(alloc: Global, platform: &Platform, word: &str) -> Result<String, AllocError>
-    ensures ok { IfOk result (λ t. string_bytes t ≡ line (codes "condition: " ++ print_condition (condition_of platform.now)) ++ line (codes "match: " ++ word.now)) }
+    ensures ok { IfOk result
+        (λ t. string_bytes t ≡ line (codes "condition: " ++ print_condition (condition_of platform.now)) ++ line
+        (codes "match: " ++ word.now)) }
 {
     format!(in alloc; "condition: {platform}\nmatch: {word}\n")
 }
@@ -213,7 +232,9 @@ fn warnings_on(alloc: Global, platform: &Platform) -> Result<Vec<String>, AllocE
 
 /// Appends a line for each warning.
 fn push_warnings(text: &mut String, warnings: &[String]) -> Result<(), AllocError>
-    ensures { OnOk result (string_bytes text.new ≡ string_bytes text.old ++ flat_map warning_line (map (λ w. string_bytes w) warnings.now)) }
+    ensures { OnOk result
+        (string_bytes text.new ≡ string_bytes text.old ++ flat_map warning_line
+        (map (λ w. string_bytes w) warnings.now)) }
 {
     for warning in warnings {
         text.push_str("warning: ")?;
@@ -225,7 +246,9 @@ fn push_warnings(text: &mut String, warnings: &[String]) -> Result<(), AllocErro
 
 /// The answer to what accepted lines ask of the target with this name.
 fn answer_query(alloc: Global, query: &Query, name: &str) -> Result<Answer, AllocError>
-    ensures { IfOk result (λ a. IsAnswerToQuery name.now (condition_of query.now.platform) (map value_of query.now.facts.items) (string_bytes a.text) a.outcome) }
+    ensures { IfOk result
+        (λ a. IsAnswerToQuery name.now (condition_of query.now.platform) (map value_of query.now.facts.items)
+        (string_bytes a.text) a.outcome) }
 {
     let (word, outcome) = verdict(is_match(alloc, query, name)?);
     let mut text = met_lines(alloc, &query.platform, word)?;
@@ -247,7 +270,8 @@ fn answer_lines(alloc: Global, lines: &[&str]) -> Result<Answer, AllocError>
 
 /// The answer to an input that is too long.
 fn too_long(alloc: Global) -> Result<Answer, AllocError>
-    ensures { IfOk result (λ a. IsRefusedAs (codes "input is longer than 1048576 bytes") (string_bytes a.text) a.outcome) }
+    ensures { IfOk result
+        (λ a. IsRefusedAs (codes "input is longer than 1048576 bytes") (string_bytes a.text) a.outcome) }
 {
     refuse(alloc, "input is longer than 1048576 bytes")
 }

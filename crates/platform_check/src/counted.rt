@@ -131,10 +131,15 @@ impl<R: Read> Input<R> {
     pub fn read(&mut self, piece: &mut [u8]) -> io::Result<usize>
         requires { 0 < length piece.old }
         ensures bound { ReadsAtMost result piece.new }
-        ensures bytes { ReadConsumes (R.remaining (reader_of self.old)) (R.remaining (reader_of self.new)) result piece.new }
+        ensures bytes { ReadConsumes (R.remaining (reader_of self.old))
+            (R.remaining (reader_of self.new)) result piece.new }
         ensures ok { IfOk result (λ n. read_counts self.new ≡ after_read n (read_counts self.old)) }
-        ensures interrupted { IfErr result (λ e. error_kind e ≡ ErrorKind.Interrupted → read_counts self.new ≡ after_interrupted_read (read_counts self.old)) }
-        ensures failed { IfErr result (λ e. error_kind e ≢ ErrorKind.Interrupted → read_counts self.new ≡ after_failed_read (read_counts self.old)) }
+        ensures interrupted { IfErr result
+            (λ e. error_kind e ≡ ErrorKind.Interrupted
+            → read_counts self.new ≡ after_interrupted_read (read_counts self.old)) }
+        ensures failed { IfErr result
+            (λ e. error_kind e ≢ ErrorKind.Interrupted
+            → read_counts self.new ≡ after_failed_read (read_counts self.old)) }
     {
         let outcome = self.reader.read(piece);
         let counts = &mut self.counts;
@@ -243,10 +248,15 @@ impl<W: Write> Output<W> {
     pub fn write(&mut self, piece: &[u8]) -> io::Result<usize>
         requires { 0 < length piece.now }
         ensures bound { WritesAtMost result piece.now }
-        ensures bytes { WriteAppends (W.contents (writer_of self.old)) (W.contents (writer_of self.new)) result piece.now }
+        ensures bytes { WriteAppends (W.contents (writer_of self.old))
+            (W.contents (writer_of self.new)) result piece.now }
         ensures ok { IfOk result (λ n. write_counts self.new ≡ after_write n (write_counts self.old)) }
-        ensures interrupted { IfErr result (λ e. error_kind e ≡ ErrorKind.Interrupted → write_counts self.new ≡ after_interrupted_write (write_counts self.old)) }
-        ensures failed { IfErr result (λ e. error_kind e ≢ ErrorKind.Interrupted → write_counts self.new ≡ after_failed_write (write_counts self.old)) }
+        ensures interrupted { IfErr result
+            (λ e. error_kind e ≡ ErrorKind.Interrupted
+            → write_counts self.new ≡ after_interrupted_write (write_counts self.old)) }
+        ensures failed { IfErr result
+            (λ e. error_kind e ≢ ErrorKind.Interrupted
+            → write_counts self.new ≡ after_failed_write (write_counts self.old)) }
     {
         let outcome = self.writer.write(piece);
         let counts = &mut self.counts;
@@ -273,8 +283,12 @@ impl<W: Write> Output<W> {
     pub fn flush(&mut self) -> io::Result<()>
         ensures bytes { Keeps (W.contents (writer_of self.old)) (W.contents (writer_of self.new)) }
         ensures ok { OnOk result (write_counts self.new ≡ after_flush (write_counts self.old)) }
-        ensures interrupted { IfErr result (λ e. error_kind e ≡ ErrorKind.Interrupted → write_counts self.new ≡ after_interrupted_flush (write_counts self.old)) }
-        ensures failed { IfErr result (λ e. error_kind e ≢ ErrorKind.Interrupted → write_counts self.new ≡ after_failed_flush (write_counts self.old)) }
+        ensures interrupted { IfErr result
+            (λ e. error_kind e ≡ ErrorKind.Interrupted
+            → write_counts self.new ≡ after_interrupted_flush (write_counts self.old)) }
+        ensures failed { IfErr result
+            (λ e. error_kind e ≢ ErrorKind.Interrupted
+            → write_counts self.new ≡ after_failed_flush (write_counts self.old)) }
     {
         let outcome = self.writer.flush();
         let counts = &mut self.counts;

@@ -31,14 +31,15 @@ pub enum RunError {
 
 /// Reads the input to its end, or until it is known to be too long, and writes the whole output, and flushes it once.
 ///
-/// The input has at most 1,048,576 bytes of UTF-8 text, and a newline ends a line. Line 1 is a condition as a dependency
-/// table of Cargo has it: a target's name, or `cfg(all(unix, target_os = "linux"))`. Line 2 is the name of the target,
-/// taken as it stands, and each further line is a fact of it as `rustc --print cfg` prints them, as `unix` or
-/// `target_os="linux"`. A line that is missing is empty. See "Platform specific dependencies" in Cargo's reference.
+/// The input has at most 1,048,576 bytes of UTF-8 text, and a newline ends a line. Line 1 is a condition as a
+/// dependency table of Cargo has it: a target's name, or `cfg(all(unix, target_os = "linux"))`. Line 2 is the name of
+/// the target, taken as it stands, and each further line is a fact of it as `rustc --print cfg` prints them, as `unix`
+/// or `target_os="linux"`. A line that is missing is empty. See "Platform specific dependencies" in Cargo's reference.
 ///
 /// The output is a line `condition: ` with the condition as it prints, a line `match: yes` or `match: no`, and for each
-/// warning on the condition `warning: ` and its text, those on attributes first. Of an input that is refused, because it
-/// is too long, no UTF-8, or has a line that can't be read, it is one line that says why; the first such line counts.
+/// warning on the condition `warning: ` and its text, those on attributes first. Of an input that is refused, because
+/// it is too long, no UTF-8, or has a line that can't be read, it is one line that says why; the first such line
+/// counts.
 ///
 /// An interrupted read or write is asked again. `RunError::Read`: a read failed otherwise, or 1,048,578 reads brought
 /// neither the end nor a byte too many. `RunError::Write`: a write failed otherwise or took nothing, one write more

@@ -16,8 +16,10 @@ pub struct Unwritten;
 /// write is asked again.
 fn hand_over<W: Write>(output: &mut counted::Output<W>, text: &[u8]) -> Result<(), Unwritten>
     requires { write_counts output.old ≡ no_writes }
-    ensures written { OnOk result (Appends (W.contents (writer_of output.old)) (W.contents (writer_of output.new)) text.now) }
-    ensures beginning { OnErr result (WritesBeginning (W.contents (writer_of output.old)) (W.contents (writer_of output.new)) text.now) }
+    ensures written { OnOk result
+        (Appends (W.contents (writer_of output.old)) (W.contents (writer_of output.new)) text.now) }
+    ensures beginning { OnErr result
+        (WritesBeginning (W.contents (writer_of output.old)) (W.contents (writer_of output.new)) text.now) }
     ensures unfailed { OnOk result (failures (write_counts output.new) ≡ 0) }
     ensures fault { IsErr result → HasWriteFault (write_counts output.new) (length text.now) }
     ensures within { (write_counts output.new).writes ≤ length text.now + 1 }
@@ -46,12 +48,14 @@ fn hand_over<W: Write>(output: &mut counted::Output<W>, text: &[u8]) -> Result<(
 
 /// Writes all of the text, and flushes once.
 ///
-/// `Unwritten`: a write failed otherwise than by an interruption or took nothing, one write more than the text has bytes
-/// did not take all of it, or the flush failed.
+/// `Unwritten`: a write failed otherwise than by an interruption or took nothing, one write more than the text has
+/// bytes did not take all of it, or the flush failed.
 pub fn write_out<W: Write>(output: &mut counted::Output<W>, text: &[u8]) -> Result<(), Unwritten>
     requires { write_counts output.old ≡ no_writes }
-    ensures written { OnOk result (Appends (W.contents (writer_of output.old)) (W.contents (writer_of output.new)) text.now) }
-    ensures beginning { OnErr result (WritesBeginning (W.contents (writer_of output.old)) (W.contents (writer_of output.new)) text.now) }
+    ensures written { OnOk result
+        (Appends (W.contents (writer_of output.old)) (W.contents (writer_of output.new)) text.now) }
+    ensures beginning { OnErr result
+        (WritesBeginning (W.contents (writer_of output.old)) (W.contents (writer_of output.new)) text.now) }
     ensures unfailed { OnOk result (failures (write_counts output.new) ≡ 0) }
     ensures flushed { OnOk result (IsFlushed (write_counts output.new)) }
     ensures fault { IsErr result → HasWriteFault (write_counts output.new) (length text.now) }

@@ -1,8 +1,8 @@
 -- The condition that `cfg(unix)` spells, and what it asks.
-use Rattle.std.proofs.Common.{◌≡◌, ◌∙◌, refl, sym, ap, subst, Bool, true, false, codes, List, Result, Ok, Err}
+use Rattle.std.proofs.Common.{◌≡◌, refl, sym, subst, Bool, true, false, codes, Result, Ok, Err}
 use Rattle.std.specs.Prelude.{IsTrue, IfOk}
 use Rattle.std.specs.FinSet.{contains}
-use Rattle.cargo_platform.specs.Trees.{CfgValue, Alone, Tree, Value, True, Condition, Target, Expression}
+use Rattle.cargo_platform.specs.Trees.{Alone, Tree, Value, True, Condition, Target, Expression}
 use Rattle.cargo_platform.specs.Spelling.{Expressions, IsTreeText}
 use Rattle.cargo_platform.specs.Faults.{UnexpectedToken, IsRefused}
 use Rattle.cargo_platform.specs.Platforms.{IsConditionText}

@@ -1,5 +1,5 @@
 -- What a linter prints of a key.
-use Rattle.std.specs.Prelude.{◌≡◌, ◌⊎◌, ℕ, List, ◌∷◌, ◌++◌}
+use Rattle.std.specs.Prelude.{◌≡◌, ◌⊎◌, ℕ, List, ◌++◌}
 use Rattle.cargo_platform.specs.Trees.{Condition}
 use Rattle.cargo_platform.specs.Faults.{Fault}
 use Rattle.cargo_platform.specs.Platforms.{IsConditionText, IsRefusedCondition}

@@ -10,4 +10,5 @@ returns-in-Err c = expression_refused c.args.s.now c.in-Some.inner.now c.in-Err.
 
 pub returns-in-Ok-target_error : goal.returns-in-Ok-target_error
 returns-in-Ok-target_error c =
-    condition_refused c.args.s.now c.in-Ok-target_error.error (inr (c.in_default.ensures, c.in-Ok-target_error.ensures.of, c.in-Ok-target_error.ensures.why))
+    condition_refused c.args.s.now c.in-Ok-target_error.error
+    (inr (c.in_default.ensures, c.in-Ok-target_error.ensures.of, c.in-Ok-target_error.ensures.why))

@@ -1,5 +1,7 @@
 use Rattle.std.proofs.Common.{refl}
-use Rattle.cargo_platform.specs.OrderLaws.{name_total, name_equal_iff, value_total, value_key_cmp, value_equal_iff, tree_total, key_cmp, tree_equal_iff, condition_total, condition_key_cmp, condition_equal_iff}
+use Rattle.cargo_platform.specs.OrderLaws.{name_total, name_equal_iff, value_total, value_key_cmp, value_equal_iff}
+use Rattle.cargo_platform.specs.OrderLaws.{tree_total, key_cmp, tree_equal_iff, condition_total, condition_key_cmp}
+use Rattle.cargo_platform.specs.OrderLaws.{condition_equal_iff}
 use Rattle.cargo_platform.proofs.laws.keys_are_ordered.Goals as goal
 
 pub returns-clause-names : goal.returns-clause-names
@@ -12,4 +14,5 @@ pub returns-clause-trees : goal.returns-clause-trees
 returns-clause-trees c = record { total = tree_total; of_keys = key_cmp; equal = tree_equal_iff }
 
 pub returns-clause-conditions : goal.returns-clause-conditions
-returns-clause-conditions c = record { total = condition_total; of_keys = condition_key_cmp; equal = condition_equal_iff }
+returns-clause-conditions c =
+    record { total = condition_total; of_keys = condition_key_cmp; equal = condition_equal_iff }

@@ -1,4 +1,5 @@
-use Rattle.cargo_platform.proofs.TreeViews.{tree_of-Not, tree_of-All, tree_of-Any, tree_of-Value, tree_of-True, tree_of-False}
+use Rattle.cargo_platform.proofs.TreeViews.{tree_of-Not, tree_of-All, tree_of-Any, tree_of-Value, tree_of-True}
+use Rattle.cargo_platform.proofs.TreeViews.{tree_of-False}
 use Rattle.cargo_platform.proofs.laws.views_by_form.Goals as goal
 
 pub returns-clause-negations : goal.returns-clause-negations

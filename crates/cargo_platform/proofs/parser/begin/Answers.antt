@@ -4,7 +4,8 @@ use Rattle.cargo_platform.specs.Tokens.{Ident}
 use Rattle.cargo_platform.specs.declared.reader.Mark.TheVariants as marks
 use Rattle.cargo_platform.specs.Ahead.{Ahead}
 use Rattle.cargo_platform.specs.Parsing.{stack, Wants, HasName, Stands, LacksMark}
-use Rattle.cargo_platform.proofs.Parsing.{taken_shorter, reads_shorter, if_ok, if_err, reads_taken, reads_then, stops_then, stops_untaken, wants_refusing, wants_name}
+use Rattle.cargo_platform.proofs.Parsing.{taken_shorter, reads_shorter, if_ok, if_err, reads_taken, reads_then}
+use Rattle.cargo_platform.proofs.Parsing.{stops_then, stops_untaken, wants_refusing, wants_name}
 use Rattle.cargo_platform.proofs.parser.begin.Goals as goal
 
 pub returns-in-Some-clause-begun : goal.returns-in-Some-clause-begun
@@ -17,7 +18,8 @@ returns-in-Some-clause-begun c =
     let name = c.in-Some.name.now in
     if_ok c.behind_name.result _ _ (λ done a.
     reads_then l m n (Wants gs) (HasName gs raw name) (Stands (stack c.behind_name.new.groups) done n.item)
-    (reads_taken l m (Ident raw name) (Wants gs) (HasName gs raw name) c.in-Some.ensures.taken (λ ts p. wants_name gs raw name ts p)) a)
+    (reads_taken l m (Ident raw name) (Wants gs) (HasName gs raw name) c.in-Some.ensures.taken
+    (λ ts p. wants_name gs raw name ts p)) a)
     c.behind_name.ensures.begun
 
 pub returns-in-Some-clause-refused : goal.returns-in-Some-clause-refused
@@ -29,7 +31,8 @@ returns-in-Some-clause-refused c =
     let name = c.in-Some.name.now in
     if_err c.behind_name.result _ _ (λ r a.
     stops_then l m (Wants gs) (HasName gs raw name) r
-    (reads_taken l m (Ident raw name) (Wants gs) (HasName gs raw name) c.in-Some.ensures.taken (λ ts p. wants_name gs raw name ts p)) a)
+    (reads_taken l m (Ident raw name) (Wants gs) (HasName gs raw name) c.in-Some.ensures.taken
+    (λ ts p. wants_name gs raw name ts p)) a)
     c.behind_name.ensures.refused
 
 pub returns-clause-refused : goal.returns-clause-refused
@@ -39,7 +42,8 @@ returns-clause-refused c =
     let n = c.in_default.ensures.not_taken in
     let k = c.in_default-end_list.ensures.not_closed in
     let L : Ahead → Type 0 = λ z. LacksMark z marks.RightParen in
-    stops_untaken l c.end_list.new.reader (Wants gs) c.refuse.result _ _ (k.0 ∙ n.0) c.refuse.ensures (λ ts p. wants_refusing l gs ts n.1 (λ y. subst L n.0 (k.1 y)) p)
+    stops_untaken l c.end_list.new.reader (Wants gs) c.refuse.result _ _ (k.0 ∙ n.0) c.refuse.ensures
+    (λ ts p. wants_refusing l gs ts n.1 (λ y. subst L n.0 (k.1 y)) p)
 
 pub returns-in-Some-clause-shorter : goal.returns-in-Some-clause-shorter
 returns-in-Some-clause-shorter c =
@@ -47,4 +51,8 @@ returns-in-Some-clause-shorter c =
     let m = c.eat_name.new.self in
     let n = c.behind_name.new.reader in
     if_ok c.behind_name.result _ (λ _. items_left n < items_left l) (λ done a.
-    omega (arith, taken_shorter l m (Ident c.in-Some.raw c.in-Some.name.now) c.in-Some.ensures.taken, reads_shorter m n _ _ a)) c.behind_name.ensures.begun
+    omega (
+      arith,
+      taken_shorter l m (Ident c.in-Some.raw c.in-Some.name.now) c.in-Some.ensures.taken,
+      reads_shorter m n _ _ a,
+    )) c.behind_name.ensures.begun

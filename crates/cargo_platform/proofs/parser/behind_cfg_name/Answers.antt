@@ -18,12 +18,16 @@ returns-then-eat-clause-value c =
     let Q : List Lexeme → Type 0 = λ z. Reads l n (λ ts. ts ≡ t ∷ []) (λ ts. ts ≡ z) in
     subst Q (sym is)
     (reads_then l m n (λ ts. ts ≡ t ∷ []) (λ ts. ts ≡ t ∷ Equals ∷ []) (λ ts. ts ≡ t ∷ Equals ∷ s ∷ [])
-    (reads_taken l m Equals (λ ts. ts ≡ t ∷ []) (λ ts. ts ≡ t ∷ Equals ∷ []) (c.eat.ensures.taken c.if-eat.true) (λ ts p. ap (λ (z : List Lexeme). z ++ Equals ∷ []) p))
-    (reads_taken m n s (λ ts. ts ≡ t ∷ Equals ∷ []) (λ ts. ts ≡ t ∷ Equals ∷ s ∷ []) h.1 (λ ts p. ap (λ (z : List Lexeme). z ++ s ∷ []) p))))
+    (reads_taken l m Equals (λ ts. ts ≡ t ∷ []) (λ ts. ts ≡ t ∷ Equals ∷ []) (c.eat.ensures.taken c.if-eat.true)
+    (λ ts p. ap (λ (z : List Lexeme). z ++ Equals ∷ []) p))
+    (reads_taken m n s (λ ts. ts ≡ t ∷ Equals ∷ []) (λ ts. ts ≡ t ∷ Equals ∷ s ∷ []) h.1
+    (λ ts p. ap (λ (z : List Lexeme). z ++ s ∷ []) p))))
     c.read_pair.ensures.pair
 
 pub returns-then-eat-clause-clear : goal.returns-then-eat-clause-clear
-returns-then-eat-clause-clear c = if_ok c.read_pair.result _ _ (λ v h. subst (λ z. ClearBehind z c.read_pair.new.reader) (sym h.2) tt) c.read_pair.ensures.pair
+returns-then-eat-clause-clear c =
+    if_ok c.read_pair.result _ _
+    (λ v h. subst (λ z. ClearBehind z c.read_pair.new.reader) (sym h.2) tt) c.read_pair.ensures.pair
 
 pub returns-then-eat-clause-refused : goal.returns-then-eat-clause-refused
 returns-then-eat-clause-refused c =
@@ -32,6 +36,7 @@ returns-then-eat-clause-refused c =
     let t = Ident c.args.raw c.args.name.now in
     if_err c.read_pair.result _ _ (λ r. if_fault r _ _ (λ f h. (
       m,
-      reads_taken l m Equals (λ ts. ts ≡ t ∷ []) (λ ts. ts ≡ t ∷ Equals ∷ []) (c.eat.ensures.taken c.if-eat.true) (λ ts p. ap (λ (z : List Lexeme). z ++ Equals ∷ []) p),
+      reads_taken l m Equals (λ ts. ts ≡ t ∷ []) (λ ts. ts ≡ t ∷ Equals ∷ []) (c.eat.ensures.taken c.if-eat.true)
+          (λ ts p. ap (λ (z : List Lexeme). z ++ Equals ∷ []) p),
       h,
     ))) c.read_pair.ensures.refused

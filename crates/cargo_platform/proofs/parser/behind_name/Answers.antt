@@ -9,4 +9,5 @@ returns-in-Some-literal_named-clause-begun c =
     let gs = stack c.args.groups.now in
     let e = tree_of c.in-Some-literal_named.literal in
     let is = c.in-Some-literal_named.ensures in
-    reads_same l (HasName gs c.args.raw c.args.name.now) (Has gs e l.item) (λ ts p. literal_lone gs c.args.raw c.args.name.now e l.item ts is.1 is.0 p)
+    reads_same l (HasName gs c.args.raw c.args.name.now) (Has gs e l.item)
+    (λ ts p. literal_lone gs c.args.raw c.args.name.now e l.item ts is.1 is.0 p)

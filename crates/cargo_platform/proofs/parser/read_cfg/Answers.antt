@@ -17,7 +17,8 @@ returns-in_default-clause-refused c =
     let l = c.args.reader.now in
     let n = c.in_default.ensures.not_taken in
     let R : Ahead → Type 0 = λ z. RefusesNext z (codes "identifier") (codes "identifier") c.refuse.result in
-    if_fault c.refuse.result _ _ (λ f h. ([], l, reads_same l Nothing Nothing (λ ts p. p), (n.1, h))) (subst R n.0 c.refuse.ensures)
+    if_fault c.refuse.result _ _
+    (λ f h. ([], l, reads_same l Nothing Nothing (λ ts p. p), (n.1, h))) (subst R n.0 c.refuse.ensures)
 
 pub returns-in_err-cfg-clause-refused : goal.returns-in_err-cfg-clause-refused
 returns-in_err-cfg-clause-refused c =
@@ -29,7 +30,10 @@ returns-in_err-cfg-clause-refused c =
     rw (p.1, p.2) (if_fault r _ _ (λ f h. (
       t ∷ Equals ∷ [],
       h.0,
-      reads_then l m h.0 Nothing (λ ts. ts ≡ t ∷ []) (λ ts. ts ≡ t ∷ Equals ∷ []) (reads_taken l m t Nothing (λ ts. ts ≡ t ∷ []) c.in-Some.ensures.taken (λ ts p. ap (λ (z : List Lexeme). z ++ t ∷ []) p)) h.1,
+      reads_then l m h.0 Nothing (λ ts. ts ≡ t ∷ [])
+          (λ ts. ts ≡ t ∷ Equals ∷ [])
+          (reads_taken l m t Nothing (λ ts. ts ≡ t ∷ []) c.in-Some.ensures.taken
+          (λ ts p. ap (λ (z : List Lexeme). z ++ t ∷ []) p)) h.1,
       h.2,
     )) c.in_err-cfg.ensures.refused)
 
@@ -45,7 +49,10 @@ returns-in_err-expect_end-clause-refused c =
     rw (p.1, p.2) (if_fault r _ _ (λ f h. (
       value_spelling v,
       n,
-      reads_then l m n Nothing (λ ts. ts ≡ t ∷ []) (λ ts. ts ≡ value_spelling v) (reads_taken l m t Nothing (λ ts. ts ≡ t ∷ []) c.in-Some.ensures.taken (λ ts p. ap (λ (z : List Lexeme). z ++ t ∷ []) p)) c.in_ok-cfg.ensures.value,
+      reads_then l m n Nothing (λ ts. ts ≡ t ∷ [])
+          (λ ts. ts ≡ value_spelling v)
+          (reads_taken l m t Nothing (λ ts. ts ≡ t ∷ []) c.in-Some.ensures.taken
+          (λ ts p. ap (λ (z : List Lexeme). z ++ t ∷ []) p)) c.in_ok-cfg.ensures.value,
       behind_value v n f c.in_ok-cfg.ensures.clear h,
     )) c.in_err-expect_end.ensures.more)
 
@@ -56,4 +63,7 @@ returns-clause-value c =
     let n = c.behind_cfg_name.new.reader in
     let t = Ident c.in-Some.raw c.in-Some.name.now in
     let v = value_of c.in_ok-cfg.cfg in
-    reads_then l m n Nothing (λ ts. ts ≡ t ∷ []) (λ ts. ts ≡ value_spelling v) (reads_taken l m t Nothing (λ ts. ts ≡ t ∷ []) c.in-Some.ensures.taken (λ ts p. ap (λ (z : List Lexeme). z ++ t ∷ []) p)) c.in_ok-cfg.ensures.value
+    reads_then l m n Nothing (λ ts. ts ≡ t ∷ [])
+    (λ ts. ts ≡ value_spelling v)
+    (reads_taken l m t Nothing (λ ts. ts ≡ t ∷ []) c.in-Some.ensures.taken
+    (λ ts p. ap (λ (z : List Lexeme). z ++ t ∷ []) p)) c.in_ok-cfg.ensures.value

@@ -12,4 +12,5 @@ returns-in_default-clause-refused c =
     if_fault c.refuse.result _ _ (λ f h. (n.1, h)) (subst R n.0 c.refuse.ensures)
 
 pub returns-clause-pair : goal.returns-clause-pair
-returns-clause-pair c = (c.in-Some.value.now, c.in-Some.ensures.taken, λ i. KeyPair (c.in_ok-key.ensures i) (c.in_ok-value.ensures.ok i))
+returns-clause-pair c =
+    (c.in-Some.value.now, c.in-Some.ensures.taken, λ i. KeyPair (c.in_ok-key.ensures i) (c.in_ok-value.ensures.ok i))

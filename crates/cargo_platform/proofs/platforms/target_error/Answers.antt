@@ -3,4 +3,6 @@ use Rattle.std.proofs.lemmas.Result.{IfOk-weaker}
 use Rattle.cargo_platform.proofs.platforms.target_error.Goals as goal
 
 pub returns-clause-why : goal.returns-clause-why
-returns-clause-why c = IfOk-weaker c.new.result _ _ (λ e is. (string_bytes c.in_ok-message.message, c.in_ok-message.ensures, is)) c.new.ensures.why
+returns-clause-why c =
+    IfOk-weaker c.new.result _ _
+    (λ e is. (string_bytes c.in_ok-message.message, c.in_ok-message.ensures, is)) c.new.ensures.why

@@ -7,5 +7,9 @@ use Rattle.cargo_platform.proofs.source.character_at.Goals as goal
 pub returns-then-byte-lt128 : goal.returns-then-byte-lt128
 returns-then-byte-lt128 c =
     let is = c.as_bytes-bytes.ensures.value in
-    let bytes = c.as_bytes-bytes.result.now in
-    (c.if-byte-lt128.true, subst (λ text. IsCharAt text c.args.at (get_or bytes c.args.at 0)) is (ascii_here bytes c.args.at c.as_bytes-bytes.ensures.utf8 c.if-at-bytes.false c.if-byte-lt128.true (rw is c.requires)))
+    let bytes = c.as_bytes-bytes.result.now in (
+      c.if-byte-lt128.true,
+      subst (λ text. IsCharAt text c.args.at (get_or bytes c.args.at 0)) is
+          (ascii_here bytes c.args.at c.as_bytes-bytes.ensures.utf8 c.if-at-bytes.false c.if-byte-lt128.true
+          (rw is c.requires)),
+    )

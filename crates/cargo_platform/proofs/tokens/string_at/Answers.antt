@@ -18,4 +18,5 @@ returns-in-Some-clause-token c =
     }
 
 pub returns-in-None-clause-fault : goal.returns-in-None-clause-fault
-returns-in-None-clause-fault c = unterminated c.args.source.now.text.now c.args.start c.requires.there c.in-None.ensures.none
+returns-in-None-clause-fault c =
+    unterminated c.args.source.now.text.now c.args.start c.requires.there c.in-None.ensures.none

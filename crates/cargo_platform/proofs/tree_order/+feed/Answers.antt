@@ -11,4 +11,6 @@ feed_members-returns g t c =
     let es = c.args.es.now in
     let hashed = trees_hash (trees_of (map tree_of es)) in
     let fed = rw (drop_all c.loop-e.e-index es c.loop-e-test.false) at c.loop-e.invariant in
-    rw (count_members es) (◌∙◌ {b = fold g.H.Hasher.write c.write_usize.new.self hashed} fed (ap (λ state. fold g.H.Hasher.write state hashed) c.write_usize.ensures))
+    rw (count_members es)
+    (◌∙◌ {b = fold g.H.Hasher.write c.write_usize.new.self hashed} fed
+    (ap (λ state. fold g.H.Hasher.write state hashed) c.write_usize.ensures))

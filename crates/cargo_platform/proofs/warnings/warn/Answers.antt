@@ -7,4 +7,6 @@ pub returns-then-is_err-clause-err : goal.returns-then-is_err-clause-err
 returns-then-is_err-clause-err g c =
     let held = c.args.warnings.now in
     let walked = c.walk-result.new.warnings in
-    on_err_weaker c.walk-result.result (λ longer. cut_back held walked c.truncate.new.self longer (c.truncate.ensures.items ∙ ap (λ n. take n walked.items) c.len-held.ensures)) c.walk-result.ensures.err
+    on_err_weaker c.walk-result.result
+    (λ longer. cut_back held walked c.truncate.new.self longer
+    (c.truncate.ensures.items ∙ ap (λ n. take n walked.items) c.len-held.ensures)) c.walk-result.ensures.err

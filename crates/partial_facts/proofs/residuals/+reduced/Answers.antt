@@ -3,7 +3,7 @@ use Rattle.std.specs.Prelude.{◌⊎◌}
 use Rattle.std.proofs.lemmas.Result.{IfOk-weaker}
 use Rattle.cargo_platform.specs.Trees.{Not, tree_of}
 use Rattle.partial_facts.specs.Residual.{negation, residual_tree}
-use Rattle.partial_facts.proofs.Reducing.{begun, settled_by, went_on, reduced_to, view-True, view-False, not_is}
+use Rattle.partial_facts.proofs.Reducing.{settled_by, went_on, reduced_to, view-True, view-False, not_is}
 use Rattle.partial_facts.proofs.Reducing.{all_is, any_is, negation_residual}
 use Rattle.partial_facts.proofs.residuals.+reduced.Goals as goal
 use Rattle.partial_facts.proofs.residuals.+reduced.Goals.{in-Some-true, in-None, in-Some-false-2, in-None-2}
@@ -15,7 +15,8 @@ returns-in_ok-reduced-in-Not g t c =
     IfOk-weaker c.negated.result (λ r. tree_of r ≡ negation (tree_of c.in_ok-reduced-in-Not.field-0))
     (λ r. tree_of r ≡ residual_tree told (tree_of c.args.e.now))
     (λ r is. is ∙ ap negation c.in_ok-reduced-in-Not.ensures ∙ negation_residual told (tree_of c.deref.result.now)
-    ∙ ap (λ x. residual_tree told (Not (tree_of x))) inner ∙ not_is told c.args.e.now c.in-Not.inner c.in-Not.is) c.negated.ensures
+    ∙ ap (λ x. residual_tree told (Not (tree_of x))) inner
+    ∙ not_is told c.args.e.now c.in-Not.inner c.in-Not.is) c.negated.ensures
 
 pub returns-in-Some-false : goal.returns-in-Some-false
 returns-in-Some-false g t c =

@@ -1,4 +1,3 @@
-use Rattle.std.proofs.Common.{rules}
 use Rattle.cargo_platform.specs.Trees.{tree_of}
 use Rattle.partial_facts.proofs.KleeneSound.{kleene_sound}
 use Rattle.partial_facts.proofs.three_valued.decide.Goals as goal

@@ -11,8 +11,11 @@ pub returns : goal.returns
 returns c =
     let condition = print_condition (condition_of c.args.platform.now) in
     let word = c.args.word.now in
-    let pieces : IfOk c.format.result (λ t. string_bytes t ≡ codes "condition: " ++ (condition ++ (codes "\nmatch: " ++ (word ++ codes "\n")))) = c.format.ensures.ok in
+    let pieces : IfOk c.format.result
+    (λ t. string_bytes t ≡ codes "condition: " ++ (condition ++ (codes "\nmatch: " ++ (word ++ codes "\n")))) =
+    c.format.ensures.ok in
     record {
-      ok = IfOk-weaker c.format.result _ (λ t. string_bytes t ≡ line (codes "condition: " ++ condition) ++ line (codes "match: " ++ word))
+      ok = IfOk-weaker c.format.result _
+          (λ t. string_bytes t ≡ line (codes "condition: " ++ condition) ++ line (codes "match: " ++ word))
           (λ t e. two_lines condition word (string_bytes t) e) pieces;
     }

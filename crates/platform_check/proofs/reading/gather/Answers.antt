@@ -9,7 +9,8 @@ returns-then-n-len-clause-brought g c =
     let within : c.in-Ok.n ≤ length c.read.new.piece = c.in-Ok.ensures.bound.0 in
     let full : c.len.result ≡ length c.loop-turn.bytes.items = search rules in
     let counted = c.in-Ok.ensures.ok in
-    let longer : length (c.loop-turn.bytes.items ++ take c.in-Ok.n c.read.new.piece) ≡ length c.loop-turn.bytes.items + c.in-Ok.n =
+    let longer : length
+    (c.loop-turn.bytes.items ++ take c.in-Ok.n c.read.new.piece) ≡ length c.loop-turn.bytes.items + c.in-Ok.n =
     simp (length-append, length-take) (omega arith) in (
       c.loop-turn.bytes.items ++ take c.in-Ok.n c.read.new.piece,
       omega arith,
@@ -27,7 +28,8 @@ loop-turn-preserved g c = elim c.match-read.branch [
       let within : w.in-Ok.n ≤ length c.read.new.piece = w.in-Ok.ensures.bound.0 in
       let some : w.in-Ok.n ≡ 0 → ⊥ = w.in-Ok.n-test.1 in
       let full : w.len.result ≡ length c.loop-turn.bytes.items = search rules in
-      let grown : c.match-read.bytes.items ≡ c.loop-turn.bytes.items ++ take w.in-Ok.n c.read.new.piece = search (rules, common_steps) in
+      let grown : c.match-read.bytes.items ≡ c.loop-turn.bytes.items ++ take w.in-Ok.n c.read.new.piece = search
+      (rules, common_steps) in
       let longer : length c.match-read.bytes.items ≡ length c.loop-turn.bytes.items + w.in-Ok.n =
       ap length grown ∙ simp (length-append, length-take) (omega arith) in
       let counted = w.in-Ok.ensures.ok in

@@ -11,5 +11,6 @@ invariant-loop-turn g l = record {
   ends : (read_counts l.input).ends ≡ 0;
   bytes : (read_counts l.input).bytes ≡ length l.bytes.items;
   short : length l.bytes.items ≤ 1_048_576;
-  brought : Consumes (g.R.Read.remaining (reader_of l.initial.input)) (g.R.Read.remaining (reader_of l.input)) l.bytes.items;
+  brought : Consumes (g.R.Read.remaining (reader_of l.initial.input))
+      (g.R.Read.remaining (reader_of l.input)) l.bytes.items;
 }

@@ -13,7 +13,8 @@ loop-turn-preserved g c = elim c.match-write.branch [
       let left : List ℕ = drop c.loop-turn.taken c.args.text.now in
       let cut : take (length c.args.text.now - c.loop-turn.taken) left ≡ left = search (rules, common_steps) in
       let within : w.in-Ok.n ≤ length left = rw cut at w.in-Ok.ensures.bound in
-      let longer : length left ≡ length c.args.text.now - c.loop-turn.taken = length-drop c.loop-turn.taken c.args.text.now in
+      let longer : length left
+      ≡ length c.args.text.now - c.loop-turn.taken = length-drop c.loop-turn.taken c.args.text.now in
       let counted = w.in-Ok.ensures.ok in
       let same : c.match-write.taken ≡ c.loop-turn.taken + w.in-Ok.n = w.taken-is in
       let next = rw cut at w.in-Ok.ensures.bytes in
@@ -31,7 +32,8 @@ loop-turn-preserved g c = elim c.match-write.branch [
       let counted = w.in-Err.ensures.interrupted (search rules) in
       let before = c.loop-turn.output.counts.interrupted_writes in
       let few : before + 1 < 2 ^ 64 = omega arith in
-      let grown : c.write.new.self.counts.interrupted_writes ≡ before + 1 = ap (λ x. x.interrupted_writes) counted ∙ omega arith in
+      let grown : c.write.new.self.counts.interrupted_writes ≡ before + 1 = ap (λ x. x.interrupted_writes) counted
+      ∙ omega arith in
       record {
         writes = grind (arith, counted);
         unfailed = grind (arith, counted);

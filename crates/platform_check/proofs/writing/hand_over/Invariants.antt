@@ -13,5 +13,6 @@ invariant-loop-turn g l = record {
   within : l.taken ≤ length l.text;
   each : l._turn ≤ l.taken + (write_counts l.output).interrupted_writes;
   interrupted : (write_counts l.output).interrupted_writes ≤ l._turn;
-  written : Appends (g.W.Write.contents (writer_of l.initial.output)) (g.W.Write.contents (writer_of l.output)) (take l.taken l.text);
+  written : Appends (g.W.Write.contents (writer_of l.initial.output)) (g.W.Write.contents (writer_of l.output))
+      (take l.taken l.text);
 }

@@ -17,7 +17,8 @@ decreases-any_but_last g l = 2 * sizes l.members.now + 1
 -- the answer hangs on what the loop has come to
 abbrev pub invariant-matches_in-levels : goal.invariant-matches_in-levels
 invariant-matches_in-levels g l =
-    (asked l.is_asked (truth (g.F.Facts.meant l.facts) (tree_of l.e)) ≡ truth (g.F.Facts.meant l.facts) (tree_of l.self))
+    (asked l.is_asked (truth (g.F.Facts.meant l.facts) (tree_of l.e)) ≡ truth (g.F.Facts.meant l.facts)
+    (tree_of l.self))
     × (size l.e ≤ size l.self)
 
 abbrev pub decreases-matches_in-levels : goal.decreases-matches_in-levels

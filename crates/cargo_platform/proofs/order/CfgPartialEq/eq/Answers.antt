@@ -10,4 +10,6 @@ pub returns-then-eq : goal.returns-then-eq
 returns-then-eq c =
     let w = c.in-KeyPair-KeyPair in
     let values = c.eq-then-eq.ensures ∙ texts_ties (string_bytes w.a) (string_bytes w.b) in
-    rw (w.is-0, w.is-1) (both_tied _ _ (name_cmp (name_of w.j) (name_of w.k)) (text_cmp (string_bytes w.a) (string_bytes w.b)) c.if-eq.ensures values)
+    rw (w.is-0, w.is-1)
+    (both_tied _ _ (name_cmp (name_of w.j) (name_of w.k))
+    (text_cmp (string_bytes w.a) (string_bytes w.b)) c.if-eq.ensures values)

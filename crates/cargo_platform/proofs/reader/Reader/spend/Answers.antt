@@ -5,5 +5,6 @@ use Rattle.cargo_platform.proofs.reader.Reader.spend.Goals as goal
 
 pub returns-clause-whole : goal.returns-clause-whole
 returns-clause-whole c = λ done.
-    let seen = seen_whole c.self.inside.tokens c.self.inside.ahead c.self.invariant (ap (λ (z : Ahead). z.item) c.self.view_is ∙ done) in
+    let seen = seen_whole c.self.inside.tokens c.self.inside.ahead c.self.invariant
+    (ap (λ (z : Ahead). z.item) c.self.view_is ∙ done) in
     rw (← c.self.view_is, c.spend.ensures) seen

@@ -5,7 +5,8 @@ use Rattle.cargo_platform.proofs.source.Source.closing_quote.Goals as goal
 pub returns-then-end-self-clause-cost : goal.returns-then-end-self-clause-cost
 returns-then-end-self-clause-cost c =
     let text = c.args.self.now.text.now in
-    let found : characters_from text c.args.from ≡ characters_from text c.value_end-end.result.0 + c.value_end-end.result.1 =
+    let found : characters_from text c.args.from
+    ≡ characters_from text c.value_end-end.result.0 + c.value_end-end.result.1 =
     c.value_end-end.ensures.characters in
     record { forward = omega arith; grows = omega arith; at_most = omega arith; at_least = λ below. omega arith }
 

@@ -7,8 +7,10 @@ use Rattle.cargo_platform.proofs.FactSets.{pairs_total}
 use Rattle.cargo_platform_tests.proofs.matching.JoinedFacts.holds.Goals as goal
 
 -- where the first set's answer is known
-in_either : (first second : List Cfg) (c : Cfg) (answer : Bool) → contains (fact_set (map value_of first)) (pair_of (value_of c)) ≡ answer →
-    (answer || contains (fact_set (map value_of second)) (pair_of (value_of c))) ≡ contains (union (fact_set (map value_of first)) (fact_set (map value_of second))) (pair_of (value_of c))
+in_either : (first second : List Cfg) (c : Cfg) (answer : Bool)
+    → contains (fact_set (map value_of first)) (pair_of (value_of c)) ≡ answer →
+    (answer || contains (fact_set (map value_of second)) (pair_of (value_of c))) ≡ contains
+    (union (fact_set (map value_of first)) (fact_set (map value_of second))) (pair_of (value_of c))
 in_either first second c answer is =
     let s = fact_set (map value_of first) in
     let t = fact_set (map value_of second) in
@@ -16,7 +18,13 @@ in_either first second c answer is =
     sym (contains-union pairs_total s t p ∙ ap (λ b. b || contains t p) is)
 
 pub returns-then-holds : goal.returns-then-holds
-returns-then-holds c = c.if-holds.true ∙ in_either c.args.self.now.target.now c.args.self.now.build.now c.args.c.now _ (sym c.holds.ensures ∙ c.if-holds.true)
+returns-then-holds c =
+    c.if-holds.true
+    ∙ in_either c.args.self.now.target.now c.args.self.now.build.now c.args.c.now _
+    (sym c.holds.ensures ∙ c.if-holds.true)
 
 pub returns-else-holds : goal.returns-else-holds
-returns-else-holds c = c.holds-else-holds.ensures ∙ in_either c.args.self.now.target.now c.args.self.now.build.now c.args.c.now _ (sym c.holds.ensures ∙ c.if-holds.false)
+returns-else-holds c =
+    c.holds-else-holds.ensures
+    ∙ in_either c.args.self.now.target.now c.args.self.now.build.now c.args.c.now _
+    (sym c.holds.ensures ∙ c.if-holds.false)

@@ -5,12 +5,14 @@ use Rattle.uses.proofs.own_facts.SystemFacts.holds.Goals as goal
 
 pub returns-then-self : goal.returns-then-self
 returns-then-self c =
-    of_name _ true (codes "unix") (codes "target_os") (string_bytes c.args.self.now.name) _ _ _ (ap value_of c.in-Name.is)
+    of_name _ true (codes "unix") (codes "target_os") (string_bytes c.args.self.now.name) _ _ _
+    (ap value_of c.in-Name.is)
     (first_known _ _ true _ c.if-self.true (texts_compared _ _ _ c.eq_text.ensures))
 
 pub returns-else-self : goal.returns-else-self
 returns-else-self c =
-    of_name _ true (codes "unix") (codes "target_os") (string_bytes c.args.self.now.name) _ _ _ (ap value_of c.in-Name.is)
+    of_name _ true (codes "unix") (codes "target_os") (string_bytes c.args.self.now.name) _ _ _
+    (ap value_of c.in-Name.is)
     (first_known _ _ false _ c.if-self.false c.if-self.false)
 
 pub returns-then-eq_text : goal.returns-then-eq_text
@@ -24,5 +26,6 @@ returns-then-eq_text c =
 pub returns-else-eq_text : goal.returns-else-eq_text
 returns-else-eq_text c =
     let key = texts_compared c.eq_text-in-KeyPair.result _ _ c.eq_text-in-KeyPair.ensures in
-    of_pair c.args.self.now.is_unix true (codes "unix") _ (string_bytes c.args.self.now.name) _ _ _ _ (ap value_of c.in-KeyPair.is)
+    of_pair c.args.self.now.is_unix true (codes "unix") _ (string_bytes c.args.self.now.name) _ _ _ _
+    (ap value_of c.in-KeyPair.is)
     (first_known _ _ false _ (sym key ∙ c.if-eq_text.false) c.if-eq_text.false)
