@@ -1,5 +1,5 @@
 -- Facts, and the lines that spell them.
-use Rattle.std.proofs.Common.{◌≡◌, ◌<◌, ◌+◌, ◌-◌, ◌∙◌, ℕ, zero, suc, List, [], ◌∷◌, ◌++◌, length, get_or, take, map}
+use Rattle.std.proofs.Common.{◌≡◌, ◌<◌, ◌+◌, ◌-◌, ◌∙◌, ℕ, List, [], ◌∷◌, ◌++◌, length, get_or, take, map}
 use Rattle.std.proofs.Common.{sym, ap, subst, arith, length-drop, length-take}
 use Rattle.std.specs.Prelude.{slice_range}
 use Rattle.std.proofs.Common.{inl, inr, Result, Ok, Err}
@@ -9,20 +9,12 @@ use Rattle.cargo_platform.specs.Trees.{CfgValue, Condition}
 use Rattle.cargo_platform.specs.Spelling.{IsValueText}
 use Rattle.cargo_platform.specs.Platforms.{IsConditionText, IsRefusedCondition}
 use Rattle.cargo_platform.specs.Errors.{orig_of, fault_in}
+use Rattle.cargo_platform.proofs.FactLines.{one_more, none_refused}
 use Rattle.platform_check.specs.declared.answering.Refusal.{Refusal}
 use Rattle.platform_check.specs.declared.answering.Refusal.TheVariants.{Line, Memory}
 use Rattle.platform_check.specs.Lines.{line_at, fact_lines}
 use Rattle.platform_check.specs.Answering.{SpellFacts, SpellsNoCondition, SpellsNoFact, IsRefusedFact, IsRefusedLine}
 use Rattle.platform_check.specs.Answering.{IsLeast, IsFactFault, IsLineFault, IsQuery, IfLine}
-
--- one more line that spells one more fact
-pub one_more : (texts : List (List ℕ)) (facts : List CfgValue) (text : List ℕ) (fact : CfgValue)
-    → SpellFacts texts facts → IsValueText text fact
-    → SpellFacts (texts ++ text ∷ []) (facts ++ fact ∷ [])
-one_more [] [] text fact h v = (v, tt)
-one_more [] (c ∷ facts) text fact h v = absurd h
-one_more (t ∷ texts) [] text fact h v = absurd h
-one_more (t ∷ texts) (c ∷ facts) text fact h v = (h.0, one_more texts facts text fact h.1 v)
 
 -- the next line spells the next fact
 pub next_fact : (texts : List (List ℕ)) (facts : List CfgValue) (i : ℕ) (text : List ℕ) (fact : CfgValue)
@@ -37,14 +29,6 @@ next_fact texts facts i text fact h l e v =
 pub behind_two : {X : Type 0} (f : X → List ℕ) (xs rest : List X) → rest ≡ slice_range xs 2 (length xs)
     → map f rest ≡ fact_lines (map f xs)
 behind_two f xs rest e = ap (map f) (e ∙ take_rest xs 2) ∙ sym (drop-map f 2 xs)
-
--- no line of those that spell facts is refused
-pub none_refused : (texts : List (List ℕ)) (facts : List CfgValue) (i : ℕ) → SpellFacts texts facts → i < length texts
-    → SpellsNoFact (get_or texts i []) → ⊥
-none_refused [] facts i h l n = absurd (omega arith)
-none_refused (t ∷ texts) [] i h l n = absurd h
-none_refused (t ∷ texts) (c ∷ facts) zero h l n = n c h.0
-none_refused (t ∷ texts) (c ∷ facts) (suc i) h l n = none_refused texts facts i h.1 (omega arith) n
 
 -- the line of a fact, among the facts' lines
 pub fact_line : (ls : List (List ℕ)) (i : ℕ) → get_or (fact_lines ls) i [] ≡ line_at ls (i + 3)
