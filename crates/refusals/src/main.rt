@@ -6,6 +6,8 @@
 //! one growth refused, does for each growth of each call.
 #![tactic(auto)]
 
+mod known_in_part;
+
 use cargo_platform::{
     Cfg, CfgExpr, FactIndex, Facts, FactsError, Ident, JsonError, ParseError, ParseErrorKind,
     Platform, ReadError, read_facts,
@@ -136,7 +138,7 @@ fn ask(alloc: Global, name: &[u8]) -> Result<String, Fault> {
         b"json" => json(alloc),
         b"target_json" => target_json(alloc),
         b"refused_json" => refused_json(alloc),
-        _ => Err(Fault::Unknown),
+        _ => known_in_part::left(alloc, name),
     }
 }
 
