@@ -6,6 +6,8 @@
 //! one growth refused, does for each growth of each call.
 #![tactic(auto)]
 
+mod known_in_part;
+
 use cargo_platform::{
     Cfg, CfgExpr, FactIndex, Facts, FactsError, Ident, JsonError, ParseError, ParseErrorKind,
     Platform, ReadError, read_facts,
@@ -157,7 +159,7 @@ fn copy(alloc: Global, name: &[u8]) -> Result<String, Fault> {
         b"target_json" => target_json(alloc),
         b"refused_json" => refused_json(alloc, "!foo"),
         b"refused_condition_json" => refused_json(alloc, "cfg(a b)"),
-        _ => Err(Fault::Unknown),
+        _ => known_in_part::left(alloc, name),
     }
 }
 
