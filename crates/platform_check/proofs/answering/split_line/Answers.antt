@@ -1,4 +1,4 @@
-use Rattle.std.proofs.Common.{◌≡◌, Some, None}
+use Rattle.std.proofs.Common.{◌≡◌, Some}
 use Rattle.platform_check.proofs.Cutting.{split_some, split_none}
 use Rattle.platform_check.proofs.answering.split_line.Goals as goal
 
