@@ -1,5 +1,5 @@
 -- What some sets have that holders of one's own mean.
-use Rattle.std.proofs.Common.{◌≡◌, ◌∙◌, Bool, true, false, ◌||◌, codes}
+use Rattle.std.proofs.Common.{◌≡◌, ◌∙◌, true, false, ◌||◌, codes}
 use Rattle.std.specs.FinSet.{contains, union}
 use Rattle.cargo_platform.specs.Trees.{CfgValue, Alone, KeyPair}
 use Rattle.cargo_platform.specs.Facts.{pair_of}

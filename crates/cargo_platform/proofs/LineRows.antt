@@ -1,5 +1,5 @@
 -- The lines of some texts, and the first line that spells no fact.
-use Rattle.std.proofs.Common.{◌≡◌, refl, arith, List, [], ◌∷◌, codes}
+use Rattle.std.proofs.Common.{◌≡◌, refl, arith, [], ◌∷◌, codes}
 use Rattle.cargo_platform.specs.Trees.{CfgValue, Alone, KeyPair}
 use Rattle.cargo_platform.specs.Spelling.{IsValueText}
 use Rattle.cargo_platform.specs.Lines.{lines_of, line_at}
