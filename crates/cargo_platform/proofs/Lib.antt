@@ -41,6 +41,8 @@ mod PrintRows
 mod KeyRows
 mod WarningRows
 mod ReadingRows
+mod LineRows
+mod HolderRows
 pub mod FactSets
 pub mod FactTruths
 pub mod FactIndexes

@@ -53,7 +53,7 @@ behind_key text name i j k l ts tail next fault cut follows lacks h =
 
 -- ---- nothing is read
 
-empty : IsRefused Values [] (IncompleteExpr (codes "identifier"))
+pub empty : IsRefused Values [] (IncompleteExpr (codes "identifier"))
 empty = at_start _ [] 0 End _ (refl, inl refl) (lit≤ tt) (lacks_none IsIdentifier) refl
 
 one_space : IsRefused Values (codes " ") (IncompleteExpr (codes "identifier"))

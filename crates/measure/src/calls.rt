@@ -1,8 +1,9 @@
 //! The calls that are timed.
 
 use crate::inputs::Matching;
-use cargo_platform::{Cfg, CfgExpr, FactIndex, Tokenizer};
-use std::alloc::Global;
+use cargo_platform::{Cfg, CfgExpr, FactIndex, Listed, Tokenizer};
+use partial_facts::{Complete, Partial, decide};
+use std::alloc::{AllocError, Global};
 use std::io;
 use std::rt::Clock;
 use std::time::{Duration, Instant};
@@ -16,7 +17,13 @@ pub enum Call<'a> {
     Match(&'a Matching),
     MatchIn(&'a Matching),
     Index(&'a Matching),
+    Decide(&'a Matching),
+    DecideIn(&'a Matching),
+    DecidePartly(&'a Matching),
 }
+
+/// The names and keys of the usual condition.
+const NAMES: &[&str] = &["unix", "target_os", "target_env", "target_arch"];
 
 impl<'a> Call<'a> {
     pub fn name(&self) -> &'static str {
@@ -27,6 +34,7 @@ impl<'a> Call<'a> {
             Call::Match(_) => "CfgExpr::matches",
             Call::MatchIn(_) => "CfgExpr::matches_in",
             Call::Index(_) => "FactIndex::new",
+            Call::Decide(_) | Call::DecideIn(_) | Call::DecidePartly(_) => "decide",
         }
     }
 
@@ -34,7 +42,12 @@ impl<'a> Call<'a> {
     pub fn size(&self) -> u32 {
         let size = match self {
             Call::Read(text) | Call::ReadFact(text) | Call::Cut(text) => text.len(),
-            Call::Match(given) | Call::MatchIn(given) | Call::Index(given) => given.facts.len(),
+            Call::Match(given)
+            | Call::MatchIn(given)
+            | Call::Index(given)
+            | Call::Decide(given)
+            | Call::DecideIn(given)
+            | Call::DecidePartly(given) => given.facts.len(),
         };
         u32::try_from(size).unwrap_or(u32::MAX)
     }
@@ -48,20 +61,40 @@ impl<'a> Call<'a> {
             Call::Match(given) => usize::from(given.condition.matches(&given.facts)),
             Call::MatchIn(given) => usize::from(given.condition.matches_in(&given.index)),
             Call::Index(given) => usize::from(FactIndex::new(alloc, &given.facts).is_ok()),
+            Call::Decide(given) => {
+                let listed = Listed(&given.facts);
+                usize::from(decide(&given.condition, &Complete(&listed)) == Some(true))
+            }
+            Call::DecideIn(given) => {
+                usize::from(decide(&given.condition, &Complete(&given.index)) == Some(true))
+            }
+            Call::DecidePartly(given) => {
+                let known = Partial {
+                    facts: &given.facts,
+                    complete: NAMES,
+                };
+                usize::from(decide(&given.condition, &known) == Some(true))
+            }
         }
     }
 }
 
-/// A call, and what it answered last. The answer is stored, so that no call is left out by a compiler.
+/// A call, what it answered last, and how long its rounds took. The answer is stored, so that no call is left out by a
+/// compiler.
 #[derive(Drop)]
 pub struct Timed<'a> {
     call: Call<'a>,
     answer: usize,
+    rounds: Vec<Duration>,
 }
 
 impl<'a> Timed<'a> {
-    pub fn new(call: Call<'a>) -> Timed<'a> {
-        Timed { call, answer: 0 }
+    pub fn new(alloc: Global, call: Call<'a>) -> Timed<'a> {
+        Timed {
+            call,
+            answer: 0,
+            rounds: Vec::new(alloc),
+        }
     }
 
     pub fn answer(&self) -> usize {
@@ -73,18 +106,35 @@ impl<'a> Timed<'a> {
         self.answer = self.call.make(alloc);
     }
 
-    /// The nanoseconds of one call: the fastest round, over the calls of a round. A round goes over some 200,000 bytes
-    /// or facts, so that short calls are made often enough for the clock.
-    pub fn nanoseconds(&mut self, rt: &(impl Clock + AllocGlobal), rounds: u32) -> io::Result<f64> {
-        let calls = 1 + 200_000 / self.call.size().max(1);
-        let mut fastest = Duration::MAX;
-        for _ in 0..rounds {
-            let start = Instant::now(rt)?;
-            for _ in 0..calls {
-                self.make(rt.alloc());
-            }
-            fastest = fastest.min(start.elapsed(rt)?);
+    /// The calls in a round, which goes over some 200,000 bytes or facts, so that short calls are made often enough for
+    /// the clock.
+    fn calls(&self) -> u32 {
+        1 + 200_000 / self.call.size().max(1)
+    }
+
+    /// Makes the calls of a round.
+    pub fn take_turn(&mut self, rt: &(impl Clock + AllocGlobal)) -> io::Result<()> {
+        let start = Instant::now(rt)?;
+        for _ in 0..self.calls() {
+            self.make(rt.alloc());
         }
-        Ok(fastest.as_secs_f64() * 1e9 / f64::from(calls))
+        let taken = start.elapsed(rt)?;
+        self.rounds.push(taken).map_err(AllocError::from)?;
+        Ok(())
+    }
+
+    /// The nanoseconds of one call in this of the rounds, the fastest of which is 0.
+    fn nanoseconds(&mut self, place: usize) -> io::Result<f64> {
+        self.rounds.sort()?;
+        let round = self.rounds.get(place).copied().unwrap_or(Duration::MAX);
+        Ok(round.as_secs_f64() * 1e9 / f64::from(self.calls()))
+    }
+
+    pub fn fastest(&mut self) -> io::Result<f64> {
+        self.nanoseconds(0)
+    }
+
+    pub fn median(&mut self) -> io::Result<f64> {
+        self.nanoseconds(self.rounds.len() / 2)
     }
 }

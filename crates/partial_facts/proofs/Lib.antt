@@ -1,4 +1,4 @@
-pub mod Folding
+pub mod Hanging
 pub mod KleeneSound
 pub mod Refining
 pub mod Telling

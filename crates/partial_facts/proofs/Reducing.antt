@@ -12,19 +12,8 @@ use Rattle.cargo_platform.specs.Facts.{Pair}
 use Rattle.partial_facts.specs.Kleene.{kleene, kleene_all, kleene_any, kleene_not, kleene_and, kleene_or}
 use Rattle.partial_facts.specs.Residual.{literal, unless_known, with_unknown, group, unknown_part, unknown_members}
 use Rattle.partial_facts.specs.Residual.{residual_tree, literal_truth, negation}
+use Rattle.partial_facts.specs.Groups.{both, members_known, grouped}
 use Rattle.partial_facts.proofs.Leaving.{decided, part_literal}
-
-abbrev pub both : Bool → Option Bool → Option Bool → Option Bool
-both true = kleene_and
-both false = kleene_or
-
-abbrev pub members_known : Bool → (Pair → Option Bool) → Trees → Option Bool
-members_known true = kleene_all
-members_known false = kleene_any
-
-abbrev pub grouped : Bool → Trees → Tree
-grouped true = All
-grouped false = Any
 
 -- what is known of the members so far, by those of them that are left
 abbrev pub left_so_far : Bool → List Tree → Option Bool

@@ -1,12 +1,15 @@
 //! The truth of an expression, where it follows from what is known.
 
-ghost use Rattle.std.specs.Prelude.{◌≡◌, IfSome};
-ghost use Rattle.cargo_platform.specs.Trees.{tree_of};
+ghost use Rattle.std.specs.Prelude.{◌≡◌, ◌≤◌, Some, map, IfSome, IfOk, MatchResult};
+ghost use Rattle.cargo_platform.specs.Trees.{tree_of, trees_of};
 ghost use Rattle.cargo_platform.specs.Facts.{FactSet, truth};
+ghost use Rattle.cargo_platform.specs.ExpressionSizes.{size, sizes};
 ghost use Rattle.partial_facts.specs.Kleene.{kleene};
+ghost use Rattle.partial_facts.specs.Groups.{both, members_known, so_far};
 
 use crate::knowledge::Knowledge;
 use cargo_platform::CfgExpr;
+use std::mem;
 
 /// The truth of the expression over each possible set of facts, where that follows member by member from
 /// what is known of its names and pairs, and `None` elsewhere.
@@ -21,38 +24,86 @@ pub fn decide<K: Knowledge>(e: &CfgExpr, known: &K) -> Option<bool>
     evaluate(e, known)
 }
 
+// Goes down the last members in a loop, so that what recurses are the members before them. What is asked of `e` there is
+// answered by `if_true` or `if_false` where the truth of `e` is known.
+#[cycle(evaluate)]
 fn evaluate<K: Knowledge>(e: &CfgExpr, known: &K) -> Option<bool>
     ensures { result ≡ kleene (K.told known.now) (tree_of e.now) }
 {
-    match e {
-        CfgExpr::Not(inner) => match evaluate(inner, known) {
-            Some(truth) => Some(!truth),
+    let mut e = e;
+    let mut if_true = Some(true);
+    let mut if_false = Some(false);
+    'levels: loop {
+        let truth = match e {
+            CfgExpr::Not(inner) => {
+                mem::swap(&mut if_true, &mut if_false);
+                e = inner;
+                continue;
+            }
+            CfgExpr::All(members) => match last_member(members, true, known) {
+                Ok((last, is_known)) => {
+                    if !is_known {
+                        if_true = None;
+                    }
+                    e = last;
+                    continue;
+                }
+                Err(truth) => Some(truth),
+            },
+            CfgExpr::Any(members) => match last_member(members, false, known) {
+                Ok((last, is_known)) => {
+                    if !is_known {
+                        if_false = None;
+                    }
+                    e = last;
+                    continue;
+                }
+                Err(truth) => Some(truth),
+            },
+            CfgExpr::Value(c) => known.tells(c),
+            CfgExpr::True => Some(true),
+            CfgExpr::False => Some(false),
+        };
+        return match truth {
+            Some(true) => if_true,
+            Some(false) => if_false,
             None => None,
-        },
-        CfgExpr::All(members) => {
-            let mut is_known = true;
-            for member in members {
-                match evaluate(member, known) {
-                    Some(true) => {}
-                    Some(false) => return Some(false),
-                    None => is_known = false,
-                }
-            }
-            if is_known { Some(true) } else { None }
-        }
-        CfgExpr::Any(members) => {
-            let mut is_known = true;
-            for member in members {
-                match evaluate(member, known) {
-                    Some(true) => return Some(true),
-                    Some(false) => {}
-                    None => is_known = false,
-                }
-            }
-            if is_known { Some(false) } else { None }
-        }
-        CfgExpr::Value(c) => known.tells(c),
-        CfgExpr::True => Some(true),
-        CfgExpr::False => Some(false),
+        };
     }
+}
+
+// The last member of an `all` or `any`, and whether each member before it is known; or the truth of the group where it
+// hangs on none. `all` goes on behind members that are true, and `any` behind false ones: `neutral` is that truth.
+#[cycle(evaluate)]
+#[inline(always)]
+fn last_member<'a, K: Knowledge>(
+    members: &'a [CfgExpr],
+    neutral: bool,
+    known: &K,
+) -> Result<(&'a CfgExpr, bool), bool>
+    ensures truth { MatchResult result
+        (λ last. both neutral (so_far neutral last.1) (kleene (K.told known.now) (tree_of last.0.now))
+        ≡ members_known neutral (K.told known.now) (trees_of (map tree_of members.now)))
+        (λ truth. Some truth ≡ members_known neutral (K.told known.now) (trees_of (map tree_of members.now))) }
+    ensures size { IfOk result (λ last. size last.0.now ≤ sizes members.now) }
+{
+    let Some((first, others)) = members.split_first() else {
+        return Err(neutral);
+    };
+    let mut e = first;
+    let mut left = others;
+    let mut is_known = true;
+    'members: while let Some((next, others)) = left.split_first() {
+        match evaluate(e, known) {
+            Some(truth) => {
+                if truth != neutral {
+                    return Err(truth);
+                }
+            }
+            None => is_known = false,
+        }
+        e = next;
+        left = others;
+    }
+    Ok((e, is_known))
 }

@@ -5,6 +5,8 @@
 pub mod audit;
 #[cfg(test)]
 mod completions;
+#[cfg(test)]
+mod deep;
 pub mod planner;
 #[cfg(test)]
 mod residuals;

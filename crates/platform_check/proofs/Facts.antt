@@ -1,34 +1,29 @@
 -- Facts, and the lines that spell them.
-use Rattle.std.proofs.Common.{◌≡◌, ◌<◌, ◌+◌, ◌-◌, ◌∙◌, ℕ, List, [], ◌∷◌, ◌++◌, length, get_or, take, map}
+use Rattle.std.proofs.Common.{◌≡◌, ◌≤◌, ◌<◌, ◌+◌, ◌-◌, ◌∙◌, ℕ, List, [], ◌∷◌, length, get_or, take, drop}
 use Rattle.std.proofs.Common.{sym, ap, subst, arith, length-drop, length-take}
-use Rattle.std.specs.Prelude.{slice_range}
-use Rattle.std.proofs.Common.{inl, inr, Result, Ok, Err}
+use Rattle.std.proofs.Common.{inl, inr, Result, Ok, Err, Vec}
+use Rattle.std.specs.declared.alloc.Global.{Global}
 use Rattle.std.specs.Result.{IfErr, IsErrAnd}
-use Rattle.std.proofs.lemmas.List.{get_or-drop, get_or-take, take_more, take_rest, drop-map}
+use Rattle.std.proofs.lemmas.List.{get_or-drop, get_or-take}
+use Rattle.cargo_platform.specs.declared.cfg.Cfg.{Cfg}
+use Rattle.cargo_platform.specs.declared.error.ParseError.{ParseError}
+use Rattle.cargo_platform.specs.declared.fact_lines.FactsError.{FactsError}
+use Rattle.cargo_platform.specs.declared.fact_lines.FactsError.TheVariants as facts
 use Rattle.cargo_platform.specs.Trees.{CfgValue, Condition}
-use Rattle.cargo_platform.specs.Spelling.{IsValueText}
 use Rattle.cargo_platform.specs.Platforms.{IsConditionText, IsRefusedCondition}
+use Rattle.cargo_platform.specs.FactLines.{IsFirstNoFact, ReadsFacts}
 use Rattle.cargo_platform.specs.Errors.{orig_of, fault_in}
-use Rattle.cargo_platform.proofs.FactLines.{one_more, none_refused}
+use Rattle.cargo_platform.proofs.FactLines.{none_refused}
 use Rattle.platform_check.specs.declared.answering.Refusal.{Refusal}
 use Rattle.platform_check.specs.declared.answering.Refusal.TheVariants.{Line, Memory}
-use Rattle.platform_check.specs.Lines.{line_at, fact_lines}
+use Rattle.platform_check.specs.Lines.{lines_of, line_at, fact_lines}
 use Rattle.platform_check.specs.Answering.{SpellFacts, SpellsNoCondition, SpellsNoFact, IsRefusedFact, IsRefusedLine}
 use Rattle.platform_check.specs.Answering.{IsLeast, IsFactFault, IsLineFault, IsQuery, IfLine}
 
--- the next line spells the next fact
-pub next_fact : (texts : List (List ℕ)) (facts : List CfgValue) (i : ℕ) (text : List ℕ) (fact : CfgValue)
-    → SpellFacts (take i texts) facts → i < length texts
-    → text ≡ get_or texts i [] → IsValueText text fact → SpellFacts (take (i + 1) texts) (facts ++ fact ∷ [])
-next_fact texts facts i text fact h l e v =
-    let P : List ℕ → Type 0 = λ t. IsValueText t fact in
-    let Q : List (List ℕ) → Type 0 = λ ts. SpellFacts ts (facts ++ fact ∷ []) in
-    subst Q (sym (take_more texts i [] l)) (one_more (take i texts) facts (get_or texts i []) fact h (subst P e v))
-
--- the lines behind the first two are the lines of facts
-pub behind_two : {X : Type 0} (f : X → List ℕ) (xs rest : List X) → rest ≡ slice_range xs 2 (length xs)
-    → map f rest ≡ fact_lines (map f xs)
-behind_two f xs rest e = ap (map f) (e ∙ take_rest xs 2) ∙ sym (drop-map f 2 xs)
+-- the lines behind the first two, where each of these is split off
+pub behind_two : (ls others rest : List (List ℕ)) → others ≡ drop 1 ls → rest ≡ drop 1 others → rest ≡ fact_lines ls
+behind_two [] others rest e f = f ∙ ap (drop 1) e
+behind_two (l ∷ ls) others rest e f = f ∙ ap (drop 1) e
 
 -- the line of a fact, among the facts' lines
 pub fact_line : (ls : List (List ℕ)) (i : ℕ) → get_or (fact_lines ls) i [] ≡ line_at ls (i + 3)
@@ -52,18 +47,38 @@ first_fact ls facts i n h l none e =
           none_refused (take i (fact_lines ls)) facts k h short (subst P (sym same) refused.2),
     )
 
-pub first_fact_of : (r : Refusal) (ls : List (List ℕ)) (facts : List CfgValue) (i : ℕ) (text : List ℕ)
-    → SpellFacts (take i (fact_lines ls)) facts → i < length (fact_lines ls)
-    → text ≡ get_or (fact_lines ls) i []
-    → IfLine r (λ n orig fault. (n ≡ i + 3) × SpellsNoFact text × IsFactFault text orig fault)
+-- what is said of a refused line of facts
+pub refused_line_of : (text : List ℕ) (r : Result (Vec Cfg Global) FactsError) (n : ℕ) (e : ParseError)
+    → ReadsFacts text r → r ≡ Err (facts.Line n e)
+    → IsFirstNoFact (lines_of text) n × IsFactFault (line_at (lines_of text) n) (orig_of e) (fault_in e)
+refused_line_of text r n e h is =
+    let k : ReadsFacts text (Err (facts.Line n e)) = subst (λ x. ReadsFacts text x) is h in
+    (k.refused, (k.orig, k.fault))
+
+pub number_moved : (ls : List (List ℕ)) (n : ℕ) (e : ParseError)
+    → IsFirstNoFact ls n × IsFactFault (line_at ls n) (orig_of e) (fault_in e)
+    → IsFirstNoFact ls (n + 2 - 2) × IsFactFault (line_at ls (n + 2 - 2)) (orig_of e) (fault_in e)
+number_moved ls n e h =
+    let same : n ≡ n + 2 - 2 = omega arith in
+    subst (λ k. IsFirstNoFact ls k × IsFactFault (line_at ls k) (orig_of e) (fault_in e)) same h
+
+-- the number of a refused fact is 2 more than that among the facts
+pub first_fact_of : (r : Refusal) (ls others : List (List ℕ)) → others ≡ fact_lines ls
+    → IfLine r (λ n orig fault. IsFirstNoFact others (n - 2) × IsFactFault (line_at others (n - 2)) orig fault)
     → IfLine r (λ n orig fault. IsLeast (IsRefusedFact ls) n × IsFactFault (line_at ls n) orig fault)
-first_fact_of (Line n e) ls facts i text h l same refused =
-    let P : List ℕ → Type 0 = λ t. SpellsNoFact t in
+first_fact_of (Line n e) ls others same refused =
+    let P : List (List ℕ) → Type 0 = λ fs. IsFirstNoFact fs (n - 2)
+    × IsFactFault (line_at fs (n - 2)) (orig_of e) (fault_in e) in
+    let h = subst P same refused in
+    let one : 1 ≤ n - 2 = h.0.numbered.0 in
+    let within : n - 2 ≤ length (fact_lines ls) = h.0.numbered.1 in
+    let i : ℕ = (n - 2) - 1 in
+    let number : i + 3 ≡ n = omega arith in
     let Q : List ℕ → Type 0 = λ t. IsFactFault t (orig_of e) (fault_in e) in (
-      first_fact ls facts i n h l (subst P same refused.1) refused.0,
-      subst Q (same ∙ fact_line ls i ∙ ap (line_at ls) (sym refused.0)) refused.2,
+      first_fact ls h.0.before.0 i n h.0.before.1 (omega arith) h.0.here (sym number),
+      subst Q (fact_line ls i ∙ ap (line_at ls) number) h.1,
     )
-first_fact_of (Memory e) ls facts i text h l same refused = tt
+first_fact_of (Memory e) ls others same refused = tt
 
 pub no_line_before : (ls : List (List ℕ)) (m : ℕ) → m < 1 → IsRefusedLine ls m → ⊥
 no_line_before ls m before (inl one) = absurd (omega arith)

@@ -1,3 +1,4 @@
+pub mod Cutting
 pub mod Facts
 pub mod OneAnswer
 pub mod Outputs

@@ -1,20 +1,21 @@
 //! The output as a function of the input's bytes.
-ghost use Rattle.std.specs.Prelude.{◌≡◌, ◌++◌, ℕ, List, IfOk, IfErr, OnOk, codes, flat_map, map, string_bytes};
+ghost use Rattle.std.specs.Prelude.{◌≡◌, ◌++◌, ◌-◌, ℕ, List, IfOk, IfErr, OnOk, codes, drop, flat_map, map};
+ghost use Rattle.std.specs.Prelude.{string_bytes};
 ghost use Rattle.cargo_platform.specs.Trees.{value_of, condition_of};
-ghost use Rattle.cargo_platform.specs.Spelling.{IsValueText};
 ghost use Rattle.cargo_platform.specs.Platforms.{IsConditionText, IsRefusedCondition};
+ghost use Rattle.cargo_platform.specs.FactLines.{IsFirstNoFact};
 ghost use Rattle.cargo_platform.specs.Errors.{orig_of, fault_in, texts};
 ghost use Rattle.cargo_platform.specs.Print.{print_condition};
 ghost use Rattle.platform_check.specs.Reading.{IsGathered};
-ghost use Rattle.platform_check.specs.Lines.{line, lines_of, line_at, fact_lines};
-ghost use Rattle.platform_check.specs.Answering.{SpellsNoCondition, SpellsNoFact, SpellFacts, IsQuery, IsRefusedFact};
-ghost use Rattle.platform_check.specs.Answering.{IsRefusedLine, IsLeast, IsFactFault, IsLineFault, is_match};
+ghost use Rattle.platform_check.specs.Lines.{line, lines_of, line_at};
+ghost use Rattle.platform_check.specs.Answering.{SpellsNoCondition, SpellFacts, IsQuery};
+ghost use Rattle.platform_check.specs.Answering.{IsLeast, IsFactFault, IsRefusedLine, IsLineFault, is_match};
 ghost use Rattle.platform_check.specs.Answering.{match_word, match_outcome, warnings, warning_line, IsAnswerToQuery};
 ghost use Rattle.platform_check.specs.Answering.{IsAnswerToLines, IsRefusedAs, IsAnswer, IfLine, refused_line};
 
 use crate::reading::{Gathered, MOST_BYTES};
-use cargo_platform::{Cfg, FactIndex, ParseError, Platform, ReadError};
-use std::alloc::{AllocError, AllocFailed, Global};
+use cargo_platform::{Cfg, FactIndex, FactsError, ParseError, Platform, ReadError, read_facts};
+use std::alloc::{AllocError, Global};
 
 /// How a run ended.
 #[derive(Clone, Copy, Debug, PartialEq, Eq)]
@@ -34,16 +35,21 @@ pub struct Answer {
     pub outcome: Outcome,
 }
 
-/// What the lines ask: whether a target with these facts meets the condition.
-struct Query {
+/// What the lines ask: whether a target with this name and these facts meets the condition.
+struct Query<'a> {
     platform: Platform,
+    target: &'a str,
     facts: Vec<Cfg>,
 }
 
-impl Drop for Query {
+impl<'a> Drop for Query<'a> {
     /// Without recursion over the depth of the condition.
     fn drop(self) {
-        let Query { platform, facts } = self;
+        let Query {
+            platform,
+            target: _,
+            facts,
+        } = self;
         platform.drop_iteratively(*facts.allocator());
     }
 }
@@ -56,45 +62,17 @@ enum Refusal {
     Memory(AllocError),
 }
 
-impl From<AllocFailed<Cfg>> for Refusal {
-    ghost use Rattle.std.specs.Prelude.{◌≡◌, alloc_error};
-    ghost use Rattle.platform_check.specs.declared.answering.Refusal.TheVariants.{Memory};
-
-    ghost from_gives = { λ _ refusal. refusal ≡ Memory alloc_error };
-
-    fn from(_fact: AllocFailed<Cfg>) -> Refusal {
-        Refusal::Memory(AllocError)
-    }
-}
-
 /// What stands for the manifest in the warnings on keywords.
 const MANIFEST: &str = "-";
 
-/// The lines, without what ends them.
-fn cut_lines<'a>(alloc: Global, text: &'a str) -> Result<Vec<&'a str>, AllocError>
-    ensures { IfOk result (λ v. map (λ x. x.now) v.items ≡ lines_of text.now) }
+/// The first line of a text, without what ends it, and the text behind it.
+fn split_line(text: &str) -> (&str, &str)
+    ensures line { result.0.now ≡ line_at (lines_of text.now) 1 }
+    ensures behind { lines_of result.1.now ≡ drop 1 (lines_of text.now) }
 {
-    let mut lines = Vec::new(alloc);
-    if text.is_empty() {
-        return Ok(lines);
-    }
-    let body = match text.strip_suffix('\n') {
-        Some(body) => body,
-        None => text,
-    };
-    for line in body.split('\n') {
-        lines.push(line)?;
-    }
-    Ok(lines)
-}
-
-/// The line of this number, or the empty text where there is none.
-fn line_at<'a>(lines: &[&'a str], number: usize) -> &'a str
-    ensures { result.now ≡ line_at (map (λ x. x.now) lines.now) number }
-{
-    match lines.get(number.saturating_sub(1)) {
-        Some(line) => line,
-        None => "",
+    match text.split_once('\n') {
+        Some(parts) => parts,
+        None => (text, ""),
     }
 }
 
@@ -112,53 +90,40 @@ fn read_condition(alloc: Global, text: &str) -> Result<Platform, Refusal>
     }
 }
 
-/// Reads the line of this number as a fact.
-fn read_fact(alloc: Global, text: &str, number: usize) -> Result<Cfg, Refusal>
-    ensures fact { IfOk result (λ c. IsValueText text.now (value_of c)) }
-    ensures refused { IfErr result
-        (λ r. IfLine r (λ n orig fault. (n ≡ number) × SpellsNoFact text.now × IsFactFault text.now orig fault)) }
-{
-    match Cfg::from_str(alloc, text) {
-        Ok(fact) => Ok(fact),
-        Err(ReadError::Parse(error)) => Err(Refusal::Line(number, error)),
-        Err(ReadError::Memory(e)) => Err(Refusal::Memory(e)),
-    }
-}
-
-/// Reads each line from the third on as a fact.
-fn read_facts(alloc: Global, lines: &[&str]) -> Result<Vec<Cfg>, Refusal>
-    ensures facts { IfOk result
-        (λ facts. SpellFacts (fact_lines (map (λ x. x.now) lines.now)) (map value_of facts.items)) }
+/// Reads each line of the text as a fact. The number of a refused line is that in the input, where two lines stand before
+/// them.
+fn read_fact_lines(alloc: Global, text: &str) -> Result<Vec<Cfg>, Refusal>
+    ensures facts { IfOk result (λ facts. SpellFacts (lines_of text.now) (map value_of facts.items)) }
     ensures refused { IfErr result
         (λ r. IfLine r
-        (λ n orig fault. IsLeast (IsRefusedFact (map (λ x. x.now) lines.now)) n
-        × IsFactFault (line_at (map (λ x. x.now) lines.now) n) orig fault)) }
+        (λ n orig fault. IsFirstNoFact (lines_of text.now) (n - 2)
+        × IsFactFault (line_at (lines_of text.now) (n - 2)) orig fault)) }
 {
-    let mut facts = Vec::new(alloc);
-    let Some(fact_lines) = lines.get(2..) else {
-        return Ok(facts);
-    };
-    for (index, line) in fact_lines.iter().enumerate() {
-        facts.push(read_fact(alloc, line, index + 3)?)?;
+    match read_facts(alloc, text) {
+        Ok(facts) => Ok(facts),
+        Err(FactsError::Line { number, error }) => Err(Refusal::Line(number + 2, error)),
+        Err(FactsError::Memory(e)) => Err(Refusal::Memory(e)),
     }
-    Ok(facts)
 }
 
-/// Reads what the lines ask.
-fn read_query(alloc: Global, lines: &[&str]) -> Result<Query, Refusal>
+/// Reads what the lines of the text ask.
+fn read_query(alloc: Global, text: &str) -> Result<Query<'_>, Refusal>
     ensures query { IfOk result
-        (λ q. IsQuery (map (λ x. x.now) lines.now) (condition_of q.platform) (map value_of q.facts.items)) }
+        (λ q. IsQuery (lines_of text.now) (condition_of q.platform) (map value_of q.facts.items)) }
+    ensures target { IfOk result (λ q. q.target.now ≡ line_at (lines_of text.now) 2) }
     ensures refused { IfErr result
         (λ r. IfLine r
-        (λ n orig fault. IsLeast (IsRefusedLine (map (λ x. x.now) lines.now)) n
-        × IsLineFault (map (λ x. x.now) lines.now) n orig fault)) }
+        (λ n orig fault. IsLeast (IsRefusedLine (lines_of text.now)) n
+        × IsLineFault (lines_of text.now) n orig fault)) }
 {
-    let platform = read_condition(alloc, line_at(lines, 1))?;
+    let (first, others) = split_line(text);
+    let (target, fact_lines) = split_line(others);
     let mut query = Query {
-        platform,
+        platform: read_condition(alloc, first)?,
+        target,
         facts: Vec::new(alloc),
     };
-    let facts = read_facts(alloc, lines)?;
+    let facts = read_fact_lines(alloc, fact_lines)?;
     query.facts = facts;
     Ok(query)
 }
@@ -186,7 +151,7 @@ fn refuse_line(alloc: Global, number: usize, error: &ParseError) -> Result<Answe
 }
 
 /// Whether the target with this name meets the condition.
-fn is_match(alloc: Global, query: &Query, name: &str) -> Result<bool, AllocError>
+fn is_match(alloc: Global, query: &Query<'_>, name: &str) -> Result<bool, AllocError>
     ensures { IfOk result
         (λ b. b ≡ is_match name.now (map value_of query.now.facts.items) (condition_of query.now.platform)) }
 {
@@ -245,7 +210,7 @@ fn push_warnings(text: &mut String, warnings: &[String]) -> Result<(), AllocErro
 }
 
 /// The answer to what accepted lines ask of the target with this name.
-fn answer_query(alloc: Global, query: &Query, name: &str) -> Result<Answer, AllocError>
+fn answer_query(alloc: Global, query: &Query<'_>, name: &str) -> Result<Answer, AllocError>
     ensures { IfOk result
         (λ a. IsAnswerToQuery name.now (condition_of query.now.platform) (map value_of query.now.facts.items)
         (string_bytes a.text) a.outcome) }
@@ -257,12 +222,12 @@ fn answer_query(alloc: Global, query: &Query, name: &str) -> Result<Answer, Allo
     Ok(Answer { text, outcome })
 }
 
-/// The answer to some lines.
-fn answer_lines(alloc: Global, lines: &[&str]) -> Result<Answer, AllocError>
-    ensures { IfOk result (λ a. IsAnswerToLines (map (λ x. x.now) lines.now) (string_bytes a.text) a.outcome) }
+/// The answer to the lines of a text.
+fn answer_lines(alloc: Global, text: &str) -> Result<Answer, AllocError>
+    ensures { IfOk result (λ a. IsAnswerToLines (lines_of text.now) (string_bytes a.text) a.outcome) }
 {
-    match read_query(alloc, lines) {
-        Ok(query) => answer_query(alloc, &query, line_at(lines, 2)),
+    match read_query(alloc, text) {
+        Ok(query) => answer_query(alloc, &query, query.target),
         Err(Refusal::Line(number, error)) => refuse_line(alloc, number, &error),
         Err(Refusal::Memory(e)) => Err(e),
     }
@@ -286,8 +251,7 @@ fn answer_bytes(alloc: Global, bytes: &[u8]) -> Result<Answer, AllocError>
     let Ok(text) = str::from_utf8(bytes) else {
         return refuse(alloc, "input is not UTF-8");
     };
-    let lines = cut_lines(alloc, text)?;
-    answer_lines(alloc, &lines)
+    answer_lines(alloc, text)
 }
 
 /// The answer to what was read.

@@ -1,21 +1,34 @@
-use Rattle.std.proofs.Common.{◌≡◌, drop, map, true, false}
+use Rattle.std.proofs.Common.{◌≡◌, ◌∷◌, ◌+◌, ◌*◌, ◌≤◌, length, map}
 use Rattle.cargo_platform.specs.Trees.{tree_of, trees_of}
-use Rattle.partial_facts.specs.Kleene.{kleene, kleene_all, kleene_any, kleene_and, kleene_or}
-use Rattle.partial_facts.proofs.Folding.{so_far}
+use Rattle.cargo_platform.specs.ExpressionSizes.{size, sizes}
+use Rattle.partial_facts.specs.Kleene.{kleene}
+use Rattle.partial_facts.proofs.Hanging.{HangsOn, answer_by}
 use Rattle.partial_facts.proofs.three_valued.+evaluate.Given as goal
 
 abbrev pub decreases-evaluate : goal.decreases-evaluate
-decreases-evaluate g l = goal.size-evaluate g l
+decreases-evaluate g l = 2 * size l.e.now
 
--- the answer hangs on the members so far and those that are left
-abbrev pub invariant-loop-member : goal.invariant-loop-member
-invariant-loop-member g l =
-    kleene_and (so_far true l.is_known)
-    (kleene_all (g.K.Knowledge.told l.known) (trees_of (map tree_of (drop l.member-index l.member-items))))
-    ≡ kleene (g.K.Knowledge.told l.known) (tree_of l.e)
+abbrev pub decreases-last_member : goal.decreases-last_member
+decreases-last_member g l = 2 * sizes l.members.now + 1
 
-abbrev pub invariant-loop-member-2 : goal.invariant-loop-member-2
-invariant-loop-member-2 g l =
-    kleene_or (so_far false l.is_known)
-    (kleene_any (g.K.Knowledge.told l.known) (trees_of (map tree_of (drop l.member-index l.member-items))))
-    ≡ kleene (g.K.Knowledge.told l.known) (tree_of l.e)
+-- the answer hangs on what the loop has come to
+abbrev pub invariant-evaluate-levels : goal.invariant-evaluate-levels
+invariant-evaluate-levels g l = record {
+  answer : answer_by l.if_true l.if_false (kleene (g.K.Knowledge.told l.known) (tree_of l.e))
+      ≡ kleene (g.K.Knowledge.told l.known) (tree_of l.fn.e);
+  within : size l.e ≤ size l.fn.e;
+}
+
+abbrev pub decreases-evaluate-levels : goal.decreases-evaluate-levels
+decreases-evaluate-levels g l = size l.e
+
+-- the truth hangs on the members that are left
+abbrev pub invariant-last_member-members : goal.invariant-last_member-members
+invariant-last_member-members g l = record {
+  truth : HangsOn l.neutral (g.K.Knowledge.told l.known) l.is_known (trees_of (map tree_of (l.e ∷ l.left)))
+      (trees_of (map tree_of l.members));
+  within : size l.e + sizes l.left ≤ sizes l.members;
+}
+
+abbrev pub decreases-last_member-members : goal.decreases-last_member-members
+decreases-last_member-members g l = length l.left

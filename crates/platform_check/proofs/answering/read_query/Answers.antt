@@ -1,22 +1,19 @@
-use Rattle.std.proofs.Common.{map}
+use Rattle.std.proofs.Common.{subst}
+use Rattle.cargo_platform.specs.Trees.{condition_of}
+use Rattle.cargo_platform.specs.Platforms.{IsConditionText}
+use Rattle.platform_check.specs.Lines.{lines_of}
 use Rattle.platform_check.specs.Answering.{IfLine, IsLeast, IsRefusedLine, IsLineFault}
-use Rattle.platform_check.proofs.Facts.{first_line, after_first, passed_on}
+use Rattle.platform_check.proofs.Facts.{behind_two, first_fact_of, after_first, passed_on}
 use Rattle.platform_check.proofs.answering.read_query.Goals as goal
-
-pub returns-in_err-platform-clause-refused : goal.returns-in_err-platform-clause-refused
-returns-in_err-platform-clause-refused c =
-    let texts = map (λ x. x.now) c.args.lines.now in
-    passed_on
-    (λ r. IfLine r
-    (λ n orig fault. IsLeast (IsRefusedLine texts) n
-    × IsLineFault texts n orig fault)) _ c.in_err-platform.field-0.0 c.from_residual.ensures.1
-    (first_line _ texts (rw c.line_at.ensures at c.in_err-platform.ensures.refused))
 
 pub returns-in_err-facts-clause-refused : goal.returns-in_err-facts-clause-refused
 returns-in_err-facts-clause-refused c =
-    let texts = map (λ x. x.now) c.args.lines.now in
+    let ls = lines_of c.args.text.now in
+    let p = condition_of c.in_ok-read_condition.field-0 in
+    let facts = behind_two ls _ _ c.split_line.ensures.behind c.split_line-2.ensures.behind in
     passed_on
-    (λ r. IfLine r
-    (λ n orig fault. IsLeast (IsRefusedLine texts) n
-    × IsLineFault texts n orig fault)) _ c.in_err-facts.field-0.0 c.from_residual-in_err-facts.ensures.1
-    (after_first _ texts _ (rw c.line_at.ensures at c.in_ok-platform.ensures.condition) c.in_err-facts.ensures.refused)
+    (λ r. IfLine r (λ n orig fault. IsLeast (IsRefusedLine ls) n × IsLineFault ls n orig fault))
+    _ c.in_err-facts.field-0.0 c.from_residual-in_err-facts.ensures.1
+    (after_first _ ls p
+    (subst (λ t. IsConditionText t p) c.split_line.ensures.line c.in_ok-read_condition.ensures.condition)
+    (first_fact_of _ ls _ facts c.in_err-facts.ensures.refused))
