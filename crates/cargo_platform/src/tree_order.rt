@@ -106,6 +106,7 @@ fn compare_all_but_last<'a>(
 
 // By the first difference; a list that ends first comes first.
 #[cycle(compare)]
+#[inline(always)]
 fn compare_members(ds: &[CfgExpr], es: &[CfgExpr]) -> Ordering
     ensures { result ≡ trees_cmp (trees_of (map tree_of ds.now)) (trees_of (map tree_of es.now)) }
 {
