@@ -1,0 +1,176 @@
+//! The calls, and whether they answer what is known of a condition without them.
+
+use crate::nests::{Form, condition, is_condition, name, open_text};
+use cargo_platform::{CfgExpr, FactIndex, Platform, ReadError};
+use std::alloc::{AllocError, Global};
+use std::cmp::Ordering;
+use std::hash::{DefaultHasher, Hash, Hasher};
+
+/// The name inside, which the walk for attributes warns of.
+const LEAF: &str = "test";
+
+/// A name that comes behind it.
+const LATER: &str = "unix";
+
+/// A name that the walk for keywords warns of.
+const KEYWORD: &str = "true";
+
+#[derive(Clone, Copy)]
+pub enum Call {
+    Read,
+    RefuseSurplus,
+    RefuseOpen,
+    MatchesKey,
+    Print,
+    ToJson,
+    Clone,
+    Attributes,
+    Keywords,
+    Matches,
+    MatchesIn,
+    Equal,
+    Order,
+    Hash,
+}
+
+impl Call {
+    pub fn name(self) -> &'static str {
+        match self {
+            Call::Read => "from_str",
+            Call::RefuseSurplus => "from_str, refused for a surplus name",
+            Call::RefuseOpen => "from_str, refused for an open group",
+            Call::MatchesKey => "matches_key",
+            Call::Print => "print",
+            Call::ToJson => "to_json",
+            Call::Clone => "clone",
+            Call::Attributes => "check_cfg_attributes",
+            Call::Keywords => "check_cfg_keywords",
+            Call::Matches => "matches",
+            Call::MatchesIn => "matches_in",
+            Call::Equal => "==",
+            Call::Order => "cmp",
+            Call::Hash => "hash",
+        }
+    }
+}
+
+/// An even number of levels, so that negations cancel, around a name.
+#[derive(Drop)]
+pub struct Nest {
+    form: Form,
+    levels: u32,
+    platform: Platform,
+    open_text: String,
+}
+
+impl Nest {
+    pub fn new(alloc: Global, form: Form, levels: u32) -> Result<Nest, AllocError> {
+        let open_text = open_text(alloc, form, levels, LEAF)?;
+        let platform = condition(alloc, form, levels, LEAF)?;
+        Ok(Nest {
+            form,
+            levels,
+            platform,
+            open_text,
+        })
+    }
+
+    pub fn drop_iteratively(self, alloc: Global) {
+        self.platform.drop_iteratively(alloc);
+    }
+
+    /// Whether the call answers what is known of the nest.
+    pub fn is_right(&self, alloc: Global, call: Call) -> Result<bool, AllocError> {
+        match call {
+            Call::Read => self.reads(alloc, ")", true),
+            Call::RefuseSurplus => self.reads(alloc, " b)", false),
+            Call::RefuseOpen => self.reads(alloc, "", false),
+            Call::MatchesKey => {
+                let key = self.text(alloc, ")")?;
+                let facts = vec![in alloc; name(alloc, LEAF)?]?;
+                CfgExpr::matches_key(alloc, &key, &facts)
+            }
+            Call::Print => {
+                let platform = &self.platform;
+                let text = format!(in alloc; "{platform}")?;
+                Ok(text == self.text(alloc, ")")?)
+            }
+            Call::ToJson => {
+                let text = self.text(alloc, ")")?;
+                Ok(self.platform.to_json(alloc)?.as_str() == Some(text.as_str()))
+            }
+            Call::Clone => {
+                let copy = self.platform.clone(alloc)?;
+                let is_right = is_condition(&copy, self.form, self.levels, LEAF);
+                copy.drop_iteratively(alloc);
+                Ok(is_right)
+            }
+            Call::Attributes => {
+                let mut warnings = Vec::new(alloc);
+                self.platform.check_cfg_attributes(alloc, &mut warnings)?;
+                Ok(warnings.len() == 1)
+            }
+            Call::Keywords => {
+                let mut warnings = Vec::new(alloc);
+                let keyword = condition(alloc, self.form, self.levels, KEYWORD)?;
+                keyword.check_cfg_keywords(alloc, &mut warnings, "Cargo.toml")?;
+                keyword.drop_iteratively(alloc);
+                Ok(warnings.len() == 1)
+            }
+            Call::Matches | Call::MatchesIn => self.matches(alloc, call),
+            Call::Equal | Call::Order | Call::Hash => self.compares(alloc, call),
+        }
+    }
+
+    fn text(&self, alloc: Global, behind: &str) -> Result<String, AllocError> {
+        let mut text = String::from_str(alloc, &self.open_text)?;
+        text.push_str(behind)?;
+        Ok(text)
+    }
+
+    /// Whether the text with this behind it is read, or refused.
+    fn reads(&self, alloc: Global, behind: &str, is_condition: bool) -> Result<bool, AllocError> {
+        match Platform::from_str(alloc, &self.text(alloc, behind)?) {
+            Ok(platform) => {
+                platform.drop_iteratively(alloc);
+                Ok(is_condition)
+            }
+            Err(ReadError::Parse(_)) => Ok(!is_condition),
+            Err(ReadError::Memory(error)) => Err(error),
+        }
+    }
+
+    /// The nest is as true as the name in it.
+    fn matches(&self, alloc: Global, call: Call) -> Result<bool, AllocError> {
+        let facts = vec![in alloc; name(alloc, LEAF)?]?;
+        match (call, &self.platform) {
+            (Call::MatchesIn, Platform::Cfg(expression)) => {
+                let all = FactIndex::new(alloc, &facts)?;
+                let none = FactIndex::new(alloc, &[])?;
+                Ok(expression.matches_in(&all) && !expression.matches_in(&none))
+            }
+            (_, platform) => Ok(platform.matches("", &facts) && !platform.matches("", &[])),
+        }
+    }
+
+    /// The nest is compared with itself, and with one around a later name.
+    fn compares(&self, alloc: Global, call: Call) -> Result<bool, AllocError> {
+        let later = condition(alloc, self.form, self.levels, LATER)?;
+        let platform = &self.platform;
+        let is_right = match call {
+            Call::Equal => platform == platform && *platform != later,
+            Call::Order => {
+                platform.cmp(platform) == Ordering::Equal && platform.cmp(&later) == Ordering::Less
+            }
+            _ => hash_of(platform) == hash_of(platform) && hash_of(platform) != hash_of(&later),
+        };
+        later.drop_iteratively(alloc);
+        Ok(is_right)
+    }
+}
+
+fn hash_of(platform: &Platform) -> u64 {
+    let mut state = DefaultHasher::new();
+    platform.hash(&mut state);
+    state.finish()
+}
