@@ -38,6 +38,10 @@ const WARNED: &str = "cfg(any(not(feature = \"w\"), r#test, r#true = \"x\", true
 /// A group with spaces and a trailing comma.
 const GROUP: &str = "any( a ,b = \"1\", )";
 
+/// More groups in one another, each with members left behind the next, than a list has room for at first.
+const DEEP: &str =
+    "cfg(all(a, all(a, all(a, all(a, all(a, all(a, feature = \"w\", b), b), b), b), b), b))";
+
 /// The printed value, or the printed error of a refused text.
 fn shown<T: Display + Drop>(alloc: Global, read: Result<T, ReadError>) -> Result<String, Fault> {
     match read {
@@ -45,6 +49,10 @@ fn shown<T: Display + Drop>(alloc: Global, read: Result<T, ReadError>) -> Result
         Err(ReadError::Parse(error)) => Ok(format!(in alloc; "{error}\n")?),
         Err(ReadError::Memory(_)) => Err(Fault::Memory),
     }
+}
+
+fn printed(alloc: Global, platform: &Platform) -> Result<String, Fault> {
+    Ok(format!(in alloc; "{platform}\n")?)
 }
 
 /// The platform that a text spells, which is known to spell one.
@@ -159,6 +167,22 @@ fn copy(alloc: Global, name: &[u8]) -> Result<String, Fault> {
         b"target_json" => target_json(alloc),
         b"refused_json" => refused_json(alloc, "!foo"),
         b"refused_condition_json" => refused_json(alloc, "cfg(a b)"),
+        _ => go_through(alloc, name),
+    }
+}
+
+/// The calls that keep a list of the groups that they are in.
+fn go_through(alloc: Global, name: &[u8]) -> Result<String, Fault> {
+    match name {
+        b"deep_clone" => condition_clone(alloc, DEEP),
+        b"deep_attributes" => warned(alloc, &platform(alloc, DEEP)?, true),
+        b"deep_kept" => printed(alloc, &platform(alloc, DEEP)?),
+        b"deep_dropped" => {
+            let deep = platform(alloc, DEEP)?;
+            let text = printed(alloc, &deep)?;
+            deep.drop_iteratively(alloc);
+            Ok(text)
+        }
         _ => known_in_part::left(alloc, name),
     }
 }
@@ -314,7 +338,7 @@ fn refused_json(alloc: Global, text: &str) -> Result<String, Fault> {
 }
 
 fn main(rt: HostRuntime) -> io::Result<ExitCode> {
-    let mut input = [0u8; 64];
+    let mut input = [0u8; 256];
     let count = rt.stdin().read(&mut input)?;
     let name = input[..count]
         .strip_suffix(b"\n")
