@@ -135,6 +135,7 @@ impl<'a> Timed<'a> {
     }
 
     pub fn median(&mut self) -> io::Result<f64> {
-        self.nanoseconds(self.rounds.len() / 2)
+        let middle = self.rounds.len() / 2;
+        self.nanoseconds(middle)
     }
 }
