@@ -243,7 +243,8 @@ mutual
   one_list none none [] [] i j x y p q a b h = (
     refl,
     tail_is
-        (ap (λ (z : List Lexeme). z ++ (RightParen ∷ x)) (sym a) ∙ h ∙ ap (λ (z : List Lexeme). z ++ (RightParen ∷ y)) b),
+        (ap (λ (z : List Lexeme). z ++ (RightParen ∷ x)) (sym a) ∙ h
+        ∙ ap (λ (z : List Lexeme). z ++ (RightParen ∷ y)) b),
   )
   one_list none none [] (n ∷ ns) i j x y p q a b h = absurd q
   one_list none none (m ∷ ms) ns i j x y p q a b h = absurd p
@@ -284,7 +285,8 @@ mutual
   one_after none none [] [] i j x y p q (inl a) (inl b) h = (
     refl,
     tail_is
-        (ap (λ (z : List Lexeme). z ++ (RightParen ∷ x)) (sym a) ∙ h ∙ ap (λ (z : List Lexeme). z ++ (RightParen ∷ y)) b),
+        (ap (λ (z : List Lexeme). z ++ (RightParen ∷ x)) (sym a) ∙ h
+        ∙ ap (λ (z : List Lexeme). z ++ (RightParen ∷ y)) b),
   )
   one_after none none [] [] i j x y p q (inl a) (inr b) h =
       let e : RightParen ∷ x ≡ Comma ∷ RightParen ∷ y = ap (λ (z : List Lexeme). z ++ (RightParen ∷ x)) (sym a) ∙ h

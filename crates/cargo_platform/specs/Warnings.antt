@@ -32,14 +32,20 @@ unsupported_name n =
 -- the warning on the key `feature`
 abbrev pub unsupported_feature : List ℕ
 unsupported_feature =
-    codes "Found `feature = ...` in `target.'cfg(...)'.dependencies`. This key is not supported for selecting dependencies and will not work as expected. Use the [features] section instead: https://doc.rust-lang.org/cargo/reference/features.html"
+    codes "Found `feature = ...` in `target.'cfg(...)'.dependencies`. "
+    ++ codes "This key is not supported for selecting dependencies and will not work as expected. "
+    ++ codes "Use the [features] section instead: https://doc.rust-lang.org/cargo/reference/features.html"
 
 -- the warning on a keyword in the place of an identifier
 abbrev pub keyword_warning : List ℕ → CfgValue → List ℕ → List ℕ
 keyword_warning path c word =
     codes "[" ++ path ++ codes "] future-incompatibility: `cfg(" ++ print_value c ++ codes ")` is deprecated as `"
     ++ word
-    ++ codes "` is a keyword and not an identifier and should not have have been accepted in this position.\n | this was previously accepted by Cargo but is being phased out; it will become a hard error in a future release!\n |\n | help: use raw-idents instead: `cfg(r#" ++ word ++ codes ")`"
+    ++ codes "` is a keyword and not an identifier "
+    ++ codes "and should not have have been accepted in this position.\n"
+    ++ codes " | this was previously accepted by Cargo but is being phased out; "
+    ++ codes "it will become a hard error in a future release!\n |\n"
+    ++ codes " | help: use raw-idents instead: `cfg(r#" ++ word ++ codes ")`"
 
 abbrev pub is_unsupported_name : Name → Bool
 is_unsupported_name n =

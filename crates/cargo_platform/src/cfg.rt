@@ -42,7 +42,9 @@ pub enum CfgExpr {
     Any(Vec<CfgExpr>),
     /// True where the name or the pair is a fact.
     Value(Cfg),
+    /// The literal `true`.
     True,
+    /// The literal `false`.
     False,
 }
 

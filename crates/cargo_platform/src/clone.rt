@@ -78,6 +78,7 @@ struct CopiedGroups<'a> {
 }
 
 impl<'a> CopiedGroups<'a> {
+    /// No groups.
     fn new(alloc: Global) -> CopiedGroups<'a>
         ensures whole { (e : Tree) → whole result e ≡ e }
     {
@@ -86,6 +87,7 @@ impl<'a> CopiedGroups<'a> {
         }
     }
 
+    /// Opens a group inside the others. Where memory is refused, it is dropped.
     fn push(&mut self, group: CopiedGroup<'a>) -> Result<(), AllocError>
         ensures whole { OnOk result ((e : Tree) → whole self.new e ≡ whole self.old (around group.entry e)) }
         ensures work { OnOk result (work self.new ≡ work self.old + left_in group.entry) }
@@ -99,6 +101,7 @@ impl<'a> CopiedGroups<'a> {
         }
     }
 
+    /// Takes the innermost group.
     fn pop(&mut self) -> Option<CopiedGroup<'a>>
         ensures whole { MatchOption result
             ((e : Tree) → whole self.old e ≡ e)
@@ -119,6 +122,7 @@ impl<'a> Drop for CopiedGroups<'a> {
     }
 }
 
+/// Drops a group without recursion over the depth of its copies.
 fn drop_group(group: CopiedGroup<'_>) {
     match group {
         CopiedGroup::Not => {}

@@ -103,8 +103,8 @@ impl CfgExpr {
         self.matches_in(&Listed(cfg))
     }
 
-    /// Whether the expression is true over the set of facts that the holder means.
     // Goes down the last members in a loop, so that what recurses are the members before them.
+    /// Whether the expression is true over the set of facts that the holder means.
     #[cycle(matches)]
     #[tactic(auto, using(crate::proofs::LastMembers::asked_not))]
     pub fn matches_in<F: Facts>(&self, facts: &F) -> bool
@@ -132,7 +132,7 @@ impl CfgExpr {
         }
     }
 
-    // The last member, which all of them hang on, or whether they are true.
+    /// The last member, which all of them hang on, or whether they are true.
     #[cycle(matches)]
     #[inline(always)]
     #[tactic(auto, using(crate::proofs::LastMembers::and_true))]
@@ -158,7 +158,7 @@ impl CfgExpr {
         Ok(e)
     }
 
-    // The same of any of them.
+    /// The last member, which any of them hangs on, or whether one is true.
     #[cycle(matches)]
     #[inline(always)]
     #[tactic(auto, using(crate::proofs::LastMembers::or_false))]

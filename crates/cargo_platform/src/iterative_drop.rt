@@ -18,6 +18,7 @@ struct Pending {
 }
 
 impl Pending {
+    /// No members.
     fn new(alloc: Global) -> Pending {
         Pending {
             members: Vec::new(alloc),
@@ -35,6 +36,7 @@ impl Pending {
         }
     }
 
+    /// Takes a member.
     fn pop(&mut self) -> Option<CfgExpr>
         ensures { IfSome result (λ e. left self.new + size e ≤ left self.old) }
     {

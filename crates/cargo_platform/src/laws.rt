@@ -246,10 +246,12 @@ pub fn truth_is_monotone()
     ensures { (fewer more : FactSet) (e : Tree) → IsMonotone fewer more e }
 {}
 
+/// `not(all(..))` is as true as `any(..)` of the negated members.
 pub fn not_all_is_any_not()
     ensures { (facts : FactSet) (es : Trees) → IsNotAllAnyNot facts es }
 {}
 
+/// `all()` is true, and `any()` is false.
 pub fn groups_of_none()
     ensures all { (facts : FactSet) → truth facts (All none) ≡ true }
     ensures any { (facts : FactSet) → truth facts (Any none) ≡ false }

@@ -89,14 +89,14 @@ impl CfgExpr {
     }
 }
 
-// The text between `cfg(` and `)`, where the text begins and ends with these.
+/// The text between `cfg(` and `)`, where the text begins and ends with these.
 fn inside_cfg(text: &str) -> Option<&str>
     ensures { MatchOption result (IsBare text.now) (λ inner. IsCfgOf text.now inner.now) }
 {
     text.strip_prefix("cfg(")?.strip_suffix(")")
 }
 
-// The first character that no target name may hold.
+/// The first character that no target name may hold.
 fn first_refused(name: &str) -> Option<char>
     ensures { MatchOption result (IsTargetName name.now) (λ c. IsFirstRefused name.now c) }
 {
@@ -106,7 +106,7 @@ fn first_refused(name: &str) -> Option<char>
     name.chars().find(|c| !is_target_char(*c))
 }
 
-// Whether all bytes of the name are plain, as those of each target's name today are: then no character is looked up.
+/// Whether all bytes of the name are plain, as those of each target's name today are: then no character is looked up.
 fn is_plain(name: &str) -> bool
     ensures { IsTrue result → IsTargetName name.now }
 {
@@ -118,7 +118,7 @@ fn is_plain(name: &str) -> bool
     true
 }
 
-// Whether the byte is `_`, `-`, `.`, an ASCII letter or an ASCII digit.
+/// Whether the byte is `_`, `-`, `.`, an ASCII letter or an ASCII digit.
 #[inline(always)]
 fn is_plain_byte(byte: u8) -> bool
     ensures { result ≡ is_plain_byte byte }
@@ -126,14 +126,14 @@ fn is_plain_byte(byte: u8) -> bool
     continues_identifier(byte) || byte == b'-' || byte == b'.'
 }
 
-// Whether a target name may hold the character.
+/// Whether a target name may hold the character.
 fn is_target_char(c: char) -> bool
     ensures { result ≡ is_target_char c }
 {
     is_alphabetic(c) || is_number(c) || c == '_' || c == '-' || c == '.'
 }
 
-// Whether the character is a number of any kind: a decimal digit, one that is a letter too, or another.
+/// Whether the character is a number of any kind: a decimal digit, one that is a letter too, or another.
 fn is_number(c: char) -> bool
     ensures { result ≡ is_number_category (general_category c) }
 {
@@ -145,7 +145,7 @@ fn is_number(c: char) -> bool
     )
 }
 
-// The error of a target name, whose first refused character is given.
+/// The error of a target name, whose first refused character is given.
 fn target_error(alloc: Global, name: &str, refused: char) -> Result<ParseError, AllocError>
     requires { IsFirstRefused name.now refused }
     ensures of { IfOk result (λ e. orig_of e ≡ name.now) }
@@ -156,7 +156,7 @@ fn target_error(alloc: Global, name: &str, refused: char) -> Result<ParseError, 
     ParseError::new(alloc, name, ParseErrorKind::InvalidTarget(message))
 }
 
-// What is said of a target name, whose first refused character is given.
+/// What is said of a target name, whose first refused character is given.
 fn target_message(alloc: Global, name: &str, refused: char) -> Result<String, AllocError>
     requires { IsFirstRefused name.now refused }
     ensures { IfOk result (λ message. IsTargetMessage name.now (string_bytes message)) }

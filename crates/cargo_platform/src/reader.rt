@@ -40,6 +40,7 @@ fn refill<'a>(tokens: &mut Tokenizer<'a>, ahead: &mut Option<Result<Spanned<'a>,
 }
 
 impl<'a> Reader<'a> {
+    /// A reader with the first item of the text ahead.
     pub fn new(text: &'a str) -> Reader<'a>
         ensures text { result.text ≡ text.now }
         ensures first { Comes text.now 0 result.item result.place }
@@ -153,6 +154,7 @@ pub(crate) enum Mark {
     Equals,
 }
 
+/// The mark that a token is, if it is one.
 fn mark_of(token: Token<'_>) -> Option<Mark>
     ensures { result ≡ mark_of_lexeme (lexeme token.entry) }
 {

@@ -56,6 +56,7 @@ pub(crate) struct Source<'a> {
 }
 
 impl<'a> Source<'a> {
+    /// A text that was not looked at yet.
     pub fn new(text: &'a str) -> Source<'a>
         ensures text { result.text.now ≡ text.now }
         ensures looks { result.looks ≡ 0 }
@@ -185,6 +186,7 @@ impl<'a> Source<'a> {
         Some(&text[start..])
     }
 
+    /// The looks that were made.
     pub fn spend(self) -> Looks
         ensures { result ≡ self.entry.looks }
     {
@@ -192,6 +194,7 @@ impl<'a> Source<'a> {
         Looks { count: looks }
     }
 
+    /// Counts further looks, up to the greatest count.
     #[inline(always)]
     fn add_looks(&mut self, looks: usize)
         ensures same { self.new.text ≡ self.old.text }
@@ -203,6 +206,7 @@ impl<'a> Source<'a> {
     }
 }
 
+/// What is at a byte place.
 #[inline(always)]
 fn character_at(text: &str, at: usize) -> Look
     requires { IsCharBoundary text.now at }
@@ -219,6 +223,7 @@ fn character_at(text: &str, at: usize) -> Look
     Look::Wide(wide_char_at(text, at))
 }
 
+/// The character at a byte place, by decoding it.
 #[cold]
 #[inline(never)]
 fn wide_char_at(text: &str, at: usize) -> char

@@ -23,11 +23,15 @@ use std::marker::Model;
 /// A token. Names and values are the bytes of the text that they were written by; equality looks at all parts.
 #[derive(Clone, Copy, Debug, PartialEq, Eq)]
 pub enum Token<'a> {
+    /// `(`
     LeftParen,
+    /// `)`
     RightParen,
     /// Whether the raw mark `r#` stands before it, and its name without the mark.
     Ident(bool, &'a str),
+    /// `,`
     Comma,
+    /// `=`
     Equals,
     /// The value between the quotes.
     String(&'a str),
@@ -53,8 +57,11 @@ impl<'a> Token<'a> {
 /// the quotes; `end` is the place behind it.
 #[derive(Clone, Copy, Debug, PartialEq, Eq)]
 pub struct Spanned<'a> {
+    /// The token.
     pub token: Token<'a>,
+    /// Where its written form begins.
     pub start: usize,
+    /// Where its written form ends.
     pub end: usize,
 }
 
@@ -72,7 +79,9 @@ pub enum TokenFaultKind {
 /// A fault, and the place in bytes at which the faulty piece begins: at the `r` of a mark, at the first quote.
 #[derive(Clone, Copy, Debug, PartialEq, Eq)]
 pub struct TokenFault {
+    /// Why no token begins there.
     pub kind: TokenFaultKind,
+    /// Where the faulty piece begins.
     pub at: usize,
 }
 

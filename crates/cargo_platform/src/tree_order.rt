@@ -14,7 +14,7 @@ use crate::cfg::CfgExpr;
 use std::cmp::Ordering;
 use std::hash::{Hash, Hasher};
 
-// Where the form stands among the six.
+/// Where the form stands among the six.
 fn rank(e: &CfgExpr) -> u8
     ensures { result ≡ rank (tree_of e.now) }
 {
@@ -29,6 +29,7 @@ fn rank(e: &CfgExpr) -> u8
 }
 
 // Goes down the last members in a loop, so that what recurses are the members before them.
+/// By the forms, and in one form by their parts.
 #[cycle(compare)]
 fn compare(a: &CfgExpr, b: &CfgExpr) -> Ordering
     ensures { result ≡ tree_cmp (tree_of a.now) (tree_of b.now) }
@@ -104,7 +105,7 @@ fn compare_all_but_last<'a>(
     }
 }
 
-// By the first difference; a list that ends first comes first.
+/// By the first difference; a list that ends first comes first.
 #[cycle(compare)]
 fn compare_members(ds: &[CfgExpr], es: &[CfgExpr]) -> Ordering
     ensures { result ≡ trees_cmp (trees_of (map tree_of ds.now)) (trees_of (map tree_of es.now)) }
@@ -157,6 +158,7 @@ impl Ord for CfgExpr {
 }
 
 // Goes down the last members in a loop, so that what recurses are the members before them.
+/// Feeds the form, and then the parts.
 #[cycle(feed)]
 fn feed<H: Hasher>(e: &CfgExpr, state: &mut H)
     ensures { state.new ≡ fold H.write state.old (tree_hash (tree_of e.now)) }
@@ -192,7 +194,7 @@ fn feed<H: Hasher>(e: &CfgExpr, state: &mut H)
     }
 }
 
-// How many members there are, and each but the last, which is left to feed.
+/// How many members there are, and each but the last, which is left to feed.
 #[cycle(feed)]
 #[inline(always)]
 fn feed_all_but_last<'a, H: Hasher>(members: &'a [CfgExpr], state: &mut H) -> Option<&'a CfgExpr>
@@ -219,7 +221,8 @@ fn feed_all_but_last<'a, H: Hasher>(members: &'a [CfgExpr], state: &mut H) -> Op
 impl Hash for CfgExpr {
     ghost hash_input = { λ e. tree_hash (tree_of e) };
 
-    ghost respects_eq = { λ a b same. tree_alike (tree_of a) (tree_of b) ((Equal-is (tree_cmp (tree_of a) (tree_of b))).0 same) };
+    ghost respects_eq = { λ a b same. tree_alike (tree_of a) (tree_of b)
+        ((Equal-is (tree_cmp (tree_of a) (tree_of b))).0 same) };
 
     fn hash<H: Hasher>(&self, state: &mut H) {
         feed(self, state);

@@ -20,6 +20,7 @@ pub(crate) struct Values<'a> {
 }
 
 impl<'a> Values<'a> {
+    /// All values of an expression.
     pub fn new(alloc: Global, e: &'a CfgExpr) -> Values<'a>
         ensures { to_come result ≡ values (tree_of e.now) }
     {
