@@ -19,8 +19,6 @@ pub mod OneFault
 pub mod SomeFault
 pub mod PrintedSpells
 pub mod PrintedMembers
-pub mod ReadsBack
-pub mod JsonAnswers
 pub mod Readings
 pub mod Paths
 pub mod Parsing
@@ -55,6 +53,8 @@ pub mod TargetNames
 pub mod Conditions
 pub mod Changes
 pub mod ConditionFaults
+pub mod TextLaws
+pub mod JsonAnswers
 pub mod ConditionAnswers
 pub mod WarningWalks
 pub mod Texts

@@ -6,13 +6,15 @@
 
 ghost use Rattle.std.specs.Prelude.{◌≡◌, ◌↔◌, ℕ, List, false, IsTrue, IfOk, MatchOption, map, string_bytes};
 ghost use Rattle.unicode.specs.GeneralCategory.{general_category};
-ghost use Rattle.cargo_platform.specs.Trees.{Tree, Expression, value_of, condition_of};
+ghost use Rattle.cargo_platform.specs.Trees.{Tree, Condition, Expression, value_of, condition_of};
 ghost use Rattle.cargo_platform.specs.Facts.{fact_set, truth, IsTrueCondition};
 ghost use Rattle.cargo_platform.specs.Faults.{InvalidTarget};
 ghost use Rattle.cargo_platform.specs.Platforms.{is_number_category, is_target_char, is_plain_byte, IsTargetName};
 ghost use Rattle.cargo_platform.specs.Platforms.{IsFirstRefused, IsTargetMessage, IsCfgOf, IsBare, IsConditionText};
-ghost use Rattle.cargo_platform.specs.Errors.{orig_of, fault_in};
-ghost use Rattle.cargo_platform.specs.Readers.{ReadsCondition};
+ghost use Rattle.cargo_platform.specs.Errors.{IfParse, orig_of, fault_in};
+ghost use Rattle.cargo_platform.specs.Platforms.{IsRefusedCondition};
+ghost use Rattle.cargo_platform.specs.WellFormed.{IsWellFormedCondition};
+ghost use Rattle.cargo_platform.specs.Print.{print_condition};
 
 use crate::classes::continues_identifier;
 use crate::{Cfg, CfgExpr, ParseError, ParseErrorKind, Platform, ReadError};
@@ -29,7 +31,16 @@ impl Platform {
     /// first such character. Alphabetic are the characters with that property of Unicode, and numbers those of the
     /// general categories Nd, Nl and No.
     pub fn from_str(alloc: Global, s: &str) -> Result<Platform, ReadError>
-        ensures { ReadsCondition s.now result }
+        // What is read is the condition that the text spells.
+        ensures condition { IfOk result (λ p. IsConditionText s.now (condition_of p)) }
+        // The error is the fault of the text between `cfg(` and `)`, and else of the whole text.
+        ensures fault { IfParse result (λ e. IsRefusedCondition s.now (orig_of e) (fault_in e)) }
+        // The other clauses follow by the laws. No text that spells a condition is refused, and the print of a
+        // well-formed condition is answered by that very condition.
+        ensures well_formed { IfOk result (λ p. IsWellFormedCondition (condition_of p)) }
+        ensures refused { IfParse result (λ _. (c : Condition) → IsConditionText s.now c → ⊥) }
+        ensures reads_back { (c : Condition) → IsWellFormedCondition c → s.now ≡ print_condition c
+            → IfOk result (λ p. condition_of p ≡ c) × IfParse result (λ _. ⊥) }
     {
         if let Some(inner) = inside_cfg(s) {
             return match CfgExpr::from_str(alloc, inner) {
