@@ -4,6 +4,7 @@ pub mod Looking
 pub mod Scanning
 pub mod Stepping
 pub mod Runs
+pub mod Roles
 pub mod OneTree
 pub mod TreeViews
 pub mod OneValue
