@@ -5,6 +5,7 @@ use Rattle.std.specs.Prelude.{if◌then◌else◌}
 use Rattle.std.specs.List.{last_or}
 use Rattle.std.proofs.lemmas.Option.{same_Some}
 use Rattle.cargo_platform.specs.Tokens.{Lexeme, LeftParen, RightParen, Ident, Comma, Equals, String}
+use Rattle.cargo_platform.specs.Trees.{Name}
 use Rattle.cargo_platform.specs.Spelling.{Expressions, is_group_word, is_literal_word, GroupWord, LiteralWord}
 use Rattle.cargo_platform.specs.Spelling.{PlainName}
 use Rattle.cargo_platform.specs.Faults.{expected_token, expected_end}
@@ -29,7 +30,8 @@ picks false false name ws = (refl, refl)
 
 named_matches : (raw : Bool) (name : List ℕ) (ws : List Word) → Matches (Some (Ident raw name)) (after_name raw name ws)
 named_matches raw name ws =
-    picks (is_group_word (record { raw = raw; name = name })) (is_literal_word (record { raw = raw; name = name })) name ws
+    let n : Name = record { raw = raw; name = name } in
+    picks (is_group_word n) (is_literal_word n) name ws
 
 moved : (o : Option Lexeme) (s t : State) → Some s ≡ Some t → Matches o s → Matches o t
 moved o s t h m = let P : State → Type 0 = λ z. Matches o z in subst P (same_Some _ _ h) m

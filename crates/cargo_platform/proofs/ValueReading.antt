@@ -30,7 +30,7 @@ lacks_first P l ts tail h n = λ first us e. go l.item h n first us e
         → ts ≡ first ∷ us → P first.token → ⊥
     go (ahead.Token t) h n first us e p = let Q : Placed
         → Type 0 = λ z. P z.token in n t refl (subst Q (head_is (sym e ∙ h.1)) p)
-    go (ahead.Fault k at) h n first us e p = absurd (let x = sym e ∙ h.0 in cc)
+    go (ahead.Lexical k at) h n first us e p = absurd (let x = sym e ∙ h.0 in cc)
     go Nothing h n first us e p = absurd (let x = sym e ∙ h.0 in cc)
 
 stop_refused : (text : List ℕ) (ts front after : List Placed) (tail : ℕ) (stop : Ahead) (f : Fault)

@@ -1,5 +1,5 @@
--- Laws of what texts spell. Each is stated once, over a grammar of texts: which text spells what, what is well-formed, and
--- how it is printed.
+-- Laws of what texts spell. Each is stated once, over a grammar of texts: which text spells what, what is well-formed,
+-- and how it is printed.
 use Rattle.std.specs.Prelude.{◌≡◌, ℕ, List}
 
 -- a text spells at most one thing

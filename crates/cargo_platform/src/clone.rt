@@ -2,7 +2,7 @@
 
 ghost use Rattle.std.specs.Prelude.{◌≡◌, ◌≤◌, ◌+◌, ◌*◌, IfOk, IfSome, OnOk, MatchOption};
 ghost use Rattle.cargo_platform.specs.Trees.{Tree, name_of, value_of, tree_of, condition_of};
-ghost use Rattle.cargo_platform.specs.ExpressionSizes.{size};
+ghost use Rattle.cargo_platform.specs.ExpressionSizes.{node_count};
 ghost use Rattle.cargo_platform.specs.Copying.{around, whole, left_in, work};
 
 use crate::Platform;
@@ -137,7 +137,7 @@ fn copy_first<'a>(
     groups: &mut CopiedGroups<'a>,
 ) -> Result<CfgExpr, AllocError>
     ensures whole { IfOk result (λ copy. whole groups.new (tree_of copy) ≡ whole groups.old (tree_of e.now)) }
-    ensures work { OnOk result (work groups.new + 1 ≤ work groups.old + 2 * size e.now) }
+    ensures work { OnOk result (work groups.new + 1 ≤ work groups.old + 2 * node_count e.now) }
 {
     let mut part = e;
     'groups: loop {

@@ -6,7 +6,7 @@ ghost use Rattle.std.specs.FinSet.{contains};
 ghost use Rattle.cargo_platform.specs.Key.{value_cmp};
 ghost use Rattle.cargo_platform.specs.Trees.{Alone, KeyPair, name_of, value_of, tree_of, trees_of};
 ghost use Rattle.cargo_platform.specs.Facts.{FactSet, pair_of, fact_set, truth, all_true, any_true};
-ghost use Rattle.cargo_platform.specs.ExpressionSizes.{size, sizes};
+ghost use Rattle.cargo_platform.specs.ExpressionSizes.{node_count, node_counts};
 
 use crate::cfg::{Cfg, CfgExpr, Ident};
 use std::alloc::{AllocError, Global};
@@ -141,7 +141,7 @@ impl CfgExpr {
             (λ last. truth (F.meant facts.now) (tree_of last.now)
             ≡ all_true (F.meant facts.now) (trees_of (map tree_of members.now)))
             (λ is_true. is_true ≡ all_true (F.meant facts.now) (trees_of (map tree_of members.now))) }
-        ensures size { IfOk result (λ last. size last.now ≤ sizes members.now) }
+        ensures size { IfOk result (λ last. node_count last.now ≤ node_counts members.now) }
     {
         let Some((first, others)) = members.split_first() else {
             return Err(true);
@@ -167,7 +167,7 @@ impl CfgExpr {
             (λ last. truth (F.meant facts.now) (tree_of last.now)
             ≡ any_true (F.meant facts.now) (trees_of (map tree_of members.now)))
             (λ is_true. is_true ≡ any_true (F.meant facts.now) (trees_of (map tree_of members.now))) }
-        ensures size { IfOk result (λ last. size last.now ≤ sizes members.now) }
+        ensures size { IfOk result (λ last. node_count last.now ≤ node_counts members.now) }
     {
         let Some((first, others)) = members.split_first() else {
             return Err(false);
