@@ -82,7 +82,8 @@ keyword_warns = refl
 
 keyword_text : keyword_warning (codes "p") true_key
     (codes "true")
-    ≡ codes "[p] future-incompatibility: `cfg(true = \"x\")` is deprecated as `true` is a keyword and not an identifier "
+    ≡ codes "[p] future-incompatibility: `cfg(true = \"x\")` is deprecated as `true` is a keyword "
+    ++ codes "and not an identifier "
     ++ codes "and should not have have been accepted in this position.\n"
     ++ codes " | this was previously accepted by Cargo but is being phased out; "
     ++ codes "it will become a hard error in a future release!\n |\n"
