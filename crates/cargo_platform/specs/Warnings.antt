@@ -23,11 +23,17 @@ abbrev pub condition_values : Condition → List CfgValue
 condition_values (Target name) = []
 condition_values (Expression e) = values e
 
+-- what the warning says behind the name
+abbrev pub unsupported_text : List ℕ
+unsupported_text =
+    codes "` in `target.'cfg(...)'.dependencies`. "
+    ++ codes "This value is not supported for selecting dependencies and will not work as expected. "
+    ++ codes "To learn more visit "
+    ++ codes "https://doc.rust-lang.org/cargo/reference/specifying-dependencies.html#platform-specific-dependencies"
+
 -- the warning on a name that no target sets
 abbrev pub unsupported_name : Name → List ℕ
-unsupported_name n =
-    codes "Found `" ++ print_name n
-    ++ codes "` in `target.'cfg(...)'.dependencies`. This value is not supported for selecting dependencies and will not work as expected. To learn more visit https://doc.rust-lang.org/cargo/reference/specifying-dependencies.html#platform-specific-dependencies"
+unsupported_name n = codes "Found `" ++ print_name n ++ unsupported_text
 
 -- the warning on the key `feature`
 abbrev pub unsupported_feature : List ℕ

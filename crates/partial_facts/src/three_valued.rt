@@ -24,8 +24,8 @@ pub fn decide<K: Knowledge>(e: &CfgExpr, known: &K) -> Option<bool>
     evaluate(e, known)
 }
 
-// Goes down the last members in a loop, so that what recurses are the members before them. What is asked of `e` there is
-// answered by `if_true` or `if_false` where the truth of `e` is known.
+// Goes down the last members in a loop, so that what recurses are the members before them. What is asked of `e` there
+// is answered by `if_true` or `if_false` where the truth of `e` is known.
 #[cycle(evaluate)]
 fn evaluate<K: Knowledge>(e: &CfgExpr, known: &K) -> Option<bool>
     ensures { result ≡ kleene (K.told known.now) (tree_of e.now) }

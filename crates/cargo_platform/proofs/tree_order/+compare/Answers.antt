@@ -21,8 +21,10 @@ compare_all_but_last-returns-then-is_eq-clause-order t c =
     let w = c.in-Some-Some in
     let ds = c.args.ds.now in
     let es = c.args.es.now in
-    let ds_ends : ds ≡ w.ds_before.now ++ w.d.now ∷ [] = first_of (cc (w.ensures.cases.0), grind (arith, common_steps)) in
-    let es_ends : es ≡ w.es_before.now ++ w.e.now ∷ [] = first_of (cc (w.ensures'.cases.0), grind (arith, common_steps)) in
+    let ds_ends : ds ≡ w.ds_before.now ++ w.d.now ∷ [] =
+    first_of (cc (w.ensures.cases.0), grind (arith, common_steps)) in
+    let es_ends : es ≡ w.es_before.now ++ w.e.now ∷ [] =
+    first_of (cc (w.ensures'.cases.0), grind (arith, common_steps)) in
     last_decides ds es w.ds_before.now w.es_before.now w.d.now w.e.now ds_ends es_ends (omega arith)
     (ap is_eq (sym c.compare_members-order.ensures) ∙ sym c.is_eq.ensures ∙ c.if-is_eq.true)
 
@@ -31,8 +33,10 @@ compare_all_but_last-returns-else-is_eq-clause-order t c =
     let w = c.in-Some-Some in
     let ds = c.args.ds.now in
     let es = c.args.es.now in
-    let ds_ends : ds ≡ w.ds_before.now ++ w.d.now ∷ [] = first_of (cc (w.ensures.cases.0), grind (arith, common_steps)) in
-    let es_ends : es ≡ w.es_before.now ++ w.e.now ∷ [] = first_of (cc (w.ensures'.cases.0), grind (arith, common_steps)) in
+    let ds_ends : ds ≡ w.ds_before.now ++ w.d.now ∷ [] =
+    first_of (cc (w.ensures.cases.0), grind (arith, common_steps)) in
+    let es_ends : es ≡ w.es_before.now ++ w.e.now ∷ [] =
+    first_of (cc (w.ensures'.cases.0), grind (arith, common_steps)) in
     c.compare_members-order.ensures
     ∙ front_decides ds es w.ds_before.now w.es_before.now w.d.now w.e.now ds_ends es_ends (omega arith)
     (ap is_eq (sym c.compare_members-order.ensures) ∙ sym c.is_eq.ensures ∙ c.if-is_eq.false)
