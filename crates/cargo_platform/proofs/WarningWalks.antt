@@ -1,7 +1,5 @@
--- The warnings on values grow by those on the next one, and a cut takes all of them back. How their texts are joined.
-use Rattle.std.proofs.Common.{◌≡◌, sym, ap, ◌∙◌, ℕ, List, [], ◌∷◌, ◌++◌, length, take, map, String, Vec, Global, Result}
-use Rattle.std.proofs.Common.{Ok, Err}
-use Rattle.std.specs.Prelude.{IfOk}
+-- The warnings on values grow by those on the next one, and a cut takes all of them back.
+use Rattle.std.proofs.Common.{◌≡◌, sym, ap, ◌∙◌, ℕ, List, [], ◌∷◌, ◌++◌, length, take, map, String, Vec, Global}
 use Rattle.std.proofs.Common.{string_bytes, vec_len, append_assoc, flat_map, arith}
 use Rattle.std.proofs.lemmas.List.{length-map, map-append, take-map, take_all, take-append-le}
 use Rattle.cargo_platform.specs.Trees.{CfgValue}
@@ -43,10 +41,3 @@ cut_back old longer cut more is =
     ∙ ap (take n) more.1
     ∙ take-append-le n (texts old) more.0 (omega arith)
     ∙ take_all n (texts old) (omega arith)
-
--- a mark and the name behind it, which were printed one after the other, are the printed name
-pub with_mark : {E : Type 0} (r : Result (String Global) E) (before mark name behind : List ℕ)
-    → IfOk r (λ s. string_bytes s ≡ before ++ (mark ++ (name ++ behind)))
-    → IfOk r (λ s. string_bytes s ≡ before ++ ((mark ++ name) ++ behind))
-with_mark (Ok s) before mark name behind h = h ∙ ap (λ z. before ++ z) (sym (append_assoc mark name behind))
-with_mark (Err e) before mark name behind h = tt
