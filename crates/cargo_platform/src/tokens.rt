@@ -102,8 +102,12 @@ impl<'a> Model for Tokenizer<'a> {
 
     ghost use Rattle.cargo_platform.specs.Looking.{IsStanding};
 
-    ghost view = { λ t. record { text = t.source.text.now; place = t.place;
-        failed = t.failed; looks = t.source.looks } };
+    ghost view = { λ t. record {
+      text = t.source.text.now;
+      place = t.place;
+      failed = t.failed;
+      looks = t.source.looks;
+    } };
 
     ghost invariant = { λ t. IsStanding t.source.text.now t.place t.seen t.failed t.source.looks };
 }
