@@ -46,7 +46,8 @@ def note(text):
     width = len(text) * 7.3 + 16
 
     def draw(x, y):
-        words = f'<text x="{x + width / 2}" y="{y - 8}" fill="{NOTE}" font-size="12" text-anchor="middle">{escape(text)}</text>'
+        where = f'x="{x + width / 2}" y="{y - 8}"'
+        words = f'<text {where} fill="{NOTE}" font-size="12" text-anchor="middle">{escape(text)}</text>'
         return path(f"M{x} {y}h{width}") + words
 
     return width, 20, 0, draw
@@ -84,7 +85,8 @@ def choice(*parts):
             if place:
                 down = place - 2 * TURN
                 out += path(f"M{x} {y}q{TURN} 0 {TURN} {TURN}v{down}q0 {TURN} {TURN} {TURN}")
-                out += path(f"M{x + width - 2 * TURN} {y + place}q{TURN} 0 {TURN} -{TURN}v-{down}q0 -{TURN} {TURN} -{TURN}")
+                out += path(f"M{x + width - 2 * TURN} {y + place}"
+                            f"q{TURN} 0 {TURN} -{TURN}v-{down}q0 -{TURN} {TURN} -{TURN}")
             else:
                 out += path(f"M{x} {y}h{2 * TURN}M{x + width - 2 * TURN} {y}h{2 * TURN}")
             out += part[3](start, y + place) + path(f"M{end} {y + place}H{x + width - 2 * TURN}")
@@ -107,7 +109,8 @@ def again(part, between):
         left, right, start = x + 2 * TURN, x + width - 2 * TURN, x + (width - between[0]) / 2
         out = path(f"M{x} {y}H{left}") + part[3](left, y) + path(f"M{left + part[0]} {y}H{x + width}")
         out += path(f"M{left} {y}q-{TURN} 0 -{TURN} {TURN}v{depth - 2 * TURN}q0 {TURN} {TURN} {TURN}H{start}")
-        out += path(f"M{right} {y}q{TURN} 0 {TURN} {TURN}v{depth - 2 * TURN}q0 {TURN} -{TURN} {TURN}H{start + between[0]}")
+        out += path(f"M{right} {y}"
+                    f"q{TURN} 0 {TURN} {TURN}v{depth - 2 * TURN}q0 {TURN} -{TURN} {TURN}H{start + between[0]}")
         return out + between[3](start, y + depth)
 
     return width, part[1], depth + between[2], draw
@@ -134,7 +137,8 @@ save("expression.svg", choice(
     row(choice(token("all"), token("any")), token("("), name("members"), token(")")),
     row(token("not"), token("("), name("expression"), token(")")),
     choice(token("true"), token("false")),
-    row(note("none of these five words without its mark"), name("identifier"), optional(row(token("="), name("string"))))))
+    row(note("none of these five words without its mark"), name("identifier"),
+        optional(row(token("="), name("string"))))))
 save("members.svg", optional(row(again(name("expression"), token(",")), optional(token(",")))))
 save("fact.svg", row(name("identifier"), optional(row(token("="), name("string")))))
 save("identifier.svg", row(optional(token("r#")), choice(token("_"), name("letter")),

@@ -28,7 +28,7 @@ use Rattle.cargo_platform.specs.ChangeLaws.{IsWellFormedWithoutLiteralKeys, Give
 use Rattle.cargo_platform.proofs.OneCut.{one_cut_from}
 use Rattle.cargo_platform.proofs.OneTree.{one_transitional_tree, was_spelled}
 use Rattle.cargo_platform.proofs.WellFormedness.{spelled_well_formed}
-use Rattle.cargo_platform.proofs.Walk.{bytes_eq-true}
+use Rattle.cargo_platform.proofs.Roles.{bytes_eq-true}
 use Rattle.cargo_platform.proofs.Conditions.{one_inner}
 
 neither : (a b : Bool) → (a || b) ≡ false → (a ≡ false) × (b ≡ false)

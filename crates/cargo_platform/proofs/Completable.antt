@@ -11,11 +11,12 @@ use Rattle.cargo_platform.specs.Tokens.{Lexeme, LeftParen, RightParen, Ident, Co
 use Rattle.cargo_platform.specs.Tokens.{IsWellWritten}
 use Rattle.cargo_platform.specs.Cut.{lexemes}
 use Rattle.cargo_platform.specs.Trees.{Alone, KeyPair}
-use Rattle.cargo_platform.specs.Spelling.{Grammar, Values, Expressions, IsAccepted}
+use Rattle.cargo_platform.specs.Spelling.{Grammar, Values, Expressions, IsAccepted, Role, GroupWord, LiteralWord}
+use Rattle.cargo_platform.specs.Spelling.{PlainName, role}
 use Rattle.cargo_platform.specs.Faults.{IsCompletable, IsFaultFront, Next, Unfit, Broken, End, Fault, UnexpectedToken}
 use Rattle.cargo_platform.specs.Faults.{IncompleteExpr, expected_token, expected_end, fault_of, IsRefused}
 use Rattle.cargo_platform.specs.Walk.{Word, Several, Negation, State, Wanted, Member, Behind, Named, Keyed, Ended}
-use Rattle.cargo_platform.specs.Walk.{after_name, after_expression, after, walk_from, walk}
+use Rattle.cargo_platform.specs.Walk.{after_role, after_name, after_expression, after, walk_from, walk}
 use Rattle.cargo_platform.specs.Parsing.{is_whole, expects, expects_end}
 use Rattle.cargo_platform.specs.FaultLaws.{is_left_paren, IsCompletedShortly, IsOfClass, CanFollow, Names}
 use Rattle.cargo_platform.proofs.OneCut.{never}
@@ -71,22 +72,14 @@ needed_depth (Named ws) = omega arith
 needed_depth (Keyed ws) = omega arith
 needed_depth (Ended ws) = omega arith
 
-picks : (m al an ne l : Bool) (ws : List Word)
-    → depth
-    (if not m && ne then Behind Negation ws
-    else (if not m && (al || an) then Behind Several ws else (if not m && l then Ended ws else Named ws))) ≡ length ws
+role_depth : (r : Role) (name : List ℕ) (ws : List Word) → depth (after_role r name ws) ≡ length ws
 unfolding depth
-picks true al an ne l ws = refl
-picks false al an true l ws = refl
-picks false true an false l ws = refl
-picks false false true false l ws = refl
-picks false false false false true ws = refl
-picks false false false false false ws = refl
+role_depth GroupWord name ws = refl
+role_depth LiteralWord name ws = refl
+role_depth PlainName name ws = refl
 
 name_depth : (raw : Bool) (name : List ℕ) (ws : List Word) → depth (after_name raw name ws) ≡ length ws
-name_depth raw name ws =
-    picks raw (bytes_eq name (codes "all")) (bytes_eq name (codes "any")) (bytes_eq name (codes "not"))
-    (bytes_eq name (codes "true") || bytes_eq name (codes "false")) ws
+name_depth raw name ws = role_depth (role (record { raw = raw; name = name })) name ws
 
 -- a token opens at most what it is counted for
 abbrev Opens : State → Lexeme → State → Type 0

@@ -45,15 +45,3 @@ spelled_well_formed_condition text (Expression e) p = spelled_well_formed p.0 e 
 pub printed_condition_spells : (p : Condition) → IsWellFormedCondition p → IsConditionText (print_condition p) p
 printed_condition_spells (Target m) w = (refl, name_is_bare m w, w)
 printed_condition_spells (Expression e) w = (print e, refl, printed_spells e w)
-
--- the print of a well-formed condition is no text that may be refused
-pub is_print_condition : (text : List ℕ) (p : Condition) → IsWellFormedCondition p → text ≡ print_condition p
-    → IsConditionText text p
-is_print_condition text p w h =
-    let P : List ℕ → Type 0 = λ z. IsConditionText z p in
-    subst P (sym h) (printed_condition_spells p w)
-
--- what is read from the print of a well-formed condition is that condition
-pub reads_back_condition : (text : List ℕ) (p q : Condition) → IsWellFormedCondition q → text ≡ print_condition q
-    → IsConditionText text p → p ≡ q
-reads_back_condition text p q w h s = one_condition text p q s (is_print_condition text q w h)

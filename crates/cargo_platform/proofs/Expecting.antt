@@ -1,14 +1,16 @@
 -- The last token of a list that is walked tells what is expected behind it, as the state does.
-use Rattle.std.proofs.Common.{◌≡◌, refl, sym, subst, ◌∙◌, ℕ, Bool, true, false, not, ◌&&◌, ◌||◌, List, [], ◌∷◌, Option}
+use Rattle.std.proofs.Common.{◌≡◌, refl, sym, subst, ◌∙◌, ℕ, Bool, true, false, List, [], ◌∷◌, Option}
 use Rattle.std.proofs.Common.{Some, None, codes}
-use Rattle.std.specs.Prelude.{if◌then◌else◌, bytes_eq}
+use Rattle.std.specs.Prelude.{if◌then◌else◌}
 use Rattle.std.specs.List.{last_or}
 use Rattle.std.proofs.lemmas.Option.{same_Some}
 use Rattle.cargo_platform.specs.Tokens.{Lexeme, LeftParen, RightParen, Ident, Comma, Equals, String}
-use Rattle.cargo_platform.specs.Spelling.{Expressions}
+use Rattle.cargo_platform.specs.Trees.{Name}
+use Rattle.cargo_platform.specs.Spelling.{Expressions, is_group_word, is_literal_word, GroupWord, LiteralWord}
+use Rattle.cargo_platform.specs.Spelling.{PlainName}
 use Rattle.cargo_platform.specs.Faults.{expected_token, expected_end}
 use Rattle.cargo_platform.specs.Walk.{Word, Several, Negation, State, Wanted, Member, Behind, Named, Keyed, Ended}
-use Rattle.cargo_platform.specs.Walk.{after, after_name, after_expression, walk_from}
+use Rattle.cargo_platform.specs.Walk.{after, after_role, after_name, after_expression, walk_from}
 use Rattle.cargo_platform.specs.Parsing.{expects, expects_end}
 use Rattle.cargo_platform.proofs.Walk.{none_some, walk_from-None}
 
@@ -20,23 +22,16 @@ abbrev Picks : Bool → State → Type 0
 Picks b s =
     ((if b then codes "`(`" else codes "`)`") ≡ expects s) × ((if b then codes "`(`" else codes "`)`") ≡ expects_end s)
 
-picks : (m al an ne l : Bool) (ws : List Word)
-    → Picks (not m && (al || an || ne))
-    (if not m && ne then Behind Negation ws
-    else (if not m && (al || an) then Behind Several ws else (if not m && l then Ended ws else Named ws)))
-picks true al an ne l ws = (refl, refl)
-picks false true an true l ws = (refl, refl)
-picks false true an false l ws = (refl, refl)
-picks false false true true l ws = (refl, refl)
-picks false false true false l ws = (refl, refl)
-picks false false false true l ws = (refl, refl)
-picks false false false false true ws = (refl, refl)
-picks false false false false false ws = (refl, refl)
+picks : (g l : Bool) (name : List ℕ) (ws : List Word)
+    → Picks g (after_role (if g then GroupWord else (if l then LiteralWord else PlainName)) name ws)
+picks true l name ws = (refl, refl)
+picks false true name ws = (refl, refl)
+picks false false name ws = (refl, refl)
 
 named_matches : (raw : Bool) (name : List ℕ) (ws : List Word) → Matches (Some (Ident raw name)) (after_name raw name ws)
 named_matches raw name ws =
-    picks raw (bytes_eq name (codes "all")) (bytes_eq name (codes "any")) (bytes_eq name (codes "not"))
-    (bytes_eq name (codes "true") || bytes_eq name (codes "false")) ws
+    let n : Name = record { raw = raw; name = name } in
+    picks (is_group_word n) (is_literal_word n) name ws
 
 moved : (o : Option Lexeme) (s t : State) → Some s ≡ Some t → Matches o s → Matches o t
 moved o s t h m = let P : State → Type 0 = λ z. Matches o z in subst P (same_Some _ _ h) m

@@ -4,6 +4,7 @@ pub mod Looking
 pub mod Scanning
 pub mod Stepping
 pub mod Runs
+pub mod Roles
 pub mod OneTree
 pub mod TreeViews
 pub mod OneValue
@@ -19,8 +20,6 @@ pub mod OneFault
 pub mod SomeFault
 pub mod PrintedSpells
 pub mod PrintedMembers
-pub mod ReadsBack
-pub mod JsonAnswers
 pub mod Readings
 pub mod Paths
 pub mod Parsing
@@ -55,6 +54,8 @@ pub mod TargetNames
 pub mod Conditions
 pub mod Changes
 pub mod ConditionFaults
+pub mod TextLaws
+pub mod JsonAnswers
 pub mod ConditionAnswers
 pub mod WarningWalks
 pub mod Texts

@@ -6,7 +6,7 @@ use Rattle.cargo_platform.specs.Tokens.{Lexeme, LeftParen, RightParen, Ident, Co
 use Rattle.cargo_platform.specs.Trees.{Name, CfgValue, Alone, KeyPair, Tree, Not, All, Any, Value, True, False, Trees}
 use Rattle.cargo_platform.specs.Trees.{none, tree}
 use Rattle.cargo_platform.specs.Spelling.{value_spelling, is_group_word, is_literal_word, group, joined, IsMemberList}
-use Rattle.cargo_platform.specs.Spelling.{Spells, SpellEach, IsTreeText}
+use Rattle.cargo_platform.specs.Spelling.{Spells, SpellEach, IsTreeText, Role, GroupWord, LiteralWord, PlainName, role}
 use Rattle.cargo_platform.specs.Earlier.{MayStandTransitional, SpellsTransitional, SpellEachTransitional}
 use Rattle.cargo_platform.specs.Key.{rank}
 use Rattle.cargo_platform.specs.Cut.{lexemes}
@@ -33,15 +33,14 @@ is_equals_next (String value ∷ ts) = false
 
 -- ---- the form of a tree, told by its first two tokens
 
+abbrev pub role_form : Role → List ℕ → Bool → ℕ
+role_form GroupWord name equals =
+    if bytes_eq name (codes "not") then 0 else (if bytes_eq name (codes "all") then 1 else 2)
+role_form LiteralWord name equals = if equals then 3 else (if bytes_eq name (codes "true") then 4 else 5)
+role_form PlainName name equals = 3
+
 abbrev pub form_of : Bool → List ℕ → Bool → ℕ
-form_of raw name equals =
-    if not raw && bytes_eq name (codes "not") then 0
-    else (if not raw && bytes_eq name (codes "all") then 1
-    else (if not raw && bytes_eq name (codes "any") then 2
-    else (if equals then 3
-    else (if not raw && bytes_eq name (codes "true") then 4
-    else (if not raw && bytes_eq name (codes "false") then 5
-    else 3)))))
+form_of raw name equals = role_form (role (record { raw = raw; name = name })) name equals
 
 abbrev pub form : List Lexeme → ℕ
 form [] = 6
@@ -56,26 +55,16 @@ abbrev three : ℕ
 three = 3
 
 -- a name or a key that may stand in an expression
-picks : (m al an ne e t f : Bool) → (not m && (al || an || ne)) ≡ false → (not e && (not m && (t || f))) ≡ false
-    → (if not m && ne then 0
-    else (if not m && al then 1
-    else (if not m && an then 2
-    else (if e then 3 else (if not m && t then 4 else (if not m && f then 5 else 3)))))) ≡ three
-picks true al an ne true t f h g = refl
-picks true al an ne false t f h g = refl
-picks false true an ne e t f h g = absurd cc
-picks false false true ne e t f h g = absurd cc
-picks false false false true e t f h g = absurd cc
-picks false false false false true t f h g = refl
-picks false false false false false true f h g = absurd cc
-picks false false false false false false true h g = absurd cc
-picks false false false false false false false h g = refl
+picks : (g l e : Bool) (name : List ℕ) → g ≡ false → (not e && l) ≡ false
+    → role_form (if g then GroupWord else (if l then LiteralWord else PlainName)) name e ≡ three
+picks true l e name h k = absurd (true≢false h)
+picks false true true name h k = refl
+picks false true false name h k = absurd (true≢false k)
+picks false false e name h k = refl
 
 form_of_word : (n : Name) (equals : Bool) → IsFalse (is_group_word n) → (not equals && is_literal_word n) ≡ false
     → form_of n.raw n.name equals ≡ 3
-form_of_word n equals h g =
-    picks n.raw (bytes_eq n.name (codes "all")) (bytes_eq n.name (codes "any")) (bytes_eq n.name (codes "not")) equals
-    (bytes_eq n.name (codes "true")) (bytes_eq n.name (codes "false")) h g
+form_of_word n equals h k = picks (is_group_word n) (is_literal_word n) equals n.name h k
 
 form_of_value : (c : CfgValue) (x : List Lexeme) → MayStandTransitional c → is_equals_next x ≡ false
     → form (value_spelling c ++ x) ≡ 3
@@ -243,7 +232,8 @@ mutual
   one_list none none [] [] i j x y p q a b h = (
     refl,
     tail_is
-        (ap (λ (z : List Lexeme). z ++ (RightParen ∷ x)) (sym a) ∙ h ∙ ap (λ (z : List Lexeme). z ++ (RightParen ∷ y)) b),
+        (ap (λ (z : List Lexeme). z ++ (RightParen ∷ x)) (sym a) ∙ h
+        ∙ ap (λ (z : List Lexeme). z ++ (RightParen ∷ y)) b),
   )
   one_list none none [] (n ∷ ns) i j x y p q a b h = absurd q
   one_list none none (m ∷ ms) ns i j x y p q a b h = absurd p
@@ -284,7 +274,8 @@ mutual
   one_after none none [] [] i j x y p q (inl a) (inl b) h = (
     refl,
     tail_is
-        (ap (λ (z : List Lexeme). z ++ (RightParen ∷ x)) (sym a) ∙ h ∙ ap (λ (z : List Lexeme). z ++ (RightParen ∷ y)) b),
+        (ap (λ (z : List Lexeme). z ++ (RightParen ∷ x)) (sym a) ∙ h
+        ∙ ap (λ (z : List Lexeme). z ++ (RightParen ∷ y)) b),
   )
   one_after none none [] [] i j x y p q (inl a) (inr b) h =
       let e : RightParen ∷ x ≡ Comma ∷ RightParen ∷ y = ap (λ (z : List Lexeme). z ++ (RightParen ∷ x)) (sym a) ∙ h

@@ -85,7 +85,7 @@ comes_behind text from to (ahead.Token t) c =
       some,
       c.3,
     )
-comes_behind text from to (ahead.Fault kind at) c = omega (arith, c.0.1.ordered, c.2)
+comes_behind text from to (ahead.Lexical kind at) c = omega (arith, c.0.1.ordered, c.2)
 comes_behind text from to Nothing c = omega (arith, c.1)
 
 pub taken_shorter : (l m : Ahead) (t : Lexeme) → TakesToken l m t → items_left m < items_left l
@@ -143,7 +143,7 @@ pub record Refusing (l : Ahead) (expected at_end : List ℕ) (ts : List Lexeme) 
 stop_is : (text : List ℕ) (i : Item) (s : State) → ((t : Placed) → i ≡ ahead.Token t → after s t.token ≡ None)
     → IsStop s (next_of text i)
 stop_is text (ahead.Token t) s u = u t refl
-stop_is text (ahead.Fault kind at) s u = tt
+stop_is text (ahead.Lexical kind at) s u = tt
 stop_is text Nothing s u = tt
 
 pub stops_at : (l : Ahead) (P : List Lexeme → Type 0) (expected at_end : List ℕ) (g : Fault)
@@ -558,7 +558,7 @@ lacks_equals l h = go l.item h
     go : (left : Item) → ((first : Placed) → left ≡ ahead.Token first → first.token ≡ Equals → ⊥)
         → is_equals_next left ≡ false
     go (ahead.Token t) h = is t.token (h t refl)
-    go (ahead.Fault kind at) h = refl
+    go (ahead.Lexical kind at) h = refl
     go Nothing h = refl
 
 -- ---- the whole

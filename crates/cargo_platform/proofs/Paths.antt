@@ -22,13 +22,13 @@ comes_left text from to (ahead.Token t) (u ∷ us) tail cut g =
       subst A (ap (λ (z : Placed). z.end) same ∙ sym g.3)
           (record { written = cut.written.1; apart = cut.apart.1; whole = cut.whole.1; rest = cut.rest }),
     )
-comes_left text from to (ahead.Fault k at) [] tail cut g = (
+comes_left text from to (ahead.Lexical k at) [] tail cut g = (
   refl,
   same_start text from tail at cut.apart g.0 (tail_no_space (drop tail text) cut.rest)
       (tail_no_space (drop at text) (inr (k, g.1))),
   g.1,
 )
-comes_left text from to (ahead.Fault k at) (u ∷ us) tail cut g =
+comes_left text from to (ahead.Lexical k at) (u ∷ us) tail cut g =
     absurd (not_both text from at u g.0 (inr (k, g.1)) cut.apart.0 cut.written.0 cut.whole.0)
 comes_left text from to Nothing ts tail cut g = go ts cut
   where
@@ -79,7 +79,7 @@ left_follows text place (ahead.Token t) (u ∷ us) tail h = ap (λ (z : List Pla
     first : List Placed → Item
     first [] = Nothing
     first (t ∷ ts) = ahead.Token t
-left_follows text place (ahead.Fault k at) [] tail h = (ap (λ (z : ℕ). drop z text) (sym h.1), h.2)
-left_follows text place (ahead.Fault k at) (u ∷ us) tail h = absurd (let e = h.0 in cc)
+left_follows text place (ahead.Lexical k at) [] tail h = (ap (λ (z : ℕ). drop z text) (sym h.1), h.2)
+left_follows text place (ahead.Lexical k at) (u ∷ us) tail h = absurd (let e = h.0 in cc)
 left_follows text place Nothing [] tail h = omega (arith, h.1)
 left_follows text place Nothing (u ∷ us) tail h = absurd (let e = h.0 in cc)

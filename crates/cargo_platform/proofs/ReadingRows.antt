@@ -10,8 +10,8 @@ use Rattle.cargo_platform.specs.declared.tokens.TokenFaultKind.{TokenFaultKind}
 use Rattle.cargo_platform.specs.declared.tokens.TokenFaultKind.TheVariants.{UnexpectedChar}
 use Rattle.cargo_platform.specs.Chars.{is_space}
 use Rattle.cargo_platform.specs.Tokens.{LeftParen, IsStringValue}
-use Rattle.cargo_platform.specs.Reading.{Progress, MovesTo, GivesToken, GivesEnd, NextGives, BeginsCharacter, Next}
-use Rattle.cargo_platform.specs.Reading.{characters_from, results_left, ReadsTo, EndsAt, Reads}
+use Rattle.cargo_platform.specs.Reading.{Progress, MovesTo, GivesToken, GivesEnd, NextGives, BeginsCharacter, NextCall}
+use Rattle.cargo_platform.specs.Reading.{characters_from, results_left, ReadsTo, EndsAt, GoesThrough}
 use Rattle.cargo_platform.proofs.OneCut.{tail_no_space, one_cut_from}
 use Rattle.cargo_platform.proofs.Runs.{cuts_are_read}
 use Rattle.cargo_platform.proofs.CutTests.{spaces, written_at, cut_by}
@@ -134,16 +134,16 @@ no_end_at_space (inr p) = absurd (omega (arith, p.0))
 -- ---- a whole text
 
 -- ` (`
-reads_paren : Reads (codes " (") (at LeftParen 1 2 ∷ []) 2
+reads_paren : GoesThrough (codes " (") (at LeftParen 1 2 ∷ []) 2
 reads_paren = (cuts_are_read (codes " (") (at LeftParen 1 2 ∷ []) 2).1 (cut_by _ _ _ refl (inl refl))
 
-no_token_left_out : (tail : ℕ) → Reads (codes "a") [] tail → ⊥
+no_token_left_out : (tail : ℕ) → GoesThrough (codes "a") [] tail → ⊥
 no_token_left_out tail r =
     absurd
     (omega
     (arith, ap length (one_cut_from (codes "a") [] _ 0 tail 1 ((cuts_are_read (codes "a") [] tail).0 r) lone_a).0))
 
-no_other_tail : Reads (codes "a") (word (codes "a") 0 1 ∷ []) 0 → ⊥
+no_other_tail : GoesThrough (codes "a") (word (codes "a") 0 1 ∷ []) 0 → ⊥
 no_other_tail r =
     absurd (omega (arith, (one_cut_from (codes "a") _ _ 0 0 1 ((cuts_are_read (codes "a") _ 0).0 r) lone_a).1))
 
@@ -160,7 +160,7 @@ results_are_few : (results_left (reached (codes " (") 0 0) ≡ 3) × (results_le
 results_are_few = (refl, refl, refl)
 
 -- a call after the fault costs nothing
-next_after_fault : Next (stopped (codes "#") 0 1) None (stopped (codes "#") 0 1)
+next_after_fault : NextCall (stopped (codes "#") 0 1) None (stopped (codes "#") 0 1)
 unfolding chars
 next_after_fault = record {
   gives = inl (refl, refl);
@@ -172,18 +172,18 @@ next_after_fault = record {
 
 -- behind a token the space there was looked at, and at the end the end
 looks_at_space : (old : Progress) (r : Option (Result Spanned TokenFault)) (looks : ℕ) →
-    Next old r (reached (codes "a ") 1 looks) → looks ≡ 2
+    NextCall old r (reached (codes "a ") 1 looks) → looks ≡ 2
 unfolding chars
 looks_at_space old r looks n = omega (arith, n.each refl)
 
 looks_at_end : (old : Progress) (r : Option (Result Spanned TokenFault)) (looks : ℕ) →
-    Next old r (reached (codes "a ") 2 looks) → looks ≡ 3
+    NextCall old r (reached (codes "a ") 2 looks) → looks ≡ 3
 unfolding chars
 looks_at_end old r looks n = omega (arith, n.each refl)
 
 -- nothing is looked at again before a fault
 looks_up_to_fault : (old : Progress) (r : Option (Result Spanned TokenFault)) →
-    Next old r (stopped (codes "a #") 2 5) → ⊥
+    NextCall old r (stopped (codes "a #") 2 5) → ⊥
 unfolding chars
 looks_up_to_fault old r n = absurd (omega (arith, n.at_most))
 

@@ -3,7 +3,7 @@ use Rattle.std.proofs.Common.{◌≡◌, sym, ap, subst, ◌∙◌, ℕ, ◌+◌
 use Rattle.std.proofs.Common.{Err, inl, inr, length, arith}
 use Rattle.cargo_platform.specs.declared.tokens.Spanned.{Spanned}
 use Rattle.cargo_platform.specs.declared.tokens.TokenFault.{TokenFault}
-use Rattle.cargo_platform.specs.Reading.{Progress, NextGives, BeginsCharacter, characters_from, Next}
+use Rattle.cargo_platform.specs.Reading.{Progress, NextGives, BeginsCharacter, characters_from, NextCall}
 use Rattle.cargo_platform.specs.Tokens.{Placed}
 use Rattle.cargo_platform.specs.Ahead.{Nothing, Token, item_of, Comes, IsItem, IsReading, ahead_of, GoesOn}
 use Rattle.cargo_platform.proofs.Looking.{characters_end}
@@ -21,12 +21,12 @@ gives_comes p q (Some (Ok s)) going g =
     (g.moves.same_text, (g.apart, g.written, g.whole, g.moves.place_is), g.moves.failed_is)
 gives_comes p q (Some (Err f)) going g = (g.moves.same_text, (g.apart, g.begins, g.moves.place_is), tt)
 
-pub goes_on : (p q : Progress) (s r : Option (Result Spanned TokenFault)) → p.failed ≡ false → Next p r q
+pub goes_on : (p q : Progress) (s r : Option (Result Spanned TokenFault)) → p.failed ≡ false → NextCall p r q
     → GoesOn (ahead_of p s) (ahead_of q r)
 goes_on p q s r going n = let c = gives_comes p q r going n.gives in record { same_text = c.0; comes = c.1 }
 
 -- the next item is looked at as the last one was
-pub reading_on : (p q : Progress) (r : Option (Result Spanned TokenFault)) → p.failed ≡ false → Next p r q →
+pub reading_on : (p q : Progress) (r : Option (Result Spanned TokenFault)) → p.failed ≡ false → NextCall p r q →
     IsReading q r
 reading_on p q r going n =
     let c = gives_comes p q r going n.gives in
@@ -47,5 +47,5 @@ token_going p None t a h = absurd cc
 token_going p (Some (Err f)) t a h = absurd cc
 
 pub advanced : (p q : Progress) (s r : Option (Result Spanned TokenFault)) (t : Placed) → IsReading p s
-    → item_of s ≡ Token t → Next p r q → IsReading q r × GoesOn (ahead_of p s) (ahead_of q r)
+    → item_of s ≡ Token t → NextCall p r q → IsReading q r × GoesOn (ahead_of p s) (ahead_of q r)
 advanced p q s r t a h n = let going = token_going p s t a h in (reading_on p q r going n, goes_on p q s r going n)

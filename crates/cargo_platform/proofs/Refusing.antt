@@ -6,8 +6,7 @@ use Rattle.std.specs.List.{last_or}
 use Rattle.cargo_platform.specs.declared.reader.Refusal.{Refusal}
 use Rattle.cargo_platform.specs.Tokens.{Lexeme, Placed, called}
 use Rattle.cargo_platform.specs.Cut.{IsCut, lexemes}
-use Rattle.cargo_platform.specs.Trees.{Tree}
-use Rattle.cargo_platform.specs.Spelling.{Expressions, IsTreeText}
+use Rattle.cargo_platform.specs.Spelling.{Expressions}
 use Rattle.cargo_platform.specs.Faults.{Next, Unfit, Broken, End, Follows, Fault, UnexpectedToken, IncompleteExpr}
 use Rattle.cargo_platform.specs.Faults.{fault_of, IsRefused}
 use Rattle.cargo_platform.specs.Walk.{State, Wanted, walk}
@@ -18,7 +17,6 @@ use Rattle.cargo_platform.proofs.Fronts.{goes_on, refused_walked}
 use Rattle.cargo_platform.proofs.SomeCut.{some_cut}
 use Rattle.cargo_platform.proofs.Paths.{comes_left, path_left, path_text, left_follows}
 use Rattle.cargo_platform.proofs.Parsing.{if_fault}
-use Rattle.cargo_platform.proofs.Refused.{refused_spells_none}
 
 -- the fault is that of the table
 table : (b : Bool) (s : State) (o : Option Lexeme) (next : Next) (f : Fault) → Matches o s → IsFaultAt b s next f
@@ -64,12 +62,6 @@ stops_refused text l r utf8 same comes h =
         stuck_refused text c.0 a.us p.0 c.1 s.s (next_of text a.stop.item) f c.2 p.1 s.walked
         (subst T is (left_follows a.stop.text a.stop.place a.stop.item p.0 c.1 p.2)) (subst N is s.stops)
         (subst F is s.is)
-
-pub stops_spells_none : (text : List ℕ) (l : Ahead) (r : Refusal) → IsUtf8 text → l.text ≡ text
-    → Comes text 0 l.item l.place → Stops l (λ ts. ts ≡ []) r → IfFault r (λ _. (t : Tree) → IsTreeText text t → ⊥)
-stops_spells_none text l r utf8 same comes h =
-    if_fault r (IsRefused Expressions text) _
-    (λ f a t p. refused_spells_none text f t a p) (stops_refused text l r utf8 same comes h)
 
 -- tokens that were ahead from the start up to the end are those of the cut
 pub path_cut : (text : List ℕ) (l m : Ahead) (us : List Placed) → IsUtf8 text → l.text ≡ text

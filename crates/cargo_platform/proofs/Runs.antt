@@ -12,7 +12,7 @@ use Rattle.cargo_platform.specs.declared.tokens.TokenFaultKind.TheVariants.{Miss
 use Rattle.cargo_platform.specs.Chars.{BeginsWith}
 use Rattle.cargo_platform.specs.Tokens.{Placed, placed}
 use Rattle.cargo_platform.specs.Cut.{AreSpaces, BeginsFault, IsCutFrom}
-use Rattle.cargo_platform.specs.Reading.{Progress, MovesTo, GivesToken, NextGives, ReadsTo, EndsAt, Reads}
+use Rattle.cargo_platform.specs.Reading.{Progress, MovesTo, GivesToken, NextGives, ReadsTo, EndsAt, GoesThrough}
 use Rattle.cargo_platform.specs.CutLaws.{CutsAreRead, IsReadAlike, GivesNoMore, EndsForGood, FailsOnce}
 use Rattle.cargo_platform.proofs.OneCut.{one_cut_from}
 use Rattle.cargo_platform.proofs.Scanning.{no_spaces}
@@ -91,7 +91,7 @@ cut_read p going (t ∷ ts) tail cut =
     } in
     (left.0, (behind, gives, left.1), left.2)
 
-reads_cut : (text : List ℕ) (ts : List Placed) (tail : ℕ) → Reads text ts tail → IsCutFrom text 0 ts tail
+reads_cut : (text : List ℕ) (ts : List Placed) (tail : ℕ) → GoesThrough text ts tail → IsCutFrom text 0 ts tail
 reads_cut text ts tail r =
     let T : List ℕ → Type 0 = λ bs. IsCutFrom bs 0 ts tail in
     subst T r.starts.same_text

@@ -16,7 +16,7 @@ use Rattle.cargo_platform.specs.Chars.{starts}
 use Rattle.cargo_platform.specs.Tokens.{Ident, String, IsIdentifierName}
 use Rattle.cargo_platform.specs.Cut.{AreSpaces, EndsBefore, BeginsFault}
 use Rattle.cargo_platform.specs.Looking.{IsCharAt}
-use Rattle.cargo_platform.specs.Scanning.{Stands}
+use Rattle.cargo_platform.specs.Scanning.{IsTokenAt}
 use Rattle.cargo_platform.proofs.OneCut.{both_true, both_first, both_second, never}
 
 -- ---- tests of the bytes between two places
@@ -83,7 +83,8 @@ rest_begins text at within past = (
 pub string_stands : (text value : List ℕ) (start quote : ℕ) → slice_index text start ≡ 0x22
     → slice_index text quote ≡ 0x22 → start + 1 ≤ quote → quote < length text
     → value ≡ slice_range text (start + 1) quote → IsUtf8 value
-    → ((i : ℕ) → start + 1 ≤ i → i < quote → slice_index text i ≢ 0x22) → Stands text (String value) start (quote + 1)
+    → ((i : ℕ) → start + 1 ≤ i → i < quote → slice_index text i ≢ 0x22)
+    → IsTokenAt text (String value) start (quote + 1)
 string_stands text value start quote opens closes ordered within is utf8 inside = record {
   forward = omega arith;
   written = (
@@ -147,7 +148,8 @@ pub plain_stands : (text name : List ℕ) (start end : ℕ) → is_identifier_st
     → start + 1 ≤ end → end ≤ length text → name ≡ slice_range text start end
     → ((i : ℕ) → start + 1 ≤ i → i < end → is_identifier_rest (slice_index text i) ≡ true)
     → is_identifier_rest (slice_index text end) ≡ false
-    → (slice_index text start ≡ 0x72 → slice_index text (start + 1) ≢ 0x23) → Stands text (Ident false name) start end
+    → (slice_index text start ≡ 0x72 → slice_index text (start + 1) ≢ 0x23)
+    → IsTokenAt text (Ident false name) start end
 plain_stands text name start end begins ordered inside is rest ends plain =
     let size : length name ≡ end - start = ap length is ∙ length-between text start end inside in
     record {
@@ -170,7 +172,7 @@ pub marked_stands : (text name : List ℕ) (start end : ℕ) → slice_index tex
     → slice_index text (start + 1) ≡ 0x23 → is_identifier_start (slice_index text (start + 2)) ≡ true → start + 3 ≤ end
     → end ≤ length text → name ≡ slice_range text (start + 2) end
     → ((i : ℕ) → start + 3 ≤ i → i < end → is_identifier_rest (slice_index text i) ≡ true)
-    → is_identifier_rest (slice_index text end) ≡ false → Stands text (Ident true name) start end
+    → is_identifier_rest (slice_index text end) ≡ false → IsTokenAt text (Ident true name) start end
 marked_stands text name start end r sign begins ordered inside is rest ends = record {
   forward = omega arith;
   written = (

@@ -5,7 +5,7 @@ use Rattle.cargo_platform.specs.declared.reader.Refusal.{Refusal}
 use Rattle.cargo_platform.specs.Tokens.{Lexeme, Ident, Equals, String, Placed}
 use Rattle.cargo_platform.specs.Cut.{IsCut, lexemes}
 use Rattle.cargo_platform.specs.Trees.{CfgValue, Alone, KeyPair}
-use Rattle.cargo_platform.specs.Spelling.{value_spelling, Values, IsValueText}
+use Rattle.cargo_platform.specs.Spelling.{value_spelling, Values}
 use Rattle.cargo_platform.specs.Faults.{Follows, Fault, IsRefused}
 use Rattle.cargo_platform.specs.Misfits.{LacksFirst, IsSurplus}
 use Rattle.cargo_platform.specs.Ahead.{Item, Nothing, Ahead, Comes, next_of, ItemIsLeft}
@@ -14,7 +14,6 @@ use Rattle.cargo_platform.specs.Parsing.{Lacks, IfFault, HasRead, IsValueStop, C
 use Rattle.cargo_platform.proofs.SomeCut.{some_cut}
 use Rattle.cargo_platform.proofs.Paths.{comes_left, path_left, path_text, left_follows}
 use Rattle.cargo_platform.proofs.Parsing.{if_fault}
-use Rattle.cargo_platform.proofs.Refused.{refused_spells_no_value}
 use Rattle.cargo_platform.proofs.ValueFaults.{refused_at_start, refused_behind_name, refused_behind_key}
 use Rattle.cargo_platform.proofs.ValueFaults.{refused_behind_pair}
 
@@ -31,7 +30,7 @@ lacks_first P l ts tail h n = λ first us e. go l.item h n first us e
         → ts ≡ first ∷ us → P first.token → ⊥
     go (ahead.Token t) h n first us e p = let Q : Placed
         → Type 0 = λ z. P z.token in n t refl (subst Q (head_is (sym e ∙ h.1)) p)
-    go (ahead.Fault k at) h n first us e p = absurd (let x = sym e ∙ h.0 in cc)
+    go (ahead.Lexical k at) h n first us e p = absurd (let x = sym e ∙ h.0 in cc)
     go Nothing h n first us e p = absurd (let x = sym e ∙ h.0 in cc)
 
 stop_refused : (text : List ℕ) (ts front after : List Placed) (tail : ℕ) (stop : Ahead) (f : Fault)
@@ -74,12 +73,6 @@ value_stop_refused text l r utf8 same comes h = if_fault r _ (IsRefused Values t
         (subst L (sym same) (comes_left text 0 l.place l.item c.0 c.1 c.2 comes)) a.path in
         stop_refused text c.0 a.us p.0 c.1 stop f read c.2 p.1 (a.leads [] refl)
         (path_text l stop a.us a.path ∙ same) p.2 s
-
-pub value_stop_spells_none : (text : List ℕ) (l : Ahead) (r : Refusal) → IsUtf8 text → l.text ≡ text
-    → Comes text 0 l.item l.place → StopsValue l r → IfFault r (λ _. (c : CfgValue) → IsValueText text c → ⊥)
-value_stop_spells_none text l r utf8 same comes h =
-    if_fault r (IsRefused Values text) _
-    (λ f a c p. refused_spells_no_value text f c a p) (value_stop_refused text l r utf8 same comes h)
 
 -- behind a whole value
 pub behind_value : (c : CfgValue) (stop : Ahead) (f : Fault) → ClearBehind c stop

@@ -1,5 +1,5 @@
 -- The values of some expressions from left to right, and the warnings on them.
-use Rattle.std.proofs.Common.{◌≡◌, refl, ap, ℕ, true≢false, List, [], ◌∷◌, codes, arith, length, get_or}
+use Rattle.std.proofs.Common.{◌≡◌, refl, ap, ℕ, true≢false, List, [], ◌∷◌, ◌++◌, codes, arith, length, get_or}
 use Rattle.std.specs.Prelude.{bytes_eq, IsTrue, IsFalse}
 use Rattle.cargo_platform.specs.Trees.{CfgValue, Alone, KeyPair, Not, All, Any, Value, True, none, trees_of, Target}
 use Rattle.cargo_platform.specs.Trees.{Expression}
@@ -42,7 +42,10 @@ supported_names = (refl, refl, refl)
 
 test_text : unsupported_name
     (name (codes "test"))
-    ≡ codes "Found `test` in `target.'cfg(...)'.dependencies`. This value is not supported for selecting dependencies and will not work as expected. To learn more visit https://doc.rust-lang.org/cargo/reference/specifying-dependencies.html#platform-specific-dependencies"
+    ≡ codes "Found `test` in `target.'cfg(...)'.dependencies`. "
+    ++ codes "This value is not supported for selecting dependencies and will not work as expected. "
+    ++ codes "To learn more visit "
+    ++ codes "https://doc.rust-lang.org/cargo/reference/specifying-dependencies.html#platform-specific-dependencies"
 test_text = refl
 
 -- the mark is printed
@@ -79,7 +82,12 @@ keyword_warns = refl
 
 keyword_text : keyword_warning (codes "p") true_key
     (codes "true")
-    ≡ codes "[p] future-incompatibility: `cfg(true = \"x\")` is deprecated as `true` is a keyword and not an identifier and should not have have been accepted in this position.\n | this was previously accepted by Cargo but is being phased out; it will become a hard error in a future release!\n |\n | help: use raw-idents instead: `cfg(r#true)`"
+    ≡ codes "[p] future-incompatibility: `cfg(true = \"x\")` is deprecated as `true` is a keyword "
+    ++ codes "and not an identifier "
+    ++ codes "and should not have have been accepted in this position.\n"
+    ++ codes " | this was previously accepted by Cargo but is being phased out; "
+    ++ codes "it will become a hard error in a future release!\n |\n"
+    ++ codes " | help: use raw-idents instead: `cfg(r#true)`"
 keyword_text = refl
 
 keyword_alone_warns : keyword_warning_at [] (alone (codes "false")) (name (codes "false")) ≡ keyword_warning []

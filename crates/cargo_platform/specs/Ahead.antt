@@ -13,13 +13,13 @@ use Rattle.cargo_platform.specs.Faults.{Next, Unfit, Broken, End}
 -- what a tokenizer gives: a token, the fault of the tail, or nothing more
 pub data Item : Type 0 where
   Token : (t : Placed) → Item
-  Fault : (kind : TokenFaultKind) (at : ℕ) → Item
+  Lexical : (kind : TokenFaultKind) (at : ℕ) → Item
   Nothing : Item
 
 abbrev pub item_of : Option (Result Spanned TokenFault) → Item
 item_of None = Nothing
 item_of (Some (Ok s)) = Token (placed s)
-item_of (Some (Err f)) = Fault f.kind f.at
+item_of (Some (Err f)) = Lexical f.kind f.at
 
 -- the item ahead, and the place from which the text goes on behind it
 pub record Ahead : Type 0 where
@@ -33,7 +33,7 @@ ahead_of p r = record { text = p.text; place = p.place; item = item_of r }
 -- from a place on the item comes next, and the text goes on behind it from another place
 abbrev pub Comes : List ℕ → ℕ → Item → ℕ → Type 0
 Comes text from (Token t) to = AreSpaces text from t.start × IsWrittenAt text t × IsWhole text t × (to ≡ t.end)
-Comes text from (Fault kind at) to = AreSpaces text from at × BeginsFault (drop at text) kind × (to ≡ at)
+Comes text from (Lexical kind at) to = AreSpaces text from at × BeginsFault (drop at text) kind × (to ≡ at)
 Comes text from Nothing to = AreSpaces text from (length text) × (to ≡ length text)
 
 -- the next item is ahead
@@ -49,13 +49,13 @@ Path old (t ∷ ts) new = (mid : Ahead) × (old.item ≡ Token t) × GoesOn old 
 -- what comes next, with the text from there on
 abbrev pub next_of : List ℕ → Item → Next
 next_of text (Token t) = Unfit t.token (drop t.start text)
-next_of text (Fault kind at) = Broken kind (drop at text)
+next_of text (Lexical kind at) = Broken kind (drop at text)
 next_of text Nothing = End
 
 -- these tokens are left, up to the tail
 abbrev pub ItemIsLeft : List ℕ → ℕ → Item → List Placed → ℕ → Type 0
 ItemIsLeft text place (Token t) ts tail = (us : List Placed) × (ts ≡ t ∷ us) × IsCutFrom text place us tail
-ItemIsLeft text place (Fault kind at) ts tail = (ts ≡ []) × (tail ≡ at) × BeginsFault (drop at text) kind
+ItemIsLeft text place (Lexical kind at) ts tail = (ts ≡ []) × (tail ≡ at) × BeginsFault (drop at text) kind
 ItemIsLeft text place Nothing ts tail = (ts ≡ []) × (tail ≡ length text)
 
 abbrev pub IsLeft : Ahead → List Placed → ℕ → Type 0
@@ -63,7 +63,7 @@ IsLeft l ts tail = ItemIsLeft l.text l.place l.item ts tail
 
 abbrev pub item_count : Item → ℕ
 item_count (Token t) = 1
-item_count (Fault kind at) = 0
+item_count (Lexical kind at) = 0
 item_count Nothing = 0
 
 -- at most so many items may come yet

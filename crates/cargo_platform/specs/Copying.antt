@@ -5,7 +5,7 @@ use Rattle.cargo_platform.specs.declared.clone.CopiedGroup.TheVariants as group
 use Rattle.cargo_platform.specs.declared.clone.CopiedGroups.{CopiedGroups}
 use Rattle.cargo_platform.specs.Trees.{Tree, Not, tree_of}
 use Rattle.cargo_platform.specs.Parsing.{is_all, list_tree}
-use Rattle.cargo_platform.specs.ExpressionSizes.{sizes}
+use Rattle.cargo_platform.specs.ExpressionSizes.{node_counts}
 
 -- the group with this member in its place
 abbrev pub around : CopiedGroup → Tree → Tree
@@ -23,7 +23,7 @@ whole c e = within (reverse c.groups.items) e
 -- what falls while the members of a group are copied
 abbrev pub left_in : CopiedGroup → ℕ
 left_in group.Not = 1
-left_in (group.List word copies left) = 2 * sizes left.now + 1
+left_in (group.List word copies left) = 2 * node_counts left.now + 1
 
 abbrev pub work : CopiedGroups → ℕ
 work c = sum (map left_in c.groups.items)

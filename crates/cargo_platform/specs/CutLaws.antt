@@ -5,7 +5,7 @@ use Rattle.cargo_platform.specs.declared.tokens.TokenFault.{TokenFault}
 use Rattle.cargo_platform.specs.declared.tokens.TokenFaultKind.{TokenFaultKind}
 use Rattle.cargo_platform.specs.Tokens.{Placed}
 use Rattle.cargo_platform.specs.Cut.{IsCut}
-use Rattle.cargo_platform.specs.Reading.{Progress, Reads, NextGives, GivesNothing, GivesFault}
+use Rattle.cargo_platform.specs.Reading.{Progress, GoesThrough, NextGives, GivesNothing, GivesFault}
 
 -- a text has a cut, and no other
 abbrev pub HasOneCut : List ℕ → Type 0
@@ -15,11 +15,11 @@ HasOneCut text =
 
 -- calls from the start of a text give the tokens of its cut in order, and then its tail
 abbrev pub CutsAreRead : List ℕ → Type 0
-CutsAreRead text = (ts : List Placed) (tail : ℕ) → Reads text ts tail ↔ IsCut text ts tail
+CutsAreRead text = (ts : List Placed) (tail : ℕ) → GoesThrough text ts tail ↔ IsCut text ts tail
 
 -- they give no other tokens, and come to no other tail
 abbrev pub IsReadAlike : List ℕ → Type 0
-IsReadAlike text = (ts us : List Placed) (tail end : ℕ) → IsCut text ts tail → Reads text us end
+IsReadAlike text = (ts us : List Placed) (tail end : ℕ) → IsCut text ts tail → GoesThrough text us end
     → (us ≡ ts) × (end ≡ tail)
 
 -- whatever a call gives at this progress, it is nothing

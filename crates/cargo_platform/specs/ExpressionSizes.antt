@@ -11,8 +11,8 @@ size_step (layer.Value c) = 1
 size_step layer.True = 1
 size_step layer.False = 1
 
-abbrev pub size : CfgExpr → ℕ
-size = fold-CfgExpr ℕ size_step
+abbrev pub node_count : CfgExpr → ℕ
+node_count = fold-CfgExpr ℕ size_step
 
-abbrev pub sizes : List CfgExpr → ℕ
-sizes es = sum (map size es)
+abbrev pub node_counts : List CfgExpr → ℕ
+node_counts es = sum (map node_count es)

@@ -14,7 +14,7 @@ pub mod Misfits
 pub mod Walk
 pub mod FaultLaws
 pub mod Print
-pub mod PrintLaws
+pub mod TextLaws
 pub mod Platforms
 pub mod PlatformLaws
 pub mod Errors

@@ -22,10 +22,10 @@ pub record IsCharAt (text : List ℕ) (at c : ℕ) : Type 0 where
   pub fewer : characters_from text at ≡ characters_from text (at + len_utf8 c) + 1
 
 -- what a look at a place tells: the end of the text, or the character that begins there
-abbrev pub Sees : List ℕ → ℕ → Look → Type 0
-Sees text at End = at ≡ length text
-Sees text at (Ascii byte) = (byte < 128) × IsCharAt text at byte
-Sees text at (Wide c) = (128 ≤ c) × IsCharAt text at c
+abbrev pub Shows : List ℕ → ℕ → Look → Type 0
+Shows text at End = at ≡ length text
+Shows text at (Ascii byte) = (byte < 128) × IsCharAt text at byte
+Shows text at (Wide c) = (128 ≤ c) × IsCharAt text at c
 
 -- the character that a look gave, unless it was the end
 abbrev pub character_of : Look → Option ℕ
@@ -34,9 +34,9 @@ character_of (Ascii byte) = Some byte
 character_of (Wide c) = Some c
 
 -- what is at the place, if that was looked at before
-abbrev pub SeesBefore : List ℕ → ℕ → Option Look → Type 0
-SeesBefore text at None = Unit {0}
-SeesBefore text at (Some look) = Sees text at look
+abbrev pub ShowedBefore : List ℕ → ℕ → Option Look → Type 0
+ShowedBefore text at None = Unit {0}
+ShowedBefore text at (Some look) = Shows text at look
 
 -- the looks that are still to be made at a place
 abbrev pub unseen : Option Look → ℕ
@@ -56,6 +56,6 @@ pub record Costs (text : List ℕ) (from to beside old new : ℕ) : Type 0 where
 pub record IsStanding (text : List ℕ) (place : ℕ) (seen : Option Look) (failed : Bool) (looks : ℕ) : Type 0 where
   pub short : characters_from text 0 < 2 ^ 64
   pub reached : IsCharBoundary text place
-  pub sees : SeesBefore text place seen
+  pub sees : ShowedBefore text place seen
   pub each : failed ≡ false → looks + characters_from text place + unseen seen ≡ characters_from text 0 + 1
   pub at_most : looks ≤ characters_from text 0 + 1

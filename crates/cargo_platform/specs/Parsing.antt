@@ -163,7 +163,7 @@ pub record Wants (gs : List Opening) (ts : List Lexeme) : Type 0 where
 -- `=` comes next
 abbrev pub is_equals_next : Item → Bool
 is_equals_next (ahead.Token t) = is_equals t.token
-is_equals_next (ahead.Fault kind at) = false
+is_equals_next (ahead.Lexical kind at) = false
 is_equals_next Nothing = false
 
 -- The tokens that were read: an expression stands at their end, which the item ahead does not go on with.

@@ -64,7 +64,7 @@ abbrev pub characters_from : List ℕ → ℕ → ℕ
 characters_from text at = length (chars (drop at text))
 
 -- one call of `next`, with where it came to and how often the text was looked at so far
-pub record Next (old : Progress) (r : Option (Result Spanned TokenFault)) (new : Progress) : Type 0 where
+pub record NextCall (old : Progress) (r : Option (Result Spanned TokenFault)) (new : Progress) : Type 0 where
   pub gives : NextGives old r new
   pub begins : BeginsCharacter old.text r
   pub reached : IsCharBoundary new.text new.place
@@ -98,7 +98,7 @@ EndsAt p tail =
     ⊎ ((tail ≡ length p.text) × (new : Progress) × GivesEnd p new)
 
 -- calls from the start of a text give these tokens, and then come to a tail that begins at this place
-pub record Reads (text : List ℕ) (ts : List Placed) (tail : ℕ) : Type 0 where
+pub record GoesThrough (text : List ℕ) (ts : List Placed) (tail : ℕ) : Type 0 where
   pub first : Progress
   pub last : Progress
   pub starts : MovesTo (record { text = text; place = 0; failed = false; looks = 0 }) first 0 false

@@ -4,16 +4,16 @@ use Rattle.std.specs.Str.{IsCharBoundary}
 use Rattle.cargo_platform.specs.declared.tokens.Cut.{Cut}
 use Rattle.cargo_platform.specs.Tokens.{Lexeme, lexeme}
 use Rattle.cargo_platform.specs.Cut.{IsWrittenAt, IsWhole}
-use Rattle.cargo_platform.specs.Looking.{Sees}
+use Rattle.cargo_platform.specs.Looking.{Shows}
 
 -- the token stands whole in the text, from the one place to the other
-pub record Stands (text : List ℕ) (token : Lexeme) (start end : ℕ) : Type 0 where
+pub record IsTokenAt (text : List ℕ) (token : Lexeme) (start end : ℕ) : Type 0 where
   pub forward : start < end
   pub written : IsWrittenAt text (record { token = token; start = start; end = end })
   pub whole : IsWhole text (record { token = token; start = start; end = end })
 
 -- a token is cut off from a place on, and what is behind it was looked at
 pub record IsCutAt (text : List ℕ) (start : ℕ) (cut : Cut) : Type 0 where
-  pub stands : Stands text (lexeme cut.token) start cut.end
+  pub stands : IsTokenAt text (lexeme cut.token) start cut.end
   pub boundary : IsCharBoundary text cut.end
-  pub sees : Sees text cut.end cut.seen
+  pub sees : Shows text cut.end cut.seen

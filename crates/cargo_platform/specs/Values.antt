@@ -4,7 +4,7 @@ use Rattle.cargo_platform.specs.declared.cfg.CfgExpr.{CfgExpr}
 use Rattle.cargo_platform.specs.declared.values.Values.{Values}
 use Rattle.cargo_platform.specs.Trees.{CfgValue, tree_of, trees_of}
 use Rattle.cargo_platform.specs.Warnings.{members_values}
-use Rattle.cargo_platform.specs.ExpressionSizes.{sizes}
+use Rattle.cargo_platform.specs.ExpressionSizes.{node_counts}
 
 abbrev pub values_of : List CfgExpr → List CfgValue
 values_of es = members_values (trees_of (map tree_of es))
@@ -14,5 +14,6 @@ abbrev pub to_come : Values → List CfgValue
 to_come v = values_of v.members.now ++ flat_map (λ es. values_of es.now) (reverse v.outer.items)
 
 -- what falls with each step towards the next value
-abbrev pub work : Values → ℕ
-work v = 2 * (sizes v.members.now + sum (map (λ es. sizes es.now) v.outer.items)) + length v.outer.items
+abbrev pub steps_left : Values → ℕ
+steps_left v =
+    2 * (node_counts v.members.now + sum (map (λ es. node_counts es.now) v.outer.items)) + length v.outer.items

@@ -23,23 +23,35 @@ abbrev pub condition_values : Condition → List CfgValue
 condition_values (Target name) = []
 condition_values (Expression e) = values e
 
+-- what the warning says behind the name
+abbrev pub unsupported_text : List ℕ
+unsupported_text =
+    codes "` in `target.'cfg(...)'.dependencies`. "
+    ++ codes "This value is not supported for selecting dependencies and will not work as expected. "
+    ++ codes "To learn more visit "
+    ++ codes "https://doc.rust-lang.org/cargo/reference/specifying-dependencies.html#platform-specific-dependencies"
+
 -- the warning on a name that no target sets
 abbrev pub unsupported_name : Name → List ℕ
-unsupported_name n =
-    codes "Found `" ++ print_name n
-    ++ codes "` in `target.'cfg(...)'.dependencies`. This value is not supported for selecting dependencies and will not work as expected. To learn more visit https://doc.rust-lang.org/cargo/reference/specifying-dependencies.html#platform-specific-dependencies"
+unsupported_name n = codes "Found `" ++ print_name n ++ unsupported_text
 
 -- the warning on the key `feature`
 abbrev pub unsupported_feature : List ℕ
 unsupported_feature =
-    codes "Found `feature = ...` in `target.'cfg(...)'.dependencies`. This key is not supported for selecting dependencies and will not work as expected. Use the [features] section instead: https://doc.rust-lang.org/cargo/reference/features.html"
+    codes "Found `feature = ...` in `target.'cfg(...)'.dependencies`. "
+    ++ codes "This key is not supported for selecting dependencies and will not work as expected. "
+    ++ codes "Use the [features] section instead: https://doc.rust-lang.org/cargo/reference/features.html"
 
 -- the warning on a keyword in the place of an identifier
 abbrev pub keyword_warning : List ℕ → CfgValue → List ℕ → List ℕ
 keyword_warning path c word =
     codes "[" ++ path ++ codes "] future-incompatibility: `cfg(" ++ print_value c ++ codes ")` is deprecated as `"
     ++ word
-    ++ codes "` is a keyword and not an identifier and should not have have been accepted in this position.\n | this was previously accepted by Cargo but is being phased out; it will become a hard error in a future release!\n |\n | help: use raw-idents instead: `cfg(r#" ++ word ++ codes ")`"
+    ++ codes "` is a keyword and not an identifier "
+    ++ codes "and should not have have been accepted in this position.\n"
+    ++ codes " | this was previously accepted by Cargo but is being phased out; "
+    ++ codes "it will become a hard error in a future release!\n |\n"
+    ++ codes " | help: use raw-idents instead: `cfg(r#" ++ word ++ codes ")`"
 
 abbrev pub is_unsupported_name : Name → Bool
 is_unsupported_name n =

@@ -42,7 +42,9 @@ pub enum CfgExpr {
     Any(Vec<CfgExpr>),
     /// True where the name or the pair is a fact.
     Value(Cfg),
+    /// The literal `true`.
     True,
+    /// The literal `false`.
     False,
 }
 
@@ -65,7 +67,13 @@ impl Ident {
 }
 
 impl Cfg {
-    ghost use Rattle.cargo_platform.specs.Readers.{ReadsValue};
+    ghost use Rattle.std.specs.Prelude.{◌≡◌, IfOk};
+    ghost use Rattle.cargo_platform.specs.Trees.{CfgValue, value_of};
+    ghost use Rattle.cargo_platform.specs.Spelling.{Values, IsValueText};
+    ghost use Rattle.cargo_platform.specs.WellFormed.{IsWellFormedValue};
+    ghost use Rattle.cargo_platform.specs.Faults.{IsRefused};
+    ghost use Rattle.cargo_platform.specs.Print.{print_value};
+    ghost use Rattle.cargo_platform.specs.Errors.{IfParse, orig_of, fault_in};
 
     /// Reads a name, or a key, `=` and a string. Spaces may stand before, between and behind them; `all`, `any`, `not`,
     /// `true` and `false` are ordinary names here.
@@ -74,7 +82,17 @@ impl Cfg {
     /// tokens that some tokens would complete. Where memory is refused the answer is `ReadError::Memory`, whatever the
     /// text.
     pub fn from_str(alloc: Global, s: &str) -> Result<Cfg, ReadError>
-        ensures { ReadsValue s.now result }
+        // What is read is what the text spells.
+        ensures value { IfOk result (λ c. IsValueText s.now (value_of c)) }
+        // The error is of this text, and is its first fault.
+        ensures orig { IfParse result (λ e. orig_of e ≡ s.now) }
+        ensures fault { IfParse result (λ e. IsRefused Values s.now (fault_in e)) }
+        // The other clauses follow by the laws. No text that spells a value is refused, and the print of a well-formed
+        // value is answered by that very value.
+        ensures well_formed { IfOk result (λ c. IsWellFormedValue (value_of c)) }
+        ensures refused { IfParse result (λ _. (c : CfgValue) → IsValueText s.now c → ⊥) }
+        ensures reads_back { (c : CfgValue) → IsWellFormedValue c → s.now ≡ print_value c
+            → IfOk result (λ d. value_of d ≡ c) × IfParse result (λ _. ⊥) }
     {
         let mut reader = Reader::new(s);
         match parser::read_cfg(alloc, &mut reader) {
@@ -85,9 +103,14 @@ impl Cfg {
 }
 
 impl CfgExpr {
-    ghost use Rattle.std.specs.Prelude.{◌≡◌, ◌≤◌, ◌+◌, ◌*◌, length, OnOk};
+    ghost use Rattle.std.specs.Prelude.{◌≡◌, ◌≤◌, ◌+◌, ◌*◌, length, IfOk, OnOk};
     ghost use Rattle.std.specs.Str.{chars};
-    ghost use Rattle.cargo_platform.specs.Readers.{ReadsExpression};
+    ghost use Rattle.cargo_platform.specs.Trees.{Tree, tree_of};
+    ghost use Rattle.cargo_platform.specs.Spelling.{Expressions, IsTreeText};
+    ghost use Rattle.cargo_platform.specs.WellFormed.{IsWellFormed};
+    ghost use Rattle.cargo_platform.specs.Faults.{IsRefused};
+    ghost use Rattle.cargo_platform.specs.Print.{print};
+    ghost use Rattle.cargo_platform.specs.Errors.{IfParse, orig_of, fault_in};
 
     /// Reads an expression: a name, a pair, a literal, or `all(..)`, `any(..)` or `not(..)` of expressions, to any
     /// depth. Unmarked `all`, `any`, `not`, `true` and `false` are words of the language, and no names or keys. A raw
@@ -97,7 +120,17 @@ impl CfgExpr {
     /// tokens that some tokens would complete. Where memory is refused the answer is `ReadError::Memory`, whatever the
     /// text.
     pub fn from_str(alloc: Global, s: &str) -> Result<CfgExpr, ReadError>
-        ensures { ReadsExpression s.now result }
+        // What is read is the tree that the text spells.
+        ensures tree { IfOk result (λ e. IsTreeText s.now (tree_of e)) }
+        // The error is of this text, and is its first fault.
+        ensures orig { IfParse result (λ e. orig_of e ≡ s.now) }
+        ensures fault { IfParse result (λ e. IsRefused Expressions s.now (fault_in e)) }
+        // The other clauses follow by the laws. No text that spells a tree is refused, and the print of a well-formed
+        // tree is answered by that very tree.
+        ensures well_formed { IfOk result (λ e. IsWellFormed (tree_of e)) }
+        ensures refused { IfParse result (λ _. (t : Tree) → IsTreeText s.now t → ⊥) }
+        ensures reads_back { (t : Tree) → IsWellFormed t → s.now ≡ print t
+            → IfOk result (λ e. tree_of e ≡ t) × IfParse result (λ _. ⊥) }
     {
         CfgExpr::from_str_counted(alloc, s).0
     }
@@ -106,7 +139,15 @@ impl CfgExpr {
     /// whether the text ends: with an expression once for each character of the text and once for its end, and whatever
     /// it answers never more often.
     pub fn from_str_counted(alloc: Global, s: &str) -> (Result<CfgExpr, ReadError>, Looks)
-        ensures reads { ReadsExpression s.now result.0 }
+        // What `from_str` promises.
+        ensures tree { IfOk result.0 (λ e. IsTreeText s.now (tree_of e)) }
+        ensures orig { IfParse result.0 (λ e. orig_of e ≡ s.now) }
+        ensures fault { IfParse result.0 (λ e. IsRefused Expressions s.now (fault_in e)) }
+        ensures well_formed { IfOk result.0 (λ e. IsWellFormed (tree_of e)) }
+        ensures refused { IfParse result.0 (λ _. (t : Tree) → IsTreeText s.now t → ⊥) }
+        ensures reads_back { (t : Tree) → IsWellFormed t → s.now ≡ print t
+            → IfOk result.0 (λ e. tree_of e ≡ t) × IfParse result.0 (λ _. ⊥) }
+        // What the looks come to.
         ensures at_most { result.1 ≤ 12 * (length (chars s.now) + 1) }
         ensures at_most_once { result.1 ≤ length (chars s.now) + 1 }
         ensures each_once { OnOk result.0 (result.1 ≡ length (chars s.now) + 1) }

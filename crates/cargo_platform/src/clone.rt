@@ -2,7 +2,7 @@
 
 ghost use Rattle.std.specs.Prelude.{◌≡◌, ◌≤◌, ◌+◌, ◌*◌, IfOk, IfSome, OnOk, MatchOption};
 ghost use Rattle.cargo_platform.specs.Trees.{Tree, name_of, value_of, tree_of, condition_of};
-ghost use Rattle.cargo_platform.specs.ExpressionSizes.{size};
+ghost use Rattle.cargo_platform.specs.ExpressionSizes.{node_count};
 ghost use Rattle.cargo_platform.specs.Copying.{around, whole, left_in, work};
 
 use crate::Platform;
@@ -78,6 +78,7 @@ struct CopiedGroups<'a> {
 }
 
 impl<'a> CopiedGroups<'a> {
+    /// No groups.
     fn new(alloc: Global) -> CopiedGroups<'a>
         ensures whole { (e : Tree) → whole result e ≡ e }
     {
@@ -86,6 +87,7 @@ impl<'a> CopiedGroups<'a> {
         }
     }
 
+    /// Opens a group inside the others. Where memory is refused, it is dropped.
     fn push(&mut self, group: CopiedGroup<'a>) -> Result<(), AllocError>
         ensures whole { OnOk result ((e : Tree) → whole self.new e ≡ whole self.old (around group.entry e)) }
         ensures work { OnOk result (work self.new ≡ work self.old + left_in group.entry) }
@@ -99,6 +101,7 @@ impl<'a> CopiedGroups<'a> {
         }
     }
 
+    /// Takes the innermost group.
     fn pop(&mut self) -> Option<CopiedGroup<'a>>
         ensures whole { MatchOption result
             ((e : Tree) → whole self.old e ≡ e)
@@ -119,6 +122,7 @@ impl<'a> Drop for CopiedGroups<'a> {
     }
 }
 
+/// Drops a group without recursion over the depth of its copies.
 fn drop_group(group: CopiedGroup<'_>) {
     match group {
         CopiedGroup::Not => {}
@@ -133,7 +137,7 @@ fn copy_first<'a>(
     groups: &mut CopiedGroups<'a>,
 ) -> Result<CfgExpr, AllocError>
     ensures whole { IfOk result (λ copy. whole groups.new (tree_of copy) ≡ whole groups.old (tree_of e.now)) }
-    ensures work { OnOk result (work groups.new + 1 ≤ work groups.old + 2 * size e.now) }
+    ensures work { OnOk result (work groups.new + 1 ≤ work groups.old + 2 * node_count e.now) }
 {
     let mut part = e;
     'groups: loop {

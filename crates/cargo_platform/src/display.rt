@@ -51,7 +51,7 @@ ghost use Rattle.std.specs.Fmt.{WritesOnOk};
 ghost use Rattle.cargo_platform.specs.Trees.{tree_of, trees_of};
 ghost use Rattle.cargo_platform.specs.Print.{print, print_members};
 
-// An expression, with the expressions inside it.
+/// Writes an expression, with the expressions inside it.
 #[cycle(print)]
 fn write_expression<W: fmt::Write>(e: &CfgExpr, f: &mut fmt::Formatter<W>) -> fmt::Result
     ensures { WritesOnOk W.write_str_gives f.old result (print (tree_of e.now)) f.new }
@@ -78,7 +78,7 @@ fn write_expression<W: fmt::Write>(e: &CfgExpr, f: &mut fmt::Formatter<W>) -> fm
     }
 }
 
-// The members of a group, between its parentheses.
+/// Writes the members of a group, between its parentheses.
 #[cycle(print)]
 fn write_members<W: fmt::Write>(members: &[CfgExpr], f: &mut fmt::Formatter<W>) -> fmt::Result
     ensures { WritesOnOk W.write_str_gives f.old result (print_members (trees_of (map tree_of members.now))) f.new }

@@ -15,7 +15,9 @@ pub enum ParseErrorKind {
     UnexpectedChar(char),
     /// A token of the class `found` follows, where one of the class `expected` could have.
     UnexpectedToken {
+        /// What could have followed.
         expected: &'static str,
+        /// What follows.
         found: &'static str,
     },
     /// The text ends where this was expected; or it ends with an empty `r#`, behind which an identifier was expected.
@@ -29,7 +31,9 @@ pub enum ParseErrorKind {
 /// A text that is refused, and why.
 #[derive(Debug, Drop)]
 pub struct ParseError {
+    /// Why it is refused.
     kind: ParseErrorKind,
+    /// The whole text.
     orig: String,
 }
 

@@ -6,7 +6,7 @@ ghost use Rattle.std.specs.FinSet.{contains};
 ghost use Rattle.cargo_platform.specs.Key.{value_cmp};
 ghost use Rattle.cargo_platform.specs.Trees.{Alone, KeyPair, name_of, value_of, tree_of, trees_of};
 ghost use Rattle.cargo_platform.specs.Facts.{FactSet, pair_of, fact_set, truth, all_true, any_true};
-ghost use Rattle.cargo_platform.specs.ExpressionSizes.{size, sizes};
+ghost use Rattle.cargo_platform.specs.ExpressionSizes.{node_count, node_counts};
 
 use crate::cfg::{Cfg, CfgExpr, Ident};
 use std::alloc::{AllocError, Global};
@@ -103,8 +103,8 @@ impl CfgExpr {
         self.matches_in(&Listed(cfg))
     }
 
-    /// Whether the expression is true over the set of facts that the holder means.
     // Goes down the last members in a loop, so that what recurses are the members before them.
+    /// Whether the expression is true over the set of facts that the holder means.
     #[cycle(matches)]
     #[tactic(auto, using(crate::proofs::LastMembers::asked_not))]
     pub fn matches_in<F: Facts>(&self, facts: &F) -> bool
@@ -132,7 +132,7 @@ impl CfgExpr {
         }
     }
 
-    // The last member, which all of them hang on, or whether they are true.
+    /// The last member, which all of them hang on, or whether they are true.
     #[cycle(matches)]
     #[inline(always)]
     #[tactic(auto, using(crate::proofs::LastMembers::and_true))]
@@ -141,7 +141,7 @@ impl CfgExpr {
             (λ last. truth (F.meant facts.now) (tree_of last.now)
             ≡ all_true (F.meant facts.now) (trees_of (map tree_of members.now)))
             (λ is_true. is_true ≡ all_true (F.meant facts.now) (trees_of (map tree_of members.now))) }
-        ensures size { IfOk result (λ last. size last.now ≤ sizes members.now) }
+        ensures size { IfOk result (λ last. node_count last.now ≤ node_counts members.now) }
     {
         let Some((first, others)) = members.split_first() else {
             return Err(true);
@@ -158,7 +158,7 @@ impl CfgExpr {
         Ok(e)
     }
 
-    // The same of any of them.
+    /// The last member, which any of them hangs on, or whether one is true.
     #[cycle(matches)]
     #[inline(always)]
     #[tactic(auto, using(crate::proofs::LastMembers::or_false))]
@@ -167,7 +167,7 @@ impl CfgExpr {
             (λ last. truth (F.meant facts.now) (tree_of last.now)
             ≡ any_true (F.meant facts.now) (trees_of (map tree_of members.now)))
             (λ is_true. is_true ≡ any_true (F.meant facts.now) (trees_of (map tree_of members.now))) }
-        ensures size { IfOk result (λ last. size last.now ≤ sizes members.now) }
+        ensures size { IfOk result (λ last. node_count last.now ≤ node_counts members.now) }
     {
         let Some((first, others)) = members.split_first() else {
             return Err(false);

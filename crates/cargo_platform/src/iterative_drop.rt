@@ -1,7 +1,7 @@
 //! Dropping expressions without recursion over their depth.
 
 ghost use Rattle.std.specs.Prelude.{◌≤◌, ◌+◌, IfSome};
-ghost use Rattle.cargo_platform.specs.ExpressionSizes.{size, sizes};
+ghost use Rattle.cargo_platform.specs.ExpressionSizes.{node_count, node_counts};
 ghost use Rattle.cargo_platform.specs.Pending.{left};
 
 use crate::{CfgExpr, Platform};
@@ -18,6 +18,7 @@ struct Pending {
 }
 
 impl Pending {
+    /// No members.
     fn new(alloc: Global) -> Pending {
         Pending {
             members: Vec::new(alloc),
@@ -27,7 +28,7 @@ impl Pending {
 
     /// Takes the members of a group. Where memory is refused, those of the groups around it are dropped at once.
     fn open(&mut self, members: Vec<CfgExpr>)
-        ensures { left self.new ≤ left self.old + sizes members.items }
+        ensures { left self.new ≤ left self.old + node_counts members.items }
     {
         let outer = mem::replace(&mut self.members, members);
         if !outer.is_empty() {
@@ -35,8 +36,9 @@ impl Pending {
         }
     }
 
+    /// Takes a member.
     fn pop(&mut self) -> Option<CfgExpr>
-        ensures { IfSome result (λ e. left self.new + size e ≤ left self.old) }
+        ensures { IfSome result (λ e. left self.new + node_count e ≤ left self.old) }
     {
         'groups: loop {
             if let Some(e) = self.members.pop() {
@@ -52,7 +54,7 @@ impl Pending {
 
 /// Drops an expression but for what is inside it, and answers what is to be dropped next.
 fn drop_outermost(e: CfgExpr, pending: &mut Pending) -> Option<CfgExpr>
-    ensures { IfSome result (λ next. left pending.new + size next + 1 ≤ left pending.old + size e) }
+    ensures { IfSome result (λ next. left pending.new + node_count next + 1 ≤ left pending.old + node_count e) }
 {
     match e {
         CfgExpr::Not(inner) => return Some(Box::into_inner(inner)),

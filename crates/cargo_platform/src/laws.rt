@@ -7,18 +7,18 @@ ghost use Rattle.cargo_platform.specs.declared.cfg.CfgExpr.{CfgExpr};
 ghost use Rattle.cargo_platform.specs.Tokens.{Lexeme, Placed};
 ghost use Rattle.cargo_platform.specs.Reading.{Progress};
 ghost use Rattle.cargo_platform.specs.Trees.{Name, CfgValue, Tree, All, Any, Trees, none, Condition};
-ghost use Rattle.cargo_platform.specs.Spelling.{Grammar};
+ghost use Rattle.cargo_platform.specs.Spelling.{Grammar, IsValueText, IsTreeText};
 ghost use Rattle.cargo_platform.specs.Faults.{IsCompletable, Fault};
 ghost use Rattle.cargo_platform.specs.CutLaws.{HasOneCut, CutsAreRead, IsReadAlike, EndsForGood, FailsOnce};
-ghost use Rattle.cargo_platform.specs.GrammarLaws.{HasOneTree, IsOneTreeText, HasOneValue, IsOneValueText};
-ghost use Rattle.cargo_platform.specs.GrammarLaws.{SpellsWellFormed, IsWellFormedText};
+ghost use Rattle.cargo_platform.specs.GrammarLaws.{HasOneTree, HasOneValue, SpellsWellFormed};
+ghost use Rattle.cargo_platform.specs.TextLaws.{SpellsOne, SpellsOnly, PrintSpells, PrintsApart};
 ghost use Rattle.cargo_platform.specs.FaultLaws.{FrontsAreCompletable, IsCompletedShortly, IsWalkedIffCompletable};
 ghost use Rattle.cargo_platform.specs.FaultLaws.{IsKeptByWalk, IsFrontCompletable, IsStoppedByNext, IsExpectedToFollow};
 ghost use Rattle.cargo_platform.specs.FaultLaws.{NamesWhatCanFollow, HasOneFault, SpellsOrIsRefused};
 ghost use Rattle.cargo_platform.specs.FaultLaws.{RefusedSpellsNothing};
-ghost use Rattle.cargo_platform.specs.PrintLaws.{PrintSpells, PrintsApart, PrintSpellsValue, PrintsApartValues};
-ghost use Rattle.cargo_platform.specs.PlatformLaws.{IsOneConditionText, SpellsWellFormedConditions};
-ghost use Rattle.cargo_platform.specs.PlatformLaws.{PrintSpellsCondition, PrintsApartConditions};
+ghost use Rattle.cargo_platform.specs.WellFormed.{IsWellFormedValue, IsWellFormed, IsWellFormedCondition};
+ghost use Rattle.cargo_platform.specs.Print.{print_value, print, print_condition};
+ghost use Rattle.cargo_platform.specs.Platforms.{IsConditionText};
 ghost use Rattle.cargo_platform.specs.PlatformLaws.{SpellsConditionOrIsRefused, RefusedSpellsNoCondition};
 ghost use Rattle.cargo_platform.specs.PlatformLaws.{HasOneConditionFault};
 ghost use Rattle.cargo_platform.specs.ChangeLaws.{SpelledReleased, IsAcceptedAsReleased, IsRefusedAsReleased};
@@ -66,19 +66,16 @@ pub fn one_value()
     ensures { (ts : List Lexeme) → HasOneValue ts }
 {}
 
-/// A text spells at most one name or pair.
-pub fn one_value_text()
-    ensures { (text : List ℕ) → IsOneValueText text }
-{}
-
 /// Tokens spell at most one expression.
 pub fn one_tree()
     ensures { (ts : List Lexeme) → HasOneTree ts }
 {}
 
-/// A text spells at most one expression.
-pub fn one_tree_text()
-    ensures { (text : List ℕ) → IsOneTreeText text }
+/// A text spells at most one name or pair, one expression, and one condition.
+pub fn one_text()
+    ensures values { (text : List ℕ) → SpellsOne IsValueText text }
+    ensures expressions { (text : List ℕ) → SpellsOne IsTreeText text }
+    ensures conditions { (text : List ℕ) → SpellsOne IsConditionText text }
 {}
 
 /// Well-written tokens spell only well-formed values and trees.
@@ -86,9 +83,11 @@ pub fn well_formed()
     ensures { (ts : List Lexeme) → SpellsWellFormed ts }
 {}
 
-/// A text spells only well-formed values and trees.
+/// What a text spells is well-formed.
 pub fn well_formed_text()
-    ensures { (text : List ℕ) → IsWellFormedText text }
+    ensures values { (text : List ℕ) → SpellsOnly IsValueText IsWellFormedValue text }
+    ensures expressions { (text : List ℕ) → SpellsOnly IsTreeText IsWellFormed text }
+    ensures conditions { (text : List ℕ) → SpellsOnly IsConditionText IsWellFormedCondition text }
 {}
 
 /// A front of tokens that can be completed can be completed, and so can no tokens at all.
@@ -136,34 +135,18 @@ pub fn spelled_or_refused()
     ensures not_both { (g : Grammar) (text : List ℕ) (fault : Fault) → RefusedSpellsNothing g text fault }
 {}
 
-/// The print of a well-formed name or pair spells it.
-pub fn print_spells_value()
-    ensures { (c : CfgValue) → PrintSpellsValue c }
-{}
-
-/// The print of a well-formed expression spells it.
+/// The print of what is well-formed spells it.
 pub fn print_spells()
-    ensures { (e : Tree) → PrintSpells e }
+    ensures values { (c : CfgValue) → PrintSpells IsValueText IsWellFormedValue print_value c }
+    ensures expressions { (e : Tree) → PrintSpells IsTreeText IsWellFormed print e }
+    ensures conditions { (p : Condition) → PrintSpells IsConditionText IsWellFormedCondition print_condition p }
 {}
 
-/// Two well-formed names or pairs print alike only if they are the same.
-pub fn prints_apart_values()
-    ensures { (c d : CfgValue) → PrintsApartValues c d }
-{}
-
-/// Two well-formed expressions print alike only if they are the same.
+/// Two well-formed values, expressions or conditions print alike only if they are the same.
 pub fn prints_apart()
-    ensures { (d e : Tree) → PrintsApart d e }
-{}
-
-/// A text spells at most one condition.
-pub fn one_condition_text()
-    ensures { (text : List ℕ) → IsOneConditionText text }
-{}
-
-/// A text spells only well-formed conditions.
-pub fn well_formed_conditions()
-    ensures { (text : List ℕ) → SpellsWellFormedConditions text }
+    ensures values { (c d : CfgValue) → PrintsApart IsWellFormedValue print_value c d }
+    ensures expressions { (d e : Tree) → PrintsApart IsWellFormed print d e }
+    ensures conditions { (p q : Condition) → PrintsApart IsWellFormedCondition print_condition p q }
 {}
 
 /// A text is refused as a condition with at most one fault, which is the fault of one text.
@@ -175,16 +158,6 @@ pub fn one_condition_fault()
 pub fn condition_spelled_or_refused()
     ensures either { (text : List ℕ) → IsUtf8 text → SpellsConditionOrIsRefused text }
     ensures not_both { (text orig : List ℕ) (fault : Fault) → RefusedSpellsNoCondition text orig fault }
-{}
-
-/// The print of a well-formed condition spells it.
-pub fn print_spells_condition()
-    ensures { (p : Condition) → PrintSpellsCondition p }
-{}
-
-/// Two well-formed conditions print alike only if they are the same.
-pub fn prints_apart_conditions()
-    ensures { (p q : Condition) → PrintsApartConditions p q }
 {}
 
 /// Marked `true` and `false` alone are names; in the Rust crate they are the literals. What tokens spelled there is
@@ -246,10 +219,12 @@ pub fn truth_is_monotone()
     ensures { (fewer more : FactSet) (e : Tree) → IsMonotone fewer more e }
 {}
 
+/// `not(all(..))` is as true as `any(..)` of the negated members.
 pub fn not_all_is_any_not()
     ensures { (facts : FactSet) (es : Trees) → IsNotAllAnyNot facts es }
 {}
 
+/// `all()` is true, and `any()` is false.
 pub fn groups_of_none()
     ensures all { (facts : FactSet) → truth facts (All none) ≡ true }
     ensures any { (facts : FactSet) → truth facts (Any none) ≡ false }

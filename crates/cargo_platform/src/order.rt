@@ -55,7 +55,8 @@ impl Ord for Ident {
 impl Hash for Ident {
     ghost hash_input = { λ i. name_hash (name_of i) };
 
-    ghost respects_eq = { λ a b same. name_alike (name_of a) (name_of b) ((Equal-is (name_cmp (name_of a) (name_of b))).0 same) };
+    ghost respects_eq = { λ a b same. name_alike (name_of a) (name_of b)
+        ((Equal-is (name_cmp (name_of a) (name_of b))).0 same) };
 
     fn hash<H: Hasher>(&self, state: &mut H) {
         self.name.hash(state);
@@ -118,7 +119,8 @@ impl Ord for Cfg {
 impl Hash for Cfg {
     ghost hash_input = { λ c. value_hash (value_of c) };
 
-    ghost respects_eq = { λ a b same. value_alike (value_of a) (value_of b) ((Equal-is (value_cmp (value_of a) (value_of b))).0 same) };
+    ghost respects_eq = { λ a b same. value_alike (value_of a) (value_of b)
+        ((Equal-is (value_cmp (value_of a) (value_of b))).0 same) };
 
     fn hash<H: Hasher>(&self, state: &mut H) {
         match self {

@@ -37,6 +37,7 @@ struct OpenGroups {
 }
 
 impl OpenGroups {
+    /// No groups.
     fn new(alloc: Global) -> OpenGroups
         ensures { stack result ≡ [] }
     {
@@ -45,6 +46,7 @@ impl OpenGroups {
         }
     }
 
+    /// Opens a group inside the others. Where memory is refused, it is dropped.
     fn push(&mut self, group: Group) -> Result<(), AllocError>
         ensures { OnOk result (stack self.new ≡ opening group ∷ stack self.old) }
     {
@@ -57,6 +59,7 @@ impl OpenGroups {
         }
     }
 
+    /// Takes the innermost group.
     fn pop(&mut self) -> Option<Group>
         ensures { MatchOption result ((stack self.old ≡ []) × (stack self.new ≡ []))
             (λ group. stack self.old ≡ opening group ∷ stack self.new) }
@@ -75,6 +78,7 @@ impl Drop for OpenGroups {
     }
 }
 
+/// Drops a group without recursion over the depth of its members.
 fn drop_group(group: Group) {
     match group {
         Group::Not => {}
@@ -98,6 +102,7 @@ fn group_named(alloc: Global, raw: bool, name: &str) -> Option<Group>
     }
 }
 
+/// The identifier with this name.
 fn ident(alloc: Global, raw: bool, name: &str) -> Result<Ident, AllocError>
     ensures { IfOk result (λ i. name_of i ≡ record { raw = raw; name = name.now }) }
 {
@@ -252,6 +257,7 @@ fn begin<'a>(
     Err(refuse(reader, "identifier", "start of a cfg expression"))
 }
 
+/// The list of these members.
 pub(crate) fn close_list(word: Listing, members: Vec<CfgExpr>) -> CfgExpr
     ensures { tree_of result ≡ list_tree (is_all word) (map tree_of members.items) }
 {
@@ -261,6 +267,7 @@ pub(crate) fn close_list(word: Listing, members: Vec<CfgExpr>) -> CfgExpr
     }
 }
 
+/// The negation of an expression, which is dropped where memory is refused.
 pub(crate) fn negation(alloc: Global, negated: CfgExpr) -> Result<CfgExpr, AllocError>
     ensures { IfOk result (λ e. tree_of e ≡ Not (tree_of negated)) }
 {
@@ -273,6 +280,7 @@ pub(crate) fn negation(alloc: Global, negated: CfgExpr) -> Result<CfgExpr, Alloc
     }
 }
 
+/// Appends a member, which is dropped where memory is refused.
 pub(crate) fn push_member(members: &mut Vec<CfgExpr>, member: CfgExpr) -> Result<(), AllocError>
     ensures { OnOk result (map tree_of members.new.items ≡ map tree_of members.old.items ++ tree_of member ∷ []) }
 {

@@ -6,13 +6,15 @@
 
 ghost use Rattle.std.specs.Prelude.{◌≡◌, ◌↔◌, ℕ, List, false, IsTrue, IfOk, MatchOption, map, string_bytes};
 ghost use Rattle.unicode.specs.GeneralCategory.{general_category};
-ghost use Rattle.cargo_platform.specs.Trees.{Tree, Expression, value_of, condition_of};
+ghost use Rattle.cargo_platform.specs.Trees.{Tree, Condition, Expression, value_of, condition_of};
 ghost use Rattle.cargo_platform.specs.Facts.{fact_set, truth, IsTrueCondition};
 ghost use Rattle.cargo_platform.specs.Faults.{InvalidTarget};
 ghost use Rattle.cargo_platform.specs.Platforms.{is_number_category, is_target_char, is_plain_byte, IsTargetName};
 ghost use Rattle.cargo_platform.specs.Platforms.{IsFirstRefused, IsTargetMessage, IsCfgOf, IsBare, IsConditionText};
-ghost use Rattle.cargo_platform.specs.Errors.{orig_of, fault_in};
-ghost use Rattle.cargo_platform.specs.Readers.{ReadsCondition};
+ghost use Rattle.cargo_platform.specs.Errors.{IfParse, orig_of, fault_in};
+ghost use Rattle.cargo_platform.specs.Platforms.{IsRefusedCondition};
+ghost use Rattle.cargo_platform.specs.WellFormed.{IsWellFormedCondition};
+ghost use Rattle.cargo_platform.specs.Print.{print_condition};
 
 use crate::classes::continues_identifier;
 use crate::{Cfg, CfgExpr, ParseError, ParseErrorKind, Platform, ReadError};
@@ -29,7 +31,16 @@ impl Platform {
     /// first such character. Alphabetic are the characters with that property of Unicode, and numbers those of the
     /// general categories Nd, Nl and No.
     pub fn from_str(alloc: Global, s: &str) -> Result<Platform, ReadError>
-        ensures { ReadsCondition s.now result }
+        // What is read is the condition that the text spells.
+        ensures condition { IfOk result (λ p. IsConditionText s.now (condition_of p)) }
+        // The error is the fault of the text between `cfg(` and `)`, and else of the whole text.
+        ensures fault { IfParse result (λ e. IsRefusedCondition s.now (orig_of e) (fault_in e)) }
+        // The other clauses follow by the laws. No text that spells a condition is refused, and the print of a
+        // well-formed condition is answered by that very condition.
+        ensures well_formed { IfOk result (λ p. IsWellFormedCondition (condition_of p)) }
+        ensures refused { IfParse result (λ _. (c : Condition) → IsConditionText s.now c → ⊥) }
+        ensures reads_back { (c : Condition) → IsWellFormedCondition c → s.now ≡ print_condition c
+            → IfOk result (λ p. condition_of p ≡ c) × IfParse result (λ _. ⊥) }
     {
         if let Some(inner) = inside_cfg(s) {
             return match CfgExpr::from_str(alloc, inner) {
@@ -89,14 +100,14 @@ impl CfgExpr {
     }
 }
 
-// The text between `cfg(` and `)`, where the text begins and ends with these.
+/// The text between `cfg(` and `)`, where the text begins and ends with these.
 fn inside_cfg(text: &str) -> Option<&str>
     ensures { MatchOption result (IsBare text.now) (λ inner. IsCfgOf text.now inner.now) }
 {
     text.strip_prefix("cfg(")?.strip_suffix(")")
 }
 
-// The first character that no target name may hold.
+/// The first character that no target name may hold.
 fn first_refused(name: &str) -> Option<char>
     ensures { MatchOption result (IsTargetName name.now) (λ c. IsFirstRefused name.now c) }
 {
@@ -106,7 +117,7 @@ fn first_refused(name: &str) -> Option<char>
     name.chars().find(|c| !is_target_char(*c))
 }
 
-// Whether all bytes of the name are plain, as those of each target's name today are: then no character is looked up.
+/// Whether all bytes of the name are plain, as those of each target's name today are: then no character is looked up.
 fn is_plain(name: &str) -> bool
     ensures { IsTrue result → IsTargetName name.now }
 {
@@ -118,7 +129,7 @@ fn is_plain(name: &str) -> bool
     true
 }
 
-// Whether the byte is `_`, `-`, `.`, an ASCII letter or an ASCII digit.
+/// Whether the byte is `_`, `-`, `.`, an ASCII letter or an ASCII digit.
 #[inline(always)]
 fn is_plain_byte(byte: u8) -> bool
     ensures { result ≡ is_plain_byte byte }
@@ -126,14 +137,14 @@ fn is_plain_byte(byte: u8) -> bool
     continues_identifier(byte) || byte == b'-' || byte == b'.'
 }
 
-// Whether a target name may hold the character.
+/// Whether a target name may hold the character.
 fn is_target_char(c: char) -> bool
     ensures { result ≡ is_target_char c }
 {
     is_alphabetic(c) || is_number(c) || c == '_' || c == '-' || c == '.'
 }
 
-// Whether the character is a number of any kind: a decimal digit, one that is a letter too, or another.
+/// Whether the character is a number of any kind: a decimal digit, one that is a letter too, or another.
 fn is_number(c: char) -> bool
     ensures { result ≡ is_number_category (general_category c) }
 {
@@ -145,7 +156,7 @@ fn is_number(c: char) -> bool
     )
 }
 
-// The error of a target name, whose first refused character is given.
+/// The error of a target name, whose first refused character is given.
 fn target_error(alloc: Global, name: &str, refused: char) -> Result<ParseError, AllocError>
     requires { IsFirstRefused name.now refused }
     ensures of { IfOk result (λ e. orig_of e ≡ name.now) }
@@ -156,7 +167,7 @@ fn target_error(alloc: Global, name: &str, refused: char) -> Result<ParseError, 
     ParseError::new(alloc, name, ParseErrorKind::InvalidTarget(message))
 }
 
-// What is said of a target name, whose first refused character is given.
+/// What is said of a target name, whose first refused character is given.
 fn target_message(alloc: Global, name: &str, refused: char) -> Result<String, AllocError>
     requires { IsFirstRefused name.now refused }
     ensures { IfOk result (λ message. IsTargetMessage name.now (string_bytes message)) }

@@ -2,7 +2,7 @@
 
 ghost use Rattle.std.specs.Prelude.{◌≡◌, ◌≤◌, ◌+◌, IsTrue, IsFalse, IfSome, IfNone, IfErr, OnOk};
 ghost use Rattle.cargo_platform.specs.Tokens.{Ident as ident_token, String as string_token, Placed, lexeme};
-ghost use Rattle.cargo_platform.specs.Reading.{Next, characters_from};
+ghost use Rattle.cargo_platform.specs.Reading.{NextCall, characters_from};
 ghost use Rattle.cargo_platform.specs.Ahead.{Comes, GoesOn};
 ghost use Rattle.cargo_platform.specs.Ahead as ahead;
 ghost use Rattle.cargo_platform.specs.Parsing.{Sees, SeesRest, SeesToken, TakesToken, LacksMark, LacksName};
@@ -34,12 +34,13 @@ impl<'a> Model for Reader<'a> {
 /// The one place that asks for the next item, which is written where it is kept.
 #[inline(never)]
 fn refill<'a>(tokens: &mut Tokenizer<'a>, ahead: &mut Option<Result<Spanned<'a>, TokenFault>>)
-    ensures { Next tokens.old ahead.new tokens.new }
+    ensures { NextCall tokens.old ahead.new tokens.new }
 {
     *ahead = tokens.next();
 }
 
 impl<'a> Reader<'a> {
+    /// A reader with the first item of the text ahead.
     pub fn new(text: &'a str) -> Reader<'a>
         ensures text { result.text ≡ text.now }
         ensures first { Comes text.now 0 result.item result.place }
@@ -153,6 +154,7 @@ pub(crate) enum Mark {
     Equals,
 }
 
+/// The mark that a token is, if it is one.
 fn mark_of(token: Token<'_>) -> Option<Mark>
     ensures { result ≡ mark_of_lexeme (lexeme token.entry) }
 {

@@ -10,7 +10,7 @@ ghost use Rattle.std.specs.Str.{IsCharBoundary};
 ghost use Rattle.cargo_platform.specs.Chars.{is_identifier_rest, is_character_start};
 ghost use Rattle.cargo_platform.specs.Cut.{AreSpaces};
 ghost use Rattle.cargo_platform.specs.Reading.{IsRestFrom, characters_from};
-ghost use Rattle.cargo_platform.specs.Looking.{IsCharAt, Sees, Costs};
+ghost use Rattle.cargo_platform.specs.Looking.{IsCharAt, Shows, Costs};
 
 use crate::classes::continues_identifier;
 use std::marker::Model;
@@ -56,6 +56,7 @@ pub(crate) struct Source<'a> {
 }
 
 impl<'a> Source<'a> {
+    /// A text that was not looked at yet.
     pub fn new(text: &'a str) -> Source<'a>
         ensures text { result.text.now ≡ text.now }
         ensures looks { result.looks ≡ 0 }
@@ -68,7 +69,7 @@ impl<'a> Source<'a> {
     pub fn look(&mut self, at: usize) -> Look
         requires { IsCharBoundary self.old.text.now at }
         ensures same { self.new.text ≡ self.old.text }
-        ensures sees { Sees self.old.text.now at result }
+        ensures sees { Shows self.old.text.now at result }
         ensures cost { Costs self.old.text.now at at 1 self.old.looks self.new.looks }
     {
         self.add_looks(1);
@@ -80,11 +81,11 @@ impl<'a> Source<'a> {
     #[inline(always)]
     pub fn past_spaces(&mut self, from: usize, first: Look) -> (usize, Look)
         requires begin { IsCharBoundary self.old.text.now from }
-        requires seen { Sees self.old.text.now from first }
+        requires seen { Shows self.old.text.now from first }
         ensures same { self.new.text ≡ self.old.text }
         ensures boundary { IsCharBoundary self.old.text.now result.0 }
         ensures spaces { AreSpaces self.old.text.now from result.0 }
-        ensures sees { Sees self.old.text.now result.0 result.1 }
+        ensures sees { Shows self.old.text.now result.0 result.1 }
         ensures past { slice_index self.old.text.now result.0 ≢ 0x20 }
         ensures cost { Costs self.old.text.now from result.0 0 self.old.looks self.new.looks }
     {
@@ -104,13 +105,13 @@ impl<'a> Source<'a> {
     #[inline(always)]
     pub fn past_identifier(&mut self, from: usize, first: Look) -> (usize, Look)
         requires begin { IsCharBoundary self.old.text.now from }
-        requires seen { Sees self.old.text.now from first }
+        requires seen { Shows self.old.text.now from first }
         ensures same { self.new.text ≡ self.old.text }
         ensures order { from ≤ result.0 }
         ensures boundary { IsCharBoundary self.old.text.now result.0 }
         ensures rest { (i : ℕ) → from ≤ i → i < result.0 → is_identifier_rest (slice_index self.old.text.now i) ≡ true }
         ensures end { is_identifier_rest (slice_index self.old.text.now result.0) ≡ false }
-        ensures sees { Sees self.old.text.now result.0 result.1 }
+        ensures sees { Shows self.old.text.now result.0 result.1 }
         ensures cost { Costs self.old.text.now from result.0 0 self.old.looks self.new.looks }
     {
         let Look::Ascii(byte) = first else {
@@ -185,6 +186,7 @@ impl<'a> Source<'a> {
         Some(&text[start..])
     }
 
+    /// The looks that were made.
     pub fn spend(self) -> Looks
         ensures { result ≡ self.entry.looks }
     {
@@ -192,6 +194,7 @@ impl<'a> Source<'a> {
         Looks { count: looks }
     }
 
+    /// Counts further looks, up to the greatest count.
     #[inline(always)]
     fn add_looks(&mut self, looks: usize)
         ensures same { self.new.text ≡ self.old.text }
@@ -203,10 +206,11 @@ impl<'a> Source<'a> {
     }
 }
 
+/// What is at a byte place.
 #[inline(always)]
 fn character_at(text: &str, at: usize) -> Look
     requires { IsCharBoundary text.now at }
-    ensures { Sees text.now at result }
+    ensures { Shows text.now at result }
 {
     let bytes = text.as_bytes();
     if at >= bytes.len() {
@@ -219,6 +223,7 @@ fn character_at(text: &str, at: usize) -> Look
     Look::Wide(wide_char_at(text, at))
 }
 
+/// The character at a byte place, by decoding it.
 #[cold]
 #[inline(never)]
 fn wide_char_at(text: &str, at: usize) -> char

@@ -12,8 +12,8 @@ ghost use Rattle.cargo_platform.specs.Chars.{is_identifier_start};
 ghost use Rattle.cargo_platform.specs.Tokens.{lexeme, called};
 ghost use Rattle.cargo_platform.specs.Cut.{AreSpaces, BeginsFault};
 ghost use Rattle.cargo_platform.specs.Reading.{IsRestFrom, characters_from};
-ghost use Rattle.cargo_platform.specs.Looking.{IsCharAt, Sees, Costs, SeesBefore, unseen, character_of};
-ghost use Rattle.cargo_platform.specs.Scanning.{Stands, IsCutAt};
+ghost use Rattle.cargo_platform.specs.Looking.{IsCharAt, Shows, Costs, ShowedBefore, unseen, character_of};
+ghost use Rattle.cargo_platform.specs.Scanning.{IsTokenAt, IsCutAt};
 
 use crate::classes::begins_identifier;
 pub use crate::source::Looks;
@@ -23,11 +23,15 @@ use std::marker::Model;
 /// A token. Names and values are the bytes of the text that they were written by; equality looks at all parts.
 #[derive(Clone, Copy, Debug, PartialEq, Eq)]
 pub enum Token<'a> {
+    /// `(`
     LeftParen,
+    /// `)`
     RightParen,
     /// Whether the raw mark `r#` stands before it, and its name without the mark.
     Ident(bool, &'a str),
+    /// `,`
     Comma,
+    /// `=`
     Equals,
     /// The value between the quotes.
     String(&'a str),
@@ -53,8 +57,11 @@ impl<'a> Token<'a> {
 /// the quotes; `end` is the place behind it.
 #[derive(Clone, Copy, Debug, PartialEq, Eq)]
 pub struct Spanned<'a> {
+    /// The token.
     pub token: Token<'a>,
+    /// Where its written form begins.
     pub start: usize,
+    /// Where its written form ends.
     pub end: usize,
 }
 
@@ -72,7 +79,9 @@ pub enum TokenFaultKind {
 /// A fault, and the place in bytes at which the faulty piece begins: at the `r` of a mark, at the first quote.
 #[derive(Clone, Copy, Debug, PartialEq, Eq)]
 pub struct TokenFault {
+    /// Why no token begins there.
     pub kind: TokenFaultKind,
+    /// Where the faulty piece begins.
     pub at: usize,
 }
 
@@ -93,7 +102,12 @@ impl<'a> Model for Tokenizer<'a> {
 
     ghost use Rattle.cargo_platform.specs.Looking.{IsStanding};
 
-    ghost view = { λ t. record { text = t.source.text.now; place = t.place; failed = t.failed; looks = t.source.looks } };
+    ghost view = { λ t. record {
+      text = t.source.text.now;
+      place = t.place;
+      failed = t.failed;
+      looks = t.source.looks;
+    } };
 
     ghost invariant = { λ t. IsStanding t.source.text.now t.place t.seen t.failed t.source.looks };
 }
@@ -145,11 +159,11 @@ impl<'a> Tokenizer<'a> {
 
 impl<'a> Iterator for Tokenizer<'a> {
     ghost use Rattle.std.specs.Iterator.{at_most};
-    ghost use Rattle.cargo_platform.specs.Reading.{Next, results_left};
+    ghost use Rattle.cargo_platform.specs.Reading.{NextCall, results_left};
 
     type Item = Result<Spanned<'a>, TokenFault>;
 
-    ghost next_gives = { Next };
+    ghost next_gives = { NextCall };
 
     ghost remaining = { λ t. at_most (results_left t) };
 
@@ -196,11 +210,11 @@ fn character_of(look: Look) -> Option<char>
 #[inline(always)]
 fn first_after_spaces(source: &mut Source<'_>, from: usize, seen: Option<Look>) -> (usize, Look)
     requires begin { IsCharBoundary source.old.text.now from }
-    requires seen { SeesBefore source.old.text.now from seen }
+    requires seen { ShowedBefore source.old.text.now from seen }
     ensures same { source.new.text ≡ source.old.text }
     ensures boundary { IsCharBoundary source.old.text.now result.0 }
     ensures spaces { AreSpaces source.old.text.now from result.0 }
-    ensures sees { Sees source.old.text.now result.0 result.1 }
+    ensures sees { Shows source.old.text.now result.0 result.1 }
     ensures past { slice_index source.old.text.now result.0 ≢ 0x20 }
     ensures cost { Costs source.old.text.now from result.0 (unseen seen) source.old.looks source.new.looks }
 {
@@ -212,9 +226,9 @@ fn first_after_spaces(source: &mut Source<'_>, from: usize, seen: Option<Look>) 
 #[inline(always)]
 fn seen_or_look(source: &mut Source<'_>, at: usize, seen: Option<Look>) -> Look
     requires boundary { IsCharBoundary source.old.text.now at }
-    requires seen { SeesBefore source.old.text.now at seen }
+    requires seen { ShowedBefore source.old.text.now at seen }
     ensures same { source.new.text ≡ source.old.text }
-    ensures sees { Sees source.old.text.now at result }
+    ensures sees { Shows source.old.text.now at result }
     ensures cost { Costs source.old.text.now at at (unseen seen) source.old.looks source.new.looks }
 {
     match seen {
@@ -272,7 +286,7 @@ fn token_at<'a>(
 /// The token of one character that stands at a place.
 #[inline(always)]
 fn mark_at<'a>(source: &mut Source<'a>, start: usize, token: Token<'a>) -> Cut<'a>
-    requires stands { Stands source.old.text.now (lexeme token) start (start + 1) }
+    requires stands { IsTokenAt source.old.text.now (lexeme token) start (start + 1) }
     requires boundary { IsCharBoundary source.old.text.now (start + 1) }
     ensures same { source.new.text ≡ source.old.text }
     ensures token { IsCutAt source.old.text.now start result }
@@ -318,7 +332,7 @@ fn identifier_at<'a>(source: &mut Source<'a>, start: usize, second: Look) -> Cut
     requires begin { IsCharBoundary source.old.text.now start }
     requires there { IsCharAt source.old.text.now start (slice_index source.old.text.now start) }
     requires first { is_identifier_start (slice_index source.old.text.now start) ≡ true }
-    requires seen { Sees source.old.text.now (start + 1) second }
+    requires seen { Shows source.old.text.now (start + 1) second }
     requires plain { slice_index source.old.text.now start ≡ 0x72 → slice_index source.old.text.now (start + 1) ≢ 0x23 }
     ensures same { source.new.text ≡ source.old.text }
     ensures token { IsCutAt source.old.text.now start result }

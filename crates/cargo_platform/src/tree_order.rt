@@ -7,14 +7,14 @@ ghost use Rattle.std.specs.Ordering.{as_partial_cmp, eq_by_cmp, on};
 ghost use Rattle.cargo_platform.specs.Trees.{tree_of, trees_of};
 ghost use Rattle.cargo_platform.specs.Key.{rank, tree_cmp, trees_cmp};
 ghost use Rattle.cargo_platform.specs.OrderLaws.{tree_total};
-ghost use Rattle.cargo_platform.specs.ExpressionSizes.{size, sizes};
+ghost use Rattle.cargo_platform.specs.ExpressionSizes.{node_count, node_counts};
 ghost use Rattle.cargo_platform.specs.Hashing.{tree_hash, group_hash, tree_alike};
 
 use crate::cfg::CfgExpr;
 use std::cmp::Ordering;
 use std::hash::{Hash, Hasher};
 
-// Where the form stands among the six.
+/// Where the form stands among the six.
 fn rank(e: &CfgExpr) -> u8
     ensures { result ≡ rank (tree_of e.now) }
 {
@@ -29,6 +29,7 @@ fn rank(e: &CfgExpr) -> u8
 }
 
 // Goes down the last members in a loop, so that what recurses are the members before them.
+/// By the forms, and in one form by their parts.
 #[cycle(compare)]
 fn compare(a: &CfgExpr, b: &CfgExpr) -> Ordering
     ensures { result ≡ tree_cmp (tree_of a.now) (tree_of b.now) }
@@ -46,14 +47,14 @@ fn compare(a: &CfgExpr, b: &CfgExpr) -> Ordering
     }
 }
 
-// The order, or the expressions inside that it hangs on.
+/// The order, or the expressions inside that it hangs on.
 #[cycle(compare)]
 #[inline(always)]
 fn compare_forms<'a>(a: &'a CfgExpr, b: &'a CfgExpr) -> Result<(&'a CfgExpr, &'a CfgExpr), Ordering>
     ensures order { MatchResult result
         (λ inner. tree_cmp (tree_of inner.0.now) (tree_of inner.1.now) ≡ tree_cmp (tree_of a.now) (tree_of b.now))
         (λ order. order ≡ tree_cmp (tree_of a.now) (tree_of b.now)) }
-    ensures size { IfOk result (λ inner. size inner.0.now < size a.now) }
+    ensures size { IfOk result (λ inner. node_count inner.0.now < node_count a.now) }
 {
     match a {
         CfgExpr::Not(d) => match b {
@@ -76,8 +77,8 @@ fn compare_forms<'a>(a: &'a CfgExpr, b: &'a CfgExpr) -> Result<(&'a CfgExpr, &'a
     }
 }
 
-// The order of lists of members, or the last members that it hangs on. The last member of a shorter list stands beside
-// one that is not the last, so that lists of different lengths are compared whole.
+/// The order of lists of members, or the last members that it hangs on. The last member of a shorter list stands beside
+/// one that is not the last, so that lists of different lengths are compared whole.
 #[cycle(compare)]
 #[inline(always)]
 fn compare_all_but_last<'a>(
@@ -88,7 +89,7 @@ fn compare_all_but_last<'a>(
         (λ last. tree_cmp (tree_of last.0.now) (tree_of last.1.now)
         ≡ trees_cmp (trees_of (map tree_of ds.now)) (trees_of (map tree_of es.now)))
         (λ order. order ≡ trees_cmp (trees_of (map tree_of ds.now)) (trees_of (map tree_of es.now))) }
-    ensures size { IfOk result (λ last. size last.0.now ≤ sizes ds.now) }
+    ensures size { IfOk result (λ last. node_count last.0.now ≤ node_counts ds.now) }
 {
     let (Some((d, ds_before)), Some((e, es_before))) = (ds.split_last(), es.split_last()) else {
         return Err(compare_members(ds, es));
@@ -104,7 +105,7 @@ fn compare_all_but_last<'a>(
     }
 }
 
-// By the first difference; a list that ends first comes first.
+/// By the first difference; a list that ends first comes first.
 #[cycle(compare)]
 #[inline(always)]
 fn compare_members(ds: &[CfgExpr], es: &[CfgExpr]) -> Ordering
@@ -158,6 +159,7 @@ impl Ord for CfgExpr {
 }
 
 // Goes down the last members in a loop, so that what recurses are the members before them.
+/// Feeds the form, and then the parts.
 #[cycle(feed)]
 fn feed<H: Hasher>(e: &CfgExpr, state: &mut H)
     ensures { state.new ≡ fold H.write state.old (tree_hash (tree_of e.now)) }
@@ -193,7 +195,7 @@ fn feed<H: Hasher>(e: &CfgExpr, state: &mut H)
     }
 }
 
-// How many members there are, and each but the last, which is left to feed.
+/// How many members there are, and each but the last, which is left to feed.
 #[cycle(feed)]
 #[inline(always)]
 fn feed_all_but_last<'a, H: Hasher>(members: &'a [CfgExpr], state: &mut H) -> Option<&'a CfgExpr>
@@ -201,7 +203,7 @@ fn feed_all_but_last<'a, H: Hasher>(members: &'a [CfgExpr], state: &mut H) -> Op
         (state.new ≡ fold H.write state.old (group_hash (trees_of (map tree_of members.now))))
         (λ last. fold H.write state.new (tree_hash (tree_of last.now))
         ≡ fold H.write state.old (group_hash (trees_of (map tree_of members.now)))) }
-    ensures size { IfSome result (λ last. size last.now ≤ sizes members.now) }
+    ensures size { IfSome result (λ last. node_count last.now ≤ node_counts members.now) }
 {
     state.write_usize(members.len());
     let Some((first, others)) = members.split_first() else {
@@ -220,7 +222,8 @@ fn feed_all_but_last<'a, H: Hasher>(members: &'a [CfgExpr], state: &mut H) -> Op
 impl Hash for CfgExpr {
     ghost hash_input = { λ e. tree_hash (tree_of e) };
 
-    ghost respects_eq = { λ a b same. tree_alike (tree_of a) (tree_of b) ((Equal-is (tree_cmp (tree_of a) (tree_of b))).0 same) };
+    ghost respects_eq = { λ a b same. tree_alike (tree_of a) (tree_of b)
+        ((Equal-is (tree_cmp (tree_of a) (tree_of b))).0 same) };
 
     fn hash<H: Hasher>(&self, state: &mut H) {
         feed(self, state);

@@ -3,8 +3,8 @@
 ghost use Rattle.std.specs.Prelude.{◌≡◌, ◌≤◌, ◌+◌, ◌*◌, ◌++◌, [], ◌∷◌, IfOk, OnOk, MatchOption};
 ghost use Rattle.cargo_platform.specs.Trees.{value_of, tree_of};
 ghost use Rattle.cargo_platform.specs.Warnings.{values};
-ghost use Rattle.cargo_platform.specs.ExpressionSizes.{sizes};
-ghost use Rattle.cargo_platform.specs.Values.{to_come, values_of, work};
+ghost use Rattle.cargo_platform.specs.ExpressionSizes.{node_counts};
+ghost use Rattle.cargo_platform.specs.Values.{to_come, values_of, steps_left};
 
 use crate::{Cfg, CfgExpr};
 use std::alloc::{AllocError, Global};
@@ -20,6 +20,7 @@ pub(crate) struct Values<'a> {
 }
 
 impl<'a> Values<'a> {
+    /// All values of an expression.
     pub fn new(alloc: Global, e: &'a CfgExpr) -> Values<'a>
         ensures { to_come result ≡ values (tree_of e.now) }
     {
@@ -59,7 +60,7 @@ impl<'a> Values<'a> {
     /// Goes on with the members of a group.
     fn open(&mut self, members: &'a [CfgExpr]) -> Result<(), AllocError>
         ensures come { OnOk result (to_come self.new ≡ values_of members.now ++ to_come self.old) }
-        ensures work { OnOk result (work self.new ≤ 2 * sizes members.now + work self.old + 1) }
+        ensures work { OnOk result (steps_left self.new ≤ 2 * node_counts members.now + steps_left self.old + 1) }
     {
         if !self.members.is_empty() {
             self.outer.push(self.members)?;

@@ -52,18 +52,19 @@ impl Platform {
     }
 }
 
-// A kind of warning on single values.
+/// A kind of warning on single values.
 trait Lint {
     // The texts of the warnings on a value, none or one.
     ghost warnings: { Self → CfgValue → List (List ℕ) };
 
+    /// The text of the warning on a value, if it gets one.
     fn warning(&self, alloc: Global, c: &Cfg) -> Result<Option<String>, AllocError>
         ensures { IfOk result
             (λ w. MatchOption w (warnings self.now (value_of c.now) ≡ [])
             (λ s. warnings self.now (value_of c.now) ≡ string_bytes s ∷ [])) };
 }
 
-// Names and keys that are not supported for selecting dependencies.
+/// Names and keys that are not supported for selecting dependencies.
 #[derive(Drop)]
 struct Attributes;
 
@@ -79,30 +80,37 @@ impl Lint for Attributes {
     }
 }
 
+/// Whether no target sets the name.
 fn is_unsupported(name: &Ident) -> bool
     ensures { result ≡ is_unsupported_name (name_of name.now) }
 {
     matches!(name.as_str(), "test" | "debug_assertions" | "proc_macro")
 }
 
+/// The warning on a name that no target sets.
 fn name_text(alloc: Global, name: &Ident) -> Result<String, AllocError>
     ensures { IfOk result (λ s. string_bytes s ≡ unsupported_name (name_of name.now)) }
 {
     format!(in alloc;
-        "Found `{name}` in `target.'cfg(...)'.dependencies`. This value is not supported for selecting dependencies and will not work as expected. To learn more visit https://doc.rust-lang.org/cargo/reference/specifying-dependencies.html#platform-specific-dependencies"
+        "Found `{name}` in `target.'cfg(...)'.dependencies`. This value is not supported \
+        for selecting dependencies and will not work as expected. To learn more visit \
+        https://doc.rust-lang.org/cargo/reference/specifying-dependencies.html#platform-specific-dependencies"
     )
 }
 
+/// The warning on the key `feature`.
 fn feature_text(alloc: Global) -> Result<String, AllocError>
     ensures { IfOk result (λ s. string_bytes s ≡ unsupported_feature) }
 {
     String::from_str(
         alloc,
-        "Found `feature = ...` in `target.'cfg(...)'.dependencies`. This key is not supported for selecting dependencies and will not work as expected. Use the [features] section instead: https://doc.rust-lang.org/cargo/reference/features.html",
+        "Found `feature = ...` in `target.'cfg(...)'.dependencies`. This key is not supported \
+        for selecting dependencies and will not work as expected. Use the [features] section instead: \
+        https://doc.rust-lang.org/cargo/reference/features.html",
     )
 }
 
-// Keywords in the place of an identifier, in the manifest at a path.
+/// Keywords in the place of an identifier, in the manifest at a path.
 #[derive(Drop)]
 struct Keywords<'a>(&'a str);
 
@@ -119,21 +127,27 @@ impl<'a> Lint for Keywords<'a> {
     }
 }
 
+/// Whether the name is an unmarked `true` or `false`.
 fn is_keyword(name: &Ident) -> bool
     ensures { result ≡ is_literal_word (name_of name.now) }
 {
     !name.raw && matches!(name.as_str(), "true" | "false")
 }
 
+/// The warning on a keyword in the place of an identifier.
 fn keyword_text(alloc: Global, path: &str, c: &Cfg, word: &str) -> Result<String, AllocError>
     ensures { IfOk result (λ s. string_bytes s ≡ keyword_warning path.now (value_of c.now) word.now) }
 {
     format!(in alloc;
-        "[{path}] future-incompatibility: `cfg({c})` is deprecated as `{word}` is a keyword and not an identifier and should not have have been accepted in this position.\n | this was previously accepted by Cargo but is being phased out; it will become a hard error in a future release!\n |\n | help: use raw-idents instead: `cfg(r#{word})`"
+        "[{path}] future-incompatibility: `cfg({c})` is deprecated as `{word}` is a keyword and not an identifier \
+        and should not have have been accepted in this position.\n \
+        | this was previously accepted by Cargo but is being phased out; \
+        it will become a hard error in a future release!\n |\n \
+        | help: use raw-idents instead: `cfg(r#{word})`"
     )
 }
 
-// Appends all warnings of a kind, or takes back those that were appended before memory was refused.
+/// Appends all warnings of a kind, or takes back those that were appended before memory was refused.
 fn warn<L: Lint>(
     platform: &Platform,
     alloc: Global,
@@ -156,7 +170,7 @@ fn warn<L: Lint>(
     result
 }
 
-// Appends the warnings on the values of an expression, as far as memory is granted.
+/// Appends the warnings on the values of an expression, as far as memory is granted.
 fn walk<L: Lint>(
     e: &CfgExpr,
     alloc: Global,

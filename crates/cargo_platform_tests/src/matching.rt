@@ -22,7 +22,8 @@ struct Joined<'a> {
 }
 
 impl<'a> Facts for Joined<'a> {
-    ghost meant = { λ facts. union (fact_set (map value_of facts.target.now)) (fact_set (map value_of facts.build.now)) };
+    ghost meant = { λ facts. union (fact_set (map value_of facts.target.now))
+        (fact_set (map value_of facts.build.now)) };
 
     fn holds(&self, c: &Cfg) -> bool {
         Listed(self.target).holds(c) || Listed(self.build).holds(c)

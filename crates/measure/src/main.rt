@@ -1,6 +1,6 @@
 // Measures how long reading, cutting and matching take as what they are given grows, and prints the tables of
-// docs/PERFORMANCE.md. The argument is the number of rounds in which each call is timed. The fastest round counts, and of
-// calls that are timed in turns the median.
+// docs/PERFORMANCE.md. The argument is the number of rounds in which each call is timed. The fastest round counts, and
+// of calls that are timed in turns the median.
 #![tactic(auto)]
 
 mod calls;
@@ -75,8 +75,8 @@ fn time_matching(rt: &(impl Print + Clock + AllocGlobal), rounds: u32) -> io::Re
     Ok(())
 }
 
-/// Times calls in turns, and prints for each the median of its rounds, and that over the first call's. So what else runs
-/// on the machine disturbs all of them alike.
+/// Times calls in turns, and prints for each the median of its rounds, and that over the first call's. So what else
+/// runs on the machine disturbs all of them alike.
 fn time_in_turn(
     rt: &(impl Print + Clock + AllocGlobal),
     rounds: u32,

@@ -109,5 +109,6 @@ impl<'a> Knowledge for Partial<'a> {
 
     ghost possible = { λ k. partly_possible (fact_set (map value_of k.facts.now)) (map (λ t. t.now) k.complete.now) };
 
-    ghost sound = { λ k s p is. partly_sound (fact_set (map value_of k.facts.now)) (map (λ t. t.now) k.complete.now) s p is };
+    ghost sound = { λ k s p is.
+        partly_sound (fact_set (map value_of k.facts.now)) (map (λ t. t.now) k.complete.now) s p is };
 }

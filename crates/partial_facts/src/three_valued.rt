@@ -3,7 +3,7 @@
 ghost use Rattle.std.specs.Prelude.{◌≡◌, ◌≤◌, Some, map, IfSome, IfOk, MatchResult};
 ghost use Rattle.cargo_platform.specs.Trees.{tree_of, trees_of};
 ghost use Rattle.cargo_platform.specs.Facts.{FactSet, truth};
-ghost use Rattle.cargo_platform.specs.ExpressionSizes.{size, sizes};
+ghost use Rattle.cargo_platform.specs.ExpressionSizes.{node_count, node_counts};
 ghost use Rattle.partial_facts.specs.Kleene.{kleene};
 ghost use Rattle.partial_facts.specs.Groups.{both, members_known, so_far};
 
@@ -24,8 +24,8 @@ pub fn decide<K: Knowledge>(e: &CfgExpr, known: &K) -> Option<bool>
     evaluate(e, known)
 }
 
-// Goes down the last members in a loop, so that what recurses are the members before them. What is asked of `e` there is
-// answered by `if_true` or `if_false` where the truth of `e` is known.
+// Goes down the last members in a loop, so that what recurses are the members before them. What is asked of `e` there
+// is answered by `if_true` or `if_false` where the truth of `e` is known.
 #[cycle(evaluate)]
 fn evaluate<K: Knowledge>(e: &CfgExpr, known: &K) -> Option<bool>
     ensures { result ≡ kleene (K.told known.now) (tree_of e.now) }
@@ -85,7 +85,7 @@ fn last_member<'a, K: Knowledge>(
         (λ last. both neutral (so_far neutral last.1) (kleene (K.told known.now) (tree_of last.0.now))
         ≡ members_known neutral (K.told known.now) (trees_of (map tree_of members.now)))
         (λ truth. Some truth ≡ members_known neutral (K.told known.now) (trees_of (map tree_of members.now))) }
-    ensures size { IfOk result (λ last. size last.0.now ≤ sizes members.now) }
+    ensures size { IfOk result (λ last. node_count last.0.now ≤ node_counts members.now) }
 {
     let Some((first, others)) = members.split_first() else {
         return Err(neutral);

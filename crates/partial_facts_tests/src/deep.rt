@@ -24,8 +24,8 @@ fn nest(
     Ok(text)
 }
 
-/// An opening, an inner text and a closing, what is decided of 500 levels of them where `unix` is the one fact, `windows`
-/// is none and no other name is known, and what is left to ask. The last one leaves its text.
+/// An opening, an inner text and a closing, what is decided of 500 levels of them where `unix` is the one fact,
+/// `windows` is none and no other name is known, and what is left to ask. The last one leaves its text.
 const NESTS: &[(&str, &str, &str, Option<bool>, Option<&str>)] = &[
     ("all(", "loom", ", unix)", None, Some("loom")),
     ("any(", "loom", ", windows)", None, Some("loom")),

@@ -29,7 +29,7 @@ pub fn ask(alloc: Global, text: &str, facts: &[Cfg]) -> Result<bool, ReadError>
         → yes ≡ truth (fact_set (map value_of facts.now)) d) }
     ensures read { IfParse result (λ _. (d : Tree) → IsTreeText text.now d → ⊥) }
 {
-    laws::one_tree_text();
+    laws::one_text();
     match CfgExpr::from_str(alloc, text) {
         Ok(e) => Ok(e.matches(facts)),
         Err(error) => Err(error),

@@ -90,8 +90,8 @@ fn read_condition(alloc: Global, text: &str) -> Result<Platform, Refusal>
     }
 }
 
-/// Reads each line of the text as a fact. The number of a refused line is that in the input, where two lines stand before
-/// them.
+/// Reads each line of the text as a fact. The number of a refused line is that in the input, where two lines stand
+/// before them.
 fn read_fact_lines(alloc: Global, text: &str) -> Result<Vec<Cfg>, Refusal>
     ensures facts { IfOk result (λ facts. SpellFacts (lines_of text.now) (map value_of facts.items)) }
     ensures refused { IfErr result

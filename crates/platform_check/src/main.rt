@@ -54,10 +54,12 @@ pub fn run<R: Read, W: Write>(
     requires unwritten { write_counts output.old ≡ no_writes }
     ensures ran { IfOk result (λ outcome. (bs : List ℕ)
         × IsInput (R.remaining (reader_of input.old)) (R.remaining (reader_of input.new)) (read_counts input.new) bs
-        × Answers (W.contents (writer_of output.old)) (W.contents (writer_of output.new)) (write_counts output.new) outcome bs) }
+        × Answers (W.contents (writer_of output.old)) (W.contents (writer_of output.new)) (write_counts output.new)
+        outcome bs) }
     ensures write { IsErrOf result RunError.Write → (bs : List ℕ)
         × IsInput (R.remaining (reader_of input.old)) (R.remaining (reader_of input.new)) (read_counts input.new) bs
-        × BreaksOff (W.contents (writer_of output.old)) (W.contents (writer_of output.new)) (write_counts output.new) bs }
+        × BreaksOff (W.contents (writer_of output.old)) (W.contents (writer_of output.new)) (write_counts output.new)
+        bs }
     ensures read { IsErrOf result RunError.Read → HasReadFault (read_counts input.new) }
     ensures within { (read_counts input.new).reads ≤ 1_048_578 }
     ensures read_silent { IsErrOf result RunError.Read → output.new ≡ output.old }

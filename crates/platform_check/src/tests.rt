@@ -165,39 +165,57 @@ fn conditions_are_refused(rt: HostRuntime) {
     for (text, want) in [
         (
             b"!foo\nx\nunix\n\n".as_slice(),
-            b"line 1: failed to parse `!foo` as a cfg expression: invalid target specifier: unexpected character ! in target name\n".as_slice(),
+            b"line 1: failed to parse `!foo` as a cfg expression: invalid target specifier: unexpected character ! \
+            in target name\n"
+                .as_slice(),
         ),
         (
             b"cfg(true = \"x\")\nx\ntrue = \"x\"\n".as_slice(),
-            b"line 1: failed to parse `true = \"x\"` as a cfg expression: unexpected content `= \"x\"` found after cfg expression\n".as_slice(),
+            b"line 1: failed to parse `true = \"x\"` as a cfg expression: unexpected content `= \"x\"` found after \
+            cfg expression\n"
+                .as_slice(),
         ),
         (
             b"cfg(a b)\nx".as_slice(),
-            b"line 1: failed to parse `a b` as a cfg expression: unexpected content `b` found after cfg expression\n".as_slice(),
+            b"line 1: failed to parse `a b` as a cfg expression: unexpected content `b` found after cfg \
+            expression\n"
+                .as_slice(),
         ),
         (
             b"cfg(a) \nx\n".as_slice(),
-            b"line 1: failed to parse `cfg(a) ` as a cfg expression: invalid target specifier: unexpected `(` character, cfg expressions must start with `cfg(`\n".as_slice(),
+            b"line 1: failed to parse `cfg(a) ` as a cfg expression: invalid target specifier: unexpected `(` \
+            character, cfg expressions must start with `cfg(`\n"
+                .as_slice(),
         ),
         (
             b"a\xe2\x82\xacb(\nx\n".as_slice(),
-            b"line 1: failed to parse `a\xe2\x82\xacb(` as a cfg expression: invalid target specifier: unexpected `(` character, cfg expressions must start with `cfg(`\n".as_slice(),
+            b"line 1: failed to parse `a\xe2\x82\xacb(` as a cfg expression: invalid target specifier: unexpected \
+            `(` character, cfg expressions must start with `cfg(`\n"
+                .as_slice(),
         ),
         (
             b"a\xe2\x82\xacb\nx\n".as_slice(),
-            b"line 1: failed to parse `a\xe2\x82\xacb` as a cfg expression: invalid target specifier: unexpected character \xe2\x82\xac in target name\n".as_slice(),
+            b"line 1: failed to parse `a\xe2\x82\xacb` as a cfg expression: invalid target specifier: unexpected \
+            character \xe2\x82\xac in target name\n"
+                .as_slice(),
         ),
         (
             b"target_os = \"linux\"\nx\n".as_slice(),
-            b"line 1: failed to parse `target_os = \"linux\"` as a cfg expression: invalid target specifier: unexpected character   in target name\n".as_slice(),
+            b"line 1: failed to parse `target_os = \"linux\"` as a cfg expression: invalid target specifier: \
+            unexpected character   in target name\n"
+                .as_slice(),
         ),
         (
             b"a\r\nx\n".as_slice(),
-            b"line 1: failed to parse `a\r` as a cfg expression: invalid target specifier: unexpected character \r in target name\n".as_slice(),
+            b"line 1: failed to parse `a\r` as a cfg expression: invalid target specifier: unexpected character \r \
+            in target name\n"
+                .as_slice(),
         ),
         (
             b"cfg()\nx\n".as_slice(),
-            b"line 1: failed to parse `` as a cfg expression: expected start of a cfg expression, but cfg expression ended\n".as_slice(),
+            b"line 1: failed to parse `` as a cfg expression: expected start of a cfg expression, but cfg \
+            expression ended\n"
+                .as_slice(),
         ),
         (
             b"cfg(all)\nx\nall\n".as_slice(),
@@ -213,19 +231,27 @@ fn facts_are_refused(rt: HostRuntime) {
     for (text, want) in [
         (
             b"cfg(unix)\nx\nunix\n\n".as_slice(),
-            b"line 4: failed to parse `` as a cfg expression: expected identifier, but cfg expression ended\n".as_slice(),
+            b"line 4: failed to parse `` as a cfg expression: expected identifier, but cfg expression \
+            ended\n"
+                .as_slice(),
         ),
         (
             b"a\nb\n\n".as_slice(),
-            b"line 3: failed to parse `` as a cfg expression: expected identifier, but cfg expression ended\n".as_slice(),
+            b"line 3: failed to parse `` as a cfg expression: expected identifier, but cfg expression \
+            ended\n"
+                .as_slice(),
         ),
         (
             b"7\nx\n7\n".as_slice(),
-            b"line 3: failed to parse `7` as a cfg expression: unexpected character `7` in cfg, expected parens, a comma, an identifier, or a string\n".as_slice(),
+            b"line 3: failed to parse `7` as a cfg expression: unexpected character `7` in cfg, expected parens, a \
+            comma, an identifier, or a string\n"
+                .as_slice(),
         ),
         (
             b"a\nx\nall()\n".as_slice(),
-            b"line 3: failed to parse `all()` as a cfg expression: unexpected content `()` found after cfg expression\n".as_slice(),
+            b"line 3: failed to parse `all()` as a cfg expression: unexpected content `()` found after cfg \
+            expression\n"
+                .as_slice(),
         ),
         (b"\xff".as_slice(), b"input is not UTF-8\n".as_slice()),
     ] {
@@ -238,12 +264,21 @@ fn conditions_are_warned_of(rt: HostRuntime) {
     for (text, want, outcome) in [
         (
             b"cfg(any(test, windows))\nx\nunix\n".as_slice(),
-            b"condition: cfg(any(test, windows))\nmatch: no\nwarning: Found `test` in `target.'cfg(...)'.dependencies`. This value is not supported for selecting dependencies and will not work as expected. To learn more visit https://doc.rust-lang.org/cargo/reference/specifying-dependencies.html#platform-specific-dependencies\n".as_slice(),
+            b"condition: cfg(any(test, windows))\nmatch: no\nwarning: Found `test` in \
+            `target.'cfg(...)'.dependencies`. This value is not supported for selecting dependencies and will not \
+            work as expected. To learn more visit \
+            https://doc.rust-lang.org/cargo/reference/specifying-dependencies.html\
+            #platform-specific-dependencies\n"
+                .as_slice(),
             Outcome::NoMatch,
         ),
         (
             b"cfg(any(r#true = \"x\", feature = \"w\"))\nx\n".as_slice(),
-            b"condition: cfg(any(r#true = \"x\", feature = \"w\"))\nmatch: no\nwarning: Found `feature = ...` in `target.'cfg(...)'.dependencies`. This key is not supported for selecting dependencies and will not work as expected. Use the [features] section instead: https://doc.rust-lang.org/cargo/reference/features.html\n".as_slice(),
+            b"condition: cfg(any(r#true = \"x\", feature = \"w\"))\nmatch: no\nwarning: Found `feature = ...` in \
+            `target.'cfg(...)'.dependencies`. This key is not supported for selecting dependencies and will not \
+            work as expected. Use the [features] section instead: \
+            https://doc.rust-lang.org/cargo/reference/features.html\n"
+                .as_slice(),
             Outcome::NoMatch,
         ),
     ] {

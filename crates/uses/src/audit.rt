@@ -49,7 +49,7 @@ pub fn canonical(alloc: Global, key: &str) -> Result<String, ReadError>
     ensures { IfOk result (λ text. (p : Condition) × IsConditionText key.now p
         × IsConditionText (string_bytes text) p) }
 {
-    laws::print_spells_condition();
+    laws::print_spells();
     let platform = Platform::from_str(alloc, key)?;
     match platform.to_string(alloc) {
         Ok(text) => Ok(text),

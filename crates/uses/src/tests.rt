@@ -65,7 +65,9 @@ fn keys_are_linted(rt: HostRuntime) -> Result<(), Fail> {
         ),
         (
             "cfg(any(test, windows))",
-            "cfg(any(test, windows))\nFound `test` in `target.'cfg(...)'.dependencies`. This value is not supported for selecting dependencies and will not work as expected. To learn more visit https://doc.rust-lang.org/cargo/reference/specifying-dependencies.html#platform-specific-dependencies\n",
+            "cfg(any(test, windows))\nFound `test` in `target.'cfg(...)'.dependencies`. This value is not supported \
+            for selecting dependencies and will not work as expected. To learn more visit \
+            https://doc.rust-lang.org/cargo/reference/specifying-dependencies.html#platform-specific-dependencies\n",
         ),
     ] {
         let report = lint(rt.alloc(), "Cargo.toml", key)?;
@@ -116,7 +118,8 @@ fn the_error_says_where(rt: HostRuntime) -> Result<(), Fail> {
     assert!(rt; matches!(&error, ManifestError::Key { .. }));
     assert_eq!(rt;
         error.to_string(rt.alloc())?.as_str(),
-        "Cargo.toml:7: failed to parse `!foo` as a cfg expression: invalid target specifier: unexpected character ! in target name"
+        "Cargo.toml:7: failed to parse `!foo` as a cfg expression: invalid target specifier: unexpected character ! \
+        in target name"
     );
     Ok(())
 }

@@ -5,6 +5,6 @@ use Rattle.cargo_platform.proofs.Platform.from_json.Goals as goal
 
 pub returns-in-Err-Parse : goal.returns-in-Err-Parse
 returns-in-Err-Parse c =
-    let r = rw c.in-Err-Parse.field-0-is at c.in-Err-Parse.ensures in
-    text_refused (view c.args.value.now) c.in-Some.text.now c.in-Err-Parse.error
-    (text_is (view c.args.value.now) c.in-Some.text.now (sym c.in-Some.ensures)) r
+    text_refused (view c.args.value.now) c.in-Some.text.now c.in-Err-Parse.field-0 c.in-Err-Parse.error
+    (text_is (view c.args.value.now) c.in-Some.text.now (sym c.in-Some.ensures)) c.in-Err-Parse.field-0-is
+    c.in-Err-Parse.ensures.fault

@@ -1,6 +1,6 @@
 use Rattle.std.proofs.Common.{◌∙◌, ap, subst, arith, ◌+◌}
 use Rattle.std.specs.List.{between}
-use Rattle.cargo_platform.specs.Looking.{Sees}
+use Rattle.cargo_platform.specs.Looking.{Shows}
 use Rattle.cargo_platform.proofs.Scanning.{string_stands, unterminated}
 use Rattle.cargo_platform.proofs.tokens.string_at.Goals as goal
 
@@ -14,7 +14,7 @@ returns-in-Some-clause-token c =
           (c.slice.ensures ∙ ap (λ t. between (c.args.start + 1) c.in-Some.quote t.now)
           (c.look-seen.ensures.same ∙ same)) c.slice.utf8 c.in-Some.ensures.value;
       boundary = quote.boundary;
-      sees = subst (λ t. Sees t.now (c.in-Some.quote + 1) c.look-seen.result) same c.look-seen.ensures.sees;
+      sees = subst (λ t. Shows t.now (c.in-Some.quote + 1) c.look-seen.result) same c.look-seen.ensures.sees;
     }
 
 pub returns-in-None-clause-fault : goal.returns-in-None-clause-fault

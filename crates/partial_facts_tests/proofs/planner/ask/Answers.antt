@@ -7,4 +7,4 @@ pub returns-in-Ok-clause-answer : goal.returns-in-Ok-clause-answer
 returns-in-Ok-clause-answer c d spells =
     c.matches.ensures
     ∙ ap (truth (fact_set (map value_of c.args.facts.now)))
-    (c.one_tree_text.ensures c.args.text.now (tree_of c.in-Ok.e) d c.in-Ok.ensures.tree spells)
+    (c.one_text.ensures.expressions c.args.text.now (tree_of c.in-Ok.e) d c.in-Ok.ensures.tree spells)

@@ -10,7 +10,8 @@ pub returns : goal.returns
 returns g c =
     let d : Tree = tree_of c.in_ok-left.left in
     let e : Tree = tree_of c.args.e.now in
-    let spelled : IsTreeText (print d) d = c.print_spells.ensures d (c.in_ok-left.ensures.well_formed c.requires) in
+    let spelled : IsTreeText (print d) d =
+    c.print_spells.ensures.expressions d (c.in_ok-left.ensures.well_formed c.requires) in
     IfOk-weaker c.text_of.result (λ text. string_bytes text ≡ print d)
     (λ text. (x : Tree) × IsTreeText (string_bytes text) x
     × ((s : FactSet) → g.K.Knowledge.allows c.args.known.now s → truth s x ≡ truth s e))

@@ -1,51 +1,57 @@
-use Rattle.std.proofs.Common.{sym, subst}
+use Rattle.std.proofs.Common.{sym, subst, Result}
+use Rattle.std.specs.Prelude.{◌≡◌, IfOk}
 use Rattle.cargo_platform.specs.declared.cfg.CfgExpr.{CfgExpr}
-use Rattle.cargo_platform.specs.Trees.{Tree, tree_of}
-use Rattle.cargo_platform.specs.Spelling.{IsTreeText}
-use Rattle.cargo_platform.specs.Errors.{fault_in}
-use Rattle.cargo_platform.specs.Readers.{ReadsExpression}
+use Rattle.cargo_platform.specs.declared.error.ReadError.{ReadError}
+use Rattle.cargo_platform.specs.Trees.{tree_of}
+use Rattle.cargo_platform.specs.Spelling.{Expressions, IsTreeText}
+use Rattle.cargo_platform.specs.Faults.{IsRefused}
+use Rattle.cargo_platform.specs.Errors.{IfParse, orig_of, fault_in}
 use Rattle.cargo_platform.proofs.ReaderAnswers.{expression_read, fault_is, parse_is}
-use Rattle.cargo_platform.proofs.Refusing.{stops_refused, stops_spells_none}
-use Rattle.cargo_platform.proofs.ReadsBack.{reads_back, refused_is_no_print}
-use Rattle.cargo_platform.proofs.WellFormedness.{spelled_well_formed}
+use Rattle.cargo_platform.proofs.Refusing.{stops_refused}
+use Rattle.cargo_platform.proofs.TextLaws.{tree_laws, formed_answer, refused_answer, answer_back}
 use Rattle.cargo_platform.proofs.cfg.CfgExpr.from_str_counted.Goals as goal
 use Rattle.cargo_platform.proofs.cfg.CfgExpr.from_str_counted.Goals.{in-Ok, in-Err}
 
-pub returns-clause-reads : goal.returns-clause-reads
-returns-clause-reads c =
+pub returns-clause-tree : goal.returns-clause-tree
+returns-clause-tree c =
     let s = c.args.s.now in
-    let l = c.new-reader.result in
+    let P : Result CfgExpr ReadError → Type 0 = λ z. IfOk z (λ e. IsTreeText s (tree_of e)) in
     elim c.match-read_expression.branch [
-      | in-Ok w ↦
-          let e = tree_of w.in-Ok.expression in
-          let read = expression_read s l c.read_expression.new.reader e c.utf8.s c.new-reader.ensures.text
-          c.new-reader.ensures.first w.in-Ok.ensures.tree w.in-Ok.ensures.ended in
-          subst (ReadsExpression s) (sym w.read-is)
-          (record {
-            tree = read;
-            well_formed = spelled_well_formed s e read;
-            refused = tt;
-            orig = tt;
-            fault = tt;
-            reads_back = λ d w h. (reads_back s e d w h read, tt);
-          })
-      | in-Err w ↦
-          let r = w.in-Err.refusal in
-          let x = w.into_error.result in
-          let b = w.into_error.ensures in
-          let stops = w.in-Err.ensures.refused in
-          let none = parse_is CfgExpr r s x (λ _. (t : Tree) → IsTreeText s t → ⊥) b
-          (λ e o f. fault_is r (fault_in e) _ f
-          (stops_spells_none s l r c.utf8.s c.new-reader.ensures.text c.new-reader.ensures.first stops)) in
-          subst (ReadsExpression s) (sym w.read-is) (record {
-            tree = tt;
-            well_formed = tt;
-            refused = none;
-            orig = parse_is CfgExpr r s x _ b (λ e o f. o);
-            fault =
-                parse_is CfgExpr r s x _ b
-                (λ e o f. fault_is r (fault_in e) _ f
-                (stops_refused s l r c.utf8.s c.new-reader.ensures.text c.new-reader.ensures.first stops));
-            reads_back = λ d w h. (tt, refused_is_no_print CfgExpr x s none d w h);
-          })
+      | in-Ok w ↦ subst P (sym w.read-is)
+          (expression_read s c.new-reader.result c.read_expression.new.reader (tree_of w.in-Ok.expression) c.utf8.s
+          c.new-reader.ensures.text c.new-reader.ensures.first w.in-Ok.ensures.tree w.in-Ok.ensures.ended)
+      | in-Err w ↦ subst P (sym w.read-is) tt
     ]
+
+pub returns-clause-orig : goal.returns-clause-orig
+returns-clause-orig c =
+    let s = c.args.s.now in
+    let P : Result CfgExpr ReadError → Type 0 = λ z. IfParse z (λ e. orig_of e ≡ s) in
+    elim c.match-read_expression.branch [
+      | in-Ok w ↦ subst P (sym w.read-is) tt
+      | in-Err w ↦ subst P (sym w.read-is)
+          (parse_is CfgExpr w.in-Err.refusal s w.into_error.result _ w.into_error.ensures (λ e o f. o))
+    ]
+
+pub returns-clause-fault : goal.returns-clause-fault
+returns-clause-fault c =
+    let s = c.args.s.now in
+    let P : Result CfgExpr ReadError → Type 0 = λ z. IfParse z (λ e. IsRefused Expressions s (fault_in e)) in
+    elim c.match-read_expression.branch [
+      | in-Ok w ↦ subst P (sym w.read-is) tt
+      | in-Err w ↦ subst P (sym w.read-is)
+          (parse_is CfgExpr w.in-Err.refusal s w.into_error.result _ w.into_error.ensures
+          (λ e o f. fault_is w.in-Err.refusal (fault_in e) _ f
+          (stops_refused s c.new-reader.result w.in-Err.refusal c.utf8.s c.new-reader.ensures.text
+          c.new-reader.ensures.first w.in-Err.ensures.refused)))
+    ]
+
+pub returns-clause-well_formed : goal.returns-clause-well_formed
+returns-clause-well_formed c = formed_answer tree_laws tree_of c.args.s.now _ (returns-clause-tree c)
+
+pub returns-clause-refused : goal.returns-clause-refused
+returns-clause-refused c = refused_answer tree_laws c.args.s.now _ (returns-clause-fault c)
+
+pub returns-clause-reads_back : goal.returns-clause-reads_back
+returns-clause-reads_back c =
+    answer_back tree_laws tree_of c.args.s.now _ (returns-clause-tree c) (returns-clause-refused c)
