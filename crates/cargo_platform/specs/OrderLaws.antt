@@ -15,12 +15,12 @@ use Rattle.cargo_platform.specs.Key.{tree_cmp, trees_cmp, condition_cmp}
 
 -- ---- chained answers
 
-then_Equal : (a : Ordering) → ordering_then a Equal ≡ a
+pub then_Equal : (a : Ordering) → ordering_then a Equal ≡ a
 then_Equal Less = refl
 then_Equal Equal = refl
 then_Equal Greater = refl
 
-then_assoc : (a b c : Ordering) → ordering_then a (ordering_then b c) ≡ ordering_then (ordering_then a b) c
+pub then_assoc : (a b c : Ordering) → ordering_then a (ordering_then b c) ≡ ordering_then (ordering_then a b) c
 then_assoc Less b c = refl
 then_assoc Equal b c = refl
 then_assoc Greater b c = refl

@@ -1,12 +1,13 @@
 //! Equality, order and hash of expressions by the key, at every depth.
 
-ghost use Rattle.std.specs.Prelude.{◌≡◌, map, fold, refl};
+ghost use Rattle.std.specs.Prelude.{◌≡◌, ◌≤◌, ◌<◌, map, fold, refl, IfOk, IfSome, MatchOption, MatchResult};
 ghost use Rattle.std.specs.Cmp.{Equal-is, eq_by_cmp_equiv, on_equiv, on_total, partial_equiv_from_equiv};
 ghost use Rattle.std.specs.Cmp.{partial_order_from_total};
 ghost use Rattle.std.specs.Ordering.{as_partial_cmp, eq_by_cmp, on};
 ghost use Rattle.cargo_platform.specs.Trees.{tree_of, trees_of};
 ghost use Rattle.cargo_platform.specs.Key.{rank, tree_cmp, trees_cmp};
 ghost use Rattle.cargo_platform.specs.OrderLaws.{tree_total};
+ghost use Rattle.cargo_platform.specs.ExpressionSizes.{size, sizes};
 ghost use Rattle.cargo_platform.specs.Hashing.{tree_hash, group_hash, tree_alike};
 
 use crate::cfg::CfgExpr;
@@ -27,28 +28,79 @@ fn rank(e: &CfgExpr) -> u8
     }
 }
 
+// Goes down the last members in a loop, so that what recurses are the members before them.
 #[cycle(compare)]
 fn compare(a: &CfgExpr, b: &CfgExpr) -> Ordering
     ensures { result ≡ tree_cmp (tree_of a.now) (tree_of b.now) }
 {
+    let mut d = a;
+    let mut e = b;
+    'levels: loop {
+        match compare_forms(d, e) {
+            Ok((inner_d, inner_e)) => {
+                d = inner_d;
+                e = inner_e;
+            }
+            Err(order) => return order,
+        }
+    }
+}
+
+// The order, or the expressions inside that it hangs on.
+#[cycle(compare)]
+#[inline(always)]
+fn compare_forms<'a>(a: &'a CfgExpr, b: &'a CfgExpr) -> Result<(&'a CfgExpr, &'a CfgExpr), Ordering>
+    ensures order { MatchResult result
+        (λ inner. tree_cmp (tree_of inner.0.now) (tree_of inner.1.now) ≡ tree_cmp (tree_of a.now) (tree_of b.now))
+        (λ order. order ≡ tree_cmp (tree_of a.now) (tree_of b.now)) }
+    ensures size { IfOk result (λ inner. size inner.0.now < size a.now) }
+{
     match a {
         CfgExpr::Not(d) => match b {
-            CfgExpr::Not(e) => compare(d, e),
-            _ => rank(a).cmp(&rank(b)),
+            CfgExpr::Not(e) => Ok((&**d, &**e)),
+            _ => Err(rank(a).cmp(&rank(b))),
         },
         CfgExpr::All(ds) => match b {
-            CfgExpr::All(es) => compare_members(ds, es),
-            _ => rank(a).cmp(&rank(b)),
+            CfgExpr::All(es) => compare_all_but_last(ds, es),
+            _ => Err(rank(a).cmp(&rank(b))),
         },
         CfgExpr::Any(ds) => match b {
-            CfgExpr::Any(es) => compare_members(ds, es),
-            _ => rank(a).cmp(&rank(b)),
+            CfgExpr::Any(es) => compare_all_but_last(ds, es),
+            _ => Err(rank(a).cmp(&rank(b))),
         },
         CfgExpr::Value(c) => match b {
-            CfgExpr::Value(d) => c.cmp(d),
-            _ => rank(a).cmp(&rank(b)),
+            CfgExpr::Value(d) => Err(c.cmp(d)),
+            _ => Err(rank(a).cmp(&rank(b))),
         },
-        CfgExpr::True | CfgExpr::False => rank(a).cmp(&rank(b)),
+        CfgExpr::True | CfgExpr::False => Err(rank(a).cmp(&rank(b))),
+    }
+}
+
+// The order of lists of members, or the last members that it hangs on. The last member of a shorter list stands beside
+// one that is not the last, so that lists of different lengths are compared whole.
+#[cycle(compare)]
+#[inline(always)]
+fn compare_all_but_last<'a>(
+    ds: &'a [CfgExpr],
+    es: &'a [CfgExpr],
+) -> Result<(&'a CfgExpr, &'a CfgExpr), Ordering>
+    ensures order { MatchResult result
+        (λ last. tree_cmp (tree_of last.0.now) (tree_of last.1.now)
+        ≡ trees_cmp (trees_of (map tree_of ds.now)) (trees_of (map tree_of es.now)))
+        (λ order. order ≡ trees_cmp (trees_of (map tree_of ds.now)) (trees_of (map tree_of es.now))) }
+    ensures size { IfOk result (λ last. size last.0.now ≤ sizes ds.now) }
+{
+    let (Some((d, ds_before)), Some((e, es_before))) = (ds.split_last(), es.split_last()) else {
+        return Err(compare_members(ds, es));
+    };
+    if ds_before.len() != es_before.len() {
+        return Err(compare_members(ds, es));
+    }
+    let order = compare_members(ds_before, es_before);
+    if order.is_eq() {
+        Ok((d, e))
+    } else {
+        Err(order)
     }
 }
 
@@ -104,40 +156,64 @@ impl Ord for CfgExpr {
     }
 }
 
+// Goes down the last members in a loop, so that what recurses are the members before them.
 #[cycle(feed)]
 fn feed<H: Hasher>(e: &CfgExpr, state: &mut H)
     ensures { state.new ≡ fold H.write state.old (tree_hash (tree_of e.now)) }
 {
-    match e {
-        CfgExpr::Not(e) => {
-            state.write_u8(0);
-            feed(e, state);
+    let mut part = e;
+    'levels: loop {
+        let last = match part {
+            CfgExpr::Not(inner) => {
+                state.write_u8(0);
+                part = inner;
+                continue;
+            }
+            CfgExpr::All(members) => {
+                state.write_u8(1);
+                feed_all_but_last(members, state)
+            }
+            CfgExpr::Any(members) => {
+                state.write_u8(2);
+                feed_all_but_last(members, state)
+            }
+            CfgExpr::Value(c) => {
+                state.write_u8(3);
+                c.hash(state);
+                return;
+            }
+            CfgExpr::True => return state.write_u8(4),
+            CfgExpr::False => return state.write_u8(5),
+        };
+        match last {
+            Some(member) => part = member,
+            None => return,
         }
-        CfgExpr::All(es) => {
-            state.write_u8(1);
-            feed_members(es, state);
-        }
-        CfgExpr::Any(es) => {
-            state.write_u8(2);
-            feed_members(es, state);
-        }
-        CfgExpr::Value(c) => {
-            state.write_u8(3);
-            c.hash(state);
-        }
-        CfgExpr::True => state.write_u8(4),
-        CfgExpr::False => state.write_u8(5),
     }
 }
 
+// How many members there are, and each but the last, which is left to feed.
 #[cycle(feed)]
-fn feed_members<H: Hasher>(es: &[CfgExpr], state: &mut H)
-    ensures { state.new ≡ fold H.write state.old (group_hash (trees_of (map tree_of es.now))) }
+#[inline(always)]
+fn feed_all_but_last<'a, H: Hasher>(members: &'a [CfgExpr], state: &mut H) -> Option<&'a CfgExpr>
+    ensures fed { MatchOption result
+        (state.new ≡ fold H.write state.old (group_hash (trees_of (map tree_of members.now))))
+        (λ last. fold H.write state.new (tree_hash (tree_of last.now))
+        ≡ fold H.write state.old (group_hash (trees_of (map tree_of members.now)))) }
+    ensures size { IfSome result (λ last. size last.now ≤ sizes members.now) }
 {
-    state.write_usize(es.len());
-    for e in es {
+    state.write_usize(members.len());
+    let Some((first, others)) = members.split_first() else {
+        return None;
+    };
+    let mut e = first;
+    let mut left = others;
+    'members: while let Some((next, others)) = left.split_first() {
         feed(e, state);
+        e = next;
+        left = others;
     }
+    Some(e)
 }
 
 impl Hash for CfgExpr {

@@ -3,6 +3,7 @@
 use crate::looks::negations;
 use crate::made::{assert_prints, same, same_value, value};
 use crate::plain_reader::{self, Stop};
+use crate::real_facts::{LINUX, MACOS, WASM, WINDOWS};
 use crate::refusals::{error_of, is_fault};
 use crate::{expressions, matching, names_and_pairs, order, platforms, printing, warnings};
 use cargo_platform::tokens::Looks;
@@ -232,6 +233,16 @@ fn beginnings_of_names_and_pairs(rt: HostRuntime) -> Result<(), Fail> {
 }
 
 #[test]
+fn beginnings_of_facts(rt: HostRuntime) -> Result<(), Fail> {
+    for lines in [LINUX, WINDOWS, MACOS, WASM] {
+        for fact in lines.lines() {
+            assert_cfg_beginnings(&rt, rt.alloc(), fact)?;
+        }
+    }
+    Ok(())
+}
+
+#[test]
 fn beginnings_of_expressions(rt: HostRuntime) -> Result<(), Fail> {
     for (text, _, _) in expressions::READ {
         assert_beginnings(&rt, rt.alloc(), text)?;
@@ -240,6 +251,9 @@ fn beginnings_of_expressions(rt: HostRuntime) -> Result<(), Fail> {
         assert_beginnings(&rt, rt.alloc(), text)?;
     }
     for (text, _) in matching::TARGETS {
+        assert_beginnings(&rt, rt.alloc(), text)?;
+    }
+    for (text, _, _) in matching::FLAGGED {
         assert_beginnings(&rt, rt.alloc(), text)?;
     }
     Ok(())

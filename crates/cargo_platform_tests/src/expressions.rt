@@ -279,6 +279,7 @@ fn deep_texts_are_refused(rt: HostRuntime) -> Result<(), Fail> {
     let open = repeated(alloc, "all(", 500)?;
     assert!(rt; !is_expression(&rt, alloc, &open)?);
     assert!(rt; !is_condition(&rt, alloc, &open)?);
+    assert!(rt; !is_cfg(&rt, alloc, &open)?);
     let start = Fault::IncompleteExpr("start of a cfg expression");
     let read = CfgExpr::from_str(alloc, &open);
     assert_refused(&rt, alloc, read.err(), &open, start, START)?;
@@ -286,6 +287,7 @@ fn deep_texts_are_refused(rt: HostRuntime) -> Result<(), Fail> {
     two.push_str("a b")?;
     assert!(rt; !is_expression(&rt, alloc, &two)?);
     assert!(rt; !is_condition(&rt, alloc, &two)?);
+    assert!(rt; !is_cfg(&rt, alloc, &two)?);
     let second = Fault::UnexpectedToken("`)`", "an identifier");
     let read = CfgExpr::from_str(alloc, &two);
     assert_refused(&rt, alloc, read.err(), &two, second, NAME)?;

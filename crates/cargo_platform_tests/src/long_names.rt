@@ -1,9 +1,10 @@
-//! Names, keys and values that are longer than any in the tables.
+//! Names, keys, values and lists that are longer than any in the tables.
 
 use crate::all_short_texts::{is_cfg, is_expression};
-use crate::made::{assert_prints, repeated, same_value};
+use crate::made::{assert_prints, repeated, same, same_value, value};
 use crate::refusals::{Fault, assert_refused};
-use cargo_platform::{Cfg, CfgExpr, FactIndex, Facts, Platform};
+use crate::warnings::{on_attributes, on_word};
+use cargo_platform::{Cfg, CfgExpr, FactIndex, Facts, Platform, read_facts};
 use std::alloc::Global;
 use std::process::Abort;
 use std::test::Fail;
@@ -27,6 +28,7 @@ fn long_texts_are_read(rt: HostRuntime) -> Result<(), Fail> {
         }
         let target = Platform::from_str(alloc, &long)?;
         assert_prints(&rt, alloc, &target.clone(alloc)?, &long)?;
+        assert!(rt; target.matches(&long, &[]), "{long}");
     }
     Ok(())
 }
@@ -47,6 +49,11 @@ fn long_texts_are_refused(rt: HostRuntime) -> Result<(), Fail> {
         }
         let key = format!(in alloc; "cfg({text})")?;
         assert!(rt; !CfgExpr::matches_key(alloc, &key, &[])?);
+        let name = format!(in alloc; "{long}!")?;
+        let fault = Fault::InvalidTarget("unexpected character ! in target name");
+        let message = "invalid target specifier: unexpected character ! in target name";
+        let refusal = Platform::from_str(alloc, &name).err();
+        assert_refused(&rt, alloc, refusal, &name, fault, message)?;
     }
     Ok(())
 }
@@ -78,6 +85,59 @@ fn long_facts_are_met(rt: HostRuntime) -> Result<(), Fail> {
         ] {
             assert_is_met(&rt, alloc, &text)?;
         }
+    }
+    Ok(())
+}
+
+#[test]
+fn long_words_are_warned_of(rt: HostRuntime) -> Result<(), Fail> {
+    let alloc = rt.alloc();
+    for length in LENGTHS {
+        let long = repeated(alloc, "a", length)?;
+        let keyed = format!(in alloc; "true={long}")?;
+        let condition = Platform::Cfg(CfgExpr::Value(value(alloc, &keyed)?));
+        let mut found = Vec::new(alloc);
+        condition.check_cfg_keywords(alloc, &mut found, &long)?;
+        let printed = format!(in alloc; "true = \"{long}\"")?;
+        let wanted = vec![in alloc; on_word(alloc, &long, &printed, "true")?]?;
+        assert_eq!(rt; found, wanted);
+    }
+    Ok(())
+}
+
+/// How many members and facts the lists below have.
+const MANY: usize = 300;
+
+#[test]
+fn many_facts_are_met(rt: HostRuntime) -> Result<(), Fail> {
+    let alloc = rt.alloc();
+    let mut text = repeated(alloc, "k = \"a\"\n", MANY)?;
+    text.push_str("z")?;
+    let facts = read_facts(alloc, &text)?;
+    assert_eq!(rt; facts.len(), MANY + 1);
+    let index = FactIndex::new(alloc, &facts)?;
+    for asked in ["k=a", "z"] {
+        assert!(rt; index.holds(&value(alloc, asked)?), "{asked}");
+    }
+    Ok(())
+}
+
+#[test]
+fn many_members_are_copied_and_warned_of(rt: HostRuntime) -> Result<(), Fail> {
+    let alloc = rt.alloc();
+    for word in ["all", "any"] {
+        let members = repeated(alloc, "test,", MANY)?;
+        let text = format!(in alloc; "{word}({members})")?;
+        let read = CfgExpr::from_str(alloc, &text)?;
+        assert!(rt; same(&read.clone(alloc)?, &read), "{word}");
+        let condition = Platform::Cfg(read);
+        let json = condition.to_json(alloc)?;
+        let printed = condition.to_string(alloc)?;
+        assert_prints(&rt, alloc, &Platform::from_json(alloc, &json)?, &printed)?;
+        let mut found = Vec::new(alloc);
+        condition.check_cfg_attributes(alloc, &mut found)?;
+        let words = repeated(alloc, "test ", MANY)?;
+        assert_eq!(rt; found, on_attributes(alloc, &words)?, "{word}");
     }
     Ok(())
 }

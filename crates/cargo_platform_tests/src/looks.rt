@@ -1,7 +1,7 @@
 //! How often a text is looked at while it is read.
 
-use crate::all_short_texts::is_expression;
-use crate::made::{assert_prints, repeated, values};
+use crate::all_short_texts::{is_cfg, is_expression};
+use crate::made::{assert_prints, repeated, same, values};
 use crate::refusals::{Fault, assert_refused};
 use cargo_platform::CfgExpr;
 use std::alloc::{AllocError, Global};
@@ -44,11 +44,13 @@ fn a_deep_text(rt: HostRuntime) -> Result<(), Fail> {
     let text = negations(alloc, 500)?;
     assert_eq!(rt; text.len(), 2501);
     assert!(rt; is_expression(&rt, alloc, &text)?);
+    assert!(rt; !is_cfg(&rt, alloc, &text)?);
     let (read, looks) = CfgExpr::from_str_counted(alloc, &text);
     let read = read?;
     assert!(rt; read.matches(&values(alloc, "a")?));
     assert!(rt; !read.matches(&[]));
     assert_prints(&rt, alloc, &read, &text)?;
+    assert!(rt; same(&read.clone(alloc)?, &read));
     assert_eq!(rt; looks.count(), 2_502);
     Ok(())
 }

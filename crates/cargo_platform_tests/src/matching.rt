@@ -168,7 +168,7 @@ fn assert_flagged(
 }
 
 /// An expression, and whether it is true with both flags, and with `unix` alone.
-const FLAGGED: &[(&str, bool, bool)] = &[
+pub const FLAGGED: &[(&str, bool, bool)] = &[
     ("unix", true, true),
     ("r#unix", true, true),
     ("unix = \"\"", false, false),

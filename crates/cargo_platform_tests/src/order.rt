@@ -194,6 +194,9 @@ fn copies_of_expressions_keep_marks(rt: HostRuntime) -> Result<(), Fail> {
         ("not all2 r#foo k=1", "not(all(r#foo, k = \"1\"))"),
         ("any2 true false", "any(true, false)"),
         ("any0", "any()"),
+        ("all0", "all()"),
+        ("true", "true"),
+        ("false", "false"),
         ("all1 r#k=é", "all(r#k = \"é\")"),
     ] {
         let copy = expression(alloc, text)?.clone(alloc)?;

@@ -17,7 +17,7 @@ const ON_FEATURE: &str =
     "Found `feature = ...` in `target.'cfg(...)'.dependencies`. This key is not supported for selecting dependencies and will not work as expected. Use the [features] section instead: https://doc.rust-lang.org/cargo/reference/features.html";
 
 /// The warning on a word as a name or a key, for the path, the printed name or pair, and the word.
-fn on_word(alloc: Global, path: &str, cfg: &str, word: &str) -> Result<String, AllocError> {
+pub fn on_word(alloc: Global, path: &str, cfg: &str, word: &str) -> Result<String, AllocError> {
     format!(in alloc;
         "[{path}] future-incompatibility: `cfg({cfg})` is deprecated as `{word}` is a keyword and not an identifier and should not have have been accepted in this position.\n | this was previously accepted by Cargo but is being phased out; it will become a hard error in a future release!\n |\n | help: use raw-idents instead: `cfg(r#{word})`"
     )
@@ -25,7 +25,7 @@ fn on_word(alloc: Global, path: &str, cfg: &str, word: &str) -> Result<String, A
 
 /// The warnings on attributes: for `feature` the one on that key, and for each other word the one on that name. The
 /// word `w` stands for itself.
-fn on_attributes(alloc: Global, words: &str) -> Result<Vec<String>, AllocError> {
+pub fn on_attributes(alloc: Global, words: &str) -> Result<Vec<String>, AllocError> {
     let mut texts = Vec::new(alloc);
     for word in words.split_whitespace() {
         let text = match word {

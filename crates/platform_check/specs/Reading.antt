@@ -15,12 +15,13 @@ IsGathered (Whole v) bs = (v.items ≡ bs) × (length bs ≤ 1_048_576)
 IsGathered TooLong bs = IsTooLong bs
 
 -- these bytes were read and counted, no read failed otherwise than by an interruption, and one read met the end, where
--- the reader stood, unless they are too many
+-- the reader stood; where they are too many, no read met an end
 pub record IsInput (old new : Option (List ℕ)) (counts : ReadCounts) (bs : List ℕ) : Type 0 where
   pub given : Consumes old new bs
   pub counted : counts.bytes ≡ length bs
   pub unfailed : counts.failed_reads ≡ 0
   pub ended : length bs ≤ 1_048_576 → (counts.ends ≡ 1) × IsAtEnd new
+  pub unended : IsTooLong bs → counts.ends ≡ 0
 
 -- the reads brought neither the end nor a byte too many, and one of them failed otherwise than by an interruption, or
 -- none did and all were made

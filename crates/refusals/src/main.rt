@@ -112,6 +112,14 @@ fn read_more(alloc: Global, name: &[u8]) -> Result<String, Fault> {
         b"refused_counted" => shown(alloc, CfgExpr::from_str_counted(alloc, "all(a b)").0),
         b"counted_surplus" => shown(alloc, CfgExpr::from_str_counted(alloc, "a b").0),
         b"group_clone" => group_clone(alloc),
+        b"surplus_pair" => shown(alloc, Cfg::from_str(alloc, "a b")),
+        b"group_condition" => {
+            shown(
+                alloc,
+                Platform::from_str(alloc, "cfg(any( a ,b = \"1\", ))"),
+            )
+        }
+        b"refused_condition" => shown(alloc, Platform::from_str(alloc, "cfg(all(a b))")),
         b"index_of_two" => index_of_two(alloc),
         _ => ask(alloc, name),
     }
@@ -124,20 +132,33 @@ fn ask(alloc: Global, name: &[u8]) -> Result<String, Fault> {
         b"target_key" => key(alloc, "a"),
         b"spaced_key" => key(alloc, "cfg(a) "),
         b"empty_key" => key(alloc, ""),
+        b"empty_condition_key" => key(alloc, "cfg()"),
+        b"group_key" => key(alloc, "cfg(any( a ,b = \"1\", ))"),
         b"index" => index(alloc),
         b"facts" => lines(alloc, "unix\nr#k = \"1\"\n"),
         b"refused_facts" => lines(alloc, "unix\na b"),
         b"error" => error(alloc),
+        b"error_with_text" => error_with_text(alloc),
         b"attributes" => warned(alloc, &platform(alloc, WARNED)?, true),
         b"keywords" => warned(alloc, &keyed_by_a_literal(alloc)?, false),
+        b"no_keywords" => warned(alloc, &platform(alloc, WARNED)?, false),
+        _ => copy(alloc, name),
+    }
+}
+
+fn copy(alloc: Global, name: &[u8]) -> Result<String, Fault> {
+    match name {
         b"clones" => clones(alloc),
         b"ident_clone" => ident_clone(alloc),
         b"name_clone" => fact_clone(alloc, "r#a"),
         b"pair_clone" => fact_clone(alloc, "r#a = \"1\""),
-        b"target_clone" => target_clone(alloc),
-        b"json" => json(alloc),
+        b"target_clone" => condition_clone(alloc, "a"),
+        b"condition_clone" => condition_clone(alloc, WARNED),
+        b"json" => json(alloc, "cfg( a )"),
+        b"condition_json" => json(alloc, WARNED),
         b"target_json" => target_json(alloc),
-        b"refused_json" => refused_json(alloc),
+        b"refused_json" => refused_json(alloc, "!foo"),
+        b"refused_condition_json" => refused_json(alloc, "cfg(a b)"),
         _ => known_in_part::left(alloc, name),
     }
 }
@@ -175,6 +196,13 @@ fn lines(alloc: Global, text: &str) -> Result<String, Fault> {
 
 fn error(alloc: Global) -> Result<String, Fault> {
     let error = ParseError::new(alloc, "a = \"", ParseErrorKind::UnterminatedString)?;
+    Ok(format!(in alloc; "{error}\n")?)
+}
+
+/// An error whose kind holds a text of its own.
+fn error_with_text(alloc: Global) -> Result<String, Fault> {
+    let kind = ParseErrorKind::UnterminatedExpression(String::from_str(alloc, "b")?);
+    let error = ParseError::new(alloc, "a b", kind)?;
     Ok(format!(in alloc; "{error}\n")?)
 }
 
@@ -236,8 +264,8 @@ fn fact_clone(alloc: Global, text: &str) -> Result<String, Fault> {
     Ok(format!(in alloc; "{copy}\n")?)
 }
 
-fn target_clone(alloc: Global) -> Result<String, Fault> {
-    let copy = platform(alloc, "a")?.clone(alloc)?;
+fn condition_clone(alloc: Global, text: &str) -> Result<String, Fault> {
+    let copy = platform(alloc, text)?.clone(alloc)?;
     Ok(format!(in alloc; "{copy}\n")?)
 }
 
@@ -260,8 +288,8 @@ fn index_of_two(alloc: Global) -> Result<String, Fault> {
     Ok(format!(in alloc; "{holds}\n")?)
 }
 
-fn json(alloc: Global) -> Result<String, Fault> {
-    let value = platform(alloc, "cfg( a )")?.to_json(alloc)?;
+fn json(alloc: Global, text: &str) -> Result<String, Fault> {
+    let value = platform(alloc, text)?.to_json(alloc)?;
     match Platform::from_json(alloc, &value) {
         Ok(platform) => Ok(format!(in alloc; "{platform}\n")?),
         Err(JsonError::Memory(_)) => Err(Fault::Memory),
@@ -276,8 +304,8 @@ fn target_json(alloc: Global) -> Result<String, Fault> {
     }
 }
 
-fn refused_json(alloc: Global) -> Result<String, Fault> {
-    let value = Value::String(String::from_str(alloc, "!foo")?);
+fn refused_json(alloc: Global, text: &str) -> Result<String, Fault> {
+    let value = Value::String(String::from_str(alloc, text)?);
     match Platform::from_json(alloc, &value) {
         Ok(_) | Err(JsonError::NotText) => Err(Fault::Unknown),
         Err(JsonError::Parse(error)) => Ok(format!(in alloc; "{error}\n")?),

@@ -1,7 +1,28 @@
-use Rattle.std.proofs.Common.{◌≡◌, drop, map, length}
+use Rattle.std.proofs.Common.{◌≡◌, ◌+◌, ◌*◌, ◌≤◌, drop, map, length}
 use Rattle.cargo_platform.specs.Trees.{tree_of, trees_of}
-use Rattle.cargo_platform.specs.Key.{trees_cmp}
+use Rattle.cargo_platform.specs.Key.{tree_cmp, trees_cmp}
+use Rattle.cargo_platform.specs.ExpressionSizes.{size, sizes}
 use Rattle.cargo_platform.proofs.tree_order.+compare.Given as goal
+
+abbrev pub decreases-compare : goal.decreases-compare
+decreases-compare l = 4 * size l.a.now + 1
+
+abbrev pub decreases-compare_forms : goal.decreases-compare_forms
+decreases-compare_forms l = 4 * size l.a.now
+
+abbrev pub decreases-compare_all_but_last : goal.decreases-compare_all_but_last
+decreases-compare_all_but_last l = 4 * sizes l.ds.now + 3
+
+abbrev pub decreases-compare_members : goal.decreases-compare_members
+decreases-compare_members l = 4 * sizes l.ds.now + 2
+
+-- the answer hangs on what the loop has come to
+abbrev pub invariant-compare-levels : goal.invariant-compare-levels
+invariant-compare-levels l =
+    (tree_cmp (tree_of l.d) (tree_of l.e) ≡ tree_cmp (tree_of l.a) (tree_of l.b)) × (size l.d ≤ size l.a)
+
+abbrev pub decreases-compare-levels : goal.decreases-compare-levels
+decreases-compare-levels l = size l.d
 
 -- the answer hangs on the members that are left
 abbrev pub invariant-compare_members-loop-d : goal.invariant-compare_members-loop-d

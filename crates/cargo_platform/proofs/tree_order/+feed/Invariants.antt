@@ -1,10 +1,31 @@
-use Rattle.std.proofs.Common.{◌≡◌, drop, map, fold}
+use Rattle.std.proofs.Common.{◌≡◌, ◌∷◌, ◌+◌, ◌*◌, ◌≤◌, length, map, fold}
 use Rattle.cargo_platform.specs.Trees.{tree_of, trees_of}
-use Rattle.cargo_platform.specs.Hashing.{trees_hash}
+use Rattle.cargo_platform.specs.Hashing.{tree_hash, trees_hash}
+use Rattle.cargo_platform.specs.ExpressionSizes.{size, sizes}
 use Rattle.cargo_platform.proofs.tree_order.+feed.Given as goal
 
+abbrev pub decreases-feed : goal.decreases-feed
+decreases-feed g l = 2 * size l.e.now
+
+abbrev pub decreases-feed_all_but_last : goal.decreases-feed_all_but_last
+decreases-feed_all_but_last g l = 2 * sizes l.members.now + 1
+
 -- what is left to feed
-abbrev pub invariant-feed_members-loop-e : goal.invariant-feed_members-loop-e
-invariant-feed_members-loop-e g l =
-    fold g.H.Hasher.write l.state (trees_hash (trees_of (map tree_of (drop l.e-index l.es))))
-    ≡ fold g.H.Hasher.write l.initial.state (trees_hash (trees_of (map tree_of l.es)))
+abbrev pub invariant-feed-levels : goal.invariant-feed-levels
+invariant-feed-levels g l =
+    (fold g.H.Hasher.write l.state (tree_hash (tree_of l.part))
+    ≡ fold g.H.Hasher.write l.initial.state (tree_hash (tree_of l.e)))
+    × (size l.part ≤ size l.e)
+
+abbrev pub decreases-feed-levels : goal.decreases-feed-levels
+decreases-feed-levels g l = size l.part
+
+-- the members that are left to feed
+abbrev pub invariant-feed_all_but_last-members : goal.invariant-feed_all_but_last-members
+invariant-feed_all_but_last-members g l =
+    (fold g.H.Hasher.write l.state (trees_hash (trees_of (map tree_of (l.e ∷ l.left))))
+    ≡ fold g.H.Hasher.write l.initial.state (trees_hash (trees_of (map tree_of l.members))))
+    × (size l.e + sizes l.left ≤ sizes l.members)
+
+abbrev pub decreases-feed_all_but_last-members : goal.decreases-feed_all_but_last-members
+decreases-feed_all_but_last-members g l = length l.left

@@ -19,6 +19,7 @@ returns-then-n-len-clause-brought g c =
         counted = grind (arith, counted, longer);
         unfailed = grind (arith, counted);
         ended = λ short. absurd (omega arith);
+        unended = λ long. grind (arith, counted);
       },
     )
 
