@@ -18,7 +18,7 @@ pub mod Expecting
 pub mod OneFault
 pub mod SomeFault
 pub mod PrintedSpells
-pub mod PrintedMembers
+pub mod Printing
 pub mod ReadsBack
 pub mod JsonAnswers
 pub mod Readings
