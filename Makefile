@@ -4,9 +4,10 @@
 # make wrong-bodies   the wrong bodies of crates/*/wrong-bodies alone, over kept work where there is some
 # make refusals   each growth of memory refused in turn, in each call and in the program
 # make statuses   the program where reading or writing fails
+# make depths     the program on the deepest conditions that its input holds
 # make quick  the checks alone, over kept work
 # make fmt    lays out the files
-.PHONY: run build test wrong-bodies refusals statuses quick fmt rt
+.PHONY: run build test wrong-bodies refusals statuses depths quick fmt rt
 
 PROGRAM := crates/platform_check
 
@@ -33,6 +34,9 @@ refusals: rt
 
 statuses: rt
 	.ci/statuses
+
+depths: rt
+	.ci/depths
 
 quick: rt
 	rt all check

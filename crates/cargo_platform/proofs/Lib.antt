@@ -19,7 +19,7 @@ pub mod Expecting
 pub mod OneFault
 pub mod SomeFault
 pub mod PrintedSpells
-pub mod PrintedMembers
+pub mod Printing
 pub mod Readings
 pub mod Paths
 pub mod Parsing

@@ -41,3 +41,4 @@ pub mod Pending
 pub mod Asking
 pub mod Copying
 pub mod Values
+pub mod Printing

@@ -2,7 +2,8 @@
 //! a fill or an alignment is not.
 
 use crate::{Cfg, CfgExpr, Ident, Platform};
-use std::fmt;
+use std::fmt::Display;
+use std::{fmt, slice};
 
 impl fmt::Display for Ident {
     ghost use Rattle.std.specs.Prelude.{Some};
@@ -28,8 +29,13 @@ impl fmt::Display for Cfg {
 
     fn fmt<W: fmt::Write>(&self, f: &mut fmt::Formatter<W>) -> fmt::Result {
         match self {
-            Cfg::Name(i) => write!(f, "{i}"),
-            Cfg::KeyPair(k, v) => write!(f, "{k} = \"{v}\""),
+            Cfg::Name(name) => name.fmt(f),
+            Cfg::KeyPair(key, value) => {
+                key.fmt(f)?;
+                f.write_str(" = \"")?;
+                f.write_str(value)?;
+                f.write_str("\"")
+            }
         }
     }
 }
@@ -46,48 +52,136 @@ impl fmt::Display for CfgExpr {
     }
 }
 
-ghost use Rattle.std.specs.Prelude.{map};
-ghost use Rattle.std.specs.Fmt.{WritesOnOk};
+ghost use Rattle.std.specs.Prelude.{◌≡◌, ◌≢◌, ◌≤◌, ◌+◌, ◌++◌, ◌&&◌, ◌==◌, suc, not, true, false, map, length, codes};
+ghost use Rattle.std.specs.Prelude.{OnOk, IfSome, MatchOption};
+ghost use Rattle.std.specs.Fmt.{WritesOnOk, IsPlainFormatter};
 ghost use Rattle.cargo_platform.specs.Trees.{tree_of, trees_of};
-ghost use Rattle.cargo_platform.specs.Print.{print, print_members};
+ghost use Rattle.cargo_platform.specs.Print.{print};
+ghost use Rattle.cargo_platform.specs.Printing.{is_group, word, begun, begun_members, between, ending, ending_last};
+ghost use Rattle.cargo_platform.specs.Printing.{closed, HasWrittenBut};
+ghost use Rattle.cargo_platform.specs.ExpressionSizes.{node_count, node_counts};
 
-/// Writes an expression, with the expressions inside it.
+/// An expression, with the expressions inside it. What recurses are the groups that others follow: the last members are
+/// gone down in loops, and what writes has a frame of its own, so that a level of the recursion takes few bytes.
 #[cycle(print)]
 fn write_expression<W: fmt::Write>(e: &CfgExpr, f: &mut fmt::Formatter<W>) -> fmt::Result
     ensures { WritesOnOk W.write_str_gives f.old result (print (tree_of e.now)) f.new }
 {
+    let mut left = slice::from_ref(e);
+    write_to_group(&mut left, f)?;
+    'groups: while let Some((group, others)) = left.split_first() {
+        left = others;
+        write_expression(group, f)?;
+        write_comma(f)?;
+        write_to_group(&mut left, f)?;
+    }
+    write_ends(e, f)
+}
+
+/// Members up to the first group that others follow, going down the last ones. Leaves that group and what follows it.
+#[inline(never)]
+fn write_to_group<'a, W: fmt::Write>(
+    left: &mut &'a [CfgExpr],
+    f: &mut fmt::Formatter<W>,
+) -> fmt::Result
+    ensures text { IsPlainFormatter f.old
+        → OnOk result
+        (HasWrittenBut W.write_str_gives f.old (begun_members (trees_of (map tree_of left.old.now)))
+        (begun_members (trees_of (map tree_of left.new.now))) f.new) }
+    ensures followed { OnOk result (length left.new.now ≢ 1) }
+    ensures size { OnOk result (node_counts left.new.now ≤ node_counts left.old.now) }
+{
+    'members: loop {
+        let Some((first, others)) = left.split_first() else {
+            return Ok(());
+        };
+        if is_followed_group(first, others) {
+            return Ok(());
+        }
+        write_word(first, f)?;
+        match members_of(first) {
+            Some(members) => *left = members,
+            None => {
+                write_between(others, f)?;
+                *left = others;
+            }
+        }
+    }
+}
+
+#[inline(always)]
+fn is_followed_group(first: &CfgExpr, others: &[CfgExpr]) -> bool
+    ensures { result ≡ (is_group (tree_of first.now) && not (length others.now == 0)) }
+{
+    members_of(first).is_some() && !others.is_empty()
+}
+
+/// The members of a group; that of a negation is what it negates.
+#[inline(always)]
+fn members_of(e: &CfgExpr) -> Option<&[CfgExpr]>
+    ensures group { MatchOption result (is_group (tree_of e.now) ≡ false) (λ _. is_group (tree_of e.now) ≡ true) }
+    ensures begun { IfSome result
+        (λ ms. begun (tree_of e.now) ≡ word (tree_of e.now) ++ begun_members (trees_of (map tree_of ms.now))) }
+    ensures ending { MatchOption result (ending (tree_of e.now) ≡ 0)
+        (λ ms. ending (tree_of e.now) ≡ suc (ending_last (trees_of (map tree_of ms.now)))) }
+    ensures size { MatchOption result (node_count e.now ≡ 1) (λ ms. node_count e.now ≡ node_counts ms.now + 1) }
+{
     match e {
         CfgExpr::Not(inner) => {
-            f.write_str("not(")?;
-            write_expression(inner, f)?;
-            f.write_str(")")
+            let negated: &CfgExpr = inner;
+            Some(slice::from_ref(negated))
         }
-        CfgExpr::All(members) => {
-            f.write_str("all(")?;
-            write_members(members, f)?;
-            f.write_str(")")
-        }
-        CfgExpr::Any(members) => {
-            f.write_str("any(")?;
-            write_members(members, f)?;
-            f.write_str(")")
-        }
-        CfgExpr::Value(cfg) => write!(f, "{cfg}"),
+        CfgExpr::All(members) | CfgExpr::Any(members) => Some(members),
+        CfgExpr::Value(_) | CfgExpr::True | CfgExpr::False => None,
+    }
+}
+
+/// What stands before the members of a group, or a whole expression that is none.
+#[inline(always)]
+fn write_word<W: fmt::Write>(e: &CfgExpr, f: &mut fmt::Formatter<W>) -> fmt::Result
+    ensures { WritesOnOk W.write_str_gives f.old result (word (tree_of e.now)) f.new }
+{
+    match e {
+        CfgExpr::Not(_) => f.write_str("not("),
+        CfgExpr::All(_) => f.write_str("all("),
+        CfgExpr::Any(_) => f.write_str("any("),
+        CfgExpr::Value(c) => c.fmt(f),
         CfgExpr::True => f.write_str("true"),
         CfgExpr::False => f.write_str("false"),
     }
 }
 
-/// Writes the members of a group, between its parentheses.
-#[cycle(print)]
-fn write_members<W: fmt::Write>(members: &[CfgExpr], f: &mut fmt::Formatter<W>) -> fmt::Result
-    ensures { WritesOnOk W.write_str_gives f.old result (print_members (trees_of (map tree_of members.now))) f.new }
+/// What stands behind a member, before the others.
+#[inline(always)]
+fn write_between<W: fmt::Write>(others: &[CfgExpr], f: &mut fmt::Formatter<W>) -> fmt::Result
+    ensures { WritesOnOk W.write_str_gives f.old result (between others.now) f.new }
 {
-    for (i, member) in members.iter().enumerate() {
-        if i > 0 {
-            f.write_str(", ")?;
-        }
-        write_expression(member, f)?;
+    if others.is_empty() {
+        Ok(())
+    } else {
+        f.write_str(", ")
+    }
+}
+
+#[inline(never)]
+fn write_comma<W: fmt::Write>(f: &mut fmt::Formatter<W>) -> fmt::Result
+    ensures { WritesOnOk W.write_str_gives f.old result (codes ", ") f.new }
+{
+    f.write_str(", ")
+}
+
+/// The parentheses that end an expression: its own, and those of its last members.
+#[inline(never)]
+fn write_ends<W: fmt::Write>(e: &CfgExpr, f: &mut fmt::Formatter<W>) -> fmt::Result
+    ensures { WritesOnOk W.write_str_gives f.old result (closed (ending (tree_of e.now))) f.new }
+{
+    let mut left = slice::from_ref(e);
+    'levels: while let Some((last, _)) = left.split_last() {
+        let Some(members) = members_of(last) else {
+            return Ok(());
+        };
+        f.write_str(")")?;
+        left = members;
     }
     Ok(())
 }
@@ -102,7 +196,11 @@ impl fmt::Display for Platform {
     fn fmt<W: fmt::Write>(&self, f: &mut fmt::Formatter<W>) -> fmt::Result {
         match self {
             Platform::Name(name) => f.write_str(name),
-            Platform::Cfg(e) => write!(f, "cfg({e})"),
+            Platform::Cfg(e) => {
+                f.write_str("cfg(")?;
+                write_expression(e, f)?;
+                f.write_str(")")
+            }
         }
     }
 }

@@ -91,6 +91,13 @@ impl Facts for FactIndex {
     }
 }
 
+#[inline(never)]
+fn is_fact<F: Facts>(c: &Cfg, facts: &F) -> bool
+    ensures { result ≡ contains (F.meant facts.now) (pair_of (value_of c.now)) }
+{
+    facts.holds(c)
+}
+
 impl CfgExpr {
     /// Whether the expression is true over the facts in `cfg`.
     ///
@@ -103,8 +110,9 @@ impl CfgExpr {
         self.matches_in(&Listed(cfg))
     }
 
-    // Goes down the last members in a loop, so that what recurses are the members before them.
     /// Whether the expression is true over the set of facts that the holder means.
+    // Goes down the last members in a loop, so that what recurses are the groups that others follow. A holder is asked
+    // in a function of its own, so that a level of the recursion takes few bytes.
     #[cycle(matches)]
     #[tactic(auto, using(crate::proofs::LastMembers::asked_not))]
     pub fn matches_in<F: Facts>(&self, facts: &F) -> bool
@@ -121,7 +129,7 @@ impl CfgExpr {
                 }
                 CfgExpr::All(members) => CfgExpr::all_but_last(members, facts),
                 CfgExpr::Any(members) => CfgExpr::any_but_last(members, facts),
-                CfgExpr::Value(c) => Err(facts.holds(c)),
+                CfgExpr::Value(c) => Err(is_fact(c, facts)),
                 CfgExpr::True => Err(true),
                 CfgExpr::False => Err(false),
             };
@@ -129,6 +137,18 @@ impl CfgExpr {
                 Ok(last) => e = last,
                 Err(is_true) => return if is_asked { is_true } else { !is_true },
             }
+        }
+    }
+
+    /// Without recursion where it is a name or a pair.
+    #[cycle(matches)]
+    #[inline(always)]
+    fn is_true_member<F: Facts>(&self, facts: &F) -> bool
+        ensures { result ≡ truth (F.meant facts.now) (tree_of self.now) }
+    {
+        match self {
+            CfgExpr::Value(c) => is_fact(c, facts),
+            other => other.matches_in(facts),
         }
     }
 
@@ -143,19 +163,17 @@ impl CfgExpr {
             (λ is_true. is_true ≡ all_true (F.meant facts.now) (trees_of (map tree_of members.now))) }
         ensures size { IfOk result (λ last. node_count last.now ≤ node_counts members.now) }
     {
-        let Some((first, others)) = members.split_first() else {
-            return Err(true);
-        };
-        let mut e = first;
-        let mut left = others;
-        'members: while let Some((next, others)) = left.split_first() {
-            if !e.matches_in(facts) {
+        let mut left = members;
+        'members: while let Some((first, others)) = left.split_first() {
+            if others.is_empty() {
+                return Ok(first);
+            }
+            if !first.is_true_member(facts) {
                 return Err(false);
             }
-            e = next;
             left = others;
         }
-        Ok(e)
+        Err(true)
     }
 
     /// The last member, which any of them hangs on, or whether one is true.
@@ -169,18 +187,16 @@ impl CfgExpr {
             (λ is_true. is_true ≡ any_true (F.meant facts.now) (trees_of (map tree_of members.now))) }
         ensures size { IfOk result (λ last. node_count last.now ≤ node_counts members.now) }
     {
-        let Some((first, others)) = members.split_first() else {
-            return Err(false);
-        };
-        let mut e = first;
-        let mut left = others;
-        'members: while let Some((next, others)) = left.split_first() {
-            if e.matches_in(facts) {
+        let mut left = members;
+        'members: while let Some((first, others)) = left.split_first() {
+            if others.is_empty() {
+                return Ok(first);
+            }
+            if first.is_true_member(facts) {
                 return Err(true);
             }
-            e = next;
             left = others;
         }
-        Ok(e)
+        Err(false)
     }
 }

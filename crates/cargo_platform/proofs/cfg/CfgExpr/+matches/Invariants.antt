@@ -1,4 +1,4 @@
-use Rattle.std.proofs.Common.{◌≡◌, ◌∷◌, ◌+◌, ◌*◌, ◌≤◌, length, map}
+use Rattle.std.proofs.Common.{◌≡◌, ◌+◌, ◌*◌, ◌≤◌, length, map}
 use Rattle.cargo_platform.specs.Trees.{tree_of, trees_of}
 use Rattle.cargo_platform.specs.Facts.{truth, all_true, any_true}
 use Rattle.cargo_platform.specs.Asking.{asked}
@@ -6,13 +6,16 @@ use Rattle.cargo_platform.specs.ExpressionSizes.{node_count, node_counts}
 use Rattle.cargo_platform.proofs.cfg.CfgExpr.+matches.Given as goal
 
 abbrev pub decreases-matches_in : goal.decreases-matches_in
-decreases-matches_in g l = 2 * node_count l.self.now
+decreases-matches_in g l = 3 * node_count l.self.now
+
+abbrev pub decreases-is_true_member : goal.decreases-is_true_member
+decreases-is_true_member g l = 3 * node_count l.self.now + 1
 
 abbrev pub decreases-all_but_last : goal.decreases-all_but_last
-decreases-all_but_last g l = 2 * node_counts l.members.now + 1
+decreases-all_but_last g l = 3 * node_counts l.members.now + 2
 
 abbrev pub decreases-any_but_last : goal.decreases-any_but_last
-decreases-any_but_last g l = 2 * node_counts l.members.now + 1
+decreases-any_but_last g l = 3 * node_counts l.members.now + 2
 
 -- the answer hangs on what the loop has come to
 abbrev pub invariant-matches_in-levels : goal.invariant-matches_in-levels
@@ -27,18 +30,18 @@ decreases-matches_in-levels g l = node_count l.e
 -- the answer hangs on the members that are left
 abbrev pub invariant-all_but_last-members : goal.invariant-all_but_last-members
 invariant-all_but_last-members g l =
-    (all_true (g.F.Facts.meant l.facts) (trees_of (map tree_of (l.e ∷ l.left)))
+    (all_true (g.F.Facts.meant l.facts) (trees_of (map tree_of l.left))
     ≡ all_true (g.F.Facts.meant l.facts) (trees_of (map tree_of l.members)))
-    × (node_count l.e + node_counts l.left ≤ node_counts l.members)
+    × (node_counts l.left ≤ node_counts l.members)
 
 abbrev pub decreases-all_but_last-members : goal.decreases-all_but_last-members
 decreases-all_but_last-members g l = length l.left
 
 abbrev pub invariant-any_but_last-members : goal.invariant-any_but_last-members
 invariant-any_but_last-members g l =
-    (any_true (g.F.Facts.meant l.facts) (trees_of (map tree_of (l.e ∷ l.left)))
+    (any_true (g.F.Facts.meant l.facts) (trees_of (map tree_of l.left))
     ≡ any_true (g.F.Facts.meant l.facts) (trees_of (map tree_of l.members)))
-    × (node_count l.e + node_counts l.left ≤ node_counts l.members)
+    × (node_counts l.left ≤ node_counts l.members)
 
 abbrev pub decreases-any_but_last-members : goal.decreases-any_but_last-members
 decreases-any_but_last-members g l = length l.left
