@@ -18,7 +18,7 @@ pairs_total =
     then_total (on_total (λ (p : Pair). p.name) nat_list_cmp_total)
     (on_total (λ (p : Pair). p.value) (options_total nat_list_cmp_total))
 
-untied_after : (a b : Ordering) → is_eq b ≡ false → is_eq (ordering_then a b) ≡ false
+pub untied_after : (a b : Ordering) → is_eq b ≡ false → is_eq (ordering_then a b) ≡ false
 untied_after Less b h = refl
 untied_after Equal b h = h
 untied_after Greater b h = refl
@@ -51,14 +51,8 @@ turned : (c : CfgValue) (facts : List Cfg)
     (λ f. eq_by_cmp value_cmp c (value_of f)) facts
 turned c facts = ap (λ test. list_any test facts) (λ i f. (eq_by_cmp_equiv value_total).symm (value_of f) c i)
 
--- whether some fact equals the value is whether the pair is in the fact set: each fact compared with the value, and the
--- other way round
+-- whether some fact equals the value is whether the pair is in the fact set
 pub is_listed : (c : CfgValue) (facts : List Cfg) (answer : Bool)
     → answer ≡ list_any (λ f. eq_by_cmp value_cmp (value_of f) c) facts
     → answer ≡ contains (fact_set (map value_of facts)) (pair_of c)
 is_listed c facts answer is = is ∙ turned c facts ∙ found c facts
-
-pub is_indexed : (c : CfgValue) (facts : List Cfg) (answer : Bool)
-    → answer ≡ list_any (λ f. eq_by_cmp value_cmp c (value_of f)) facts
-    → answer ≡ contains (fact_set (map value_of facts)) (pair_of c)
-is_indexed c facts answer is = is ∙ found c facts

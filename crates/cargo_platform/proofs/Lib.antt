@@ -44,6 +44,7 @@ mod LineRows
 mod HolderRows
 pub mod FactSets
 pub mod FactTruths
+pub mod LengthOrder
 pub mod FactIndexes
 pub mod Members
 pub mod Lines

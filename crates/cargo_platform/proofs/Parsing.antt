@@ -21,6 +21,7 @@ use Rattle.cargo_platform.specs.Parsing.{kinds, is_list, finished, begins, ends,
 use Rattle.cargo_platform.specs.Parsing.{is_equals, is_equals_next, Reads, TakesToken, LacksMark, LacksName}
 use Rattle.cargo_platform.specs.Parsing.{LacksString, is_whole, expects, expects_end, IsFaultAt, IsStop, IsStuck}
 use Rattle.cargo_platform.specs.Parsing.{IfFault, StopsAt, Stops, RefusesNext, RefusesMore, IsNoString, LacksValue}
+use Rattle.cargo_platform.specs.Parsing.{with_last}
 use Rattle.cargo_platform.specs.Misfits.{misfit, IsSurplus}
 use Rattle.cargo_platform.proofs.Walk.{walk_on, named, literal}
 use Rattle.cargo_platform.proofs.Completing.{finished_snoc, list_snoc, list_finished}
@@ -522,6 +523,24 @@ listed_refusing l gs all es e ts n m h =
       wants_end = u.2;
       unfit = λ t x. after_listed h.name (kinds gs) t.token (n t x) (m t x) (clear_first h.name l.item t h.clear x);
     }
+
+-- the innermost group alone says whether it is a list
+pub first_kind : (o : Opening) (gs : List Opening) → is_list (kinds (o ∷ gs)) ≡ is_list (kinds (o ∷ []))
+first_kind Negated gs = refl
+first_kind (Listed all es) gs = refl
+
+pub group_refusing : (l : Ahead) (o : Opening) (gs : List Opening) (e : Tree) (ts : List Lexeme)
+    → LacksMark l marks.RightParen → (is_list (kinds (o ∷ [])) ≡ true → LacksMark l marks.Comma)
+    → Has (o ∷ gs) e l.item ts → Refusing l (codes "`)`") (codes "`)`") ts
+group_refusing l Negated gs e ts n m h = negated_refusing l gs e ts n h
+group_refusing l (Listed all es) gs e ts n m h = listed_refusing l gs all es e ts n (m refl) h
+
+-- a comma behind a member of the innermost group, which is a list
+pub comma_taken : (gs : List Opening) (e : Tree) (old : Item) (ts : List Lexeme) → is_list (kinds gs) ≡ true
+    → Has gs e old ts → Wants (with_last gs e) (ts ++ Comma ∷ [])
+comma_taken [] e old ts l h = absurd (true≢false (sym l))
+comma_taken (Negated ∷ gs) e old ts l h = absurd (true≢false (sym l))
+comma_taken (Listed all es ∷ gs) e old ts l h = behind_comma gs all es e old ts h
 
 whole : (n : Bool) → is_whole (ends n []) ≡ true
 whole true = refl

@@ -5,4 +5,4 @@ use Rattle.cargo_platform.specs.Trees.{CfgValue, value_of}
 
 -- the facts that are kept, in their order
 abbrev pub indexed : FactIndex → List CfgValue
-indexed index = map value_of index.facts.keys
+indexed index = map value_of index.facts.items

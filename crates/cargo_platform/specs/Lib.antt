@@ -23,6 +23,7 @@ pub mod Json
 pub mod Facts
 pub mod FactIndexes
 pub mod Key
+pub mod LengthOrder
 pub mod OrderLaws
 pub mod Hashing
 pub mod FactLaws

@@ -14,6 +14,7 @@ use Rattle.cargo_platform.specs.declared.parser.Listing.TheVariants as listing
 use Rattle.cargo_platform.specs.declared.reader.Mark.{Mark}
 use Rattle.cargo_platform.specs.declared.reader.Mark.TheVariants as marks
 use Rattle.cargo_platform.specs.declared.parser.Group.{Group}
+use Rattle.cargo_platform.specs.declared.parser.Opened.{Opened}
 use Rattle.cargo_platform.specs.declared.parser.OpenGroups.{OpenGroups}
 use Rattle.cargo_platform.specs.declared.parser.Group.TheVariants as groups
 use Rattle.cargo_platform.specs.Tokens.{Lexeme, LeftParen, RightParen, Ident, Comma, Equals, String, Placed, plain}
@@ -122,9 +123,22 @@ abbrev pub opening : Group → Opening
 opening groups.Not = Negated
 opening (groups.List word members) = Listed (is_all word) (map tree_of members.items)
 
--- the groups that are open, the innermost first
+-- open groups, the innermost first
+abbrev pub openings : Opened → List Opening
+openings o = opening o.innermost ∷ reverse (map opening o.outer.items)
+
+-- the groups that are open, if any are, the innermost first
+abbrev pub stack_of : Option Opened → List Opening
+stack_of None = []
+stack_of (Some o) = openings o
+
 abbrev pub stack : OpenGroups → List Opening
-stack o = reverse (map opening o.groups.items)
+stack o = stack_of o.opened
+
+-- with one more member in the innermost group
+abbrev pub with_last : List Opening → Tree → List Opening
+with_last (Listed all es ∷ gs) e = Listed all (es ++ e ∷ []) ∷ gs
+with_last gs e = gs
 
 -- members, each with the comma behind it
 abbrev pub finished : List (List Lexeme) → List Lexeme

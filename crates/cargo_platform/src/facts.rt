@@ -1,16 +1,19 @@
 //! Facts, and the truth of an expression over them.
 
 ghost use Rattle.std.specs.Prelude.{◌≡◌, ◌≤◌, map, IfOk, MatchResult, string_bytes};
-ghost use Rattle.std.specs.Ordering.{eq_by_cmp};
+ghost use Rattle.std.proofs.Props.{props};
+ghost use Rattle.std.specs.List.Sorted.{IsSorted};
+ghost use Rattle.std.specs.Ordering.{eq_by_cmp, on};
 ghost use Rattle.std.specs.FinSet.{contains};
 ghost use Rattle.cargo_platform.specs.Key.{value_cmp};
+ghost use Rattle.cargo_platform.specs.LengthOrder.{asked_length, length_cmp};
 ghost use Rattle.cargo_platform.specs.Trees.{Alone, KeyPair, name_of, value_of, tree_of, trees_of};
 ghost use Rattle.cargo_platform.specs.Facts.{FactSet, pair_of, fact_set, truth, all_true, any_true};
 ghost use Rattle.cargo_platform.specs.ExpressionSizes.{node_count, node_counts};
 
 use crate::cfg::{Cfg, CfgExpr, Ident};
 use std::alloc::{AllocError, Global};
-use std::collections::BTreeSet;
+use std::cmp::Ordering;
 
 /// A set of facts, however it is kept.
 pub trait Facts {
@@ -37,25 +40,69 @@ impl<'a> Facts for Listed<'a> {
     }
 }
 
-/// Whether the fact is this name alone.
+/// Whether the fact is this name alone. Mostly its form or its length tells that it is not.
 #[inline(always)]
 fn is_name(fact: &Cfg, name: &Ident) -> bool
     ensures { result ≡ eq_by_cmp value_cmp (value_of fact.now) (Alone (name_of name.now)) }
 {
     match fact {
-        Cfg::Name(other) => other == name,
+        Cfg::Name(other) => other.name.len() == name.name.len() && are_equal_names(other, name),
         Cfg::KeyPair(..) => false,
     }
 }
 
-/// Whether the fact is the pair of this key and this value. Values are compared first: facts share keys oftener.
+/// Whether the fact is the pair of this key and this value. Mostly its form or the value's length tells that it is not.
 #[inline(always)]
 fn is_pair(fact: &Cfg, key: &Ident, value: &String) -> bool
     ensures { result ≡ eq_by_cmp value_cmp (value_of fact.now) (KeyPair (name_of key.now) (string_bytes value.now)) }
 {
     match fact {
         Cfg::Name(_) => false,
-        Cfg::KeyPair(other_key, other_value) => other_value == value && other_key == key,
+        Cfg::KeyPair(other_key, other_value) => {
+            other_value.len() == value.len() && are_equal_pairs(other_key, other_value, key, value)
+        }
+    }
+}
+
+// The two that follow stand apart, so that the search of a list is a short loop.
+
+#[cold]
+#[inline(never)]
+fn are_equal_names(other: &Ident, name: &Ident) -> bool
+    ensures { result ≡ eq_by_cmp value_cmp (Alone (name_of other.now)) (Alone (name_of name.now)) }
+{
+    other == name
+}
+
+#[cold]
+#[inline(never)]
+fn are_equal_pairs(other_key: &Ident, other_value: &String, key: &Ident, value: &String) -> bool
+    ensures { result ≡ eq_by_cmp value_cmp (KeyPair (name_of other_key.now) (string_bytes other_value.now))
+        (KeyPair (name_of key.now) (string_bytes value.now)) }
+{
+    other_value == value && other_key == key
+}
+
+/// The length of a name alone, or of a value.
+#[inline(always)]
+fn length_of(c: &Cfg) -> usize
+    ensures { result ≡ asked_length (value_of c.now) }
+{
+    match c {
+        Cfg::Name(name) => name.name.len(),
+        Cfg::KeyPair(_, value) => value.len(),
+    }
+}
+
+/// An order by lengths, which mostly differ, and then by names, keys and values.
+#[inline(always)]
+fn by_length(a: &Cfg, b: &Cfg) -> Ordering
+    ensures { result ≡ length_cmp (value_of a.now) (value_of b.now) }
+{
+    match length_of(a).cmp(&length_of(b)) {
+        Ordering::Less => Ordering::Less,
+        Ordering::Greater => Ordering::Greater,
+        Ordering::Equal => a.cmp(b),
     }
 }
 
@@ -63,19 +110,20 @@ fn is_pair(fact: &Cfg, key: &Ident, value: &String) -> bool
 /// it was made of.
 #[derive(Drop)]
 pub struct FactIndex {
-    facts: BTreeSet<Cfg>,
+    facts: Vec<Cfg>,
+    ghost sorted: { IsSorted (on value_of length_cmp) facts.items } by { Prim.hlevel props },
 }
 
 impl FactIndex {
     /// An index of copies of the facts in `cfg`. It refuses only where memory is refused.
-    #[tactic(auto, using(crate::proofs::FactIndexes::one_further))]
     pub fn new(alloc: Global, cfg: &[Cfg]) -> Result<FactIndex, AllocError>
         ensures { IfOk result (λ index. ⟦<FactIndex as Facts>⟧.meant index ≡ fact_set (map value_of cfg.now)) }
     {
-        let mut facts = BTreeSet::new(alloc);
+        let mut facts = Vec::with_capacity(alloc, cfg.len())?;
         for c in cfg {
-            facts.insert(c.clone(alloc)?)?;
+            facts.push(c.clone(alloc)?)?;
         }
+        facts.sort_unstable_by(by_length);
         Ok(FactIndex { facts })
     }
 }
@@ -85,9 +133,10 @@ impl Facts for FactIndex {
 
     ghost meant = { λ index. fact_set (indexed index) };
 
-    #[tactic(auto, using(crate::proofs::FactSets::is_indexed))]
     fn holds(&self, c: &Cfg) -> bool {
-        self.facts.contains(c)
+        self.facts
+            .binary_search_by(|fact| by_length(fact, c))
+            .is_ok()
     }
 }
 

@@ -2,7 +2,7 @@
 
 ghost use Rattle.std.specs.Prelude.{◌≡◌, ◌≤◌, ◌<◌, false, true, List, [], ◌∷◌, ◌++◌, length, map, IfOk, IfErr, OnOk};
 ghost use Rattle.std.specs.Prelude.{IfSome, IfNone, MatchOption, IsTrue, IsFalse};
-ghost use Rattle.cargo_platform.specs.Tokens.{Ident as ident_token};
+ghost use Rattle.cargo_platform.specs.Tokens.{Ident as ident_token, Comma};
 ghost use Rattle.cargo_platform.specs.Ahead.{items_left};
 ghost use Rattle.cargo_platform.specs.Ahead as ahead;
 ghost use Rattle.cargo_platform.specs.Trees.{Alone, Tree, name_of, value_of, tree_of, Not};
@@ -10,12 +10,13 @@ ghost use Rattle.cargo_platform.specs.Spelling.{is_group_word, is_literal_word, 
 ghost use Rattle.cargo_platform.specs.Parsing.{LacksMark, Opening, Negated, Listed, opening, stack, opening_word};
 ghost use Rattle.cargo_platform.specs.Parsing.{IsFresh, is_all, list_tree, Wants, Has, HasName, HasWord, Stands, Reads};
 ghost use Rattle.cargo_platform.specs.Parsing.{Stops, HasRead, ClearBehind, TakesValue, LacksValue, StopsKey};
-ghost use Rattle.cargo_platform.specs.Parsing.{StopsValue, kinds, is_list};
+ghost use Rattle.cargo_platform.specs.Parsing.{StopsValue, TakesToken, kinds, is_list, openings, with_last};
 
 use crate::cfg::{Cfg, CfgExpr, Ident};
 use crate::iterative_drop::drop_members;
 use crate::reader::{Mark, Reader, Refusal, expect_end, refuse};
 use std::alloc::{AllocError, Global};
+use std::mem;
 
 /// `all` or `any`.
 #[derive(Clone, Copy)]
@@ -31,9 +32,31 @@ enum Group {
     List(Listing, Vec<CfgExpr>),
 }
 
-/// The open groups, the innermost last.
+/// The innermost open group, and those around it, from the outermost on.
+#[derive(Drop)]
+struct Opened {
+    innermost: Group,
+    outer: Vec<Group>,
+}
+
+impl Opened {
+    /// Puts a member into the innermost group, which is a list.
+    #[inline(always)]
+    fn add(&mut self, member: CfgExpr) -> Result<(), AllocError>
+        requires { is_list (kinds (openings self.old)) ≡ true }
+        ensures { OnOk result (openings self.new ≡ with_last (openings self.old) (tree_of member)) }
+    {
+        let Group::List(_word, members) = &mut self.innermost else {
+            unreachable!()
+        };
+        push_member(members, member)
+    }
+}
+
+/// The open groups. One group alone asks for no memory.
 struct OpenGroups {
-    groups: Vec<Group>,
+    alloc: Global,
+    opened: Option<Opened>,
 }
 
 impl OpenGroups {
@@ -42,7 +65,8 @@ impl OpenGroups {
         ensures { stack result ≡ [] }
     {
         OpenGroups {
-            groups: Vec::new(alloc),
+            alloc,
+            opened: None,
         }
     }
 
@@ -50,7 +74,17 @@ impl OpenGroups {
     fn push(&mut self, group: Group) -> Result<(), AllocError>
         ensures { OnOk result (stack self.new ≡ opening group ∷ stack self.old) }
     {
-        match self.groups.push(group) {
+        let Some(opened) = &mut self.opened else {
+            self.opened = Some(Opened {
+                innermost: group,
+                outer: Vec::new(self.alloc),
+            });
+            return Ok(());
+        };
+        match opened
+            .outer
+            .push(mem::replace(&mut opened.innermost, group))
+        {
             Ok(()) => Ok(()),
             Err(refused) => {
                 drop_group(refused.value);
@@ -64,15 +98,63 @@ impl OpenGroups {
         ensures { MatchOption result ((stack self.old ≡ []) × (stack self.new ≡ []))
             (λ group. stack self.old ≡ opening group ∷ stack self.new) }
     {
-        self.groups.pop()
+        let Some(
+            Opened {
+                innermost,
+                mut outer,
+            },
+        ) = mem::replace(&mut self.opened, None)
+        else {
+            return None;
+        };
+        if let Some(group) = outer.pop() {
+            self.opened = Some(Opened {
+                innermost: group,
+                outer,
+            });
+        }
+        Some(innermost)
+    }
+
+    /// Whether the innermost group is a list.
+    #[inline(always)]
+    fn is_in_list(&self) -> bool
+        ensures { result ≡ is_list (kinds (stack self.now)) }
+    {
+        match &self.opened {
+            Some(opened) => matches!(opened.innermost, Group::List(..)),
+            None => false,
+        }
+    }
+
+    /// Puts a member into the innermost group, which is a list.
+    #[inline(always)]
+    fn add_member(&mut self, member: CfgExpr) -> Result<(), AllocError>
+        requires { is_list (kinds (stack self.old)) ≡ true }
+        ensures { OnOk result (stack self.new ≡ with_last (stack self.old) (tree_of member)) }
+    {
+        let Some(opened) = &mut self.opened else {
+            unreachable!()
+        };
+        opened.add(member)
     }
 }
 
 impl Drop for OpenGroups {
     /// Without recursion over the depth of the members.
     fn drop(self) {
-        let OpenGroups { mut groups } = self;
-        'groups: while let Some(group) = groups.pop() {
+        let OpenGroups { alloc: _, opened } = self;
+        let Some(
+            Opened {
+                innermost,
+                mut outer,
+            },
+        ) = opened
+        else {
+            return;
+        };
+        drop_group(innermost);
+        'groups: while let Some(group) = outer.pop() {
             drop_group(group);
         }
     }
@@ -87,6 +169,7 @@ fn drop_group(group: Group) {
 }
 
 /// The group that a name opens, if it is an unmarked word of one.
+#[inline(always)]
 fn group_named(alloc: Global, raw: bool, name: &str) -> Option<Group>
     ensures { MatchOption result (IsFalse (is_group_word (record { raw = raw; name = name.now })))
         (λ group. (raw ≡ false) × (name.now ≡ opening_word (opening group)) × IsFresh (opening group)) }
@@ -103,6 +186,7 @@ fn group_named(alloc: Global, raw: bool, name: &str) -> Option<Group>
 }
 
 /// The identifier with this name.
+#[inline(always)]
 fn ident(alloc: Global, raw: bool, name: &str) -> Result<Ident, AllocError>
     ensures { IfOk result (λ i. name_of i ≡ record { raw = raw; name = name.now }) }
 {
@@ -113,6 +197,7 @@ fn ident(alloc: Global, raw: bool, name: &str) -> Result<Ident, AllocError>
 }
 
 /// The literal that a name is, if it is an unmarked word of one.
+#[inline(always)]
 fn literal_named(raw: bool, name: &str) -> Option<CfgExpr>
     ensures { MatchOption result (IsFalse (is_literal_word (record { raw = raw; name = name.now })))
         (λ e. Spells (tree_of e) (ident_token raw name.now ∷ [])
@@ -129,6 +214,7 @@ fn literal_named(raw: bool, name: &str) -> Option<CfgExpr>
 }
 
 /// Reads the string behind a key and its `=`.
+#[inline(always)]
 fn read_pair<'a>(
     alloc: Global,
     reader: &mut Reader<'a>,
@@ -149,6 +235,7 @@ fn read_pair<'a>(
 }
 
 /// Reads what follows a name that opens no group and is no literal.
+#[inline(always)]
 fn read_value<'a>(
     alloc: Global,
     reader: &mut Reader<'a>,
@@ -170,6 +257,7 @@ fn read_value<'a>(
 }
 
 /// Reads the `(` behind a group's word.
+#[inline(always)]
 fn open_group<'a>(
     reader: &mut Reader<'a>,
     groups: &mut OpenGroups,
@@ -188,6 +276,7 @@ fn open_group<'a>(
 }
 
 /// Goes on behind a name: a group is open then, or an expression ended.
+#[inline(always)]
 fn behind_name<'a>(
     alloc: Global,
     reader: &mut Reader<'a>,
@@ -236,6 +325,7 @@ fn end_list(reader: &mut Reader<'_>, groups: &mut OpenGroups) -> Option<CfgExpr>
 }
 
 /// Reads a name alone, a pair, or a group's opening, or closes a list that ends here.
+#[inline(always)]
 fn begin<'a>(
     alloc: Global,
     reader: &mut Reader<'a>,
@@ -293,77 +383,57 @@ pub(crate) fn push_member(members: &mut Vec<CfgExpr>, member: CfgExpr) -> Result
     }
 }
 
-/// Reads the `)` of a negation.
-fn close_negation<'a>(
+/// Members with one more behind them.
+fn with_member(mut members: Vec<CfgExpr>, member: CfgExpr) -> Result<Vec<CfgExpr>, AllocError>
+    ensures { IfOk result (λ more. map tree_of more.items ≡ map tree_of members.items ++ tree_of member ∷ []) }
+{
+    match push_member(&mut members, member) {
+        Ok(()) => Ok(members),
+        Err(refused) => {
+            drop_members(members);
+            Err(refused)
+        }
+    }
+}
+
+/// Takes the comma behind a member of a list.
+#[inline(always)]
+fn eat_comma(reader: &mut Reader<'_>, groups: &OpenGroups) -> bool
+    ensures same_text { reader.new.text ≡ reader.old.text }
+    ensures in_list { IsTrue result → is_list (kinds (stack groups.now)) ≡ true }
+    ensures taken { IsTrue result → TakesToken reader.old reader.new Comma }
+    ensures not_taken { IsFalse result →
+        (reader.new ≡ reader.old) × (is_list (kinds (stack groups.now)) ≡ true → LacksMark reader.old Mark.Comma) }
+{
+    groups.is_in_list() && reader.eat(Mark::Comma)
+}
+
+/// Reads the `)` of a group, behind its last member.
+#[inline(always)]
+fn close_group<'a>(
     alloc: Global,
     reader: &mut Reader<'a>,
-    negated: CfgExpr,
+    group: Group,
+    last: CfgExpr,
 ) -> Result<CfgExpr, Refusal<'a>>
+    requires { is_list (kinds (opening group ∷ [])) ≡ true → LacksMark reader.old Mark.Comma }
     ensures same_text { reader.new.text ≡ reader.old.text }
     ensures closed { IfOk result
         (λ e. (gs : List Opening)
-        → Reads reader.old reader.new (Has (Negated ∷ gs) (tree_of negated) reader.old.item)
+        → Reads reader.old reader.new (Has (opening group ∷ gs) (tree_of last) reader.old.item)
         (Has gs (tree_of e) reader.new.item)) }
     ensures refused { IfErr result
-        (λ r. (gs : List Opening) → Stops reader.old (Has (Negated ∷ gs) (tree_of negated) reader.old.item) r) }
+        (λ r. (gs : List Opening) → Stops reader.old (Has (opening group ∷ gs) (tree_of last) reader.old.item) r) }
     ensures shorter { OnOk result (items_left reader.new < items_left reader.old) }
 {
     if !reader.eat(Mark::RightParen) {
-        negated.drop_iteratively(alloc);
+        last.drop_iteratively(alloc);
+        drop_group(group);
         return Err(refuse(reader, "`)`", "`)`"));
     }
-    Ok(negation(alloc, negated)?)
-}
-
-/// Goes on behind a member of a list.
-fn behind_member<'a>(
-    reader: &mut Reader<'a>,
-    groups: &mut OpenGroups,
-    word: Listing,
-    mut members: Vec<CfgExpr>,
-    member: CfgExpr,
-) -> Result<Option<CfgExpr>, Refusal<'a>>
-    ensures same_text { reader.new.text ≡ reader.old.text }
-    ensures closed { IfOk result
-        (λ done. Reads reader.old reader.new
-        (Has (Listed (is_all word) (map tree_of members.items) ∷ stack groups.old) (tree_of member) reader.old.item)
-        (Stands (stack groups.new) done reader.new.item)) }
-    ensures refused { IfErr result
-        (Stops reader.old
-        (Has (Listed (is_all word) (map tree_of members.items) ∷ stack groups.old) (tree_of member) reader.old.item)) }
-    ensures shorter { OnOk result (items_left reader.new < items_left reader.old) }
-{
-    push_member(&mut members, member)?;
-    if reader.eat(Mark::Comma) {
-        groups.push(Group::List(word, members))?;
-        return Ok(None);
-    }
-    if reader.eat(Mark::RightParen) {
-        return Ok(Some(close_list(word, members)));
-    }
-    drop_members(members);
-    Err(refuse(reader, "`)`", "`)`"))
-}
-
-/// Goes on behind an expression that stands in a group.
-fn go_on<'a>(
-    alloc: Global,
-    reader: &mut Reader<'a>,
-    groups: &mut OpenGroups,
-    group: Group,
-    member: CfgExpr,
-) -> Result<Option<CfgExpr>, Refusal<'a>>
-    ensures same_text { reader.new.text ≡ reader.old.text }
-    ensures closed { IfOk result
-        (λ done. Reads reader.old reader.new (Has (opening group ∷ stack groups.old) (tree_of member) reader.old.item)
-        (Stands (stack groups.new) done reader.new.item)) }
-    ensures refused { IfErr result
-        (Stops reader.old (Has (opening group ∷ stack groups.old) (tree_of member) reader.old.item)) }
-    ensures shorter { OnOk result (items_left reader.new < items_left reader.old) }
-{
     match group {
-        Group::Not => Ok(Some(close_negation(alloc, reader, member)?)),
-        Group::List(word, members) => behind_member(reader, groups, word, members, member),
+        Group::Not => Ok(negation(alloc, last)?),
+        Group::List(word, members) => Ok(close_list(word, with_member(members, last)?)),
     }
 }
 
@@ -380,23 +450,28 @@ pub(crate) fn read_expression<'a>(
     let mut groups = OpenGroups::new(alloc);
     let mut done: Option<CfgExpr> = None;
     'groups: loop {
-        done = match done {
-            None => begin(alloc, reader, &mut groups)?,
-            Some(e) => match groups.pop() {
-                Some(group) => go_on(alloc, reader, &mut groups, group, e)?,
-                None => {
-                    let Err(refusal) = expect_end(reader) else {
-                        return Ok(e);
-                    };
-                    e.drop_iteratively(alloc);
-                    return Err(refusal);
-                }
-            },
+        let Some(e) = done else {
+            done = begin(alloc, reader, &mut groups)?;
+            continue;
         };
+        if eat_comma(reader, &groups) {
+            groups.add_member(e)?;
+            done = None;
+            continue;
+        }
+        let Some(group) = groups.pop() else {
+            let Err(refusal) = expect_end(reader) else {
+                return Ok(e);
+            };
+            e.drop_iteratively(alloc);
+            return Err(refusal);
+        };
+        done = Some(close_group(alloc, reader, group, e)?);
     }
 }
 
 /// Reads what follows the name of a value: nothing, or `=` and a string.
+#[inline(always)]
 fn behind_cfg_name<'a>(
     alloc: Global,
     reader: &mut Reader<'a>,

@@ -31,6 +31,7 @@ impl<'a> Values<'a> {
     }
 
     /// The next value, or nothing behind the last one. It refuses only where memory is refused.
+    #[inline(always)]
     pub fn next(&mut self) -> Result<Option<&'a Cfg>, AllocError>
         ensures { IfOk result
             (λ next. MatchOption next (to_come self.old ≡ [])

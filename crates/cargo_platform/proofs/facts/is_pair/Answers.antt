@@ -1,35 +1,18 @@
-use Rattle.std.proofs.Common.{◌≡◌, refl, sym, ◌∙◌, string_bytes, Bool, true, false, ◌&&◌}
-use Rattle.std.specs.Ordering.{is_eq}
-use Rattle.std.specs.Cmp.{both_tied}
-use Rattle.std.specs.Cmp.Lexicographic.{texts_ties}
-use Rattle.cargo_platform.specs.Trees.{name_of}
-use Rattle.cargo_platform.specs.Key.{name_cmp, text_cmp}
+use Rattle.std.proofs.Common.{◌≡◌, ◌∙◌, sym, length, false, nat_eq, rules, tests, string_bytes, arith}
+use Rattle.cargo_platform.specs.Trees.{KeyPair, name_of}
+use Rattle.cargo_platform.proofs.LengthOrder.{unequal_lengths}
 use Rattle.cargo_platform.proofs.facts.is_pair.Goals as goal
 
-first_of_true : (b : Bool) → b ≡ (b && true)
-first_of_true true = refl
-first_of_true false = refl
-
-none_of_false : (b : Bool) → false ≡ (b && false)
-none_of_false true = refl
-none_of_false false = refl
-
--- equal values leave it to the keys
-pub returns-then-eq : goal.returns-then-eq
-returns-then-eq c =
+-- values of unequal lengths are unequal
+pub returns-else-len : goal.returns-else-len
+returns-else-len c =
     let w = c.in-KeyPair in
-    let keys = name_cmp (name_of w.other_key) (name_of c.args.key.now) in
-    let texts = text_cmp (string_bytes w.other_value) (string_bytes c.args.value.now) in
-    let values = sym c.if-eq.true ∙ c.eq.ensures
-    ∙ texts_ties (string_bytes w.other_value) (string_bytes c.args.value.now) in
-    rw w.is (first_of_true c.eq-then-eq.result
-    ∙ both_tied c.eq-then-eq.result true keys texts c.eq-then-eq.ensures values)
-
-pub returns-else-eq : goal.returns-else-eq
-returns-else-eq c =
-    let w = c.in-KeyPair in
-    let keys = name_cmp (name_of w.other_key) (name_of c.args.key.now) in
-    let texts = text_cmp (string_bytes w.other_value) (string_bytes c.args.value.now) in
-    let values = sym c.if-eq.false ∙ c.eq.ensures
-    ∙ texts_ties (string_bytes w.other_value) (string_bytes c.args.value.now) in
-    rw w.is (c.if-eq.false ∙ none_of_false (is_eq keys) ∙ both_tied (is_eq keys) false keys texts refl values)
+    let value = string_bytes c.args.value.now in
+    let other : c.len.result ≡ length (string_bytes w.other_value) = search rules in
+    let asked : c.len-in-KeyPair.result ≡ length value = search rules in
+    let no : nat_eq c.len.result c.len-in-KeyPair.result ≡ false = search (rules, tests) in
+    rw w.is (no
+    ∙ sym
+    (unequal_lengths (KeyPair (name_of w.other_key) (string_bytes w.other_value))
+    (KeyPair (name_of c.args.key.now) value)
+    (λ same. omega (arith, other, asked, c.if-len.false, same))))

@@ -1,19 +1,19 @@
-use Rattle.std.proofs.Common.{◌≡◌, ◌∙◌, subst, List, [], ◌∷◌}
-use Rattle.cargo_platform.specs.declared.cfg.CfgExpr.{CfgExpr}
-use Rattle.cargo_platform.specs.Tokens.{Lexeme}
-use Rattle.cargo_platform.specs.Trees.{tree_of}
-use Rattle.cargo_platform.specs.Parsing.{Opening, opening, stack, Wants, Has, Stands, Reads}
-use Rattle.cargo_platform.proofs.Parsing.{reads_then, stops_then, stops_behind}
-use Rattle.cargo_platform.proofs.parser.read_expression.Goals as goal
-use Rattle.std.proofs.Common.{Option}
+use Rattle.std.proofs.Common.{◌≡◌, ◌∙◌, sym, subst, List, [], ◌∷◌, Option}
 use Rattle.std.proofs.lemmas.Result.{err_from_is_err_and}
+use Rattle.cargo_platform.specs.declared.cfg.CfgExpr.{CfgExpr}
+use Rattle.cargo_platform.specs.Ahead.{Ahead}
+use Rattle.cargo_platform.specs.Tokens.{Lexeme, Comma}
+use Rattle.cargo_platform.specs.Trees.{tree_of}
+use Rattle.cargo_platform.specs.Parsing.{Opening, opening, stack, with_last, Wants, Has, Stands, Reads}
+use Rattle.cargo_platform.proofs.Parsing.{reads_taken, reads_then, stops_then, comma_taken}
+use Rattle.cargo_platform.proofs.parser.read_expression.Goals as goal
 
 -- nothing was read
 abbrev Nothing : List Lexeme → Type 0
 Nothing ts = ts ≡ []
 
-pub groups-preserved-in_ok-done-in-None : goal.groups-preserved-in_ok-done-in-None
-groups-preserved-in_ok-done-in-None c =
+pub groups-preserved-in_default : goal.groups-preserved-in_default
+groups-preserved-in_default c =
     let a = c.args.reader.now in
     let l = c.groups.reader in
     let m = c.begin.new.reader in
@@ -22,67 +22,80 @@ groups-preserved-in_ok-done-in-None c =
     record {
       same_text = c.begin.ensures.same_text ∙ c.groups.invariant.same_text;
       reads =
-          reads_then a l m Nothing (Wants gs) (Stands (stack c.begin.new.groups) c.in_ok-done-in-None.done m.item)
-          (subst D c.in-None.is c.groups.invariant.reads) c.in_ok-done-in-None.ensures.begun;
+          reads_then a l m Nothing (Wants gs) (Stands (stack c.begin.new.groups) c.in_ok-done.done m.item)
+          (subst D c.in_default.is c.groups.invariant.reads) c.in_ok-done.ensures.begun;
+    }
+
+pub groups-preserved-then-eat_comma : goal.groups-preserved-then-eat_comma
+groups-preserved-then-eat_comma c =
+    let a = c.args.reader.now in
+    let l = c.groups.reader in
+    let m = c.eat_comma.new.reader in
+    let gs = stack c.groups.groups in
+    let e = tree_of c.in-Some.e in
+    let D : Option CfgExpr → Type 0 = λ z. Reads a l Nothing (Stands gs z l.item) in
+    let W : List Opening → Type 0 = λ z. Reads a m Nothing (Wants z) in
+    let in_list = c.eat_comma.ensures.in_list c.if-eat_comma.true in
+    record {
+      same_text = c.eat_comma.ensures.same_text ∙ c.groups.invariant.same_text;
+      reads =
+          subst W (sym c.in_ok-add_member.ensures)
+          (reads_then a l m Nothing (Has gs e l.item) (Wants (with_last gs e))
+          (subst D c.in-Some.is c.groups.invariant.reads)
+          (reads_taken l m Comma (Has gs e l.item) (Wants (with_last gs e))
+          (c.eat_comma.ensures.taken c.if-eat_comma.true) (λ ts p. comma_taken gs e l.item ts in_list p)));
     }
 
 pub groups-preserved : goal.groups-preserved
 groups-preserved c =
     let a = c.args.reader.now in
     let l = c.groups.reader in
-    let m = c.go_on.new.reader in
+    let k = c.eat_comma.new.reader in
+    let m = c.close_group.new.reader in
     let gs = stack c.groups.groups in
     let e = tree_of c.in-Some.e in
+    let os = opening c.in-Some-pop.group ∷ stack c.pop.new.self in
+    let n = c.eat_comma.ensures.not_taken c.if-eat_comma.false in
     let D : Option CfgExpr → Type 0 = λ z. Reads a l Nothing (Stands gs z l.item) in
     let G : List Opening → Type 0 = λ z. Reads a l Nothing (Has z e l.item) in
-    let os = opening c.in-Some-pop.group ∷ stack c.pop.new.self in
+    let R : Ahead → Type 0 = λ z. Reads a z Nothing (Has os e z.item) in
     record {
-      same_text = c.go_on.ensures.same_text ∙ c.groups.invariant.same_text;
+      same_text = c.close_group.ensures.same_text ∙ c.eat_comma.ensures.same_text ∙ c.groups.invariant.same_text;
       reads =
-          reads_then a l m Nothing (Has os e l.item)
-          (Stands (stack c.go_on.new.groups) c.in_ok-done-in-Some-pop.done m.item)
-          (subst G c.in-Some-pop.ensures
-          (subst D c.in-Some.is c.groups.invariant.reads)) c.in_ok-done-in-Some-pop.ensures.closed;
+          reads_then a k m Nothing (Has os e k.item)
+          (Has (stack c.pop.new.self) (tree_of c.in_ok-close_group.field-0) m.item)
+          (subst R (sym n.0) (subst G c.in-Some-pop.ensures (subst D c.in-Some.is c.groups.invariant.reads)))
+          (c.in_ok-close_group.ensures.closed (stack c.pop.new.self));
     }
 
-pub returns-in_err-done-in-None-clause-refused : goal.returns-in_err-done-in-None-clause-refused
-returns-in_err-done-in-None-clause-refused c =
+pub returns-in_err-done-clause-refused : goal.returns-in_err-done-clause-refused
+returns-in_err-done-clause-refused c =
     let a = c.args.reader.now in
     let l = c.groups.reader in
     let gs = stack c.groups.groups in
     let D : Option CfgExpr → Type 0 = λ z. Reads a l Nothing (Stands gs z l.item) in
-    let r = c.in_err-done-in-None.field-0.0 in
+    let r = c.in_err-done.field-0.0 in
     let p = err_from_is_err_and c.from_residual.result c.from_residual.ensures.1 in
     rw (p.1, p.2)
-    ((stops_then a l Nothing (Wants gs) r
-    (subst D c.in-None.is c.groups.invariant.reads) c.in_err-done-in-None.ensures.refused))
+    (stops_then a l Nothing (Wants gs) r
+    (subst D c.in_default.is c.groups.invariant.reads) c.in_err-done.ensures.refused)
 
-pub returns-in_err-done-in-Some-pop-clause-refused : goal.returns-in_err-done-in-Some-pop-clause-refused
-returns-in_err-done-in-Some-pop-clause-refused c =
+pub returns-in_err-close_group-clause-refused : goal.returns-in_err-close_group-clause-refused
+returns-in_err-close_group-clause-refused c =
     let a = c.args.reader.now in
     let l = c.groups.reader in
+    let k = c.eat_comma.new.reader in
     let gs = stack c.groups.groups in
     let e = tree_of c.in-Some.e in
-    let D : Option CfgExpr → Type 0 = λ z. Reads a l Nothing (Stands gs z l.item) in
-    let G : List Opening → Type 0 = λ z. Reads a l Nothing (Has z e l.item) in
     let os = opening c.in-Some-pop.group ∷ stack c.pop.new.self in
-    let r = c.in_err-done-in-Some-pop.field-0.0 in
-    let p = err_from_is_err_and c.from_residual-in_err-done-in-Some-pop.result
-    c.from_residual-in_err-done-in-Some-pop.ensures.1 in
-    rw (p.1, p.2)
-    ((stops_then a l Nothing (Has os e l.item) r
-    (subst G c.in-Some-pop.ensures
-    (subst D c.in-Some.is c.groups.invariant.reads)) c.in_err-done-in-Some-pop.ensures.refused))
-
-pub returns-in-None-pop-clause-refused : goal.returns-in-None-pop-clause-refused
-returns-in-None-pop-clause-refused c =
-    let a = c.args.reader.now in
-    let l = c.groups.reader in
-    let gs = stack c.groups.groups in
-    let e = tree_of c.in-Some.e in
+    let n = c.eat_comma.ensures.not_taken c.if-eat_comma.false in
     let D : Option CfgExpr → Type 0 = λ z. Reads a l Nothing (Stands gs z l.item) in
     let G : List Opening → Type 0 = λ z. Reads a l Nothing (Has z e l.item) in
-    let r = c.in-Err.refusal in
-    stops_then a l Nothing (Has [] e l.item) r
-    (subst G c.in-None-pop.ensures.0 (subst D c.in-Some.is c.groups.invariant.reads))
-    (stops_behind l e r c.in-Err.ensures.more)
+    let R : Ahead → Type 0 = λ z. Reads a z Nothing (Has os e z.item) in
+    let r = c.in_err-close_group.field-0.0 in
+    let p = err_from_is_err_and c.from_residual-in_err-close_group.result
+    c.from_residual-in_err-close_group.ensures.1 in
+    rw (p.1, p.2)
+    (stops_then a k Nothing (Has os e k.item) r
+    (subst R (sym n.0) (subst G c.in-Some-pop.ensures (subst D c.in-Some.is c.groups.invariant.reads)))
+    (c.in_err-close_group.ensures.refused (stack c.pop.new.self)))
