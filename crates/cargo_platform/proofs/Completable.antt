@@ -17,7 +17,7 @@ use Rattle.cargo_platform.specs.Faults.{IsCompletable, IsFaultFront, Next, Unfit
 use Rattle.cargo_platform.specs.Faults.{IncompleteExpr, expected_token, expected_end, fault_of, IsRefused}
 use Rattle.cargo_platform.specs.Walk.{Word, Several, Negation, State, Wanted, Member, Behind, Named, Keyed, Ended}
 use Rattle.cargo_platform.specs.Walk.{after_role, after_name, after_expression, after, walk_from, walk}
-use Rattle.cargo_platform.specs.Parsing.{is_whole, expects, expects_end}
+use Rattle.cargo_platform.specs.Inside.Parsing.{is_whole, expects, expects_end}
 use Rattle.cargo_platform.specs.FaultLaws.{is_left_paren, IsCompletedShortly, IsOfClass, CanFollow, Names}
 use Rattle.cargo_platform.proofs.OneCut.{never}
 use Rattle.cargo_platform.proofs.Walk.{none_some, walk_from-None, walk_on, completable_walks}

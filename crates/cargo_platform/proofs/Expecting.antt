@@ -11,7 +11,7 @@ use Rattle.cargo_platform.specs.Spelling.{PlainName}
 use Rattle.cargo_platform.specs.Faults.{expected_token, expected_end}
 use Rattle.cargo_platform.specs.Walk.{Word, Several, Negation, State, Wanted, Member, Behind, Named, Keyed, Ended}
 use Rattle.cargo_platform.specs.Walk.{after, after_role, after_name, after_expression, walk_from}
-use Rattle.cargo_platform.specs.Parsing.{expects, expects_end}
+use Rattle.cargo_platform.specs.Inside.Parsing.{expects, expects_end}
 use Rattle.cargo_platform.proofs.Walk.{none_some, walk_from-None}
 
 -- the last token and the state expect the same

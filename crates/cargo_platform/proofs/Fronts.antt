@@ -7,7 +7,7 @@ use Rattle.cargo_platform.specs.Cut.{IsCut, lexemes}
 use Rattle.cargo_platform.specs.Spelling.{Grammar, IsAccepted, Expressions}
 use Rattle.cargo_platform.specs.Faults.{IsCompletable, Next, Follows, Fault, fault_of, IsRefused}
 use Rattle.cargo_platform.specs.Walk.{State, after, walk}
-use Rattle.cargo_platform.specs.Parsing.{is_whole}
+use Rattle.cargo_platform.specs.Inside.Parsing.{is_whole}
 use Rattle.cargo_platform.proofs.OneTree.{head_is, tail_is}
 use Rattle.cargo_platform.proofs.Walk.{walk_on, stopped}
 use Rattle.cargo_platform.proofs.Completing.{walked_completes, whole_accepted, accepted_whole}

@@ -10,7 +10,7 @@ use Rattle.cargo_platform.specs.Trees.{Tree, tree_of, trees_of}
 use Rattle.cargo_platform.specs.Key.{tree_cmp, trees_cmp}
 use Rattle.cargo_platform.specs.OrderLaws.{then_Equal, then_assoc}
 use Rattle.cargo_platform.specs.Hashing.{tree_hash, trees_hash}
-use Rattle.cargo_platform.specs.Asking.{asked}
+use Rattle.cargo_platform.specs.Inside.Asking.{asked}
 
 pub asked_not : (b t : Bool) → asked (not b) t ≡ asked b (not t)
 asked_not true t = refl

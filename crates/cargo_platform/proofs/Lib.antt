@@ -27,21 +27,6 @@ pub mod ValueReading
 pub mod Refusing
 pub mod ReaderAnswers
 mod CutTests
-mod TokenRows
-mod CutRows
-mod SpellingRows
-mod FaultRows
-mod ValueFaultRows
-mod RowTrees
-mod ConditionRows
-mod WellFormedRows
-mod FactRows
-mod PrintRows
-mod KeyRows
-mod WarningRows
-mod ReadingRows
-mod LineRows
-mod HolderRows
 pub mod FactSets
 pub mod FactTruths
 pub mod LengthOrder
@@ -62,3 +47,4 @@ pub mod WarningWalks
 pub mod Texts
 pub mod OnLiterals
 pub mod Holders
+mod Rows

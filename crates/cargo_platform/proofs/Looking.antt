@@ -17,7 +17,7 @@ use Rattle.std.proofs.lemmas.Bool.{ltb-true, ltb-false}
 use lib.Utf8.{scalar, scalars, encode, next}
 use Rattle.std.proofs.lemmas.Str.{chars-nil, length-le-encodes, encodes-chars}
 use Rattle.cargo_platform.specs.Chars.{is_character_start}
-use Rattle.cargo_platform.specs.Looking.{IsCharAt}
+use Rattle.cargo_platform.specs.Inside.Looking.{IsCharAt}
 use Rattle.cargo_platform.specs.Reading.{characters_from}
 
 both_left : (a b : Bool) → (a && b) ≡ true → a ≡ true

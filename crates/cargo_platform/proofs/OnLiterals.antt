@@ -14,7 +14,7 @@ use Rattle.cargo_platform.specs.Spelling.{Expressions, IsTreeText, IsValueText, 
 use Rattle.cargo_platform.specs.WellFormed.{IsWellFormed}
 use Rattle.cargo_platform.specs.Faults.{Fault, Next, Unfit, End, Follows, fault_of, IsRefused}
 use Rattle.cargo_platform.specs.Walk.{State, Wanted, after, walk}
-use Rattle.cargo_platform.specs.Parsing.{is_whole}
+use Rattle.cargo_platform.specs.Inside.Parsing.{is_whole}
 use Rattle.cargo_platform.proofs.CutTests.{is_cut_from, cut_by}
 use Rattle.cargo_platform.proofs.Fronts.{goes_on, refused_walked}
 use Rattle.cargo_platform.proofs.PrintedSpells.{canonical, canonical_spells}

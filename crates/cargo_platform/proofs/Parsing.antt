@@ -14,15 +14,18 @@ use Rattle.cargo_platform.specs.Spelling.{is_literal_word, MayStand, group, IsMe
 use Rattle.cargo_platform.specs.Faults.{Fault, UnexpectedToken, IncompleteExpr, UnterminatedExpression}
 use Rattle.cargo_platform.specs.Walk.{Word, Several, Negation, State, Member, Behind, Named, Keyed, Ended, after}
 use Rattle.cargo_platform.specs.Walk.{after_name, walk_from, walk}
-use Rattle.cargo_platform.specs.Ahead.{Item, Nothing, Ahead, Comes, Path, next_of, items_left, item_count}
-use Rattle.cargo_platform.specs.Ahead as ahead
-use Rattle.cargo_platform.specs.Parsing.{Opening, Negated, Listed, list_word, list_tree, opening_word, IsFresh, kind}
-use Rattle.cargo_platform.specs.Parsing.{kinds, is_list, finished, begins, ends, Wants, Has, HasName, HasKey, HasWord}
-use Rattle.cargo_platform.specs.Parsing.{is_equals, is_equals_next, Reads, TakesToken, LacksMark, LacksName}
-use Rattle.cargo_platform.specs.Parsing.{LacksString, is_whole, expects, expects_end, IsFaultAt, IsStop, IsStuck}
-use Rattle.cargo_platform.specs.Parsing.{IfFault, StopsAt, Stops, RefusesNext, RefusesMore, IsNoString, LacksValue}
-use Rattle.cargo_platform.specs.Parsing.{with_last}
-use Rattle.cargo_platform.specs.Misfits.{misfit, IsSurplus}
+use Rattle.cargo_platform.specs.Inside.Ahead.{Item, Nothing, Ahead, Comes, Path, next_of, items_left, item_count}
+use Rattle.cargo_platform.specs.Inside.Ahead as ahead
+use Rattle.cargo_platform.specs.Inside.Parsing.{Opening, Negated, Listed, list_word, list_tree, opening_word, IsFresh}
+use Rattle.cargo_platform.specs.Inside.Parsing.{kind}
+use Rattle.cargo_platform.specs.Inside.Parsing.{kinds, is_list, finished, begins, ends, Wants, Has, HasName, HasKey}
+use Rattle.cargo_platform.specs.Inside.Parsing.{HasWord}
+use Rattle.cargo_platform.specs.Inside.Parsing.{is_equals, is_equals_next, Reads, TakesToken, LacksMark, LacksName}
+use Rattle.cargo_platform.specs.Inside.Parsing.{LacksString, is_whole, expects, expects_end, IsFaultAt, IsStop, IsStuck}
+use Rattle.cargo_platform.specs.Inside.Parsing.{IfFault, StopsAt, Stops, RefusesNext, RefusesMore, IsNoString}
+use Rattle.cargo_platform.specs.Inside.Parsing.{LacksValue}
+use Rattle.cargo_platform.specs.Inside.Parsing.{with_last}
+use Rattle.cargo_platform.specs.Inside.Misfits.{misfit, IsSurplus}
 use Rattle.cargo_platform.proofs.Walk.{walk_on, named, literal}
 use Rattle.cargo_platform.proofs.Completing.{finished_snoc, list_snoc, list_finished}
 use Rattle.cargo_platform.proofs.Fronts.{lexemes-append}

@@ -5,8 +5,8 @@ use Rattle.cargo_platform.specs.Chars.{is_space, starts}
 use Rattle.cargo_platform.specs.Tokens.{Placed}
 use Rattle.cargo_platform.specs.Cut.{IsCutFrom}
 use Rattle.cargo_platform.specs.Faults.{Follows}
-use Rattle.cargo_platform.specs.Ahead.{Item, Nothing, Ahead, Comes, Path, next_of, IsLeft, ItemIsLeft}
-use Rattle.cargo_platform.specs.Ahead as ahead
+use Rattle.cargo_platform.specs.Inside.Ahead.{Item, Nothing, Ahead, Comes, Path, next_of, IsLeft, ItemIsLeft}
+use Rattle.cargo_platform.specs.Inside.Ahead as ahead
 use Rattle.cargo_platform.proofs.OneCut.{same_start, same_token, not_both, tail_no_space}
 
 -- the item that comes is the first that is left

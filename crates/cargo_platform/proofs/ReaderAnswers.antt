@@ -10,9 +10,9 @@ use Rattle.cargo_platform.specs.Trees.{CfgValue, Tree}
 use Rattle.cargo_platform.specs.Spelling.{value_spelling, IsValueText, IsTreeText}
 use Rattle.cargo_platform.specs.Faults.{Fault}
 use Rattle.cargo_platform.specs.Errors.{IfParse, orig_of, fault_in}
-use Rattle.cargo_platform.specs.Readers.{refused_fault, Becomes}
-use Rattle.cargo_platform.specs.Ahead.{Nothing, Ahead, Comes}
-use Rattle.cargo_platform.specs.Parsing.{Has, Reads, HasRead, IfFault}
+use Rattle.cargo_platform.specs.Inside.Refusals.{refused_fault, Becomes}
+use Rattle.cargo_platform.specs.Inside.Ahead.{Nothing, Ahead, Comes}
+use Rattle.cargo_platform.specs.Inside.Parsing.{Has, Reads, HasRead, IfFault}
 use Rattle.cargo_platform.proofs.Parsing.{spelled}
 use Rattle.cargo_platform.proofs.Refusing.{path_cut}
 

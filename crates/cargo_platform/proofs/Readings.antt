@@ -5,7 +5,7 @@ use Rattle.cargo_platform.specs.declared.tokens.Spanned.{Spanned}
 use Rattle.cargo_platform.specs.declared.tokens.TokenFault.{TokenFault}
 use Rattle.cargo_platform.specs.Reading.{Progress, NextGives, BeginsCharacter, characters_from, NextCall}
 use Rattle.cargo_platform.specs.Tokens.{Placed}
-use Rattle.cargo_platform.specs.Ahead.{Nothing, Token, item_of, Comes, IsItem, IsReading, ahead_of, GoesOn}
+use Rattle.cargo_platform.specs.Inside.Ahead.{Nothing, Token, item_of, Comes, IsItem, IsReading, ahead_of, GoesOn}
 use Rattle.cargo_platform.proofs.Looking.{characters_end}
 
 -- what a call of `next` gives before a fault, as an item that comes

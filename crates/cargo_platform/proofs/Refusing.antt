@@ -10,8 +10,8 @@ use Rattle.cargo_platform.specs.Spelling.{Expressions}
 use Rattle.cargo_platform.specs.Faults.{Next, Unfit, Broken, End, Follows, Fault, UnexpectedToken, IncompleteExpr}
 use Rattle.cargo_platform.specs.Faults.{fault_of, IsRefused}
 use Rattle.cargo_platform.specs.Walk.{State, Wanted, walk}
-use Rattle.cargo_platform.specs.Ahead.{Item, Nothing, Ahead, Comes, Path, next_of, ItemIsLeft}
-use Rattle.cargo_platform.specs.Parsing.{is_whole, IsFaultAt, IsStop, IfFault, StopsAt, Stops}
+use Rattle.cargo_platform.specs.Inside.Ahead.{Item, Nothing, Ahead, Comes, Path, next_of, ItemIsLeft}
+use Rattle.cargo_platform.specs.Inside.Parsing.{is_whole, IsFaultAt, IsStop, IfFault, StopsAt, Stops}
 use Rattle.cargo_platform.proofs.Expecting.{Matches, walk_matches}
 use Rattle.cargo_platform.proofs.Fronts.{goes_on, refused_walked}
 use Rattle.cargo_platform.proofs.SomeCut.{some_cut}

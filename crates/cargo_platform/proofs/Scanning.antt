@@ -15,8 +15,8 @@ use Rattle.cargo_platform.specs.Chars.{is_identifier_start, is_identifier_rest, 
 use Rattle.cargo_platform.specs.Chars.{starts}
 use Rattle.cargo_platform.specs.Tokens.{Ident, String, IsIdentifierName}
 use Rattle.cargo_platform.specs.Cut.{AreSpaces, EndsBefore, BeginsFault}
-use Rattle.cargo_platform.specs.Looking.{IsCharAt}
-use Rattle.cargo_platform.specs.Scanning.{IsTokenAt}
+use Rattle.cargo_platform.specs.Inside.Looking.{IsCharAt}
+use Rattle.cargo_platform.specs.Inside.Scanning.{IsTokenAt}
 use Rattle.cargo_platform.proofs.OneCut.{both_true, both_first, both_second, never}
 
 -- ---- tests of the bytes between two places

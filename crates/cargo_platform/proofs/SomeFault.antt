@@ -12,7 +12,7 @@ use Rattle.cargo_platform.specs.Faults.{IsCompletable, IsFaultFront, Next, Unfit
 use Rattle.cargo_platform.specs.Faults.{IsRefused}
 use Rattle.cargo_platform.specs.FaultLaws.{SpellsSomething, SpellsOrIsRefused}
 use Rattle.cargo_platform.specs.Walk.{walk}
-use Rattle.cargo_platform.specs.Parsing.{is_whole}
+use Rattle.cargo_platform.specs.Inside.Parsing.{is_whole}
 use Rattle.cargo_platform.proofs.Walk.{stopped}
 use Rattle.cargo_platform.proofs.Completing.{walked_completes, whole_accepted, accepted_whole}
 use Rattle.cargo_platform.proofs.Fronts.{lexemes-append, none_longer, longest_before}

@@ -8,7 +8,7 @@ use Rattle.cargo_platform.specs.Cut.{IsCut, lexemes}
 use Rattle.cargo_platform.specs.Trees.{CfgValue, Alone, KeyPair}
 use Rattle.cargo_platform.specs.Spelling.{value_spelling, Values, IsAccepted}
 use Rattle.cargo_platform.specs.Faults.{IsCompletable, Next, Unfit, Broken, End, Follows, Fault, fault_of, IsRefused}
-use Rattle.cargo_platform.specs.Misfits.{IsIdentifier, IsString, LacksFirst, misfit, IsSurplus}
+use Rattle.cargo_platform.specs.Inside.Misfits.{IsIdentifier, IsString, LacksFirst, misfit, IsSurplus}
 use Rattle.cargo_platform.proofs.OneTree.{head_is, tail_is}
 use Rattle.cargo_platform.proofs.Fronts.{longest_where}
 

@@ -7,10 +7,10 @@ use Rattle.cargo_platform.specs.Cut.{IsCut, lexemes}
 use Rattle.cargo_platform.specs.Trees.{CfgValue, Alone, KeyPair}
 use Rattle.cargo_platform.specs.Spelling.{value_spelling, Values}
 use Rattle.cargo_platform.specs.Faults.{Follows, Fault, IsRefused}
-use Rattle.cargo_platform.specs.Misfits.{LacksFirst, IsSurplus}
-use Rattle.cargo_platform.specs.Ahead.{Item, Nothing, Ahead, Comes, next_of, ItemIsLeft}
-use Rattle.cargo_platform.specs.Ahead as ahead
-use Rattle.cargo_platform.specs.Parsing.{Lacks, IfFault, HasRead, IsValueStop, ClearBehind, StopsValue}
+use Rattle.cargo_platform.specs.Inside.Misfits.{LacksFirst, IsSurplus}
+use Rattle.cargo_platform.specs.Inside.Ahead.{Item, Nothing, Ahead, Comes, next_of, ItemIsLeft}
+use Rattle.cargo_platform.specs.Inside.Ahead as ahead
+use Rattle.cargo_platform.specs.Inside.Parsing.{Lacks, IfFault, HasRead, IsValueStop, ClearBehind, StopsValue}
 use Rattle.cargo_platform.proofs.SomeCut.{some_cut}
 use Rattle.cargo_platform.proofs.Paths.{comes_left, path_left, path_text, left_follows}
 use Rattle.cargo_platform.proofs.Parsing.{if_fault}

@@ -10,7 +10,6 @@ pub mod Spelling
 pub mod WellFormed
 pub mod GrammarLaws
 pub mod Faults
-pub mod Misfits
 pub mod Walk
 pub mod FaultLaws
 pub mod Print
@@ -18,7 +17,6 @@ pub mod TextLaws
 pub mod Platforms
 pub mod PlatformLaws
 pub mod Errors
-pub mod Readers
 pub mod Json
 pub mod Facts
 pub mod FactIndexes
@@ -33,13 +31,6 @@ pub mod Holders
 pub mod Warnings
 pub mod Earlier
 pub mod ChangeLaws
-pub mod Looking
-pub mod Scanning
-pub mod Ahead
-pub mod Parsing
 pub mod ExpressionSizes
-pub mod Pending
-pub mod Asking
-pub mod Copying
-pub mod Values
 pub mod Printing
+pub mod Inside

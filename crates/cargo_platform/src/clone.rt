@@ -3,7 +3,7 @@
 ghost use Rattle.std.specs.Prelude.{◌≡◌, ◌≤◌, ◌+◌, ◌*◌, IfOk, IfSome, OnOk, MatchOption};
 ghost use Rattle.cargo_platform.specs.Trees.{Tree, name_of, value_of, tree_of, condition_of};
 ghost use Rattle.cargo_platform.specs.ExpressionSizes.{node_count};
-ghost use Rattle.cargo_platform.specs.Copying.{around, whole, left_in, work};
+ghost use Rattle.cargo_platform.specs.Inside.Copying.{around, whole, left_in, work};
 
 use crate::Platform;
 use crate::cfg::{Cfg, CfgExpr, Ident};

@@ -2,7 +2,7 @@
 
 ghost use Rattle.std.specs.Prelude.{◌≤◌, ◌+◌, IfSome};
 ghost use Rattle.cargo_platform.specs.ExpressionSizes.{node_count, node_counts};
-ghost use Rattle.cargo_platform.specs.Pending.{left};
+ghost use Rattle.cargo_platform.specs.Inside.Pending.{left};
 
 use crate::{CfgExpr, Platform};
 use std::alloc::Global;

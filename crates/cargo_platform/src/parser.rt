@@ -3,14 +3,16 @@
 ghost use Rattle.std.specs.Prelude.{◌≡◌, ◌≤◌, ◌<◌, false, true, List, [], ◌∷◌, ◌++◌, length, map, IfOk, IfErr, OnOk};
 ghost use Rattle.std.specs.Prelude.{IfSome, IfNone, MatchOption, IsTrue, IsFalse};
 ghost use Rattle.cargo_platform.specs.Tokens.{Ident as ident_token, Comma};
-ghost use Rattle.cargo_platform.specs.Ahead.{items_left};
-ghost use Rattle.cargo_platform.specs.Ahead as ahead;
+ghost use Rattle.cargo_platform.specs.Inside.Ahead.{items_left};
+ghost use Rattle.cargo_platform.specs.Inside.Ahead as ahead;
 ghost use Rattle.cargo_platform.specs.Trees.{Alone, Tree, name_of, value_of, tree_of, Not};
 ghost use Rattle.cargo_platform.specs.Spelling.{is_group_word, is_literal_word, value_spelling, MayStand, Spells};
-ghost use Rattle.cargo_platform.specs.Parsing.{LacksMark, Opening, Negated, Listed, opening, stack, opening_word};
-ghost use Rattle.cargo_platform.specs.Parsing.{IsFresh, is_all, list_tree, Wants, Has, HasName, HasWord, Stands, Reads};
-ghost use Rattle.cargo_platform.specs.Parsing.{Stops, HasRead, ClearBehind, TakesValue, LacksValue, StopsKey};
-ghost use Rattle.cargo_platform.specs.Parsing.{StopsValue, TakesToken, kinds, is_list, openings, with_last};
+ghost use Rattle.cargo_platform.specs.Inside.Parsing.{LacksMark, Opening, Negated, Listed, opening, stack};
+ghost use Rattle.cargo_platform.specs.Inside.Parsing.{opening_word};
+ghost use Rattle.cargo_platform.specs.Inside.Parsing.{IsFresh, is_all, list_tree, Wants, Has, HasName, HasWord};
+ghost use Rattle.cargo_platform.specs.Inside.Parsing.{Stands, Reads};
+ghost use Rattle.cargo_platform.specs.Inside.Parsing.{Stops, HasRead, ClearBehind, TakesValue, LacksValue, StopsKey};
+ghost use Rattle.cargo_platform.specs.Inside.Parsing.{StopsValue, TakesToken, kinds, is_list, openings, with_last};
 
 use crate::cfg::{Cfg, CfgExpr, Ident};
 use crate::iterative_drop::drop_members;

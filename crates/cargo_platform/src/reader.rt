@@ -3,10 +3,10 @@
 ghost use Rattle.std.specs.Prelude.{◌≡◌, ◌≤◌, ◌+◌, IsTrue, IsFalse, IfSome, IfNone, IfErr, OnOk};
 ghost use Rattle.cargo_platform.specs.Tokens.{Ident as ident_token, String as string_token, Placed, lexeme};
 ghost use Rattle.cargo_platform.specs.Reading.{NextCall, characters_from};
-ghost use Rattle.cargo_platform.specs.Ahead.{Comes, GoesOn};
-ghost use Rattle.cargo_platform.specs.Ahead as ahead;
-ghost use Rattle.cargo_platform.specs.Parsing.{Sees, SeesRest, SeesToken, TakesToken, LacksMark, LacksName};
-ghost use Rattle.cargo_platform.specs.Parsing.{LacksString, lexeme_of, mark_of_lexeme, RefusesNext, RefusesMore};
+ghost use Rattle.cargo_platform.specs.Inside.Ahead.{Comes, GoesOn};
+ghost use Rattle.cargo_platform.specs.Inside.Ahead as ahead;
+ghost use Rattle.cargo_platform.specs.Inside.Parsing.{Sees, SeesRest, SeesToken, TakesToken, LacksMark, LacksName};
+ghost use Rattle.cargo_platform.specs.Inside.Parsing.{LacksString, lexeme_of, mark_of_lexeme, RefusesNext, RefusesMore};
 
 use crate::Looks;
 use crate::error::{ParseError, ParseErrorKind, ReadError};
@@ -22,7 +22,7 @@ pub(crate) struct Reader<'a> {
 }
 
 impl<'a> Model for Reader<'a> {
-    ghost use Rattle.cargo_platform.specs.Ahead.{Ahead, ahead_of, IsReading};
+    ghost use Rattle.cargo_platform.specs.Inside.Ahead.{Ahead, ahead_of, IsReading};
 
     ghost Value = { Ahead };
 
@@ -102,7 +102,7 @@ pub(crate) enum Refusal<'a> {
 }
 
 impl<'a> Refusal<'a> {
-    ghost use Rattle.cargo_platform.specs.Readers.{Becomes};
+    ghost use Rattle.cargo_platform.specs.Inside.Refusals.{Becomes};
 
     /// The error of the text that is refused.
     pub fn into_error(self, alloc: Global, orig: &str) -> ReadError

@@ -10,7 +10,7 @@ ghost use Rattle.std.specs.Str.{IsCharBoundary};
 ghost use Rattle.cargo_platform.specs.Chars.{is_identifier_rest, is_character_start};
 ghost use Rattle.cargo_platform.specs.Cut.{AreSpaces};
 ghost use Rattle.cargo_platform.specs.Reading.{IsRestFrom, characters_from};
-ghost use Rattle.cargo_platform.specs.Looking.{IsCharAt, Shows, Costs};
+ghost use Rattle.cargo_platform.specs.Inside.Looking.{IsCharAt, Shows, Costs};
 
 use crate::classes::continues_identifier;
 use std::marker::Model;

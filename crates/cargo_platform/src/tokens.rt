@@ -12,8 +12,8 @@ ghost use Rattle.cargo_platform.specs.Chars.{is_identifier_start};
 ghost use Rattle.cargo_platform.specs.Tokens.{lexeme, called};
 ghost use Rattle.cargo_platform.specs.Cut.{AreSpaces, BeginsFault};
 ghost use Rattle.cargo_platform.specs.Reading.{IsRestFrom, characters_from};
-ghost use Rattle.cargo_platform.specs.Looking.{IsCharAt, Shows, Costs, ShowedBefore, unseen, character_of};
-ghost use Rattle.cargo_platform.specs.Scanning.{IsTokenAt, IsCutAt};
+ghost use Rattle.cargo_platform.specs.Inside.Looking.{IsCharAt, Shows, Costs, ShowedBefore, unseen, character_of};
+ghost use Rattle.cargo_platform.specs.Inside.Scanning.{IsTokenAt, IsCutAt};
 
 use crate::classes::begins_identifier;
 pub use crate::source::Looks;
@@ -100,7 +100,7 @@ impl<'a> Model for Tokenizer<'a> {
 
     ghost Value = { Progress };
 
-    ghost use Rattle.cargo_platform.specs.Looking.{IsStanding};
+    ghost use Rattle.cargo_platform.specs.Inside.Looking.{IsStanding};
 
     ghost view = { λ t. record {
       text = t.source.text.now;

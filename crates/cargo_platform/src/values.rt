@@ -4,7 +4,7 @@ ghost use Rattle.std.specs.Prelude.{◌≡◌, ◌≤◌, ◌+◌, ◌*◌, ◌+
 ghost use Rattle.cargo_platform.specs.Trees.{value_of, tree_of};
 ghost use Rattle.cargo_platform.specs.Warnings.{values};
 ghost use Rattle.cargo_platform.specs.ExpressionSizes.{node_counts};
-ghost use Rattle.cargo_platform.specs.Values.{to_come, values_of, steps_left};
+ghost use Rattle.cargo_platform.specs.Inside.Values.{to_come, values_of, steps_left};
 
 use crate::{Cfg, CfgExpr};
 use std::alloc::{AllocError, Global};
@@ -12,19 +12,19 @@ use std::slice;
 
 /// The values of an expression that are still to come, from left to right.
 #[derive(Drop)]
-pub(crate) struct Values<'a> {
+pub(crate) struct ValueWalk<'a> {
     /// Members of the group that was opened last.
     members: &'a [CfgExpr],
     /// Those of the groups around it, where any are left.
     outer: Vec<&'a [CfgExpr]>,
 }
 
-impl<'a> Values<'a> {
+impl<'a> ValueWalk<'a> {
     /// All values of an expression.
-    pub fn new(alloc: Global, e: &'a CfgExpr) -> Values<'a>
+    pub fn new(alloc: Global, e: &'a CfgExpr) -> ValueWalk<'a>
         ensures { to_come result ≡ values (tree_of e.now) }
     {
-        Values {
+        ValueWalk {
             members: slice::from_ref(e),
             outer: Vec::new(alloc),
         }

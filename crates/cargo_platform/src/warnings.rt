@@ -9,7 +9,7 @@ ghost use Rattle.cargo_platform.specs.Warnings.{values, attribute_warning, attri
 ghost use Rattle.cargo_platform.specs.Warnings.{keyword_warning_of, keyword_warnings, condition_values};
 ghost use Rattle.cargo_platform.specs.Warnings.{is_unsupported_name, unsupported_name, unsupported_feature, IsLonger};
 
-use crate::values::Values;
+use crate::values::ValueWalk;
 use crate::{Cfg, CfgExpr, Ident, Platform};
 use std::alloc::{AllocError, Global};
 
@@ -181,7 +181,7 @@ fn walk<L: Lint>(
         (texts warnings.new ≡ texts warnings.old ++ flat_map (L.warnings lint.now) (values (tree_of e.now))) }
     ensures err { OnErr result (IsLonger (texts warnings.new) (texts warnings.old)) }
 {
-    let mut values = Values::new(alloc, e);
+    let mut values = ValueWalk::new(alloc, e);
     'values: while let Some(c) = values.next()? {
         if let Some(text) = lint.warning(alloc, c)? {
             warnings.push(text)?;

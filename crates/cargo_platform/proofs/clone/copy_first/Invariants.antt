@@ -1,7 +1,7 @@
 use Rattle.std.proofs.Common.{◌≡◌, ◌+◌, ◌*◌, ◌≤◌}
 use Rattle.cargo_platform.specs.Trees.{tree_of}
 use Rattle.cargo_platform.specs.ExpressionSizes.{node_count}
-use Rattle.cargo_platform.specs.Copying.{whole, work}
+use Rattle.cargo_platform.specs.Inside.Copying.{whole, work}
 use Rattle.cargo_platform.proofs.clone.copy_first.Given as goal
 
 abbrev pub invariant-groups : goal.invariant-groups

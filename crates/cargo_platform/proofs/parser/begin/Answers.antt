@@ -1,9 +1,9 @@
 use Rattle.std.proofs.Common.{subst, ◌∙◌, ◌<◌, arith}
-use Rattle.cargo_platform.specs.Ahead.{items_left}
+use Rattle.cargo_platform.specs.Inside.Ahead.{items_left}
 use Rattle.cargo_platform.specs.Tokens.{Ident}
 use Rattle.cargo_platform.specs.declared.reader.Mark.TheVariants as marks
-use Rattle.cargo_platform.specs.Ahead.{Ahead}
-use Rattle.cargo_platform.specs.Parsing.{stack, Wants, HasName, Stands, LacksMark}
+use Rattle.cargo_platform.specs.Inside.Ahead.{Ahead}
+use Rattle.cargo_platform.specs.Inside.Parsing.{stack, Wants, HasName, Stands, LacksMark}
 use Rattle.cargo_platform.proofs.Parsing.{taken_shorter, reads_shorter, if_ok, if_err, reads_taken, reads_then}
 use Rattle.cargo_platform.proofs.Parsing.{stops_then, stops_untaken, wants_refusing, wants_name}
 use Rattle.cargo_platform.proofs.parser.begin.Goals as goal

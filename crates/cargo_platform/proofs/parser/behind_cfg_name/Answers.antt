@@ -2,7 +2,7 @@ use Rattle.std.proofs.Common.{◌≡◌, sym, ap, List, [], ◌∷◌, ◌++◌,
 use Rattle.cargo_platform.specs.Tokens.{Lexeme, Ident, Equals, String}
 use Rattle.cargo_platform.specs.Trees.{value_of}
 use Rattle.cargo_platform.specs.Spelling.{value_spelling}
-use Rattle.cargo_platform.specs.Parsing.{Reads, ClearBehind}
+use Rattle.cargo_platform.specs.Inside.Parsing.{Reads, ClearBehind}
 use Rattle.cargo_platform.proofs.Parsing.{if_fault, if_ok, if_err, reads_taken, reads_then}
 use Rattle.cargo_platform.proofs.parser.behind_cfg_name.Goals as goal
 

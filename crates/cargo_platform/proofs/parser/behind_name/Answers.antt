@@ -1,5 +1,5 @@
 use Rattle.cargo_platform.specs.Trees.{tree_of}
-use Rattle.cargo_platform.specs.Parsing.{stack, Has, HasName}
+use Rattle.cargo_platform.specs.Inside.Parsing.{stack, Has, HasName}
 use Rattle.cargo_platform.proofs.Parsing.{reads_same, literal_lone}
 use Rattle.cargo_platform.proofs.parser.behind_name.Goals as goal
 

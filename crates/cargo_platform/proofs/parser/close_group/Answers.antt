@@ -2,7 +2,7 @@ use Rattle.std.proofs.Common.{◌≡◌, sym, ap, subst, ◌∙◌, [], ◌∷�
 use Rattle.cargo_platform.specs.declared.parser.Group.{Group}
 use Rattle.cargo_platform.specs.Tokens.{RightParen}
 use Rattle.cargo_platform.specs.Trees.{Tree, Not, tree_of}
-use Rattle.cargo_platform.specs.Parsing.{Negated, Listed, opening, is_all, list_tree, Has, Reads}
+use Rattle.cargo_platform.specs.Inside.Parsing.{Negated, Listed, opening, is_all, list_tree, Has, Reads}
 use Rattle.cargo_platform.proofs.Parsing.{reads_taken, stops_untaken, group_refusing, close_negated, close_listed}
 use Rattle.cargo_platform.proofs.parser.close_group.Goals as goal
 

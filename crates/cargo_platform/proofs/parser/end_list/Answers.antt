@@ -1,7 +1,7 @@
 use Rattle.std.proofs.Common.{◌≡◌, sym, ap, subst, ◌∙◌, List, ◌∷◌, map}
 use Rattle.cargo_platform.specs.Tokens.{RightParen}
 use Rattle.cargo_platform.specs.Trees.{Tree, tree_of}
-use Rattle.cargo_platform.specs.Parsing.{Opening, Listed, opening, stack, is_all, list_tree, Wants, Has, Reads}
+use Rattle.cargo_platform.specs.Inside.Parsing.{Opening, Listed, opening, stack, is_all, list_tree, Wants, Has, Reads}
 use Rattle.cargo_platform.proofs.Parsing.{reads_taken, wants_close}
 use Rattle.cargo_platform.proofs.parser.end_list.Goals as goal
 

@@ -3,8 +3,8 @@ use Rattle.std.proofs.lemmas.Result.{err_from_is_err_and}
 use Rattle.cargo_platform.specs.Tokens.{Lexeme, Ident, Equals}
 use Rattle.cargo_platform.specs.Trees.{value_of}
 use Rattle.cargo_platform.specs.Spelling.{value_spelling}
-use Rattle.cargo_platform.specs.Ahead.{Ahead}
-use Rattle.cargo_platform.specs.Parsing.{RefusesNext}
+use Rattle.cargo_platform.specs.Inside.Ahead.{Ahead}
+use Rattle.cargo_platform.specs.Inside.Parsing.{RefusesNext}
 use Rattle.cargo_platform.proofs.Parsing.{if_fault, reads_same, reads_taken, reads_then}
 use Rattle.cargo_platform.proofs.ValueReading.{behind_value}
 use Rattle.cargo_platform.proofs.parser.read_cfg.Goals as goal

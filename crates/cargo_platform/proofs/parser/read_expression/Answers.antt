@@ -1,10 +1,10 @@
 use Rattle.std.proofs.Common.{◌≡◌, ◌∙◌, sym, subst, List, [], ◌∷◌, Option}
 use Rattle.std.proofs.lemmas.Result.{err_from_is_err_and}
 use Rattle.cargo_platform.specs.declared.cfg.CfgExpr.{CfgExpr}
-use Rattle.cargo_platform.specs.Ahead.{Ahead}
+use Rattle.cargo_platform.specs.Inside.Ahead.{Ahead}
 use Rattle.cargo_platform.specs.Tokens.{Lexeme, Comma}
 use Rattle.cargo_platform.specs.Trees.{tree_of}
-use Rattle.cargo_platform.specs.Parsing.{Opening, opening, stack, with_last, Wants, Has, Stands, Reads}
+use Rattle.cargo_platform.specs.Inside.Parsing.{Opening, opening, stack, with_last, Wants, Has, Stands, Reads}
 use Rattle.cargo_platform.proofs.Parsing.{reads_taken, reads_then, stops_then, comma_taken}
 use Rattle.cargo_platform.proofs.parser.read_expression.Goals as goal
 

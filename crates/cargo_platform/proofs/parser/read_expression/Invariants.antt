@@ -1,6 +1,6 @@
 use Rattle.std.proofs.Common.{◌≡◌, []}
-use Rattle.cargo_platform.specs.Ahead.{items_left}
-use Rattle.cargo_platform.specs.Parsing.{stack, Stands, Reads}
+use Rattle.cargo_platform.specs.Inside.Ahead.{items_left}
+use Rattle.cargo_platform.specs.Inside.Parsing.{stack, Stands, Reads}
 use Rattle.cargo_platform.proofs.parser.read_expression.Given as goal
 
 -- what was read opened the groups, and ended the expression that stands behind them

@@ -1,7 +1,7 @@
 use Rattle.std.proofs.Common.{codes, subst}
-use Rattle.cargo_platform.specs.Ahead.{Ahead}
+use Rattle.cargo_platform.specs.Inside.Ahead.{Ahead}
 use Rattle.cargo_platform.specs.Trees.{KeyPair}
-use Rattle.cargo_platform.specs.Parsing.{RefusesNext}
+use Rattle.cargo_platform.specs.Inside.Parsing.{RefusesNext}
 use Rattle.cargo_platform.proofs.Parsing.{if_fault}
 use Rattle.cargo_platform.proofs.parser.read_pair.Goals as goal
 

@@ -5,8 +5,8 @@ use Rattle.cargo_platform.specs.Trees.{Tree, Value, Alone, KeyPair, tree_of}
 use Rattle.cargo_platform.specs.declared.cfg.Cfg.TheVariants as cfg
 use Rattle.cargo_platform.specs.declared.cfg.CfgExpr.TheVariants as expr
 use Rattle.cargo_platform.proofs.TreeViews.{tree_of-Value}
-use Rattle.cargo_platform.specs.Ahead.{Ahead}
-use Rattle.cargo_platform.specs.Parsing.{Has, HasName, HasKey, Reads}
+use Rattle.cargo_platform.specs.Inside.Ahead.{Ahead}
+use Rattle.cargo_platform.specs.Inside.Parsing.{Has, HasName, HasKey, Reads}
 use Rattle.cargo_platform.proofs.Parsing.{reads_taken, reads_then, reads_same, stops_then, stops_lacking, name_key}
 use Rattle.cargo_platform.proofs.Parsing.{key_pair, key_refusing, name_lone, lacks_equals}
 use Rattle.cargo_platform.proofs.parser.read_value.Goals as goal

@@ -1,5 +1,5 @@
 use Rattle.std.proofs.Common.{subst, get_or}
-use Rattle.cargo_platform.specs.Looking.{IsCharAt}
+use Rattle.cargo_platform.specs.Inside.Looking.{IsCharAt}
 use Rattle.cargo_platform.proofs.Looking.{ascii_here}
 use Rattle.cargo_platform.proofs.source.character_at.Goals as goal
 

@@ -1,7 +1,7 @@
 use Rattle.std.proofs.Common.{◌≡◌, ◌<◌, ap, length, get_or, subst, arith}
 use Rattle.std.specs.Str.{IsCharBoundary}
 use Rattle.std.proofs.lemmas.Str.{IsCharBoundary-end, IsCharBoundary-before_ascii}
-use Rattle.cargo_platform.specs.Looking.{IsCharAt}
+use Rattle.cargo_platform.specs.Inside.Looking.{IsCharAt}
 use Rattle.cargo_platform.proofs.Looking.{ascii_here, starts_from}
 use Rattle.cargo_platform.proofs.source.value_end.Goals as goal
 

@@ -1,6 +1,6 @@
 use Rattle.std.proofs.Common.{◌∙◌, ap, subst, arith, ◌+◌}
 use Rattle.std.specs.List.{between}
-use Rattle.cargo_platform.specs.Looking.{Shows}
+use Rattle.cargo_platform.specs.Inside.Looking.{Shows}
 use Rattle.cargo_platform.proofs.Scanning.{string_stands, unterminated}
 use Rattle.cargo_platform.proofs.tokens.string_at.Goals as goal
 

@@ -1,7 +1,7 @@
 use Rattle.std.proofs.Common.{flat_map}
 use Rattle.cargo_platform.specs.Trees.{tree_of, value_of}
 use Rattle.cargo_platform.specs.Errors.{texts}
-use Rattle.cargo_platform.specs.Values.{to_come}
+use Rattle.cargo_platform.specs.Inside.Values.{to_come}
 use Rattle.cargo_platform.specs.Warnings.{values}
 use Rattle.cargo_platform.proofs.WarningWalks.{warned_on, pushed_warning}
 use Rattle.cargo_platform.proofs.warnings.walk.Goals as goal

@@ -2,7 +2,7 @@ use Rattle.std.proofs.Common.{◌≡◌, ◌++◌, ℕ, List, flat_map, length}
 use Rattle.cargo_platform.specs.Trees.{tree_of}
 use Rattle.cargo_platform.specs.Errors.{texts}
 use Rattle.cargo_platform.specs.Warnings.{values}
-use Rattle.cargo_platform.specs.Values.{to_come}
+use Rattle.cargo_platform.specs.Inside.Values.{to_come}
 use Rattle.cargo_platform.proofs.warnings.walk.Given as goal
 
 -- the warnings that were appended, and those that are still to come

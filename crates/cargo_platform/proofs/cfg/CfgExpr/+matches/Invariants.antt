@@ -1,7 +1,7 @@
 use Rattle.std.proofs.Common.{◌≡◌, ◌+◌, ◌*◌, ◌≤◌, length, map}
 use Rattle.cargo_platform.specs.Trees.{tree_of, trees_of}
 use Rattle.cargo_platform.specs.Facts.{truth, all_true, any_true}
-use Rattle.cargo_platform.specs.Asking.{asked}
+use Rattle.cargo_platform.specs.Inside.Asking.{asked}
 use Rattle.cargo_platform.specs.ExpressionSizes.{node_count, node_counts}
 use Rattle.cargo_platform.proofs.cfg.CfgExpr.+matches.Given as goal
 

@@ -1,6 +1,6 @@
 use Rattle.std.proofs.Common.{◌≡◌}
 use Rattle.cargo_platform.specs.Trees.{tree_of}
-use Rattle.cargo_platform.specs.Copying.{whole, work}
+use Rattle.cargo_platform.specs.Inside.Copying.{whole, work}
 use Rattle.cargo_platform.proofs.cfg.CfgExpr.clone.Given as goal
 
 -- the copy, in the groups around it, is the whole

@@ -1,6 +1,6 @@
 use Rattle.std.proofs.Common.{◌+◌}
 use Rattle.cargo_platform.specs.ExpressionSizes.{node_count}
-use Rattle.cargo_platform.specs.Pending.{left}
+use Rattle.cargo_platform.specs.Inside.Pending.{left}
 use Rattle.cargo_platform.proofs.cfg.CfgExpr.drop_iteratively.Given as goal
 
 abbrev pub decreases-levels : goal.decreases-levels

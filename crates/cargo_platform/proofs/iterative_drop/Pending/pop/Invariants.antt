@@ -1,5 +1,5 @@
 use Rattle.std.proofs.Common.{◌≤◌, length}
-use Rattle.cargo_platform.specs.Pending.{left}
+use Rattle.cargo_platform.specs.Inside.Pending.{left}
 use Rattle.cargo_platform.proofs.iterative_drop.Pending.pop.Given as goal
 
 abbrev pub invariant-groups : goal.invariant-groups

@@ -1,5 +1,5 @@
 use Rattle.std.proofs.Common.{ap, ◌∷◌, map, reverse}
-use Rattle.cargo_platform.specs.Parsing.{Listed, opening, is_all}
+use Rattle.cargo_platform.specs.Inside.Parsing.{Listed, opening, is_all}
 use Rattle.cargo_platform.proofs.Parsing.{if_ok}
 use Rattle.cargo_platform.proofs.parser.Opened.add.Goals as goal
 

@@ -1,5 +1,5 @@
 use Rattle.std.proofs.Common.{◌∙◌, ap, subst}
-use Rattle.cargo_platform.specs.Ahead.{Ahead, GoesOn, ahead_of}
+use Rattle.cargo_platform.specs.Inside.Ahead.{Ahead, GoesOn, ahead_of}
 use Rattle.cargo_platform.proofs.Readings.{advanced}
 use Rattle.cargo_platform.proofs.reader.Reader.advance.Goals as goal
 

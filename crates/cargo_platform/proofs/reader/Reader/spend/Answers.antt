@@ -1,5 +1,5 @@
 use Rattle.std.proofs.Common.{ap, ◌∙◌}
-use Rattle.cargo_platform.specs.Ahead.{Ahead}
+use Rattle.cargo_platform.specs.Inside.Ahead.{Ahead}
 use Rattle.cargo_platform.proofs.Readings.{seen_whole}
 use Rattle.cargo_platform.proofs.reader.Reader.spend.Goals as goal
 

@@ -1,7 +1,7 @@
 use Rattle.std.proofs.Common.{◌<◌, ◌^◌, ℕ, List, None, false, subst, sym, arith}
 use Rattle.std.proofs.lemmas.Str.{IsCharBoundary-start}
 use Rattle.cargo_platform.specs.Reading.{characters_from}
-use Rattle.cargo_platform.specs.Looking.{IsStanding}
+use Rattle.cargo_platform.specs.Inside.Looking.{IsStanding}
 use Rattle.cargo_platform.proofs.Looking.{chars_fit}
 use Rattle.cargo_platform.proofs.tokens.Tokenizer.new.Goals as goal
 

@@ -15,7 +15,7 @@ use Rattle.cargo_platform.specs.Reading.{characters_from, results_left, ReadsTo,
 use Rattle.cargo_platform.proofs.OneCut.{tail_no_space, one_cut_from}
 use Rattle.cargo_platform.proofs.Runs.{cuts_are_read}
 use Rattle.cargo_platform.proofs.CutTests.{spaces, written_at, cut_by}
-use Rattle.cargo_platform.proofs.CutRows.{at, word, lone_a}
+use Rattle.cargo_platform.proofs.Rows.Cut.{at, word, lone_a}
 
 -- a tokenizer that came to a place, with its looks so far
 abbrev reached : List ℕ → ℕ → ℕ → Progress

@@ -19,9 +19,9 @@ use Rattle.cargo_platform.specs.Platforms.{is_number_category, is_target_char, I
 use Rattle.cargo_platform.specs.Platforms.{IsConditionText, IsFirstRefused, IsTargetMessage, IsRefusedCondition}
 use Rattle.cargo_platform.proofs.TargetNames.{name_is_bare, refused_is_no_name}
 use Rattle.cargo_platform.proofs.Conditions.{one_inner}
-use Rattle.cargo_platform.proofs.RowTrees.{a}
-use Rattle.cargo_platform.proofs.CutRows.{lone_a}
-use Rattle.cargo_platform.proofs.FaultRows.{lone_parenthesis, whole_is_not_refused}
+use Rattle.cargo_platform.proofs.Rows.Trees.{a}
+use Rattle.cargo_platform.proofs.Rows.Cut.{lone_a}
+use Rattle.cargo_platform.proofs.Rows.Faults.{lone_parenthesis, whole_is_not_refused}
 
 -- ---- target names
 

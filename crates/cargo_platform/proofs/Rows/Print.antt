@@ -8,7 +8,7 @@ use Rattle.cargo_platform.specs.Faults.{UnterminatedString, UnexpectedChar, Unex
 use Rattle.cargo_platform.specs.Faults.{UnterminatedExpression, InvalidTarget}
 use Rattle.cargo_platform.specs.Print.{print_name, print_value, print, print_members, print_others, print_condition}
 use Rattle.cargo_platform.specs.Print.{print_fault, print_error}
-use Rattle.cargo_platform.proofs.RowTrees.{name, marked, a}
+use Rattle.cargo_platform.proofs.Rows.Trees.{name, marked, a}
 
 -- ---- names and pairs
 

@@ -10,7 +10,7 @@ use Rattle.cargo_platform.specs.Trees.{CfgValue, Alone, KeyPair, Not, All, Any, 
 use Rattle.cargo_platform.specs.Trees.{Target, Expression}
 use Rattle.cargo_platform.specs.Facts.{pair_of, pair_cmp, fact_set, truth, IsTrueCondition}
 use Rattle.cargo_platform.proofs.FactSets.{pairs_total}
-use Rattle.cargo_platform.proofs.RowTrees.{name, marked}
+use Rattle.cargo_platform.proofs.Rows.Trees.{name, marked}
 
 abbrev foo : CfgValue
 foo = Alone (name (codes "foo"))

@@ -6,8 +6,8 @@ use Rattle.cargo_platform.specs.Lines.{lines_of, line_at}
 use Rattle.cargo_platform.specs.FactLines.{SpellFacts, SpellsNoFact, IsFirstNoFact}
 use Rattle.cargo_platform.proofs.OnLiterals.{value_on_literal}
 use Rattle.cargo_platform.proofs.Refused.{refused_spells_no_value}
-use Rattle.cargo_platform.proofs.RowTrees.{name, marked}
-use Rattle.cargo_platform.proofs.ValueFaultRows.{empty}
+use Rattle.cargo_platform.proofs.Rows.Trees.{name, marked}
+use Rattle.cargo_platform.proofs.Rows.ValueFaults.{empty}
 
 -- ---- lines
 

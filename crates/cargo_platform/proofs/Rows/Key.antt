@@ -8,7 +8,7 @@ use Rattle.cargo_platform.specs.Trees.{Expression}
 use Rattle.cargo_platform.specs.Key.{name_key, value_key, key, condition_key, text_cmp, name_cmp, value_cmp, rank}
 use Rattle.cargo_platform.specs.Key.{tree_cmp, trees_cmp, condition_cmp}
 use Rattle.cargo_platform.specs.Hashing.{name_hash, value_hash, count, tree_hash, group_hash, condition_hash}
-use Rattle.cargo_platform.proofs.RowTrees.{name, marked, a}
+use Rattle.cargo_platform.proofs.Rows.Trees.{name, marked, a}
 
 -- ---- keys
 

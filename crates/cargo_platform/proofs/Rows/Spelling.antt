@@ -12,8 +12,8 @@ use Rattle.cargo_platform.specs.Walk.{walk}
 use Rattle.cargo_platform.proofs.OneCut.{one_cut_from}
 use Rattle.cargo_platform.proofs.Walk.{stopped}
 use Rattle.cargo_platform.proofs.Completing.{accepted_whole}
-use Rattle.cargo_platform.proofs.RowTrees.{name, marked, a}
-use Rattle.cargo_platform.proofs.CutRows.{late_mark, comma_behind, lone_a}
+use Rattle.cargo_platform.proofs.Rows.Trees.{name, marked, a}
+use Rattle.cargo_platform.proofs.Rows.Cut.{late_mark, comma_behind, lone_a}
 
 abbrev word_a : Lexeme
 word_a = plain (codes "a")

@@ -5,7 +5,7 @@ use Rattle.cargo_platform.specs.Trees.{CfgValue, Alone, KeyPair}
 use Rattle.cargo_platform.specs.Facts.{pair_of}
 use Rattle.cargo_platform.specs.Holders.{name_fact, pair_fact, no_facts, only, where_set}
 use Rattle.cargo_platform.proofs.Holders.{in_none, in_name, in_pair, in_where_set, in_both}
-use Rattle.cargo_platform.proofs.RowTrees.{name, marked}
+use Rattle.cargo_platform.proofs.Rows.Trees.{name, marked}
 
 abbrev unix : CfgValue
 unix = Alone (name (codes "unix"))

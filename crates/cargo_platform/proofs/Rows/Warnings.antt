@@ -7,7 +7,7 @@ use Rattle.cargo_platform.specs.Warnings.{values, members_values, condition_valu
 use Rattle.cargo_platform.specs.Warnings.{unsupported_feature, keyword_warning, is_unsupported_name, attribute_warning}
 use Rattle.cargo_platform.specs.Warnings.{keyword_warning_at, keyword_warning_of, attribute_warnings, keyword_warnings}
 use Rattle.cargo_platform.specs.Warnings.{IsLonger}
-use Rattle.cargo_platform.proofs.RowTrees.{name, marked, a}
+use Rattle.cargo_platform.proofs.Rows.Trees.{name, marked, a}
 
 abbrev alone : List ℕ → CfgValue
 alone s = Alone (name s)

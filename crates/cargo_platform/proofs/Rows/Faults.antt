@@ -13,7 +13,7 @@ use Rattle.cargo_platform.specs.Faults.{UnterminatedString, UnexpectedChar, Unex
 use Rattle.cargo_platform.specs.Faults.{UnterminatedExpression, expected_token, expected_end, lexical_fault, fault_of}
 use Rattle.cargo_platform.specs.Faults.{IsRefused}
 use Rattle.cargo_platform.specs.Walk.{Several, State, Named, walk}
-use Rattle.cargo_platform.specs.Parsing.{is_whole}
+use Rattle.cargo_platform.specs.Inside.Parsing.{is_whole}
 use Rattle.cargo_platform.proofs.Walk.{none_some, completable_walks}
 use Rattle.cargo_platform.proofs.Completing.{walked_completes}
 use Rattle.cargo_platform.proofs.Fronts.{goes_on, refused_walked}
@@ -21,7 +21,7 @@ use Rattle.cargo_platform.proofs.Refused.{refused_spells_none}
 use Rattle.cargo_platform.proofs.OneFault.{one_fault}
 use Rattle.cargo_platform.proofs.ValueFaults.{completable_values}
 use Rattle.cargo_platform.proofs.CutTests.{is_cut_from, cut_by}
-use Rattle.cargo_platform.proofs.CutRows.{at, word, lone_a}
+use Rattle.cargo_platform.proofs.Rows.Cut.{at, word, lone_a}
 
 -- ---- what can be completed
 

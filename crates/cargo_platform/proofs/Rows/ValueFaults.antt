@@ -9,13 +9,13 @@ use Rattle.cargo_platform.specs.Trees.{Alone}
 use Rattle.cargo_platform.specs.Spelling.{Values}
 use Rattle.cargo_platform.specs.Faults.{Next, Broken, End, Follows, Fault, UnterminatedString, UnexpectedChar}
 use Rattle.cargo_platform.specs.Faults.{UnexpectedToken, IncompleteExpr, UnterminatedExpression, IsRefused}
-use Rattle.cargo_platform.specs.Misfits.{IsIdentifier, IsString, LacksFirst, misfit, IsSurplus}
+use Rattle.cargo_platform.specs.Inside.Misfits.{IsIdentifier, IsString, LacksFirst, misfit, IsSurplus}
 use Rattle.cargo_platform.proofs.OneTree.{head_is}
 use Rattle.cargo_platform.proofs.Refused.{refused_spells_no_value}
 use Rattle.cargo_platform.proofs.ValueFaults.{refused_at_start, refused_behind_name, refused_behind_key}
 use Rattle.cargo_platform.proofs.ValueFaults.{refused_behind_pair}
 use Rattle.cargo_platform.proofs.CutTests.{is_cut_from, cut_by}
-use Rattle.cargo_platform.proofs.CutRows.{at, word, lone_a}
+use Rattle.cargo_platform.proofs.Rows.Cut.{at, word, lone_a}
 
 lacks_none : (P : Lexeme → Type 0) → LacksFirst P []
 lacks_none P t us h = absurd cc

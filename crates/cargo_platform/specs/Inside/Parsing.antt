@@ -20,13 +20,13 @@ use Rattle.cargo_platform.specs.declared.parser.Group.TheVariants as groups
 use Rattle.cargo_platform.specs.Tokens.{Lexeme, LeftParen, RightParen, Ident, Comma, Equals, String, Placed, plain}
 use Rattle.cargo_platform.specs.Tokens.{lexeme}
 use Rattle.cargo_platform.specs.Cut.{lexemes}
-use Rattle.cargo_platform.specs.Ahead.{Item, Nothing, item_of, Ahead, GoesOn, Path, next_of}
-use Rattle.cargo_platform.specs.Ahead as ahead
+use Rattle.cargo_platform.specs.Inside.Ahead.{Item, Nothing, item_of, Ahead, GoesOn, Path, next_of}
+use Rattle.cargo_platform.specs.Inside.Ahead as ahead
 use Rattle.cargo_platform.specs.Trees.{Name, CfgValue, Alone, KeyPair, Tree, All, Any, trees_of, tree_of}
 use Rattle.cargo_platform.specs.Spelling.{Spells, SpellEach}
 use Rattle.cargo_platform.specs.Faults.{Next, Unfit, Broken, End, Fault, UnexpectedToken, IncompleteExpr}
 use Rattle.cargo_platform.specs.Faults.{UnterminatedExpression, lexical_fault}
-use Rattle.cargo_platform.specs.Misfits.{IsIdentifier, IsString, misfit, IsSurplus}
+use Rattle.cargo_platform.specs.Inside.Misfits.{IsIdentifier, IsString, misfit, IsSurplus}
 use Rattle.cargo_platform.specs.Walk.{Word, Several, Negation, State, Wanted, Member, Behind, Named, Keyed, Ended}
 use Rattle.cargo_platform.specs.Walk.{after, walk}
 

@@ -5,8 +5,8 @@ use Rattle.cargo_platform.specs.Trees.{Alone, KeyPair, Not, All, Any, Value, Tru
 use Rattle.cargo_platform.specs.Trees.{Expression}
 use Rattle.cargo_platform.specs.WellFormed.{IsWellFormedValue, IsWellFormed, AreWellFormed, IsWellFormedCondition}
 use Rattle.cargo_platform.proofs.TargetNames.{refused_is_no_name}
-use Rattle.cargo_platform.proofs.RowTrees.{name, marked, a}
-use Rattle.cargo_platform.proofs.ConditionRows.{target_name, space_refused, mark_refused}
+use Rattle.cargo_platform.proofs.Rows.Trees.{name, marked, a}
+use Rattle.cargo_platform.proofs.Rows.Conditions.{target_name, space_refused, mark_refused}
 
 -- ---- names and pairs
 

@@ -4,7 +4,7 @@ use Rattle.std.specs.Str.{IsCharBoundary}
 use Rattle.cargo_platform.specs.declared.tokens.Cut.{Cut}
 use Rattle.cargo_platform.specs.Tokens.{Lexeme, lexeme}
 use Rattle.cargo_platform.specs.Cut.{IsWrittenAt, IsWhole}
-use Rattle.cargo_platform.specs.Looking.{Shows}
+use Rattle.cargo_platform.specs.Inside.Looking.{Shows}
 
 -- the token stands whole in the text, from the one place to the other
 pub record IsTokenAt (text : List ℕ) (token : Lexeme) (start end : ℕ) : Type 0 where

@@ -1,0 +1,11 @@
+-- What the contracts of private functions and types cite, and no promise rests on.
+pub mod Misfits
+pub mod Refusals
+pub mod Looking
+pub mod Scanning
+pub mod Ahead
+pub mod Parsing
+pub mod Pending
+pub mod Asking
+pub mod Copying
+pub mod Values
