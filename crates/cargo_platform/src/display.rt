@@ -109,6 +109,7 @@ fn write_to_group<'a, W: fmt::Write>(
     }
 }
 
+/// Whether the expression is a group that others follow.
 #[inline(always)]
 fn is_followed_group(first: &CfgExpr, others: &[CfgExpr]) -> bool
     ensures { result ≡ (is_group (tree_of first.now) && not (length others.now == 0)) }
@@ -163,6 +164,7 @@ fn write_between<W: fmt::Write>(others: &[CfgExpr], f: &mut fmt::Formatter<W>) -
     }
 }
 
+/// Writes what stands between two members.
 #[inline(never)]
 fn write_comma<W: fmt::Write>(f: &mut fmt::Formatter<W>) -> fmt::Result
     ensures { WritesOnOk W.write_str_gives f.old result (codes ", ") f.new }

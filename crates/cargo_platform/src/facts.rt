@@ -66,6 +66,7 @@ fn is_pair(fact: &Cfg, key: &Ident, value: &String) -> bool
 
 // The two that follow stand apart, so that the search of a list is a short loop.
 
+/// Whether two names are equal.
 #[cold]
 #[inline(never)]
 fn are_equal_names(other: &Ident, name: &Ident) -> bool
@@ -74,6 +75,7 @@ fn are_equal_names(other: &Ident, name: &Ident) -> bool
     other == name
 }
 
+/// Whether two pairs are equal.
 #[cold]
 #[inline(never)]
 fn are_equal_pairs(other_key: &Ident, other_value: &String, key: &Ident, value: &String) -> bool
@@ -140,6 +142,7 @@ impl Facts for FactIndex {
     }
 }
 
+/// Whether the holder has the fact.
 #[inline(never)]
 fn is_fact<F: Facts>(c: &Cfg, facts: &F) -> bool
     ensures { result ≡ contains (F.meant facts.now) (pair_of (value_of c.now)) }
