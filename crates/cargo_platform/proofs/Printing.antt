@@ -15,8 +15,9 @@ use Rattle.cargo_platform.specs.declared.cfg.CfgExpr.TheFolds.{fold_out-CfgExpr,
 use Rattle.cargo_platform.specs.declared.cfg.CfgExpr.TheViews.{out-CfgExpr}
 use Rattle.cargo_platform.specs.Trees.{Tree, Not, All, Any, Value, True, False, Trees, none, tree, tree_of, trees_of}
 use Rattle.cargo_platform.specs.Print.{print, print_members, print_others, print_value}
-use Rattle.cargo_platform.specs.Printing.{is_group, word, begun, begun_members, between, ending, ending_last, closed}
-use Rattle.cargo_platform.specs.Printing.{HasWrittenBut}
+use Rattle.cargo_platform.specs.Inside.Printing.{is_group, word, begun, begun_members, between, ending, ending_last}
+use Rattle.cargo_platform.specs.Inside.Printing.{closed}
+use Rattle.cargo_platform.specs.Inside.Printing.{HasWrittenBut}
 use Rattle.cargo_platform.specs.ExpressionSizes.{size_step, node_count, node_counts}
 
 module _ {W : Type 0} (took : W → List ℕ → W → Type 0) where

@@ -9,3 +9,4 @@ pub mod Pending
 pub mod Asking
 pub mod Copying
 pub mod Values
+pub mod Printing

@@ -32,5 +32,4 @@ pub mod Warnings
 pub mod Earlier
 pub mod ChangeLaws
 pub mod ExpressionSizes
-pub mod Printing
 pub mod Inside

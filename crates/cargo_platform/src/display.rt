@@ -57,8 +57,9 @@ ghost use Rattle.std.specs.Prelude.{OnOk, IfSome, MatchOption};
 ghost use Rattle.std.specs.Fmt.{WritesOnOk, IsPlainFormatter};
 ghost use Rattle.cargo_platform.specs.Trees.{tree_of, trees_of};
 ghost use Rattle.cargo_platform.specs.Print.{print};
-ghost use Rattle.cargo_platform.specs.Printing.{is_group, word, begun, begun_members, between, ending, ending_last};
-ghost use Rattle.cargo_platform.specs.Printing.{closed, HasWrittenBut};
+ghost use Rattle.cargo_platform.specs.Inside.Printing.{is_group, word, begun, begun_members, between, ending};
+ghost use Rattle.cargo_platform.specs.Inside.Printing.{ending_last};
+ghost use Rattle.cargo_platform.specs.Inside.Printing.{closed, HasWrittenBut};
 ghost use Rattle.cargo_platform.specs.ExpressionSizes.{node_count, node_counts};
 
 /// An expression, with the expressions inside it. What recurses are the groups that others follow: the last members are

@@ -1,6 +1,6 @@
 use Rattle.std.proofs.Common.{◌<◌, refl, true, map, arith, rules}
 use Rattle.cargo_platform.specs.Trees.{tree_of, trees_of}
-use Rattle.cargo_platform.specs.Printing.{begun, begun_members}
+use Rattle.cargo_platform.specs.Inside.Printing.{begun, begun_members}
 use Rattle.cargo_platform.specs.ExpressionSizes.{node_count, node_counts}
 use Rattle.cargo_platform.proofs.Printing.{group_written, further_written, no_member_left, whole_written}
 use Rattle.cargo_platform.proofs.Printing.{others_smaller, first_smaller}

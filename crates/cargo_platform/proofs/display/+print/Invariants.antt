@@ -1,7 +1,7 @@
 use Rattle.std.proofs.Common.{◌≢◌, ◌≤◌, map, length}
 use Rattle.std.specs.Fmt.{IsPlainFormatter}
 use Rattle.cargo_platform.specs.Trees.{tree_of, trees_of}
-use Rattle.cargo_platform.specs.Printing.{begun, begun_members, HasWrittenBut}
+use Rattle.cargo_platform.specs.Inside.Printing.{begun, begun_members, HasWrittenBut}
 use Rattle.cargo_platform.specs.ExpressionSizes.{node_count, node_counts}
 use Rattle.cargo_platform.proofs.display.+print.Given as goal
 

@@ -1,6 +1,6 @@
 use Rattle.std.proofs.Common.{◌∙◌, refl, true, map}
 use Rattle.cargo_platform.specs.Trees.{tree_of, trees_of}
-use Rattle.cargo_platform.specs.Printing.{ending, ending_last, closed}
+use Rattle.cargo_platform.specs.Inside.Printing.{ending, ending_last, closed}
 use Rattle.cargo_platform.proofs.Printing.{list_ends, end_written, all_ends_written}
 use Rattle.cargo_platform.proofs.display.write_ends.Goals as goal
 

@@ -1,7 +1,7 @@
 use Rattle.std.proofs.Common.{map}
 use Rattle.std.specs.Fmt.{IsPlainFormatter}
 use Rattle.cargo_platform.specs.Trees.{tree_of, trees_of}
-use Rattle.cargo_platform.specs.Printing.{ending, ending_last, closed, HasWrittenBut}
+use Rattle.cargo_platform.specs.Inside.Printing.{ending, ending_last, closed, HasWrittenBut}
 use Rattle.cargo_platform.specs.ExpressionSizes.{node_counts}
 use Rattle.cargo_platform.proofs.display.write_ends.Given as goal
 

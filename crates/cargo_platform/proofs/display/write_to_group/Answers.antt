@@ -1,6 +1,6 @@
 use Rattle.std.proofs.Common.{◌∙◌, sym, refl, true, map, arith}
 use Rattle.cargo_platform.specs.Trees.{tree_of, trees_of}
-use Rattle.cargo_platform.specs.Printing.{begun_members}
+use Rattle.cargo_platform.specs.Inside.Printing.{begun_members}
 use Rattle.cargo_platform.proofs.Printing.{leaf_written, group_opened, others_smaller, first_within}
 use Rattle.cargo_platform.proofs.display.write_to_group.Goals as goal
 

@@ -1,7 +1,7 @@
 use Rattle.std.proofs.Common.{◌≤◌, map}
 use Rattle.std.specs.Fmt.{IsPlainFormatter}
 use Rattle.cargo_platform.specs.Trees.{tree_of, trees_of}
-use Rattle.cargo_platform.specs.Printing.{begun_members, HasWrittenBut}
+use Rattle.cargo_platform.specs.Inside.Printing.{begun_members, HasWrittenBut}
 use Rattle.cargo_platform.specs.ExpressionSizes.{node_counts}
 use Rattle.cargo_platform.proofs.display.write_to_group.Given as goal
 
