@@ -1,8 +1,8 @@
 -- Lists of tokens that can be completed: their fronts, how many tokens complete them, and what can follow them.
-use Rattle.std.proofs.Common.{◌≡◌, refl, sym, ap, subst, ◌∙◌, ℕ, ◌+◌, ◌≤◌, suc, arith, Bool, true, false, not, ◌&&◌}
-use Rattle.std.proofs.Common.{◌||◌, true≢false, List, [], ◌∷◌, ◌++◌, Option, Some, None, codes, inl, inr, ◌⊎◌}
+use Rattle.std.proofs.Common.{◌≡◌, refl, sym, ap, subst, ◌∙◌, ℕ, ◌+◌, ◌≤◌, suc, arith, Bool, true, false}
+use Rattle.std.proofs.Common.{true≢false, List, [], ◌∷◌, ◌++◌, Option, Some, None, codes, inl, inr, ◌⊎◌}
 use Rattle.std.proofs.Common.{append_assoc, length, length-append, cond}
-use Rattle.std.specs.Prelude.{◌↔◌, if◌then◌else◌, bytes_eq}
+use Rattle.std.specs.Prelude.{◌↔◌}
 use Rattle.std.specs.List.{AllByRecursion, count_by, last_or}
 use Rattle.std.proofs.lemmas.List.Sums.{sum_by-cons}
 use Rattle.std.proofs.lemmas.Option.{same_Some}

@@ -1,5 +1,5 @@
 -- What is answered to the text of a condition, case by case.
-use Rattle.std.proofs.Common.{◌≡◌, sym, subst, ℕ, List, inl, Ok, Err, String, Global}
+use Rattle.std.proofs.Common.{◌≡◌, sym, subst, ℕ, List, inl, Err, String, Global}
 use Rattle.cargo_platform.specs.declared.Platform.{Platform}
 use Rattle.cargo_platform.specs.declared.Platform.TheVariants as platform
 use Rattle.cargo_platform.specs.declared.cfg.CfgExpr.{CfgExpr}

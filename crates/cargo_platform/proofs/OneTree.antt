@@ -1,5 +1,5 @@
 -- A list of tokens spells at most one tree, whatever follows it: also while unmarked `true` and `false` were keys.
-use Rattle.std.proofs.Common.{◌≡◌, refl, sym, ap, ◌∙◌, ℕ, Bool, true, false, not, ◌&&◌, ◌||◌, List, [], ◌∷◌, ◌++◌}
+use Rattle.std.proofs.Common.{◌≡◌, refl, sym, ap, ◌∙◌, ℕ, Bool, true, false, not, ◌&&◌, List, [], ◌∷◌, ◌++◌}
 use Rattle.std.proofs.Common.{codes, inl, inr, ◌⊎◌, true≢false, append_assoc, append-nil, arith, subst, length}
 use Rattle.std.specs.Prelude.{IsFalse, bytes_eq, if◌then◌else◌}
 use Rattle.cargo_platform.specs.Tokens.{Lexeme, LeftParen, RightParen, Ident, Comma, Equals, String, plain}
