@@ -2,22 +2,25 @@
 -- a caller answers it by `refl`.
 use Rattle.std.proofs.Common.{◌≡◌, refl, sym, subst, ℕ, ◌+◌, Bool, true, false, not, ◌&&◌, if◌then◌else◌, List}
 use Rattle.std.proofs.Common.{[], ◌∷◌}
-use Rattle.std.proofs.Common.{◌++◌, Option, Some, None, codes, inl, length, take, drop, arith}
+use Rattle.std.proofs.Common.{◌++◌, Option, Some, None, codes, inl, inr, length, take, drop, arith}
 use Rattle.std.specs.Prelude.{◌==◌, bytes_eq}
 use Rattle.std.proofs.lemmas.List.{take-append-drop}
 use Rattle.std.specs.List.{last_or}
 use Rattle.cargo_platform.specs.Chars.{is_identifier_start, is_identifier_rest, is_space, is_quote, is_number_sign}
 use Rattle.cargo_platform.specs.Tokens.{Lexeme, LeftParen, RightParen, Ident, Comma, Equals, String, Placed}
-use Rattle.cargo_platform.specs.Cut.{IsCut, lexemes}
+use Rattle.cargo_platform.specs.declared.tokens.TokenFaultKind.{TokenFaultKind}
+use Rattle.cargo_platform.specs.Cut.{IsCut, lexemes, BeginsFault}
 use Rattle.cargo_platform.specs.Trees.{CfgValue, Tree}
-use Rattle.cargo_platform.specs.Spelling.{Expressions, IsTreeText, IsValueText, Spells, SpellsValue}
+use Rattle.cargo_platform.specs.Spelling.{Expressions, Values, IsTreeText, IsValueText, Spells, SpellsValue}
 use Rattle.cargo_platform.specs.WellFormed.{IsWellFormed}
-use Rattle.cargo_platform.specs.Faults.{Fault, Next, Unfit, End, Follows, fault_of, IsRefused}
+use Rattle.cargo_platform.specs.Faults.{Fault, Next, Unfit, Broken, End, Follows, fault_of, IsRefused}
 use Rattle.cargo_platform.specs.Walk.{State, Wanted, after, walk}
 use Rattle.cargo_platform.specs.Inside.Parsing.{is_whole}
 use Rattle.cargo_platform.proofs.CutTests.{is_cut_from, cut_by}
 use Rattle.cargo_platform.proofs.Fronts.{goes_on, refused_walked}
 use Rattle.cargo_platform.proofs.PrintedSpells.{canonical, canonical_spells}
+use Rattle.cargo_platform.proofs.ValueFaults.{is_value_front, is_value, is_value_told, lacks_stopped, stops}
+use Rattle.cargo_platform.proofs.ValueFaults.{refused_behind}
 
 -- ---- the tokens of a text, with the place of its tail
 
@@ -94,6 +97,11 @@ pub tree_on_literal : (text : List ℕ) (e : Tree) → is_cut_whole text ≡ tru
 tree_on_literal text e cut same formed =
     (tokens_in text, cut_whole text cut, subst (λ ts. Spells e ts) (sym same) (canonical_spells e formed))
 
+-- The text spells the tree, by the spelling of its tokens: so it is with a comma behind the last member.
+pub spelling_on_literal : (text : List ℕ) (e : Tree) → is_cut_whole text ≡ true → Spells e (lexemes (tokens_in text))
+    → IsTreeText text e
+spelling_on_literal text e cut spelled = (tokens_in text, cut_whole text cut, spelled)
+
 -- The text spells the name or the pair.
 pub value_on_literal : (text : List ℕ) (c : CfgValue) → is_cut_whole text ≡ true
     → SpellsValue c (lexemes (tokens_in text))
@@ -120,41 +128,126 @@ front_in text = take (fitting (Some (Wanted [])) (tokens_in text)) (tokens_in te
 abbrev pub behind_in : List ℕ → List Placed
 behind_in text = drop (fitting (Some (Wanted [])) (tokens_in text)) (tokens_in text)
 
-abbrev pub next_of : List ℕ → List Placed → Next
-next_of text [] = End
-next_of text (t ∷ ts) = Unfit t.token (drop t.start text)
+-- what comes behind the front: what is left of the tokens, and then the tail
+abbrev pub next_before : List ℕ → Next → List Placed → Next
+next_before text last [] = last
+next_before text last (t ∷ ts) = Unfit t.token (drop t.start text)
 
-next_follows : (text : List ℕ) (behind : List Placed) → Follows text behind (length text) (next_of text behind)
-next_follows text [] = omega arith
-next_follows text (t ∷ ts) = refl
+next_follows : (text : List ℕ) (tail : ℕ) (last : Next) (behind : List Placed) → Follows text [] tail last
+    → Follows text behind tail (next_before text last behind)
+next_follows text tail last [] h = h
+next_follows text tail last (t ∷ ts) h = refl
 
 -- the fault by the table, where the front leads to this state and does not go on
-abbrev pub fault_at : List ℕ → Option State → Option State → Option Fault
-fault_at text (Some s) None =
-    fault_of Expressions (is_whole s) (last_or None (lexemes (front_in text))) (next_of text (behind_in text))
-fault_at text s t = None
+abbrev pub fault_at : List ℕ → Next → Option State → Option State → Option Fault
+fault_at text last (Some s) None =
+    let next : Next = next_before text last (behind_in text) in
+    fault_of Expressions (is_whole s) (last_or None (lexemes (front_in text))) next
+fault_at text last s t = None
 
 abbrev pub further : Option State → List Placed → Option State
 further None ts = None
 further (Some s) ts = goes_on s ts
 
-abbrev pub fault_found : List ℕ → Option Fault
-fault_found text =
+abbrev pub fault_before : List ℕ → Next → Option Fault
+fault_before text last =
     let reached : Option State = walk (lexemes (front_in text)) in
-    fault_at text reached (further reached (behind_in text))
+    fault_at text last reached (further reached (behind_in text))
 
-refused_there : (text : List ℕ) (fault : Fault) (s t : Option State) → walk (lexemes (front_in text)) ≡ s
-    → further s (behind_in text) ≡ t → IsCut text (tokens_in text) (length text) → fault_at text s t ≡ Some fault
-    → IsRefused Expressions text fault
-refused_there text fault None t walked stops cut found = absurd cc
-refused_there text fault (Some s) (Some t) walked stops cut found = absurd cc
-refused_there text fault (Some s) None walked stops cut found =
-    refused_walked text (tokens_in text) (front_in text) (behind_in text) (length text) s
-    (next_of text (behind_in text)) fault
+-- the fault of a text whose characters all belong to a token or are spaces
+abbrev pub fault_found : List ℕ → Option Fault
+fault_found text = fault_before text End
+
+refused_there : (text : List ℕ) (fault : Fault) (tail : ℕ) (last : Next) (s t : Option State)
+    → walk (lexemes (front_in text)) ≡ s → further s (behind_in text) ≡ t → IsCut text (tokens_in text) tail
+    → Follows text [] tail last → fault_at text last s t ≡ Some fault → IsRefused Expressions text fault
+refused_there text fault tail last None t walked stops cut follows found = absurd cc
+refused_there text fault tail last (Some s) (Some t) walked stops cut follows found = absurd cc
+refused_there text fault tail last (Some s) None walked stops cut follows found =
+    refused_walked text (tokens_in text) (front_in text) (behind_in text) tail s
+    (next_before text last (behind_in text)) fault
     cut (sym (take-append-drop (fitting (Some (Wanted [])) (tokens_in text)) (tokens_in text))) walked stops
-    (next_follows text (behind_in text)) found
+    (next_follows text tail last (behind_in text) follows) found
 
 -- The text is refused with this fault, where each of its characters belongs to a token or is a space.
 pub refused_on_literal : (text : List ℕ) (fault : Fault) → is_cut_whole text ≡ true → fault_found text ≡ Some fault
     → IsRefused Expressions text fault
-refused_on_literal text fault cut found = refused_there text fault _ _ refl refl (cut_whole text cut) found
+refused_on_literal text fault cut found =
+    refused_there text fault (length text) End _ _ refl refl (cut_whole text cut) (omega arith) found
+
+-- ---- a text with a lexical fault
+
+-- where the tail begins, in which no token does
+abbrev pub tail_in : List ℕ → ℕ
+tail_in text = (scan Between 0 text).1
+
+abbrev pub broken_in : List ℕ → TokenFaultKind → Next
+broken_in text kind = Broken kind (drop (tail_in text) text)
+
+-- the tokens are those of the text before its tail
+abbrev pub is_cut_to_tail : List ℕ → Bool
+is_cut_to_tail text = is_cut_from text 0 (tokens_in text) (tail_in text)
+
+cut_to_tail : (text : List ℕ) (kind : TokenFaultKind) → is_cut_to_tail text ≡ true
+    → BeginsFault (drop (tail_in text) text) kind → IsCut text (tokens_in text) (tail_in text)
+cut_to_tail text kind h begins = cut_by text (tokens_in text) (tail_in text) h (inr (kind, begins))
+
+-- The text is refused with this fault, where its tail begins the lexical one.
+pub refused_on_broken_literal : (text : List ℕ) (kind : TokenFaultKind) (fault : Fault) → is_cut_to_tail text ≡ true
+    → BeginsFault (drop (tail_in text) text) kind → fault_before text (broken_in text kind) ≡ Some fault
+    → IsRefused Expressions text fault
+refused_on_broken_literal text kind fault cut begins found =
+    refused_there text fault (tail_in text) (broken_in text kind) _ _ refl refl (cut_to_tail text kind cut begins)
+    (refl, begins) found
+
+-- ---- with which fault a text of a name or a pair is refused
+
+-- how many tokens begin a name or a pair
+abbrev pub value_fitting : List Lexeme → List Placed → ℕ
+value_fitting read [] = 0
+value_fitting read (t ∷ ts) =
+    if is_value_front (read ++ t.token ∷ []) then 1 + value_fitting (read ++ t.token ∷ []) ts else 0
+
+abbrev pub value_front_in : List ℕ → List Placed
+value_front_in text = take (value_fitting [] (tokens_in text)) (tokens_in text)
+
+abbrev pub value_behind_in : List ℕ → List Placed
+value_behind_in text = drop (value_fitting [] (tokens_in text)) (tokens_in text)
+
+-- the fault by the table, where the front is one, and does not go on
+abbrev pub value_fault_before : List ℕ → Next → Option Fault
+value_fault_before text last =
+    let read : List Lexeme = lexemes (value_front_in text) in
+    fault_of Values (is_value read) (last_or None read) (next_before text last (value_behind_in text))
+
+value_refused_there : (text : List ℕ) (fault : Fault) (tail : ℕ) (last : Next) → IsCut text (tokens_in text) tail
+    → Follows text [] tail last → is_value_front (lexemes (value_front_in text)) ≡ true
+    → stops (lexemes (value_front_in text)) (value_behind_in text) ≡ true
+    → value_fault_before text last ≡ Some fault → IsRefused Values text fault
+value_refused_there text fault tail last cut follows front stopped found =
+    refused_behind text (tokens_in text) (value_front_in text) (value_behind_in text) tail
+    (next_before text last (value_behind_in text)) (lexemes (value_front_in text))
+    (is_value (lexemes (value_front_in text))) fault cut
+    (sym (take-append-drop (value_fitting [] (tokens_in text)) (tokens_in text))) refl
+    (next_follows text tail last (value_behind_in text) follows) front
+    (lacks_stopped (lexemes (value_front_in text)) (value_behind_in text) stopped)
+    (is_value_told (lexemes (value_front_in text))) found
+
+-- The text is no name and no pair, and is refused with this fault: each of its characters belongs to a token or is a
+-- space.
+pub value_refused_on_literal : (text : List ℕ) (fault : Fault) → is_cut_whole text ≡ true
+    → is_value_front (lexemes (value_front_in text)) ≡ true
+    → stops (lexemes (value_front_in text)) (value_behind_in text) ≡ true
+    → value_fault_before text End ≡ Some fault → IsRefused Values text fault
+value_refused_on_literal text fault cut front stopped found =
+    value_refused_there text fault (length text) End (cut_whole text cut) (omega arith) front stopped found
+
+-- The text is no name and no pair, and is refused with this fault: its tail begins the lexical one.
+pub value_refused_on_broken_literal : (text : List ℕ) (kind : TokenFaultKind) (fault : Fault)
+    → is_cut_to_tail text ≡ true → BeginsFault (drop (tail_in text) text) kind
+    → is_value_front (lexemes (value_front_in text)) ≡ true
+    → stops (lexemes (value_front_in text)) (value_behind_in text) ≡ true
+    → value_fault_before text (broken_in text kind) ≡ Some fault → IsRefused Values text fault
+value_refused_on_broken_literal text kind fault cut begins front stopped found =
+    value_refused_there text fault (tail_in text) (broken_in text kind) (cut_to_tail text kind cut begins)
+    (refl, begins) front stopped found

@@ -1,5 +1,6 @@
 -- Which lists of tokens can be completed as a name or a pair, and the fault where a text of one goes wrong.
-use Rattle.std.proofs.Common.{◌≡◌, refl, sym, ap, subst, ◌∙◌, ℕ, Bool, true, false, true≢false, List, [], ◌∷◌, ◌++◌}
+use Rattle.std.proofs.Common.{◌≡◌, refl, sym, ap, subst, ◌∙◌, ℕ, Bool, true, false, not, true≢false}
+use Rattle.std.proofs.Common.{List, [], ◌∷◌, ◌++◌}
 use Rattle.std.proofs.Common.{Some, None, codes}
 use Rattle.std.specs.Prelude.{◌↔◌, IsTrue}
 use Rattle.std.specs.List.{last_or}
@@ -72,7 +73,7 @@ key_is raw name (Alone n, h) = no_token (tail_is h)
 key_is raw name (KeyPair k v, h) = no_token (sym (tail_is (tail_is h)))
 
 -- what comes behind a front of an identifier, `=` and a string, and does not go on with it
-refused_behind : (text : List ℕ) (ts front after : List Placed) (tail : ℕ) (next : Next) (read : List Lexeme)
+pub refused_behind : (text : List ℕ) (ts front after : List Placed) (tail : ℕ) (next : Next) (read : List Lexeme)
     (accepted : Bool) (fault : Fault) → IsCut text ts tail → ts ≡ front ++ after → lexemes front ≡ read
     → Follows text after tail next → is_value_front read ≡ true
     → LacksFirst (λ t. (more : List Lexeme) × IsTrue (is_value_front (read ++ (t ∷ more)))) after
@@ -165,3 +166,49 @@ refused_behind_pair text ts front after tail next fault raw name value cut parts
     (λ t us e m. true≢false (sym m.1))
     (λ _. (KeyPair (record { raw = raw; name = name }) value, refl), λ _. refl)
     (surplus (String value) next fault h)
+
+-- ---- the same by what computes
+
+-- a test of whether the list spells a name or a pair
+abbrev pub is_value : List Lexeme → Bool
+is_value (Ident raw name ∷ []) = true
+is_value (Ident raw name ∷ Equals ∷ String value ∷ []) = true
+is_value ts = false
+
+-- no front of a name or a pair goes on with what is behind
+abbrev pub stops : List Lexeme → List Placed → Bool
+stops read [] = true
+stops read (t ∷ ts) = not (is_value_front (read ++ t.token ∷ []))
+
+value_accepted : (read : List Lexeme) → is_value read ≡ true → IsAccepted Values read
+value_accepted (Ident raw name ∷ []) h = (Alone (record { raw = raw; name = name }), refl)
+value_accepted (Ident raw name ∷ Equals ∷ String value ∷ []) h =
+    (KeyPair (record { raw = raw; name = name }) value, refl)
+value_accepted read h = absurd (true≢false (sym h))
+
+accepted_value : (read : List Lexeme) → IsAccepted Values read → is_value read ≡ true
+accepted_value read (Alone n, h) = ap is_value h
+accepted_value read (KeyPair k v, h) = ap is_value h
+
+pub is_value_told : (read : List Lexeme) → IsTrue (is_value read) ↔ IsAccepted Values read
+is_value_told read = (λ h. value_accepted read h, λ p. accepted_value read p)
+
+first_fits : (read : List Lexeme) (t : Lexeme) (more : List Lexeme) → is_value_front (read ++ (t ∷ more)) ≡ true
+    → is_value_front (read ++ t ∷ []) ≡ true
+first_fits [] (Ident raw name) more h = refl
+first_fits [] t more h = absurd (true≢false (sym h))
+first_fits (Ident raw name ∷ []) Equals more h = refl
+first_fits (Ident raw name ∷ []) t more h = absurd (true≢false (sym h))
+first_fits (Ident raw name ∷ Equals ∷ []) (String value) more h = refl
+first_fits (Ident raw name ∷ Equals ∷ []) t more h = absurd (true≢false (sym h))
+first_fits (Ident raw name ∷ Equals ∷ String value ∷ []) t more h = absurd (true≢false (sym h))
+first_fits (Ident raw name ∷ Equals ∷ String value ∷ s ∷ ts) t more h = absurd (true≢false (sym h))
+first_fits read t more h = absurd (true≢false (sym h))
+
+pub lacks_stopped : (read : List Lexeme) (behind : List Placed) → stops read behind ≡ true
+    → LacksFirst (λ t. (more : List Lexeme) × IsTrue (is_value_front (read ++ (t ∷ more)))) behind
+lacks_stopped read [] h first us e m = absurd cc
+lacks_stopped read (t ∷ ts) h first us e m =
+    let T : Placed → Type 0 = λ p. is_value_front (read ++ p.token ∷ []) ≡ true in
+    let fits = subst T (sym (head_is e)) (first_fits read first.token m.0 m.1) in
+    true≢false (sym h ∙ ap not fits)

@@ -1,15 +1,19 @@
 -- The condition that `cfg(unix)` spells, and what it asks.
-use Rattle.std.proofs.Common.{◌≡◌, refl, sym, subst, Bool, true, false, codes, Result, Ok, Err}
+use Rattle.std.proofs.Common.{◌≡◌, refl, sym, subst, Bool, true, false, codes, Result, Ok, Err, inr, [], ◌∷◌}
+use Rattle.cargo_platform.specs.declared.tokens.TokenFaultKind.TheVariants as lexical
 use Rattle.std.specs.Prelude.{IsTrue, IfOk}
+use Rattle.std.specs.Char.{encode_utf8}
 use Rattle.std.specs.FinSet.{contains}
-use Rattle.cargo_platform.specs.Trees.{Alone, Tree, Value, True, Condition, Target, Expression}
-use Rattle.cargo_platform.specs.Spelling.{Expressions, IsTreeText}
-use Rattle.cargo_platform.specs.Faults.{UnexpectedToken, IsRefused}
+use Rattle.cargo_platform.specs.Trees.{Alone, Tree, Value, All, True, Trees, none, tree, Condition, Target, Expression}
+use Rattle.cargo_platform.specs.Spelling.{Expressions, Values, IsTreeText}
+use Rattle.cargo_platform.specs.Tokens.{Ident}
+use Rattle.cargo_platform.specs.Faults.{UnexpectedToken, UnexpectedChar, UnterminatedExpression, IsRefused}
 use Rattle.cargo_platform.specs.Platforms.{IsConditionText}
 use Rattle.cargo_platform.specs.Facts.{FactSet, truth}
 use Rattle.cargo_platform.specs.Holders.{name_fact}
 use Rattle.cargo_platform.proofs.Conditions.{one_condition}
-use Rattle.cargo_platform.proofs.OnLiterals.{tree_on_literal, refused_on_literal}
+use Rattle.cargo_platform.proofs.OnLiterals.{tree_on_literal, spelling_on_literal, refused_on_literal}
+use Rattle.cargo_platform.proofs.OnLiterals.{refused_on_broken_literal, value_refused_on_literal}
 
 abbrev pub unix : Tree
 unix = Value (Alone (record { raw = false; name = codes "unix" }))
@@ -44,3 +48,18 @@ spaced = tree_on_literal (codes " unix ") unix refl refl ((refl, refl), (refl, r
 
 refused : IsRefused Expressions (codes "all(a b)") (UnexpectedToken (codes "`)`") (codes "an identifier"))
 refused = refused_on_literal (codes "all(a b)") _ refl refl
+
+-- a comma behind the last member
+all_unix : IsTreeText (codes "all(unix,)") (All (tree unix none))
+all_unix = spelling_on_literal (codes "all(unix,)") (All (tree unix none)) refl
+    ((Ident false (codes "unix") ∷ []) ∷ [], _, ((refl, (refl, refl)), tt), inr refl, refl)
+
+-- a character that begins no token
+misplaced : IsRefused Expressions (codes "all(&)") (UnexpectedChar 0x26)
+unfolding encode_utf8
+misplaced = refused_on_broken_literal (codes "all(&)") (lexical.UnexpectedChar 0x26) _ refl
+    (inr (codes ")", record { scalar = refl; parts = refl }, refl)) refl
+
+-- a line of facts
+no_fact : IsRefused Values (codes "a b") (UnterminatedExpression (codes "b"))
+no_fact = value_refused_on_literal (codes "a b") _ refl refl refl refl
