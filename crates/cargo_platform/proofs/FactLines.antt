@@ -2,11 +2,12 @@
 use Rattle.std.proofs.Common.{◌≡◌, ◌<◌, ◌+◌, ◌-◌, ◌∙◌, ℕ, zero, suc, List, [], ◌∷◌, ◌++◌, length, length-take, get_or}
 use Rattle.std.proofs.Common.{take, map, refl, sym, ap, subst, arith, append-nil, Result, Ok, Err, Vec}
 use Rattle.std.specs.declared.alloc.Global.{Global}
-use Rattle.std.specs.declared.alloc.AllocError.{AllocError}
 use Rattle.std.specs.List.{AllByRecursion}
+use Rattle.std.specs.Prelude.{IfOk}
 use Rattle.std.specs.Result.{IsErrAnd}
 use Rattle.std.proofs.lemmas.List.{get_or_read}
 use Rattle.cargo_platform.specs.declared.cfg.Cfg.{Cfg}
+use Rattle.cargo_platform.specs.declared.error.ParseError.{ParseError}
 use Rattle.cargo_platform.specs.declared.fact_lines.FactsError.{FactsError}
 use Rattle.cargo_platform.specs.declared.fact_lines.FactsError.TheVariants.{Line, Memory}
 use Rattle.cargo_platform.specs.Trees.{CfgValue, value_of}
@@ -16,9 +17,10 @@ use Rattle.cargo_platform.specs.WellFormed.{IsWellFormedValue}
 use Rattle.cargo_platform.specs.Print.{print_value}
 use Rattle.cargo_platform.specs.Errors.{orig_of, fault_in}
 use Rattle.cargo_platform.specs.Lines.{lines_of, line_at, IsUnbroken, ended}
-use Rattle.cargo_platform.specs.FactLines.{SpellFacts, SpellsNoFact, IsFirstNoFact, IfLine, ReadsFacts}
+use Rattle.cargo_platform.specs.FactLines.{SpellFacts, SpellsNoFact, IsFirstNoFact, IfLine}
 use Rattle.cargo_platform.proofs.OneValue.{one_value_text}
 use Rattle.cargo_platform.proofs.PrintedSpells.{printed_value_spells}
+use Rattle.cargo_platform.proofs.WellFormedness.{spelled_well_formed_value}
 use Rattle.cargo_platform.proofs.TextLines.{ended_lines}
 
 -- one more line that spells one more fact
@@ -30,11 +32,13 @@ one_more [] (c ∷ facts) text fact h v = absurd h
 one_more (t ∷ texts) [] text fact h v = absurd h
 one_more (t ∷ texts) (c ∷ facts) text fact h v = (h.0, one_more texts facts text fact h.1 v)
 
--- one more well-formed fact
-pub one_more_formed : (facts : List CfgValue) (fact : CfgValue) → AllByRecursion IsWellFormedValue facts
-    → IsWellFormedValue fact → AllByRecursion IsWellFormedValue (facts ++ fact ∷ [])
-one_more_formed [] fact h w = (w, tt)
-one_more_formed (c ∷ facts) fact h w = (h.0, one_more_formed facts fact h.1 w)
+-- what lines spell is well-formed
+pub spelled_formed : (texts : List (List ℕ)) (facts : List CfgValue) → SpellFacts texts facts
+    → AllByRecursion IsWellFormedValue facts
+spelled_formed [] [] h = tt
+spelled_formed [] (c ∷ facts) h = absurd h
+spelled_formed (t ∷ texts) [] h = absurd h
+spelled_formed (t ∷ texts) (c ∷ facts) h = (spelled_well_formed_value t c h.0, spelled_formed texts facts h.1)
 
 -- there are as many facts as lines
 pub as_many : (texts : List (List ℕ)) (facts : List CfgValue) → SpellFacts texts facts → length facts ≡ length texts
@@ -81,95 +85,91 @@ printed text cs w u e =
 
 -- ---- the answers
 
-pub accepted : (text : List ℕ) (v : Vec Cfg Global) → SpellFacts (lines_of text) (map value_of v.items)
-    → AllByRecursion IsWellFormedValue (map value_of v.items)
-    → ReadsFacts text (Ok v)
-accepted text v h w = record {
-  facts = h;
-  well_formed = w;
-  refused = tt;
-  orig = tt;
-  fault = tt;
-  reads_back = λ cs formed unbroken is.
-      (one_list (lines_of text) (map value_of v.items) cs h (printed text cs formed unbroken is), tt);
-}
-
--- no line, no fact
-pub accepted_none : (text : List ℕ) (v : Vec Cfg Global) → text ≡ [] → v.items ≡ [] → ReadsFacts text (Ok v)
-accepted_none text v empty none =
-    let P = λ (ls : List (List ℕ)). λ (cs : List Cfg). SpellFacts ls (map value_of cs) in
-    let spelled : P (lines_of text) v.items =
-    subst (λ t. P (lines_of t) v.items) (sym empty) (subst (P []) (sym none) tt) in
-    accepted text v spelled (subst (λ cs. AllByRecursion IsWellFormedValue (map value_of cs)) (sym none) tt)
-
--- nothing is said of want of memory
-pub out_of_memory : (text : List ℕ) (e : AllocError) → ReadsFacts text (Err (Memory e))
-out_of_memory text e =
-    record {
-      facts = tt;
-      well_formed = tt;
-      refused = tt;
-      orig = tt;
-      fault = tt;
-      reads_back =
-          λ cs formed unbroken is. (tt, tt);
-    }
-
 first_not_spelled : (ls : List (List ℕ)) (n : ℕ) (cs : List CfgValue) → IsFirstNoFact ls n → SpellFacts ls cs → ⊥
 first_not_spelled ls n cs first h =
     let within : n - 1 < length ls = omega (arith, first.numbered.0, first.numbered.1) in
     none_refused ls cs (n - 1) h within first.here
 
+-- what follows from the clauses on what is read, and on the refused line
+pub list_formed : (text : List ℕ) (answer : Result (Vec Cfg Global) FactsError)
+    → IfOk answer (λ v. SpellFacts (lines_of text) (map value_of v.items))
+    → IfOk answer (λ v. AllByRecursion IsWellFormedValue (map value_of v.items))
+list_formed text (Ok v) h = spelled_formed (lines_of text) (map value_of v.items) h
+list_formed text (Err e) h = tt
+
+pub list_back : (text : List ℕ) (answer : Result (Vec Cfg Global) FactsError)
+    → IfOk answer (λ v. SpellFacts (lines_of text) (map value_of v.items))
+    → IfLine answer (λ n e. IsFirstNoFact (lines_of text) n)
+    → (cs : List CfgValue) → AllByRecursion IsWellFormedValue cs → AllByRecursion IsUnbroken (map print_value cs)
+    → text ≡ ended (map print_value cs) → IfOk answer (λ v. map value_of v.items ≡ cs) × IfLine answer (λ n e. ⊥)
+list_back text (Ok v) h first cs w u is =
+    (one_list (lines_of text) (map value_of v.items) cs h (printed text cs w u is), tt)
+list_back text (Err (Line n e)) h first cs w u is =
+    (tt, first_not_spelled (lines_of text) n cs first (printed text cs w u is))
+list_back text (Err (Memory e)) h first cs w u is = (tt, tt)
+
+-- the line of this number is the first that spells no fact, and this is its error
+pub record IsRefusedLine (ls : List (List ℕ)) (n : ℕ) (e : ParseError) : Type 0 where
+  pub first : IsFirstNoFact ls n
+  pub orig : orig_of e ≡ line_at ls n
+  pub fault : IsRefused Values (line_at ls n) (fault_in e)
+
 -- the line behind those that were read is refused
-pub refused_at : (text : List ℕ) (r : FactsError) (i : ℕ) (facts : List CfgValue) → i < length (lines_of text)
-    → SpellFacts (take i (lines_of text)) facts
-    → IfLine {A = Cfg} (Err r) (λ n e. n ≡ i + 1)
-    → IfLine {A = Cfg} (Err r) (λ n e. SpellsNoFact (get_or (lines_of text) i []))
-    → IfLine {A = Cfg} (Err r) (λ n e. orig_of e ≡ get_or (lines_of text) i [])
-    → IfLine {A = Cfg} (Err r) (λ n e. IsRefused Values (get_or (lines_of text) i []) (fault_in e))
-    → ReadsFacts text (Err r)
-refused_at text (Memory e) i facts l h number none orig fault = out_of_memory text e
-refused_at text (Line n e) i facts l h number none orig fault =
-    let ls = lines_of text in
+refused_at : (ls : List (List ℕ)) (n : ℕ) (e : ParseError) (i : ℕ) (facts : List CfgValue) → i < length ls
+    → SpellFacts (take i ls) facts → n ≡ i + 1 → SpellsNoFact (get_or ls i []) → orig_of e ≡ get_or ls i []
+    → IsRefused Values (get_or ls i []) (fault_in e) → IsRefusedLine ls n e
+refused_at ls n e i facts l h number none orig fault =
     let at : i ≡ n - 1 = omega arith in
     let here : get_or ls i [] ≡ line_at ls n = ap (λ k. get_or ls k []) at in
-    let first : IsFirstNoFact ls n = record {
-      numbered = (omega arith, omega arith);
-      before = (facts, subst (λ k. SpellFacts (take k ls) facts) at h);
-      here = subst (λ t. SpellsNoFact t) here none;
-    } in
     record {
-      facts = tt;
-      well_formed = tt;
-      refused = first;
+      first = record {
+        numbered = (omega arith, omega arith);
+        before = (facts, subst (λ k. SpellFacts (take k ls) facts) at h);
+        here = subst (λ t. SpellsNoFact t) here none;
+      };
       orig = orig ∙ here;
       fault = subst (λ t. IsRefused Values t (fault_in e)) here fault;
-      reads_back = λ cs formed unbroken is. (tt, first_not_spelled ls n cs first (printed text cs formed unbroken is));
     }
 
 -- the same, where the lines are the parts that a loop goes over, and k of them were read
-pub refused_behind : (text : List ℕ) (parts read : List (List ℕ)) (k number : ℕ) (l : List ℕ) (facts : List CfgValue)
-    (r : FactsError) → parts ≡ lines_of text
+pub refused_behind : (ls parts read : List (List ℕ)) (k number : ℕ) (l : List ℕ) (facts : List CfgValue)
+    (r : FactsError) → parts ≡ ls
     → read ≡ take k parts → SpellFacts read facts → (k < length parts) × (l ≡ get_or parts k l)
     → number ≡ length facts + 1
     → IfLine {A = Cfg} (Err r) (λ n e. n ≡ number) → IfLine {A = Cfg} (Err r) (λ n e. SpellsNoFact l)
     → IfLine {A = Cfg} (Err r) (λ n e. orig_of e ≡ l)
     → IfLine {A = Cfg} (Err r) (λ n e. IsRefused Values l (fault_in e))
-    → ReadsFacts text (Err r)
-refused_behind text parts read k number l facts (Memory e) cut taken spelled at count n none orig fault =
-    out_of_memory text e
-refused_behind text parts read k number l facts (Line n e) cut taken spelled at count same none orig fault =
-    let here : l ≡ get_or (lines_of text) k [] = get_or_read parts k l at.0 at.1 [] ∙ ap (λ ls. get_or ls k []) cut in
-    let within : k < length (lines_of text) = subst (λ (ls : List (List ℕ)). k < length ls) cut at.0 in
-    let before : SpellFacts (take k (lines_of text)) facts =
+    → IfLine {A = Cfg} (Err r) (λ n e. IsRefusedLine ls n e)
+refused_behind ls parts read k number l facts (Memory e) cut taken spelled at count n none orig fault = tt
+refused_behind ls parts read k number l facts (Line n e) cut taken spelled at count same none orig fault =
+    let here : l ≡ get_or ls k [] = get_or_read parts k l at.0 at.1 [] ∙ ap (λ ls. get_or ls k []) cut in
+    let within : k < length ls = subst (λ (ls : List (List ℕ)). k < length ls) cut at.0 in
+    let before : SpellFacts (take k ls) facts =
     subst (λ ls. SpellFacts ls facts) (taken ∙ ap (take k) cut) spelled in
-    let many : length facts ≡ length (take k (lines_of text)) = as_many (take k (lines_of text)) facts before in
-    let number_is : n ≡ k + 1 = omega (arith, length-take k (lines_of text)) in
-    refused_at text (Line n e) k facts within before number_is (subst (λ t. SpellsNoFact t) here none) (orig ∙ here)
+    let many : length facts ≡ length (take k ls) = as_many (take k ls) facts before in
+    let number_is : n ≡ k + 1 = omega (arith, length-take k ls) in
+    refused_at ls n e k facts within before number_is (subst (λ t. SpellsNoFact t) here none) (orig ∙ here)
     (subst (λ t. IsRefused Values t (fault_in e)) here fault)
 
+of_list : (P : ℕ → ParseError → Type 0) (r : FactsError) → IfLine {A = Cfg} (Err r) P
+    → IfLine {A = Vec Cfg Global} (Err r) P
+of_list P (Line n e) h = h
+of_list P (Memory e) h = tt
+
 -- an error that is passed on
-pub passed_on : (text : List ℕ) (r : FactsError) (answer : Result (Vec Cfg Global) FactsError)
-    → IsErrAnd answer (λ x. x ≡ r) → ReadsFacts text (Err r) → ReadsFacts text answer
-passed_on text r (Ok v) is h = absurd is
-passed_on text r (Err e) is h = subst (λ x. ReadsFacts text (Err x)) (sym is) h
+pub passed_on : (P : ℕ → ParseError → Type 0) (r : FactsError) (answer : Result (Vec Cfg Global) FactsError)
+    → IsErrAnd answer (λ x. x ≡ r) → IfLine {A = Cfg} (Err r) P → IfLine answer P
+passed_on P r (Ok v) is h = absurd is
+passed_on P r (Err e) is h = subst (λ x. IfLine {A = Vec Cfg Global} (Err x) P) (sym is) (of_list P r h)
+
+pub no_list : (P : Vec Cfg Global → Type 0) (r : FactsError) (answer : Result (Vec Cfg Global) FactsError)
+    → IsErrAnd answer (λ x. x ≡ r) → IfOk answer P
+no_list P r (Ok v) is = absurd is
+no_list P r (Err e) is = tt
+
+-- a part of what is said of the refused line
+pub if_line : (P Q : ℕ → ParseError → Type 0) (answer : Result (Vec Cfg Global) FactsError)
+    → ((n : ℕ) (e : ParseError) → P n e → Q n e) → IfLine answer P → IfLine answer Q
+if_line P Q (Ok v) f h = tt
+if_line P Q (Err (Line n e)) f h = f n e h
+if_line P Q (Err (Memory e)) f h = tt

@@ -41,7 +41,6 @@ pub mod Conditions
 pub mod Changes
 pub mod ConditionFaults
 pub mod TextLaws
-pub mod JsonAnswers
 pub mod ConditionAnswers
 pub mod WarningWalks
 pub mod Texts

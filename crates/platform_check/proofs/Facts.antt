@@ -11,7 +11,10 @@ use Rattle.cargo_platform.specs.declared.fact_lines.FactsError.{FactsError}
 use Rattle.cargo_platform.specs.declared.fact_lines.FactsError.TheVariants as facts
 use Rattle.cargo_platform.specs.Trees.{CfgValue, Condition}
 use Rattle.cargo_platform.specs.Platforms.{IsConditionText, IsRefusedCondition}
-use Rattle.cargo_platform.specs.FactLines.{IsFirstNoFact, ReadsFacts}
+use Rattle.cargo_platform.specs.Spelling.{Values}
+use Rattle.cargo_platform.specs.Faults.{IsRefused}
+use Rattle.cargo_platform.specs.FactLines as lines
+use Rattle.cargo_platform.specs.FactLines.{IsFirstNoFact}
 use Rattle.cargo_platform.specs.Errors.{orig_of, fault_in}
 use Rattle.cargo_platform.proofs.FactLines.{none_refused}
 use Rattle.platform_check.specs.declared.answering.Refusal.{Refusal}
@@ -49,11 +52,17 @@ first_fact ls facts i n h l none e =
 
 -- what is said of a refused line of facts
 pub refused_line_of : (text : List ℕ) (r : Result (Vec Cfg Global) FactsError) (n : ℕ) (e : ParseError)
-    → ReadsFacts text r → r ≡ Err (facts.Line n e)
+    → lines.IfLine r (λ n e. IsFirstNoFact (lines_of text) n)
+    → lines.IfLine r (λ n e. orig_of e ≡ line_at (lines_of text) n)
+    → lines.IfLine r (λ n e. IsRefused Values (line_at (lines_of text) n) (fault_in e))
+    → r ≡ Err (facts.Line n e)
     → IsFirstNoFact (lines_of text) n × IsFactFault (line_at (lines_of text) n) (orig_of e) (fault_in e)
-refused_line_of text r n e h is =
-    let k : ReadsFacts text (Err (facts.Line n e)) = subst (λ x. ReadsFacts text x) is h in
-    (k.refused, (k.orig, k.fault))
+refused_line_of text r n e refused orig fault is =
+    let P = λ (x : Result (Vec Cfg Global) FactsError). lines.IfLine x (λ n e. IsFirstNoFact (lines_of text) n) in
+    let Q = λ (x : Result (Vec Cfg Global) FactsError). lines.IfLine x (λ n e. orig_of e ≡ line_at (lines_of text) n) in
+    let R = λ (x : Result (Vec Cfg Global) FactsError). lines.IfLine x
+    (λ n e. IsRefused Values (line_at (lines_of text) n) (fault_in e)) in
+    (subst P is refused, (subst Q is orig, subst R is fault))
 
 pub number_moved : (ls : List (List ℕ)) (n : ℕ) (e : ParseError)
     → IsFirstNoFact ls n × IsFactFault (line_at ls n) (orig_of e) (fault_in e)

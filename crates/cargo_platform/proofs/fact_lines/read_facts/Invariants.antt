@@ -1,13 +1,8 @@
 -- Each line so far spelled the fact at its place.
 use Rattle.std.proofs.Common.{map}
-use Rattle.std.specs.List.{AllByRecursion}
 use Rattle.cargo_platform.specs.Trees.{value_of}
-use Rattle.cargo_platform.specs.WellFormed.{IsWellFormedValue}
 use Rattle.cargo_platform.specs.FactLines.{SpellFacts}
 use Rattle.cargo_platform.proofs.fact_lines.read_facts.Given as goal
 
 abbrev pub invariant-loop-line : goal.invariant-loop-line
-invariant-loop-line l = record {
-  spelled : SpellFacts (map (λ x. x.now) l.yielded) (map value_of l.facts.items);
-  well_formed : AllByRecursion IsWellFormedValue (map value_of l.facts.items);
-}
+invariant-loop-line l = SpellFacts (map (λ x. x.now) l.yielded) (map value_of l.facts.items)
