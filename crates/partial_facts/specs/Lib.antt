@@ -4,3 +4,4 @@ pub mod Groups
 pub mod Partly
 pub mod Residual
 pub mod Conditions
+pub mod Inside
