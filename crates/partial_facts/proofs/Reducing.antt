@@ -1,5 +1,5 @@
 -- The steps by which what is left of a group is made, while its members are gone through.
-use Rattle.std.proofs.Common.{◌≡◌, ◌∙◌, refl, sym, ap, ℕ, ◌+◌, ◌<◌, Bool, true, false, not, Option, Some, None}
+use Rattle.std.proofs.Common.{◌≡◌, ◌∙◌, refl, sym, ap, ℕ, ◌+◌, ◌<◌, Bool, true, false, Option, Some, None}
 use Rattle.std.proofs.Common.{List, [], ◌∷◌, ◌++◌, length, map, Vec, Global, vec_len, Box, box_value}
 use Rattle.std.proofs.Common.{rules, arith}
 use Rattle.std.proofs.lemmas.List.{length-map}
@@ -13,36 +13,11 @@ use Rattle.partial_facts.specs.Residual.{literal, unless_known, with_unknown, gr
 use Rattle.partial_facts.specs.Residual.{residual_tree, literal_truth, negation}
 use Rattle.partial_facts.specs.Groups.{both, members_known, grouped}
 use Rattle.partial_facts.specs.Inside.Reducing.{left_so_far, in_front, left_by, left_behind, left_with}
+use Rattle.partial_facts.proofs.Neutral.{known-tree, neutral_first, settled_second, twice_unknown}
 use Rattle.partial_facts.proofs.Leaving.{decided, part_literal}
 
--- ---- the words, by the neutral truth
+-- ---- one more that is left
 
-members_tree : (n : Bool) (told : Pair → Option Bool) (e : Tree) (es : Trees)
-    → members_known n told (tree e es) ≡ both n (kleene told e) (members_known n told es)
-members_tree true told e es = refl
-members_tree false told e es = refl
-
-neutral_first : (n : Bool) (y : Option Bool) → both n (Some n) y ≡ y
-neutral_first true y = refl
-neutral_first false y = refl
-
-settled_second : (n : Bool) (x : Option Bool) → both n x (Some (not n)) ≡ Some (not n)
-settled_second true (Some true) = refl
-settled_second true (Some false) = refl
-settled_second true None = refl
-settled_second false (Some true) = refl
-settled_second false (Some false) = refl
-settled_second false None = refl
-
-twice_unknown : (n : Bool) (y : Option Bool) → both n None (both n None y) ≡ both n None y
-twice_unknown true (Some true) = refl
-twice_unknown true (Some false) = refl
-twice_unknown true None = refl
-twice_unknown false (Some true) = refl
-twice_unknown false (Some false) = refl
-twice_unknown false None = refl
-
--- one more that is left
 one_more_left : (n : Bool) (xs : List Tree) (x : Tree) (y : Option Bool)
     → both n (left_so_far n (xs ++ x ∷ [])) y ≡ both n (left_so_far n xs) (both n None y)
 one_more_left n [] x y = sym (neutral_first n (both n None y))
@@ -56,12 +31,7 @@ in_front-none : (xs : List Tree) → in_front xs none ≡ trees_of xs
 in_front-none [] = refl
 in_front-none (x ∷ xs) = ap (tree x) (in_front-none xs)
 
--- ---- a group, from its opening to its end
-
-pub opened : (n : Bool) (told : Pair → Option Bool) (es : Trees)
-    → left_with told n [] (literal_truth (literal n)) (literal n) es ≡ residual_tree told (grouped n es)
-opened true told es = refl
-opened false told es = refl
+-- ---- a group, from one member to the next
 
 by_truth : (n : Bool) (told : Pair → Option Bool) (xs : List Tree) (x : Option Bool) (d : Tree) (es : Trees)
     → left_by n xs (both n x (members_known n told es)) (with_unknown x d (unknown_members told es))
@@ -85,7 +55,7 @@ stepped : (told : Pair → Option Bool) (n : Bool) (xs : List Tree) (m : Tree) (
 stepped told n xs m es =
     ap (λ x. left_with told n xs x (residual_tree told m) es) (decided told m)
     ∙ sym
-    (ap (λ y. left_by n xs y (unknown_members told (tree m es))) (members_tree n told m es)
+    (ap (λ y. left_by n xs y (unknown_members told (tree m es))) (known-tree n told m es)
     ∙ by_truth n told xs (kleene told m) (unknown_part told m) es)
 
 ended : (told : Pair → Option Bool) (n : Bool) (xs : List Tree)
