@@ -22,8 +22,8 @@ pub struct OpenList<'a> {
 }
 
 impl<'a> OpenList<'a> {
-    /// Adds what is left of the next member. A literal is passed over, or settles the group: then its truth is answered.
-    /// Where memory is refused, all that is left is dropped.
+    /// Adds what is left of one more member. A literal is passed over, or it settles the group, and then its truth is
+    /// answered. Where memory is refused, all that is left is dropped.
     pub fn add(self, part: CfgExpr) -> Result<Result<OpenList<'a>, bool>, AllocError>
         ensures left { IfOk result (λ r. MatchResult r
             (λ list. (told : Pair → Option Bool) → list_with told self.entry (tree_of part) ≡ list_left told list)

@@ -1,5 +1,6 @@
 -- What is left of a group while its members are gone through, and of the groups around them.
-use Rattle.std.specs.Prelude.{ℕ, ◌+◌, ◌*◌, Bool, true, false, Option, Some, None, List, [], ◌∷◌, ◌++◌, map, reverse, sum}
+use Rattle.std.specs.Prelude.{ℕ, ◌+◌, ◌*◌, Bool, true, false, Option, Some, None, List, [], ◌∷◌, ◌++◌, map, reverse}
+use Rattle.std.specs.Prelude.{sum}
 use Rattle.cargo_platform.specs.Trees.{Tree, True, False, Trees, tree, tree_of, trees_of}
 use Rattle.cargo_platform.specs.Facts.{Pair}
 use Rattle.cargo_platform.specs.ExpressionSizes.{node_counts}
