@@ -5,7 +5,7 @@ use Rattle.std.specs.FinSet.{contains}
 use Rattle.cargo_platform.specs.Trees.{Tree, Not, All, Any, Value, True, False, Trees, none, tree}
 use Rattle.cargo_platform.specs.Facts.{Pair, pair_of, FactSet, truth}
 use Rattle.partial_facts.specs.Kleene.{kleene_not, kleene}
-use Rattle.partial_facts.specs.Groups.{both, members_known}
+use Rattle.partial_facts.specs.Inside.Groups.{both, members_known}
 use Rattle.partial_facts.proofs.Neutral.{both_true, members_true, known-tree, true-tree}
 
 -- a, of which x is known

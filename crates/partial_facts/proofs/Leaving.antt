@@ -4,7 +4,7 @@ use Rattle.std.specs.FinSet.{contains}
 use Rattle.cargo_platform.specs.Trees.{Tree, Not, All, Any, Value, True, False, Trees, none, tree}
 use Rattle.cargo_platform.specs.Facts.{Pair, FactSet, truth}
 use Rattle.partial_facts.specs.Kleene.{kleene_not, kleene}
-use Rattle.partial_facts.specs.Groups.{both, members_known, grouped}
+use Rattle.partial_facts.specs.Inside.Groups.{both, members_known, grouped}
 use Rattle.partial_facts.specs.Residual.{literal, unless_known, with_unknown, group, unknown_part, unknown_members}
 use Rattle.partial_facts.specs.Residual.{residual_tree, literal_truth, IsOpen, AreOpen, IsLiteralOrOpen}
 use Rattle.partial_facts.proofs.Neutral.{both_true, members_true, known-none, known-tree, true-tree, neutral_true}

@@ -4,7 +4,7 @@ use Rattle.std.proofs.Common.{◌≡◌, refl, Bool, true, false, not, ◌&&◌,
 use Rattle.cargo_platform.specs.Trees.{Tree, Trees, none, tree}
 use Rattle.cargo_platform.specs.Facts.{Pair, FactSet, truth, all_true, any_true}
 use Rattle.partial_facts.specs.Kleene.{kleene}
-use Rattle.partial_facts.specs.Groups.{both, members_known}
+use Rattle.partial_facts.specs.Inside.Groups.{both, members_known}
 
 abbrev pub both_true : Bool → Bool → Bool → Bool
 both_true true = ◌&&◌

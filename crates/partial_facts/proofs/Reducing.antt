@@ -11,7 +11,7 @@ use Rattle.cargo_platform.specs.ExpressionSizes.{node_count}
 use Rattle.partial_facts.specs.Kleene.{kleene, kleene_not}
 use Rattle.partial_facts.specs.Residual.{literal, unless_known, with_unknown, group, unknown_part, unknown_members}
 use Rattle.partial_facts.specs.Residual.{residual_tree, literal_truth, negation}
-use Rattle.partial_facts.specs.Groups.{both, members_known, grouped}
+use Rattle.partial_facts.specs.Inside.Groups.{both, members_known, grouped}
 use Rattle.partial_facts.specs.Inside.Reducing.{left_so_far, in_front, left_by, left_behind, left_with}
 use Rattle.partial_facts.proofs.Neutral.{known-tree, neutral_first, settled_second, twice_unknown}
 use Rattle.partial_facts.proofs.Leaving.{decided, part_literal}

@@ -4,7 +4,7 @@ use Rattle.std.specs.FinSet.{contains}
 use Rattle.cargo_platform.specs.Trees.{Tree, Not, All, Any, Value, True, False, Trees, none, tree}
 use Rattle.cargo_platform.specs.Facts.{Pair, pair_of, FactSet, truth}
 use Rattle.partial_facts.specs.Kleene.{kleene_not, kleene_and, kleene_or, kleene}
-use Rattle.partial_facts.specs.Groups.{both, members_known}
+use Rattle.partial_facts.specs.Inside.Groups.{both, members_known}
 use Rattle.partial_facts.specs.KleeneLaws.{TellsMore}
 use Rattle.partial_facts.proofs.Neutral.{members_true, known-tree, true-tree, settled_second, known_both}
 

@@ -4,7 +4,7 @@ use Rattle.cargo_platform.specs.Trees.{Tree, Not, All, Any, Value, True, False, 
 use Rattle.cargo_platform.specs.Facts.{Pair}
 use Rattle.partial_facts.specs.Kleene.{kleene_not, kleene_and, kleene_or, kleene}
 use Rattle.partial_facts.specs.KleeneLaws.{TellsMore}
-use Rattle.partial_facts.specs.Groups.{both, members_known, grouped}
+use Rattle.partial_facts.specs.Inside.Groups.{both, members_known, grouped}
 use Rattle.partial_facts.specs.Residual.{literal, unless_known, with_unknown, group, unknown_part, unknown_members}
 use Rattle.partial_facts.specs.Residual.{residual_tree}
 use Rattle.partial_facts.proofs.Neutral.{known-none, known-tree, neutral_second}

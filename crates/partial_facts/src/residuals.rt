@@ -10,7 +10,7 @@ ghost use Rattle.cargo_platform.specs.ExpressionSizes.{node_count, node_counts};
 ghost use Rattle.partial_facts.specs.Kleene.{kleene};
 ghost use Rattle.partial_facts.specs.Residual.{literal, negation, group, residual_tree};
 ghost use Rattle.partial_facts.specs.Residual.{literal_truth, IsLiteralOrOpen, IsSubsequence};
-ghost use Rattle.partial_facts.specs.Groups.{grouped};
+ghost use Rattle.partial_facts.specs.Inside.Groups.{grouped};
 ghost use Rattle.partial_facts.specs.Inside.Reducing.{whole, work, list_left};
 
 use crate::knowledge::Knowledge;

@@ -4,7 +4,7 @@ use Rattle.std.specs.Prelude.{sum}
 use Rattle.cargo_platform.specs.Trees.{Tree, True, False, Trees, tree, tree_of, trees_of}
 use Rattle.cargo_platform.specs.Facts.{Pair}
 use Rattle.cargo_platform.specs.ExpressionSizes.{node_counts}
-use Rattle.partial_facts.specs.Groups.{both, members_known, grouped}
+use Rattle.partial_facts.specs.Inside.Groups.{both, members_known, grouped}
 use Rattle.partial_facts.specs.Residual.{literal, unless_known, group, unknown_members, literal_truth, negation}
 use Rattle.partial_facts.specs.declared.open_groups.OpenList.{OpenList}
 use Rattle.partial_facts.specs.declared.open_groups.OpenGroup.{OpenGroup}
