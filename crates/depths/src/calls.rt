@@ -2,6 +2,7 @@
 
 use crate::nests::{Form, condition, is_condition, name, open_text};
 use cargo_platform::{CfgExpr, FactIndex, Platform, ReadError};
+use partial_facts::{Partial, decide_platform, residual_platform};
 use std::alloc::{AllocError, Global};
 use std::cmp::Ordering;
 use std::hash::{DefaultHasher, Hash, Hasher};
@@ -31,6 +32,8 @@ pub enum Call {
     Equal,
     Order,
     Hash,
+    Decide,
+    Residual,
 }
 
 impl Call {
@@ -50,6 +53,8 @@ impl Call {
             Call::Equal => "==",
             Call::Order => "cmp",
             Call::Hash => "hash",
+            Call::Decide => "decide",
+            Call::Residual => "residual",
         }
     }
 }
@@ -119,6 +124,19 @@ impl Nest {
             }
             Call::Matches | Call::MatchesIn => self.matches(alloc, call),
             Call::Equal | Call::Order | Call::Hash => self.compares(alloc, call),
+            Call::Decide => Ok(self.decides(&[], None) && self.decides(&[LEAF], Some(false))),
+            Call::Residual => {
+                // Negations are left, and members that are true are not.
+                let levels = match self.form {
+                    Form::Not => self.levels,
+                    Form::Last | Form::First => 0,
+                };
+                let left = self.left(alloc, &[])?;
+                let is_right = is_condition(&left, self.form, levels, LEAF);
+                left.drop_iteratively(alloc);
+                let decided = self.left(alloc, &[LEAF])?;
+                Ok(is_right && matches!(decided, Platform::Cfg(CfgExpr::False)))
+            }
         }
     }
 
@@ -151,6 +169,24 @@ impl Nest {
             }
             (_, platform) => Ok(platform.matches("", &facts) && !platform.matches("", &[])),
         }
+    }
+
+    /// Whether this is decided of the nest where no name is a fact of these that are complete.
+    fn decides(&self, complete: &[&str], wanted: Option<bool>) -> bool {
+        let known = Partial {
+            facts: &[],
+            complete,
+        };
+        decide_platform(&self.platform, None, &known) == wanted
+    }
+
+    /// What is left of the nest there.
+    fn left(&self, alloc: Global, complete: &[&str]) -> Result<Platform, AllocError> {
+        let known = Partial {
+            facts: &[],
+            complete,
+        };
+        residual_platform(alloc, &self.platform, None, &known)
     }
 
     /// The nest is compared with itself, and with one around a later name.

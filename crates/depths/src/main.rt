@@ -26,6 +26,7 @@ const LISTING: &[Call] = &[
     Call::Clone,
     Call::Attributes,
     Call::Keywords,
+    Call::Residual,
 ];
 
 /// The other calls.
@@ -38,6 +39,7 @@ const OTHERS: &[Call] = &[
     Call::Equal,
     Call::Order,
     Call::Hash,
+    Call::Decide,
 ];
 
 /// Makes the calls on a nest of this form, and drops it. The answer is whether each was right.

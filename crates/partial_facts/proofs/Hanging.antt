@@ -2,7 +2,7 @@
 use Rattle.std.proofs.Common.{◌≡◌, Bool, true, false, Option, Some, None}
 use Rattle.cargo_platform.specs.Trees.{Trees}
 use Rattle.cargo_platform.specs.Facts.{Pair}
-use Rattle.partial_facts.specs.Groups.{both, members_known, so_far}
+use Rattle.partial_facts.specs.Inside.Groups.{both, members_known, so_far}
 
 -- what is known of the members es hangs on those that are left, and on whether each before them is known
 abbrev pub HangsOn : Bool → (Pair → Option Bool) → Bool → Trees → Trees → Type 0

@@ -2,10 +2,13 @@
 use Rattle.std.proofs.Common.{◌≡◌, ◌∙◌, refl, sym, ap, Bool, true, false, not, ◌&&◌, ◌||◌, Option, Some, None, IfSome}
 use Rattle.std.specs.FinSet.{contains}
 use Rattle.cargo_platform.specs.Trees.{Tree, Not, All, Any, Value, True, False, Trees, none, tree}
-use Rattle.cargo_platform.specs.Facts.{Pair, FactSet, truth, all_true, any_true}
-use Rattle.partial_facts.specs.Kleene.{kleene_not, kleene_and, kleene_or, kleene, kleene_all, kleene_any}
+use Rattle.cargo_platform.specs.Facts.{Pair, FactSet, truth}
+use Rattle.partial_facts.specs.Kleene.{kleene_not, kleene}
+use Rattle.partial_facts.specs.Inside.Groups.{both, members_known, grouped}
 use Rattle.partial_facts.specs.Residual.{literal, unless_known, with_unknown, group, unknown_part, unknown_members}
-use Rattle.partial_facts.specs.Residual.{residual_tree, literal_truth, AreTwoOrMore, IsOpen, AreOpen, IsLiteralOrOpen}
+use Rattle.partial_facts.specs.Residual.{residual_tree, literal_truth, IsOpen, AreOpen, IsLiteralOrOpen}
+use Rattle.partial_facts.proofs.Neutral.{both_true, members_true, known-none, known-tree, true-tree, neutral_true}
+use Rattle.partial_facts.proofs.Neutral.{settled_first, settled_second}
 use Rattle.partial_facts.proofs.KleeneSound.{kleene_sound}
 
 -- ---- what is not known has a part that is not known
@@ -19,37 +22,30 @@ abbrev IsSomeLeft : Trees → Type 0
 IsSomeLeft none = ⊥
 IsSomeLeft (tree e es) = Unit {0}
 
-and_left : (x y : Option Bool) (d : Tree) (ds : Trees) → (y ≡ None → IsSomeLeft ds) → kleene_and x y ≡ None
-    → IsSomeLeft (with_unknown x d ds)
-and_left (Some true) y d ds f h = f h
-and_left (Some false) y d ds f h = cc
-and_left None y d ds f h = tt
+some_left_with : (n : Bool) (x y : Option Bool) (d : Tree) (ds : Trees) → (y ≡ None → IsSomeLeft ds)
+    → both n x y ≡ None → IsSomeLeft (with_unknown x d ds)
+some_left_with true (Some true) y d ds f h = f h
+some_left_with true (Some false) y d ds f h = cc
+some_left_with false (Some true) y d ds f h = cc
+some_left_with false (Some false) y d ds f h = f h
+some_left_with n None y d ds f h = tt
 
-or_left : (x y : Option Bool) (d : Tree) (ds : Trees) → (y ≡ None → IsSomeLeft ds) → kleene_or x y ≡ None
-    → IsSomeLeft (with_unknown x d ds)
-or_left (Some true) y d ds f h = cc
-or_left (Some false) y d ds f h = f h
-or_left None y d ds f h = tt
-
-module _ (told : Pair → Option Bool) where
-  all_left : (es : Trees) → kleene_all told es ≡ None → IsSomeLeft (unknown_members told es)
-  all_left none h = cc
-  all_left (tree e es) h =
-      and_left (kleene told e) (kleene_all told es) (unknown_part told e) (unknown_members told es) (all_left es) h
-
-  any_left : (es : Trees) → kleene_any told es ≡ None → IsSomeLeft (unknown_members told es)
-  any_left none h = cc
-  any_left (tree e es) h =
-      or_left (kleene told e) (kleene_any told es) (unknown_part told e) (unknown_members told es) (any_left es) h
+some_left : (told : Pair → Option Bool) (n : Bool) (es : Trees) → members_known n told es ≡ None
+    → IsSomeLeft (unknown_members told es)
+some_left told n none h = cc (known-none n told)
+some_left told n (tree e es) h =
+    some_left_with n (kleene told e) (members_known n told es) (unknown_part told e) (unknown_members told es)
+    (some_left told n es)
+    (sym (known-tree n told e es) ∙ h)
 
 -- ---- nothing known is left
 
-group_open : (told : Pair → Option Bool) (empty : Tree) (of : Trees → Tree)
-    → ((es : Trees) → AreTwoOrMore es × AreOpen told es → IsOpen told (of es))
-    → (es : Trees) → IsSomeLeft es → AreOpen told es → IsOpen told (group empty of es)
-group_open told empty of f none some h = absurd some
-group_open told empty of f (tree e none) some h = h.0
-group_open told empty of f (tree d (tree e es)) some h = f (tree d (tree e es)) (tt, h)
+group_open : (told : Pair → Option Bool) (n : Bool) (es : Trees) → IsSomeLeft es → AreOpen told es
+    → IsOpen told (group (literal n) (grouped n) es)
+group_open told n none some h = absurd some
+group_open told n (tree e none) some h = h.0
+group_open told true (tree d (tree e es)) some h = (tt, h)
+group_open told false (tree d (tree e es)) some h = (tt, h)
 
 with_open : (told : Pair → Option Bool) (x : Option Bool) (d : Tree) (ds : Trees) → (x ≡ None → IsOpen told d)
     → AreOpen told ds → AreOpen told (with_unknown x d ds)
@@ -61,9 +57,9 @@ module _ (told : Pair → Option Bool) where
     pub part_open : (e : Tree) → kleene told e ≡ None → IsOpen told (unknown_part told e)
     part_open (Not e) h = part_open e (inner_unknown (kleene told e) h)
     part_open (All es) h =
-        group_open told True All (λ ds k. k) (unknown_members told es) (all_left told es h) (members_open es)
+        group_open told true (unknown_members told es) (some_left told true es h) (members_open es)
     part_open (Any es) h =
-        group_open told False Any (λ ds k. k) (unknown_members told es) (any_left told es h) (members_open es)
+        group_open told false (unknown_members told es) (some_left told false es h) (members_open es)
     part_open (Value c) h = h
     part_open True h = cc
     part_open False h = cc
@@ -114,64 +110,42 @@ literal_or_open told e = unless_open told (kleene told e) (unknown_part told e) 
 
 -- ---- truth
 
-and_true : (a : Bool) → (a && true) ≡ a
-and_true true = refl
-and_true false = refl
+group_true : (n : Bool) (s : FactSet) (es : Trees) → truth s (group (literal n) (grouped n) es) ≡ members_true n s es
+group_true true s none = refl
+group_true false s none = refl
+group_true true s (tree e none) = sym (neutral_true true (truth s e))
+group_true false s (tree e none) = sym (neutral_true false (truth s e))
+group_true true s (tree d (tree e es)) = refl
+group_true false s (tree d (tree e es)) = refl
 
-or_false : (a : Bool) → (a || false) ≡ a
-or_false true = refl
-or_false false = refl
+-- a group that is not known is not settled, and so no member of it settles it
+abbrev pub Settles : Bool → Option Bool → Type 0
+Settles n x = x ≡ Some (not n)
 
-all_group : (s : FactSet) (es : Trees) → truth s (group True All es) ≡ all_true s es
-all_group s none = refl
-all_group s (tree e none) = sym (and_true (truth s e))
-all_group s (tree d (tree e es)) = refl
+pub unknown_unsettled : (n : Bool) (x : Option Bool) → x ≡ None → Settles n x → ⊥
+unknown_unsettled n x h is = cc
 
-any_group : (s : FactSet) (es : Trees) → truth s (group False Any es) ≡ any_true s es
-any_group s none = refl
-any_group s (tree e none) = sym (or_false (truth s e))
-any_group s (tree d (tree e es)) = refl
+module _ (n : Bool) (told : Pair → Option Bool) (e : Tree) (es : Trees)
+    (unsettled : Settles n (members_known n told (tree e es)) → ⊥) where
+  pub first_unsettled : Settles n (kleene told e) → ⊥
+  first_unsettled is =
+      unsettled
+      (known-tree n told e es ∙ ap (λ z. both n z (members_known n told es)) is
+      ∙ settled_first n (members_known n told es))
 
--- no member so far is known to be false, and so the others are not
-abbrev pub IsNot : Bool → Option Bool → Type 0
-IsNot b x = x ≡ Some b → ⊥
+  pub others_unsettled : Settles n (members_known n told es) → ⊥
+  others_unsettled is =
+      unsettled (known-tree n told e es ∙ ap (both n (kleene told e)) is ∙ settled_second n (kleene told e))
 
-pub unknown_is_not : (b : Bool) (x : Option Bool) → x ≡ None → IsNot b x
-unknown_is_not b x h is = cc
-
-and_false : (x : Option Bool) → kleene_and x (Some false) ≡ Some false
-and_false (Some true) = refl
-and_false (Some false) = refl
-and_false None = refl
-
-or_true : (x : Option Bool) → kleene_or x (Some true) ≡ Some true
-or_true (Some true) = refl
-or_true (Some false) = refl
-or_true None = refl
-
-pub and_first : (x y : Option Bool) → IsNot false (kleene_and x y) → IsNot false x
-and_first x y h is = h (ap (λ z. kleene_and z y) is)
-
-pub and_second : (x y : Option Bool) → IsNot false (kleene_and x y) → IsNot false y
-and_second x y h is = h (ap (kleene_and x) is ∙ and_false x)
-
-pub or_first : (x y : Option Bool) → IsNot true (kleene_or x y) → IsNot true x
-or_first x y h is = h (ap (λ z. kleene_or z y) is)
-
-pub or_second : (x y : Option Bool) → IsNot true (kleene_or x y) → IsNot true y
-or_second x y h is = h (ap (kleene_or x) is ∙ or_true x)
-
-all_with : (s : FactSet) (x : Option Bool) (d : Tree) (ds : Trees) (a c : Bool) → IfSome x (λ b. a ≡ b) → IsNot false x
-    → (x ≡ None → truth s d ≡ a) → all_true s ds ≡ c → all_true s (with_unknown x d ds) ≡ (a && c)
-all_with s (Some true) d ds a c is other f k = k ∙ sym (ap (λ z. z && c) is)
-all_with s (Some false) d ds a c is other f k = absurd (other refl)
-all_with s None d ds a c is other f k = λ i. f refl i && k i
-
-any_with : (s : FactSet) (x : Option Bool) (d : Tree) (ds : Trees) (a c : Bool) → IfSome x (λ b. a ≡ b) → IsNot true x
-    → (x ≡ None → truth s d ≡ a) → any_true s ds ≡ c → any_true s (with_unknown x d ds) ≡ (a || c)
-any_with s (Some true) d ds a c is other f k = absurd (other refl)
-any_with s (Some false) d ds a c is other f k = k ∙ sym (ap (λ z. z || c) is)
-any_with s None d ds a c is other f k = λ i. f refl i || k i
+with_true : (n : Bool) (s : FactSet) (x : Option Bool) (d : Tree) (ds : Trees) (a c : Bool) → IfSome x (λ b. a ≡ b)
+    → (Settles n x → ⊥)
+    → (x ≡ None → truth s d ≡ a) → members_true n s ds ≡ c
+    → members_true n s (with_unknown x d ds) ≡ both_true n a c
+with_true true s (Some true) d ds a c is other f k = k ∙ sym (ap (λ z. z && c) is)
+with_true true s (Some false) d ds a c is other f k = absurd (other refl)
+with_true false s (Some true) d ds a c is other f k = absurd (other refl)
+with_true false s (Some false) d ds a c is other f k = k ∙ sym (ap (λ z. z || c) is)
+with_true n s None d ds a c is other f k = true-tree n s d ds ∙ (λ i. both_true n (f refl i) (k i))
 
 pub literal_true : (s : FactSet) (b : Bool) → truth s (literal b) ≡ b
 literal_true s true = refl
@@ -190,30 +164,23 @@ module _ (told : Pair → Option Bool) (s : FactSet) (agrees : (p : Pair) → If
     part_true : (e : Tree) → kleene told e ≡ None → truth s (unknown_part told e) ≡ truth s e
     part_true (Not e) h = ap not (part_true e (inner_unknown (kleene told e) h))
     part_true (All es) h =
-        all_group s (unknown_members told es) ∙ all_members_true es (unknown_is_not false (kleene_all told es) h)
+        group_true true s (unknown_members told es)
+        ∙ members_as_true true es (unknown_unsettled true (members_known true told es) h)
     part_true (Any es) h =
-        any_group s (unknown_members told es) ∙ any_members_true es (unknown_is_not true (kleene_any told es) h)
+        group_true false s (unknown_members told es)
+        ∙ members_as_true false es (unknown_unsettled false (members_known false told es) h)
     part_true (Value c) h = refl
     part_true True h = refl
     part_true False h = refl
 
-    all_members_true : (es : Trees) → IsNot false (kleene_all told es)
-        → all_true s (unknown_members told es) ≡ all_true s es
-    all_members_true none h = refl
-    all_members_true (tree e es) h =
-        all_with s (kleene told e) (unknown_part told e) (unknown_members told es) (truth s e) (all_true s es)
+    members_as_true : (n : Bool) (es : Trees) → (Settles n (members_known n told es) → ⊥)
+        → members_true n s (unknown_members told es) ≡ members_true n s es
+    members_as_true n none h = refl
+    members_as_true n (tree e es) h =
+        with_true n s (kleene told e) (unknown_part told e) (unknown_members told es) (truth s e) (members_true n s es)
         (known_true e)
-        (and_first (kleene told e) (kleene_all told es) h) (part_true e)
-        (all_members_true es (and_second (kleene told e) (kleene_all told es) h))
-
-    any_members_true : (es : Trees) → IsNot true (kleene_any told es)
-        → any_true s (unknown_members told es) ≡ any_true s es
-    any_members_true none h = refl
-    any_members_true (tree e es) h =
-        any_with s (kleene told e) (unknown_part told e) (unknown_members told es) (truth s e) (any_true s es)
-        (known_true e)
-        (or_first (kleene told e) (kleene_any told es) h) (part_true e)
-        (any_members_true es (or_second (kleene told e) (kleene_any told es) h))
+        (first_unsettled n told e es h) (part_true e) (members_as_true n es (others_unsettled n told e es h))
+        ∙ sym (true-tree n s e es)
 
   pub as_true : (e : Tree) → truth s (residual_tree told e) ≡ truth s e
   as_true e = unless_true s (kleene told e) (unknown_part told e) (truth s e) (known_true e) (part_true e)

@@ -1,4 +1,5 @@
 pub mod Hanging
+pub mod Neutral
 pub mod KleeneSound
 pub mod Refining
 pub mod Telling

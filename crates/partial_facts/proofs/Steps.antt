@@ -2,23 +2,14 @@
 use Rattle.std.proofs.Common.{◌≡◌, ◌∙◌, refl, sym, ap, Bool, true, false, Option, Some, None}
 use Rattle.cargo_platform.specs.Trees.{Tree, Not, All, Any, Value, True, False, Trees, none, tree}
 use Rattle.cargo_platform.specs.Facts.{Pair}
-use Rattle.partial_facts.specs.Kleene.{kleene_not, kleene_and, kleene_or, kleene, kleene_all, kleene_any}
+use Rattle.partial_facts.specs.Kleene.{kleene_not, kleene_and, kleene_or, kleene}
 use Rattle.partial_facts.specs.KleeneLaws.{TellsMore}
-use Rattle.partial_facts.specs.Residual.{unless_known, with_unknown, group, unknown_part, unknown_members}
+use Rattle.partial_facts.specs.Inside.Groups.{both, members_known, grouped}
+use Rattle.partial_facts.specs.Residual.{literal, unless_known, with_unknown, group, unknown_part, unknown_members}
 use Rattle.partial_facts.specs.Residual.{residual_tree}
+use Rattle.partial_facts.proofs.Neutral.{known-none, known-tree, neutral_second}
 use Rattle.partial_facts.proofs.Refining.{Keeps, kept}
-use Rattle.partial_facts.proofs.Leaving.{inner_unknown, IsNot, unknown_is_not, and_first, and_second, or_first}
-use Rattle.partial_facts.proofs.Leaving.{or_second}
-
-and_true : (x : Option Bool) → kleene_and x (Some true) ≡ x
-and_true (Some true) = refl
-and_true (Some false) = refl
-and_true None = refl
-
-or_false : (x : Option Bool) → kleene_or x (Some false) ≡ x
-or_false (Some true) = refl
-or_false (Some false) = refl
-or_false None = refl
+use Rattle.partial_facts.proofs.Leaving.{inner_unknown, Settles, unknown_unsettled, first_unsettled, others_unsettled}
 
 with_alike : (x y : Option Bool) (d e : Tree) (ds es : Trees) → x ≡ y → (y ≡ None → d ≡ e) → ds ≡ es
     → with_unknown x d ds ≡ with_unknown y e es
@@ -30,29 +21,25 @@ unless_alike x (Some b) d e is f = ap (λ z. unless_known z d) is
 unless_alike x None d e is f = ap (λ z. unless_known z d) is ∙ f refl
 
 module _ (more : Pair → Option Bool) where
-  all_group_known : (es : Trees) → kleene more (group True All es) ≡ kleene_all more es
-  all_group_known none = refl
-  all_group_known (tree e none) = sym (and_true (kleene more e))
-  all_group_known (tree d (tree e es)) = refl
+  known_alone : (n : Bool) (e : Tree) → members_known n more (tree e none) ≡ kleene more e
+  known_alone n e =
+      known-tree n more e none ∙ ap (both n (kleene more e)) (known-none n more) ∙ neutral_second n (kleene more e)
 
-  any_group_known : (es : Trees) → kleene more (group False Any es) ≡ kleene_any more es
-  any_group_known none = refl
-  any_group_known (tree e none) = sym (or_false (kleene more e))
-  any_group_known (tree d (tree e es)) = refl
+  group_known : (n : Bool) (es : Trees) → kleene more (group (literal n) (grouped n) es) ≡ members_known n more es
+  group_known true none = refl
+  group_known false none = refl
+  group_known n (tree e none) = sym (known_alone n e)
+  group_known true (tree d (tree e es)) = refl
+  group_known false (tree d (tree e es)) = refl
 
-  all_with_known : (x y z : Option Bool) (d : Tree) (ds : Trees) → Keeps x y → IsNot false x
-      → (x ≡ None → kleene more d ≡ y) → kleene_all more ds ≡ z
-      → kleene_all more (with_unknown x d ds) ≡ kleene_and y z
-  all_with_known (Some true) y z d ds keeps other f k = k ∙ sym (ap (λ w. kleene_and w z) (keeps true refl))
-  all_with_known (Some false) y z d ds keeps other f k = absurd (other refl)
-  all_with_known None y z d ds keeps other f k = λ i. kleene_and (f refl i) (k i)
-
-  any_with_known : (x y z : Option Bool) (d : Tree) (ds : Trees) → Keeps x y → IsNot true x
-      → (x ≡ None → kleene more d ≡ y) → kleene_any more ds ≡ z
-      → kleene_any more (with_unknown x d ds) ≡ kleene_or y z
-  any_with_known (Some true) y z d ds keeps other f k = absurd (other refl)
-  any_with_known (Some false) y z d ds keeps other f k = k ∙ sym (ap (λ w. kleene_or w z) (keeps false refl))
-  any_with_known None y z d ds keeps other f k = λ i. kleene_or (f refl i) (k i)
+  with_known : (n : Bool) (x y z : Option Bool) (d : Tree) (ds : Trees) → Keeps x y → (Settles n x → ⊥)
+      → (x ≡ None → kleene more d ≡ y) → members_known n more ds ≡ z
+      → members_known n more (with_unknown x d ds) ≡ both n y z
+  with_known true (Some true) y z d ds keeps other f k = k ∙ sym (ap (λ w. kleene_and w z) (keeps true refl))
+  with_known true (Some false) y z d ds keeps other f k = absurd (other refl)
+  with_known false (Some true) y z d ds keeps other f k = absurd (other refl)
+  with_known false (Some false) y z d ds keeps other f k = k ∙ sym (ap (λ w. kleene_or w z) (keeps false refl))
+  with_known n None y z d ds keeps other f k = known-tree n more d ds ∙ (λ i. both n (f refl i) (k i))
 
   -- a known member is known later too, and falls away then
   with_members : (x y : Option Bool) (d e : Tree) (ds es : Trees) → Keeps x y → (x ≡ None → kleene more d ≡ y)
@@ -62,60 +49,54 @@ module _ (more : Pair → Option Bool) where
   with_members None y d e ds es keeps f g k =
       with_alike (kleene more d) y (unknown_part more d) e (unknown_members more ds) es (f refl) (g refl) k
 
-  all_group_part : (es : Trees) → kleene_all more es ≡ None
-      → unknown_part more (group True All es) ≡ group True All (unknown_members more es)
-  all_group_part none h = cc
-  all_group_part (tree e none) h =
-      sym (ap (λ x. group True All (with_unknown x (unknown_part more e) none)) (sym (and_true (kleene more e)) ∙ h))
-  all_group_part (tree d (tree e es)) h = refl
-
-  any_group_part : (es : Trees) → kleene_any more es ≡ None
-      → unknown_part more (group False Any es) ≡ group False Any (unknown_members more es)
-  any_group_part none h = cc
-  any_group_part (tree e none) h =
-      sym (ap (λ x. group False Any (with_unknown x (unknown_part more e) none)) (sym (or_false (kleene more e)) ∙ h))
-  any_group_part (tree d (tree e es)) h = refl
+  group_part : (n : Bool) (es : Trees) → members_known n more es ≡ None
+      → unknown_part more (group (literal n) (grouped n) es) ≡ group (literal n) (grouped n) (unknown_members more es)
+  group_part n none h = cc (known-none n more)
+  group_part n (tree e none) h =
+      sym
+      (ap (λ x. group (literal n) (grouped n) (with_unknown x (unknown_part more e) none))
+      (sym (known_alone n e) ∙ h))
+  group_part true (tree d (tree e es)) h = refl
+  group_part false (tree d (tree e es)) h = refl
 
 module _ (told more : Pair → Option Bool) (grows : TellsMore told more) where
   mutual
     part_known : (e : Tree) → kleene told e ≡ None → kleene more (unknown_part told e) ≡ kleene more e
     part_known (Not e) h = ap kleene_not (part_known e (inner_unknown (kleene told e) h))
     part_known (All es) h =
-        all_group_known more (unknown_members told es) ∙ all_known es (unknown_is_not false (kleene_all told es) h)
+        group_known more true (unknown_members told es)
+        ∙ members_known_later true es (unknown_unsettled true (members_known true told es) h)
     part_known (Any es) h =
-        any_group_known more (unknown_members told es) ∙ any_known es (unknown_is_not true (kleene_any told es) h)
+        group_known more false (unknown_members told es)
+        ∙ members_known_later false es (unknown_unsettled false (members_known false told es) h)
     part_known (Value c) h = refl
     part_known True h = refl
     part_known False h = refl
 
-    all_known : (es : Trees) → IsNot false (kleene_all told es)
-        → kleene_all more (unknown_members told es) ≡ kleene_all more es
-    all_known none h = refl
-    all_known (tree e es) h =
-        all_with_known more (kleene told e) (kleene more e) (kleene_all more es) (unknown_part told e)
+    members_known_later : (n : Bool) (es : Trees) → (Settles n (members_known n told es) → ⊥)
+        → members_known n more (unknown_members told es) ≡ members_known n more es
+    members_known_later n none h = refl
+    members_known_later n (tree e es) h =
+        with_known more n (kleene told e) (kleene more e) (members_known n more es) (unknown_part told e)
         (unknown_members told es) (kept told more grows e)
-        (and_first (kleene told e) (kleene_all told es) h) (part_known e)
-        (all_known es (and_second (kleene told e) (kleene_all told es) h))
+        (first_unsettled n told e es h) (part_known e) (members_known_later n es (others_unsettled n told e es h))
+        ∙ sym (known-tree n more e es)
 
-    any_known : (es : Trees) → IsNot true (kleene_any told es)
-        → kleene_any more (unknown_members told es) ≡ kleene_any more es
-    any_known none h = refl
-    any_known (tree e es) h =
-        any_with_known more (kleene told e) (kleene more e) (kleene_any more es) (unknown_part told e)
-        (unknown_members told es) (kept told more grows e)
-        (or_first (kleene told e) (kleene_any told es) h) (part_known e)
-        (any_known es (or_second (kleene told e) (kleene_any told es) h))
+  group_part_left : (n : Bool) (es : Trees) → members_known n told es ≡ None → members_known n more es ≡ None
+      → unknown_members more (unknown_members told es) ≡ unknown_members more es
+      → unknown_part more (group (literal n) (grouped n) (unknown_members told es))
+      ≡ group (literal n) (grouped n) (unknown_members more es)
+  group_part_left n es h k left =
+      group_part more n (unknown_members told es)
+      (members_known_later n es (unknown_unsettled n (members_known n told es) h) ∙ k)
+      ∙ ap (group (literal n) (grouped n)) left
 
   mutual
     part_left : (e : Tree) → kleene told e ≡ None → kleene more e ≡ None
         → unknown_part more (unknown_part told e) ≡ unknown_part more e
     part_left (Not e) h k = ap Not (part_left e (inner_unknown (kleene told e) h) (inner_unknown (kleene more e) k))
-    part_left (All es) h k =
-        all_group_part more (unknown_members told es) (all_known es (unknown_is_not false (kleene_all told es) h) ∙ k)
-        ∙ ap (group True All) (members_left es)
-    part_left (Any es) h k =
-        any_group_part more (unknown_members told es) (any_known es (unknown_is_not true (kleene_any told es) h) ∙ k)
-        ∙ ap (group False Any) (members_left es)
+    part_left (All es) h k = group_part_left true es h k (members_left es)
+    part_left (Any es) h k = group_part_left false es h k (members_left es)
     part_left (Value c) h k = refl
     part_left True h k = refl
     part_left False h k = refl

@@ -8,6 +8,7 @@
 
 mod knowledge;
 pub mod laws;
+mod open_groups;
 mod platforms;
 mod residuals;
 mod three_valued;

@@ -1,17 +1,21 @@
 //! What is left of an expression to ask.
 
-ghost use Rattle.std.specs.Prelude.{◌≡◌, ◌≤◌, [], ◌∷◌, ◌++◌, map, OnSome, IfNone, IfOk};
-ghost use Rattle.cargo_platform.specs.Trees.{tree_of, trees_of, All, Any, True, False};
-ghost use Rattle.cargo_platform.specs.Facts.{FactSet, truth};
+ghost use Rattle.std.specs.Prelude.{◌≡◌, ◌≤◌, ◌+◌, ◌*◌, Bool, Option, map, IfOk, OnOk};
+ghost use Rattle.cargo_platform.specs.Trees.{Value, value_of, tree_of, trees_of};
+ghost use Rattle.cargo_platform.specs.Facts.{Pair, FactSet, truth};
 ghost use Rattle.cargo_platform.specs.WellFormed.{IsWellFormed};
 ghost use Rattle.cargo_platform.specs.Warnings.{values};
 ghost use Rattle.cargo_platform.specs.Sizes.{size, depth};
+ghost use Rattle.cargo_platform.specs.ExpressionSizes.{node_count, node_counts};
 ghost use Rattle.partial_facts.specs.Kleene.{kleene};
 ghost use Rattle.partial_facts.specs.Residual.{literal, negation, group, residual_tree};
 ghost use Rattle.partial_facts.specs.Residual.{literal_truth, IsLiteralOrOpen, IsSubsequence};
+ghost use Rattle.partial_facts.specs.Inside.Groups.{grouped};
+ghost use Rattle.partial_facts.specs.Inside.Reducing.{whole, work, list_left};
 
 use crate::knowledge::Knowledge;
-use cargo_platform::CfgExpr;
+use crate::open_groups::{OpenGroup, OpenGroups, OpenList};
+use cargo_platform::{Cfg, CfgExpr};
 use std::alloc::{AllocError, Global};
 
 /// What is left of the expression to ask: over each possible set of facts it is as true as `e`, and it holds no name or
@@ -37,36 +41,103 @@ pub fn residual<K: Knowledge>(alloc: Global, e: &CfgExpr, known: &K) -> Result<C
 fn reduced<K: Knowledge>(alloc: Global, e: &CfgExpr, known: &K) -> Result<CfgExpr, AllocError>
     ensures { IfOk result (λ r. tree_of r ≡ residual_tree (K.told known.now) (tree_of e.now)) }
 {
-    match e {
-        CfgExpr::Not(inner) => negated(alloc, reduced(alloc, inner, known)?),
-        CfgExpr::All(members) => {
-            let mut left = Vec::new(alloc);
-            for member in members {
-                match push_unknown(&mut left, reduced(alloc, member, known)?)? {
-                    Some(true) => {}
-                    Some(false) => return Ok(CfgExpr::False),
-                    None => {}
-                }
+    let mut groups = OpenGroups::new(alloc);
+    let mut part = begin(alloc, e, known, &mut groups)?;
+    'groups: loop {
+        part = match groups.pop() {
+            None => return Ok(part),
+            Some(OpenGroup::Not) => negated(alloc, part)?,
+            Some(OpenGroup::List(list)) => match list.add(part)? {
+                Ok(list) => go_on(alloc, list, known, &mut groups)?,
+                Err(truth) => literal(truth),
+            },
+        };
+    }
+}
+
+/// Opens the groups that an expression begins with, and answers what is left of the part inside them: of a name, a pair
+/// or a literal, or of an `all` or `any` so far, none of whose members is gone through yet.
+fn begin<'a, K: Knowledge>(
+    alloc: Global,
+    e: &'a CfgExpr,
+    known: &K,
+    groups: &mut OpenGroups<'a>,
+) -> Result<CfgExpr, AllocError>
+    ensures whole { IfOk result (λ part. whole (K.told known.now) groups.new (tree_of part)
+        ≡ whole (K.told known.now) groups.old (residual_tree (K.told known.now) (tree_of e.now))) }
+    ensures work { OnOk result (work groups.new + 1 ≤ work groups.old + 2 * node_count e.now) }
+{
+    let mut e = e;
+    'negations: loop {
+        match e {
+            CfgExpr::Not(inner) => {
+                groups.push(OpenGroup::Not)?;
+                e = inner;
             }
-            Ok(all_of(left))
+            CfgExpr::All(members) => return open(alloc, true, members, groups),
+            CfgExpr::Any(members) => return open(alloc, false, members, groups),
+            CfgExpr::Value(c) => return unless_known(alloc, c, known),
+            CfgExpr::True => return Ok(CfgExpr::True),
+            CfgExpr::False => return Ok(CfgExpr::False),
         }
-        CfgExpr::Any(members) => {
-            let mut left = Vec::new(alloc);
-            for member in members {
-                match push_unknown(&mut left, reduced(alloc, member, known)?)? {
-                    Some(true) => return Ok(CfgExpr::True),
-                    Some(false) => {}
-                    None => {}
-                }
-            }
-            Ok(any_of(left))
+    }
+}
+
+/// Opens an `all` or `any`, and answers what is left of it so far: the literal of its neutral truth.
+fn open<'a>(
+    alloc: Global,
+    neutral: bool,
+    members: &'a [CfgExpr],
+    groups: &mut OpenGroups<'a>,
+) -> Result<CfgExpr, AllocError>
+    ensures whole { IfOk result (λ part. (told : Pair → Option Bool) → whole told groups.new (tree_of part)
+        ≡ whole told groups.old (residual_tree told (grouped neutral (trees_of (map tree_of members.now))))) }
+    ensures work { OnOk result (work groups.new ≡ work groups.old + 2 * node_counts members.now + 1) }
+{
+    groups.push(OpenGroup::List(OpenList {
+        neutral,
+        left: Vec::new(alloc),
+        members,
+    }))?;
+    Ok(literal(neutral))
+}
+
+/// Goes on with the next member of a group, or closes it.
+fn go_on<'a, K: Knowledge>(
+    alloc: Global,
+    list: OpenList<'a>,
+    known: &K,
+    groups: &mut OpenGroups<'a>,
+) -> Result<CfgExpr, AllocError>
+    ensures whole { IfOk result (λ part. whole (K.told known.now) groups.new (tree_of part)
+        ≡ whole (K.told known.now) groups.old (list_left (K.told known.now) list.entry)) }
+    ensures work { OnOk result (work groups.new ≤ work groups.old + 2 * node_counts list.entry.members.now) }
+{
+    let OpenList {
+        neutral,
+        left,
+        members,
+    } = list;
+    match members.split_first() {
+        Some((next, members)) => {
+            groups.push(OpenGroup::List(OpenList {
+                neutral,
+                left,
+                members,
+            }))?;
+            begin(alloc, next, known, groups)
         }
-        CfgExpr::Value(c) => match known.tells(c) {
-            Some(truth) => Ok(literal(truth)),
-            None => Ok(CfgExpr::Value(c.clone(alloc)?)),
-        },
-        CfgExpr::True => Ok(CfgExpr::True),
-        CfgExpr::False => Ok(CfgExpr::False),
+        None => Ok(group_of(neutral, left)),
+    }
+}
+
+/// The literal of a name or pair that is known, and else a copy.
+fn unless_known<K: Knowledge>(alloc: Global, c: &Cfg, known: &K) -> Result<CfgExpr, AllocError>
+    ensures { IfOk result (λ r. tree_of r ≡ residual_tree (K.told known.now) (Value (value_of c.now))) }
+{
+    match known.tells(c) {
+        Some(truth) => Ok(literal(truth)),
+        None => Ok(CfgExpr::Value(c.clone(alloc)?)),
     }
 }
 
@@ -77,55 +148,36 @@ pub fn literal(truth: bool) -> CfgExpr
     if truth { CfgExpr::True } else { CfgExpr::False }
 }
 
-// Adds a member that is no literal, and gives the truth of one that is.
-fn push_unknown(members: &mut Vec<CfgExpr>, member: CfgExpr) -> Result<Option<bool>, AllocError>
-    ensures truth { IfOk result (λ truth. truth ≡ literal_truth (tree_of member)) }
-    ensures known { IfOk result (λ truth. OnSome truth (members.new.items ≡ members.old.items)) }
-    ensures unknown { IfOk result (λ truth. IfNone truth (members.new.items ≡ members.old.items ++ member ∷ [])) }
-{
-    match member {
-        CfgExpr::True => Ok(Some(true)),
-        CfgExpr::False => Ok(Some(false)),
-        open => {
-            members.push(open)?;
-            Ok(None)
-        }
-    }
-}
-
-// The negation, which of a literal is the other one.
+/// The negation, which of a literal is the other one. Where memory is refused, the expression is dropped.
 fn negated(alloc: Global, e: CfgExpr) -> Result<CfgExpr, AllocError>
     ensures { IfOk result (λ r. tree_of r ≡ negation (tree_of e)) }
 {
     match e {
         CfgExpr::True => Ok(CfgExpr::False),
         CfgExpr::False => Ok(CfgExpr::True),
-        open => Ok(CfgExpr::Not(Box::new(alloc, open)?)),
+        unknown => match Box::new(alloc, unknown) {
+            Ok(inner) => Ok(CfgExpr::Not(inner)),
+            Err(refused) => {
+                refused.value.drop_iteratively(alloc);
+                Err(AllocError)
+            }
+        },
     }
 }
 
-// `all` of the members; of one alone that member.
-fn all_of(mut members: Vec<CfgExpr>) -> CfgExpr
-    ensures { tree_of result ≡ group True All (trees_of (map tree_of members.items)) }
+/// The group of the members, by its neutral truth; of one member alone that member.
+fn group_of(neutral: bool, mut members: Vec<CfgExpr>) -> CfgExpr
+    ensures { tree_of result ≡ group (literal neutral) (grouped neutral) (trees_of (map tree_of members.items)) }
 {
     if members.len() > 1 {
-        return CfgExpr::All(members);
+        return if neutral {
+            CfgExpr::All(members)
+        } else {
+            CfgExpr::Any(members)
+        };
     }
     match members.pop() {
         Some(only) => only,
-        None => CfgExpr::True,
-    }
-}
-
-// `any` of the members; of one alone that member.
-fn any_of(mut members: Vec<CfgExpr>) -> CfgExpr
-    ensures { tree_of result ≡ group False Any (trees_of (map tree_of members.items)) }
-{
-    if members.len() > 1 {
-        return CfgExpr::Any(members);
-    }
-    match members.pop() {
-        Some(only) => only,
-        None => CfgExpr::False,
+        None => literal(neutral),
     }
 }

@@ -5,7 +5,7 @@ ghost use Rattle.cargo_platform.specs.Trees.{tree_of, trees_of};
 ghost use Rattle.cargo_platform.specs.Facts.{FactSet, truth};
 ghost use Rattle.cargo_platform.specs.ExpressionSizes.{node_count, node_counts};
 ghost use Rattle.partial_facts.specs.Kleene.{kleene};
-ghost use Rattle.partial_facts.specs.Groups.{both, members_known, so_far};
+ghost use Rattle.partial_facts.specs.Inside.Groups.{both, members_known, so_far};
 
 use crate::knowledge::Knowledge;
 use cargo_platform::CfgExpr;

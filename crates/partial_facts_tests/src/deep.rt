@@ -72,18 +72,44 @@ fn deep_expressions_are_decided_and_left(rt: HostRuntime) -> Result<(), Fail> {
 
 /// Each level is the last member of the one around it, so deciding takes no stack for it.
 #[test]
-fn last_members_of_300_000_levels_are_decided(rt: HostRuntime) -> Result<(), Fail> {
+fn last_members_of_300_000_levels_are_decided_and_left(rt: HostRuntime) -> Result<(), Fail> {
     let alloc = rt.alloc();
     let known = Partial {
         facts: &[],
         complete: &["unix"],
     };
-    for (inner, wanted) in [("unix", Some(false)), ("loom", None)] {
+    for (inner, wanted, left) in [("unix", Some(false), Some("false")), ("loom", None, None)] {
         let text = nest(alloc, "not(", inner, ")", 300_000)?;
         let e = CfgExpr::from_str(alloc, &text)?;
         let decided = decide(&e, &known);
+        let asked = residual(alloc, &e, &known)?;
         e.drop_iteratively(alloc);
+        let printed = asked.to_string(alloc)?;
+        asked.drop_iteratively(alloc);
         assert!(rt; decided == wanted, "{inner}");
+        assert_eq!(rt; printed.as_str(), left.unwrap_or(text.as_str()));
     }
+    Ok(())
+}
+
+/// What is left takes no stack for a level that others follow either.
+#[test]
+fn first_members_of_300_000_levels_are_left(rt: HostRuntime) -> Result<(), Fail> {
+    let alloc = rt.alloc();
+    let first = Partial {
+        facts: &[],
+        complete: &["unix"],
+    };
+    let later = Partial {
+        facts: &[],
+        complete: &["unix", "loom"],
+    };
+    let text = nest(alloc, "any(", "all(a, loom)", ", unix, loom)", 300_000)?;
+    let e = CfgExpr::from_str(alloc, &text)?;
+    let asked = residual(alloc, &e, &first)?;
+    e.drop_iteratively(alloc);
+    let answered = residual(alloc, &asked, &later)?;
+    asked.drop_iteratively(alloc);
+    assert_eq!(rt; answered.to_string(alloc)?.as_str(), "false");
     Ok(())
 }

@@ -1,0 +1,3 @@
+-- What the contracts of private functions and types cite, and no promise rests on.
+pub mod Groups
+pub mod Reducing

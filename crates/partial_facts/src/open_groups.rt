@@ -1,0 +1,154 @@
+//! The groups around an expression, while what is left of them is made.
+
+ghost use Rattle.std.specs.Prelude.{◌≡◌, ◌+◌, ◌++◌, [], ◌∷◌, Bool, Option, map, IfOk, IfSome, OnOk, MatchOption};
+ghost use Rattle.std.specs.Prelude.{MatchResult};
+ghost use Rattle.cargo_platform.specs.Trees.{Tree, tree_of};
+ghost use Rattle.cargo_platform.specs.Facts.{Pair};
+ghost use Rattle.partial_facts.specs.Residual.{literal, literal_truth};
+ghost use Rattle.partial_facts.specs.Inside.Reducing.{around, whole, left_in, list_left, list_with, work};
+
+use cargo_platform::CfgExpr;
+use std::alloc::{AllocError, Global};
+
+/// An `all` or `any` whose members are gone through.
+#[derive(Drop)]
+pub struct OpenList<'a> {
+    /// The truth behind which the group goes on: `all` behind members that are true, and `any` behind false ones.
+    pub neutral: bool,
+    /// What is left of the members so far, where that is no literal.
+    pub left: Vec<CfgExpr>,
+    /// The members to come.
+    pub members: &'a [CfgExpr],
+}
+
+impl<'a> OpenList<'a> {
+    /// Adds what is left of one more member. A literal is passed over, or it settles the group, and then its truth is
+    /// answered. Where memory is refused, all that is left is dropped.
+    pub fn add(self, part: CfgExpr) -> Result<Result<OpenList<'a>, bool>, AllocError>
+        ensures left { IfOk result (λ r. MatchResult r
+            (λ list. (told : Pair → Option Bool) → list_with told self.entry (tree_of part) ≡ list_left told list)
+            (λ truth. (told : Pair → Option Bool) → list_with told self.entry (tree_of part) ≡ literal truth)) }
+        ensures members { IfOk result (λ r. IfOk r (λ list. list.members ≡ self.entry.members)) }
+    {
+        let OpenList {
+            neutral,
+            left,
+            members,
+        } = self;
+        let left = match literal_truth(&part) {
+            None => with_member(left, part)?,
+            Some(truth) => {
+                if truth != neutral {
+                    drop_members(left);
+                    return Ok(Err(truth));
+                }
+                left
+            }
+        };
+        Ok(Ok(OpenList {
+            neutral,
+            left,
+            members,
+        }))
+    }
+}
+
+/// The truth of a literal.
+fn literal_truth(e: &CfgExpr) -> Option<bool>
+    ensures { result ≡ literal_truth (tree_of e.now) }
+{
+    match e {
+        CfgExpr::True => Some(true),
+        CfgExpr::False => Some(false),
+        _ => None,
+    }
+}
+
+/// Members with one more behind them. Where memory is refused, all of them are dropped.
+fn with_member(mut members: Vec<CfgExpr>, member: CfgExpr) -> Result<Vec<CfgExpr>, AllocError>
+    ensures { IfOk result (λ more. map tree_of more.items ≡ map tree_of members.items ++ tree_of member ∷ []) }
+{
+    match members.push(member) {
+        Ok(()) => Ok(members),
+        Err(refused) => {
+            refused.value.drop_iteratively(*members.allocator());
+            drop_members(members);
+            Err(AllocError)
+        }
+    }
+}
+
+/// Drops members without recursion over their depth.
+fn drop_members(members: Vec<CfgExpr>) {
+    let alloc = *members.allocator();
+    CfgExpr::All(members).drop_iteratively(alloc);
+}
+
+/// A group around the expression that is gone through.
+#[derive(Drop)]
+pub enum OpenGroup<'a> {
+    Not,
+    List(OpenList<'a>),
+}
+
+impl<'a> OpenGroup<'a> {
+    /// Drops the group without recursion over the depth of what is left in it.
+    fn drop_iteratively(self) {
+        match self {
+            OpenGroup::Not => {}
+            OpenGroup::List(list) => drop_members(list.left),
+        }
+    }
+}
+
+/// The groups around the expression that is gone through, the innermost last.
+pub struct OpenGroups<'a> {
+    groups: Vec<OpenGroup<'a>>,
+}
+
+impl<'a> OpenGroups<'a> {
+    /// No groups.
+    pub fn new(alloc: Global) -> OpenGroups<'a>
+        ensures { (told : Pair → Option Bool) (t : Tree) → whole told result t ≡ t }
+    {
+        OpenGroups {
+            groups: Vec::new(alloc),
+        }
+    }
+
+    /// Opens a group inside the others. Where memory is refused, it is dropped.
+    pub fn push(&mut self, group: OpenGroup<'a>) -> Result<(), AllocError>
+        ensures whole { OnOk result ((told : Pair → Option Bool) (t : Tree)
+            → whole told self.new t ≡ whole told self.old (around told group.entry t)) }
+        ensures work { OnOk result (work self.new ≡ work self.old + left_in group.entry) }
+    {
+        match self.groups.push(group) {
+            Ok(()) => Ok(()),
+            Err(refused) => {
+                refused.value.drop_iteratively();
+                Err(AllocError)
+            }
+        }
+    }
+
+    /// Takes the innermost group.
+    pub fn pop(&mut self) -> Option<OpenGroup<'a>>
+        ensures whole { MatchOption result
+            ((told : Pair → Option Bool) (t : Tree) → whole told self.old t ≡ t)
+            (λ group. (told : Pair → Option Bool) (t : Tree)
+            → whole told self.old t ≡ whole told self.new (around told group t)) }
+        ensures work { IfSome result (λ group. work self.old ≡ work self.new + left_in group) }
+    {
+        self.groups.pop()
+    }
+}
+
+impl<'a> Drop for OpenGroups<'a> {
+    /// Without recursion over the depth of what is left in the groups.
+    fn drop(self) {
+        let OpenGroups { mut groups } = self;
+        'groups: while let Some(group) = groups.pop() {
+            group.drop_iteratively();
+        }
+    }
+}
