@@ -18,6 +18,7 @@ pub fn left(alloc: Global, name: &[u8]) -> Result<String, Fault> {
         b"residual_not" => expression(alloc, "not(a)"),
         b"residual_one" => expression(alloc, "all(any(unix, a), true)"),
         b"residual_nest" => expression(alloc, "any(all(a, b), not(any(c, unix, d)))"),
+        b"residual_deep" => expression(alloc, "all(a, not(any(b, all(c, not(any(d, e))))))"),
         b"residual_decided" => expression(alloc, "all(a, b, unix)"),
         b"residual_platform" => condition(alloc, "cfg(all(a, b))"),
         b"residual_target" => condition(alloc, "x86_64-apple-darwin"),
