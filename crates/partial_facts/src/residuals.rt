@@ -38,6 +38,7 @@ pub fn residual<K: Knowledge>(alloc: Global, e: &CfgExpr, known: &K) -> Result<C
     reduced(alloc, e, known)
 }
 
+/// Goes through the members in a loop, with the groups around the part that was reduced last in a list.
 fn reduced<K: Knowledge>(alloc: Global, e: &CfgExpr, known: &K) -> Result<CfgExpr, AllocError>
     ensures { IfOk result (λ r. tree_of r ≡ residual_tree (K.told known.now) (tree_of e.now)) }
 {
