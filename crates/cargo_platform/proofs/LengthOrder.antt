@@ -1,11 +1,12 @@
 -- The order by lengths is total, and ties where the order of values does.
-use Rattle.std.proofs.Common.{◌≡◌, refl, sym, ap, ◌∙◌, ℕ, false}
+use Rattle.std.proofs.Common.{◌≡◌, refl, sym, ap, ◌∙◌, ℕ, false, length}
 use Rattle.std.specs.declared.cmp.Ordering.{Ordering}
 use Rattle.std.specs.declared.cmp.Ordering.TheVariants.{Less, Equal, Greater}
 use Rattle.std.specs.Ordering.{ordering_then, is_eq, eq_by_cmp, nat_cmp}
 use Rattle.std.specs.Cmp.{IsTotalOrder, tied_itself, then_total, on_total, nat_cmp_total}
 use Rattle.cargo_platform.specs.Trees.{CfgValue, Alone, KeyPair}
 use Rattle.cargo_platform.specs.Key.{value_key, value_cmp}
+use Rattle.cargo_platform.specs.Facts.{pair_of}
 use Rattle.cargo_platform.specs.LengthOrder.{asked_length, length_cmp}
 use Rattle.cargo_platform.specs.OrderLaws.{value_total, value_tie}
 use Rattle.cargo_platform.proofs.FactSets.{untied_after}
@@ -36,11 +37,19 @@ length_ties c d =
     by_cases Equal e =
         ap (λ a. is_eq (ordering_then a Equal)) (tied_lengths (asked_length c) (asked_length d) (same_length c d e))
 
--- values of unequal lengths are unequal
-pub unequal_lengths : (c d : CfgValue) → (asked_length c ≡ asked_length d → ⊥) → eq_by_cmp value_cmp c d ≡ false
-unequal_lengths c d unequal = by_cases (value_cmp c d) refl
+name_of_key : (c : CfgValue) → (pair_of (value_key c)).name ≡ (pair_of c).name
+name_of_key (Alone n) = refl
+name_of_key (KeyPair k v) = refl
+
+same_name : (c d : CfgValue) → value_cmp c d ≡ Equal → (pair_of c).name ≡ (pair_of d).name
+same_name c d tie = sym (name_of_key c) ∙ ap (λ v. (pair_of v).name) (value_tie c d tie) ∙ name_of_key d
+
+-- values whose names or keys have unequal lengths are unequal
+pub unequal_names : (c d : CfgValue) → (length (pair_of c).name ≡ length (pair_of d).name → ⊥)
+    → eq_by_cmp value_cmp c d ≡ false
+unequal_names c d unequal = by_cases (value_cmp c d) refl
   where
     by_cases : (r : Ordering) → value_cmp c d ≡ r → is_eq r ≡ false
     by_cases Less e = refl
     by_cases Greater e = refl
-    by_cases Equal e = absurd (unequal (same_length c d e))
+    by_cases Equal e = absurd (unequal (ap (λ n. length n) (same_name c d e)))

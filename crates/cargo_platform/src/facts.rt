@@ -1,17 +1,17 @@
 //! Facts, and the truth of an expression over them.
 
-ghost use Rattle.std.specs.Prelude.{◌≡◌, ◌≤◌, map, IfOk, MatchResult, string_bytes};
+ghost use Rattle.std.specs.Prelude.{◌≡◌, ◌≤◌, map, length, IfOk, MatchResult};
 ghost use Rattle.std.proofs.Props.{props};
 ghost use Rattle.std.specs.List.Sorted.{IsSorted};
 ghost use Rattle.std.specs.Ordering.{eq_by_cmp, on};
 ghost use Rattle.std.specs.FinSet.{contains};
 ghost use Rattle.cargo_platform.specs.Key.{value_cmp};
 ghost use Rattle.cargo_platform.specs.LengthOrder.{asked_length, length_cmp};
-ghost use Rattle.cargo_platform.specs.Trees.{Alone, KeyPair, name_of, value_of, tree_of, trees_of};
+ghost use Rattle.cargo_platform.specs.Trees.{value_of, tree_of, trees_of};
 ghost use Rattle.cargo_platform.specs.Facts.{FactSet, pair_of, fact_set, truth, all_true, any_true};
 ghost use Rattle.cargo_platform.specs.ExpressionSizes.{node_count, node_counts};
 
-use crate::cfg::{Cfg, CfgExpr, Ident};
+use crate::cfg::{Cfg, CfgExpr};
 use std::alloc::{AllocError, Global};
 use std::cmp::Ordering;
 
@@ -33,56 +33,37 @@ impl<'a> Facts for Listed<'a> {
     ghost meant = { λ facts. fact_set (map value_of facts.0.now) };
 
     fn holds(&self, c: &Cfg) -> bool {
-        match c {
-            Cfg::Name(name) => self.0.iter().any(|fact| is_name(fact, name)),
-            Cfg::KeyPair(key, value) => self.0.iter().any(|fact| is_pair(fact, key, value)),
-        }
+        self.0.iter().any(|fact| is_same(fact, c))
     }
 }
 
-/// Whether the fact is this name alone. Mostly its form or its length tells that it is not.
+/// Whether two facts are equal. Mostly the lengths of their names or keys tell that they are not.
 #[inline(always)]
-fn is_name(fact: &Cfg, name: &Ident) -> bool
-    ensures { result ≡ eq_by_cmp value_cmp (value_of fact.now) (Alone (name_of name.now)) }
+#[tactic(auto, using(crate::proofs::LengthOrder::unequal_names))]
+fn is_same(fact: &Cfg, c: &Cfg) -> bool
+    ensures { result ≡ eq_by_cmp value_cmp (value_of fact.now) (value_of c.now) }
 {
-    match fact {
-        Cfg::Name(other) => other.name.len() == name.name.len() && are_equal_names(other, name),
-        Cfg::KeyPair(..) => false,
-    }
+    name_length(fact) == name_length(c) && are_equal(fact, c)
 }
 
-/// Whether the fact is the pair of this key and this value. Mostly its form or the value's length tells that it is not.
+/// The length of the name or the key.
 #[inline(always)]
-fn is_pair(fact: &Cfg, key: &Ident, value: &String) -> bool
-    ensures { result ≡ eq_by_cmp value_cmp (value_of fact.now) (KeyPair (name_of key.now) (string_bytes value.now)) }
+fn name_length(c: &Cfg) -> usize
+    ensures { result ≡ length (pair_of (value_of c.now)).name }
 {
-    match fact {
-        Cfg::Name(_) => false,
-        Cfg::KeyPair(other_key, other_value) => {
-            other_value.len() == value.len() && are_equal_pairs(other_key, other_value, key, value)
-        }
+    match c {
+        Cfg::Name(name) | Cfg::KeyPair(name, _) => name.name.len(),
     }
 }
 
-// The two that follow stand apart, so that the search of a list is a short loop.
-
-/// Whether two names are equal.
+// Stands apart, so that the search of a list is a loop of a few instructions.
+/// Whether two facts are equal.
 #[cold]
 #[inline(never)]
-fn are_equal_names(other: &Ident, name: &Ident) -> bool
-    ensures { result ≡ eq_by_cmp value_cmp (Alone (name_of other.now)) (Alone (name_of name.now)) }
+fn are_equal(fact: &Cfg, c: &Cfg) -> bool
+    ensures { result ≡ eq_by_cmp value_cmp (value_of fact.now) (value_of c.now) }
 {
-    other == name
-}
-
-/// Whether two pairs are equal.
-#[cold]
-#[inline(never)]
-fn are_equal_pairs(other_key: &Ident, other_value: &String, key: &Ident, value: &String) -> bool
-    ensures { result ≡ eq_by_cmp value_cmp (KeyPair (name_of other_key.now) (string_bytes other_value.now))
-        (KeyPair (name_of key.now) (string_bytes value.now)) }
-{
-    other_value == value && other_key == key
+    fact == c
 }
 
 /// The length of a name alone, or of a value.

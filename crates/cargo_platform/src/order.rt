@@ -71,7 +71,7 @@ impl PartialEq for Cfg {
     fn eq(&self, other: &Cfg) -> bool {
         match (self, other) {
             (Cfg::Name(a), Cfg::Name(b)) => a == b,
-            (Cfg::KeyPair(j, a), Cfg::KeyPair(k, b)) => j == k && a == b,
+            (Cfg::KeyPair(j, a), Cfg::KeyPair(k, b)) => a == b && j == k,
             (Cfg::Name(_), Cfg::KeyPair(..)) | (Cfg::KeyPair(..), Cfg::Name(_)) => false,
         }
     }
