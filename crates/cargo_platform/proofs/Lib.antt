@@ -20,7 +20,7 @@ pub mod OneFault
 pub mod SomeFault
 pub mod PrintedSpells
 pub mod Printing
-pub mod Readings
+pub mod Coming
 pub mod Paths
 pub mod Parsing
 pub mod ValueReading

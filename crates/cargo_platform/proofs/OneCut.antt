@@ -34,10 +34,10 @@ pub both_second : (a b : Bool) → (a && b) ≡ true → b ≡ true
 both_second true b h = h
 both_second false b h = absurd (true≢false (sym h))
 
-head_of : {a b : ℕ} {s t : List ℕ} → a ∷ s ≡ b ∷ t → a ≡ b
+pub head_of : {a b : ℕ} {s t : List ℕ} → a ∷ s ≡ b ∷ t → a ≡ b
 head_of h = cc
 
-tail_of : {a b : ℕ} {s t : List ℕ} → a ∷ s ≡ b ∷ t → s ≡ t
+pub tail_of : {a b : ℕ} {s t : List ℕ} → a ∷ s ≡ b ∷ t → s ≡ t
 tail_of h = cc
 
 -- two longest runs at the front of one list
@@ -154,15 +154,15 @@ start_is_ascii c h =
 start_is_no_space : (c : ℕ) → is_identifier_start c ≡ true → is_space c ≡ false
 start_is_no_space c h = never (is_space c) (λ e. true≢false (sym h ∙ ap is_identifier_start (eqb-true c 0x20 e)))
 
-record Begins (text : List ℕ) : Type 0 where
-  byte : ℕ
-  others : List ℕ
-  parts : text ≡ byte ∷ others
-  known : is_known_start byte ≡ true
-  ascii : byte < 128
-  no_space : is_space byte ≡ false
+pub record Begins (text : List ℕ) : Type 0 where
+  pub byte : ℕ
+  pub others : List ℕ
+  pub parts : text ≡ byte ∷ others
+  pub known : is_known_start byte ≡ true
+  pub ascii : byte < 128
+  pub no_space : is_space byte ≡ false
 
-token_begins : (t : Lexeme) (r : List ℕ) → IsWellWritten t → Begins (written t ++ r)
+pub token_begins : (t : Lexeme) (r : List ℕ) → IsWellWritten t → Begins (written t ++ r)
 token_begins LeftParen r w =
     record { byte = 0x28; others = r; parts = refl; known = refl; ascii = lit≤ tt; no_space = refl }
 token_begins RightParen r w =
@@ -194,7 +194,7 @@ token_begins (Ident false (c ∷ cs)) r w = record {
 }
 
 -- a text that begins with an ASCII byte begins with that character
-char_is : (text rest : List ℕ) (c b : ℕ) (bs : List ℕ) → text ≡ encode_utf8 c ++ rest → text ≡ b ∷ bs → b < 128 → c ≡ b
+pub char_is : (text rest : List ℕ) (c b : ℕ) (bs : List ℕ) → text ≡ encode_utf8 c ++ rest → text ≡ b ∷ bs → b < 128 → c ≡ b
 char_is text rest c b bs h e lt = char_from_byte (b ∷ bs) rest c (sym e ∙ h) lt (omega arith)
 
 -- a text that begins with a token begins no lexical fault
@@ -257,12 +257,12 @@ token_no_space t r w = let b = token_begins t r w in ap (starts is_space) b.part
 
 -- ---- places
 
-piece_end : (text : List ℕ) (i j : ℕ) (p : List ℕ) → IsPiece text i j p → j ≡ i + length p
+pub piece_end : (text : List ℕ) (i j : ℕ) (p : List ℕ) → IsPiece text i j p → j ≡ i + length p
 piece_end text i j p h =
     let len : length (slice_range text i j) ≡ length p = ap length h.bytes in
     omega (arith, h.ordered, h.inside, len, length-take (j - i) (drop i text), length-drop i text)
 
-piece_rest : (text : List ℕ) (i j : ℕ) (p : List ℕ) → IsPiece text i j p → drop i text ≡ p ++ drop j text
+pub piece_rest : (text : List ℕ) (i j : ℕ) (p : List ℕ) → IsPiece text i j p → drop i text ≡ p ++ drop j text
 piece_rest text i j p h =
     let at : i + (j - i) ≡ j = omega (arith, h.ordered) in
     sym (take-append-drop (j - i) (drop i text)) ∙ ap (λ (z : List ℕ). z ++ drop (j - i) (drop i text)) h.bytes
@@ -277,11 +277,11 @@ same_start text from i j p q a b =
     let same = runs_same is_space p.0 q.0 (drop i text) (drop j text) p.2 q.2 both a b in
     piece_end text from i p.0 p.1 ∙ ap (λ (z : List ℕ). from + length z) same.0 ∙ sym (piece_end text from j q.0 q.1)
 
-written_rest : (text : List ℕ) (t : Placed) → IsWrittenAt text t
+pub written_rest : (text : List ℕ) (t : Placed) → IsWrittenAt text t
     → drop t.start text ≡ written t.token ++ drop t.end text
 written_rest text t w = piece_rest text t.start t.end (written t.token) w.1
 
-starts_clear : (text : List ℕ) (t : Placed) → IsWrittenAt text t → starts is_space (drop t.start text) ≡ false
+pub starts_clear : (text : List ℕ) (t : Placed) → IsWrittenAt text t → starts is_space (drop t.start text) ≡ false
 starts_clear text t w = ap (starts is_space) (written_rest text t w) ∙ token_no_space t.token (drop t.end text) w.0
 
 -- no tail begins where a token does

@@ -39,13 +39,13 @@ all_from p text from each = all_each p (drop from text) (λ i below.
     ap p (get_or-drop from text i 0) ∙ each (from + i) (omega arith) (omega (arith, length-drop from text)))
 
 -- at the end of the text `slice_index` gives 0, which passes none of the tests
-starts_at : (p : ℕ → Bool) (text : List ℕ) (at : ℕ) → p (slice_index text at) ≡ false → starts p (drop at text) ≡ false
+pub starts_at : (p : ℕ → Bool) (text : List ℕ) (at : ℕ) → p (slice_index text at) ≡ false → starts p (drop at text) ≡ false
 starts_at p [] zero h = refl
 starts_at p [] (suc at) h = refl
 starts_at p (x ∷ text) zero h = h
 starts_at p (x ∷ text) (suc at) h = starts_at p text at h
 
-first_between : (text : List ℕ) (from to : ℕ) → from < to → from < length text
+pub first_between : (text : List ℕ) (from to : ℕ) → from < to → from < length text
     → slice_range text from to ≡ slice_index text from ∷ slice_range text (from + 1) to
 first_between text from to below inside =
     let count : to - from ≡ suc (to - (from + 1)) = omega arith in

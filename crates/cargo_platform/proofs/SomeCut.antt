@@ -23,7 +23,7 @@ use Rattle.cargo_platform.specs.Cut.{IsPiece, AreSpaces, EndsBefore, IsTail, IsC
 use Rattle.cargo_platform.proofs.OneCut.{either, never, both_first, both_second, start_is_ascii}
 use lib.Utf8.{scalars, scalar, encodes}
 
-ascii_rest : (b : ℕ) (bs : List ℕ) → b < 128 → IsUtf8 (b ∷ bs) → IsUtf8 bs
+pub ascii_rest : (b : ℕ) (bs : List ℕ) → b < 128 → IsUtf8 (b ∷ bs) → IsUtf8 bs
 ascii_rest b bs lt u = IsUtf8-past_char (b ∷ bs) bs b u (sym (ap (λ (z : List ℕ). z ++ bs) (encode_ascii b lt)))
 
 -- a test that only ASCII characters pass
@@ -106,15 +106,15 @@ char_fails p ascii b bs c rest h f = never (p c) (λ passes.
 
 -- ---- one token, or the tail
 
-record Lexed (text : List ℕ) : Type 0 where
-  token : Lexeme
-  rest : List ℕ
-  parts : text ≡ written token ++ rest
-  well : IsWellWritten token
-  ends : EndsBefore token rest
-  utf8 : IsUtf8 rest
+pub record Lexed (text : List ℕ) : Type 0 where
+  pub token : Lexeme
+  pub rest : List ℕ
+  pub parts : text ≡ written token ++ rest
+  pub well : IsWellWritten token
+  pub ends : EndsBefore token rest
+  pub utf8 : IsUtf8 rest
 
-abbrev Outcome : List ℕ → Type 0
+abbrev pub Outcome : List ℕ → Type 0
 Outcome text = IsTail text ⊎ Lexed text
 
 pub rest_is_ascii : IsAsciiTest is_identifier_rest
@@ -124,10 +124,10 @@ rest_is_ascii c h =
       | inr e ↦ omega (arith, leb-true c 57 (both_second (leb 48 c) (leb c 57) e))
     ]
 
-space_is_ascii : IsAsciiTest is_space
+pub space_is_ascii : IsAsciiTest is_space
 space_is_ascii c h = omega (arith, eqb-true c 0x20 h)
 
-known_is_ascii : IsAsciiTest is_known_start
+pub known_is_ascii : IsAsciiTest is_known_start
 known_is_ascii c h =
     elim (either (is_space c || is_mark c || is_quote c) (is_identifier_start c) h) [
       | inr e ↦ start_is_ascii c e
@@ -252,7 +252,7 @@ other b bs u h =
     inl (inr (UnexpectedChar c.0, inr (c.1, c.2, char_fails is_known_start known_is_ascii b bs c.0 c.1 c.2.parts h)))
 
 -- a token or the tail, where no space stands
-lex : (text : List ℕ) → IsUtf8 text → starts is_space text ≡ false → Outcome text
+pub lex : (text : List ℕ) → IsUtf8 text → starts is_space text ≡ false → Outcome text
 lex [] u h = inl (inl refl)
 lex (b ∷ bs) u h =
     elim (is_identifier_start b) as (λ v. is_identifier_start b ≡ v → Outcome (b ∷ bs)) [

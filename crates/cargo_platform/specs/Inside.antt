@@ -10,3 +10,4 @@ pub mod Asking
 pub mod Copying
 pub mod Values
 pub mod Printing
+pub mod Coming

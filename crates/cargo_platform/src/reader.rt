@@ -1,92 +1,242 @@
-//! The tokens of a text with one item of look-ahead: what the parsers read from.
+//! The tokens of a text, each taken where it is wanted: what the parsers read from.
 
-ghost use Rattle.std.specs.Prelude.{◌≡◌, ◌≤◌, ◌+◌, IsTrue, IsFalse, IfSome, IfNone, IfErr, OnOk};
-ghost use Rattle.cargo_platform.specs.Tokens.{Ident as ident_token, String as string_token, Placed, lexeme};
-ghost use Rattle.cargo_platform.specs.Reading.{NextCall, characters_from};
-ghost use Rattle.cargo_platform.specs.Inside.Ahead.{Comes, GoesOn};
+ghost use Rattle.std.specs.Prelude.{◌≡◌, ◌≤◌, ◌+◌, [], ◌∷◌, IsTrue, IsFalse, IfSome, IfNone, IfErr, OnOk, MatchOption};
+ghost use Rattle.cargo_platform.specs.declared.source.Look.TheVariants.{Ascii};
+ghost use Rattle.cargo_platform.specs.Tokens.{Ident as ident_token, String as string_token, Placed, lexeme, written};
+ghost use Rattle.cargo_platform.specs.Reading.{characters_from};
+ghost use Rattle.cargo_platform.specs.Inside.Ahead.{Comes};
 ghost use Rattle.cargo_platform.specs.Inside.Ahead as ahead;
-ghost use Rattle.cargo_platform.specs.Inside.Parsing.{Sees, SeesRest, SeesToken, TakesToken, LacksMark, LacksName};
-ghost use Rattle.cargo_platform.specs.Inside.Parsing.{LacksString, lexeme_of, mark_of_lexeme, RefusesNext, RefusesMore};
+ghost use Rattle.cargo_platform.specs.Inside.Misfits.{IsIdentifier};
+ghost use Rattle.cargo_platform.specs.Inside.Parsing.{SeesRest, Takes, TakesToken, LacksMark, LacksName, LacksString};
+ghost use Rattle.cargo_platform.specs.Inside.Parsing.{lexeme_of, RefusesNext, RefusesMore};
 
 use crate::Looks;
+use crate::classes::begins_identifier;
 use crate::error::{ParseError, ParseErrorKind, ReadError};
-use crate::tokens::{Spanned, Token, TokenFault, TokenFaultKind, Tokenizer};
+use crate::source::{Look, Source};
+use crate::tokens::{Token, TokenFaultKind, character_of, token_at};
 use std::alloc::{AllocError, Global};
 use std::marker::Model;
 
-/// A tokenizer, and what it gave last.
+/// A text, the place that was reached in it, and what is there. No space stands there. A token is cut off when it is
+/// taken: what begins one tells which it may be.
 #[derive(Drop)]
 pub(crate) struct Reader<'a> {
-    tokens: Tokenizer<'a>,
-    ahead: Option<Result<Spanned<'a>, TokenFault>>,
+    source: Source<'a>,
+    place: usize,
+    seen: Look,
+    /// Why no token begins at the place, where that was found.
+    fault: Option<TokenFaultKind>,
 }
 
 impl<'a> Model for Reader<'a> {
-    ghost use Rattle.cargo_platform.specs.Inside.Ahead.{Ahead, ahead_of, IsReading};
+    ghost use Rattle.cargo_platform.specs.Inside.Ahead.{Ahead};
+    ghost use Rattle.cargo_platform.specs.Inside.Coming.{ahead_at, IsReadingAt};
 
     ghost Value = { Ahead };
 
-    ghost view = { λ r. ahead_of r.tokens r.ahead };
+    ghost view = { λ r. ahead_at r.source.text.now r.place };
 
-    ghost invariant = { λ r. IsReading r.tokens r.ahead };
-}
-
-/// The one place that asks for the next item, which is written where it is kept.
-#[inline(never)]
-fn refill<'a>(tokens: &mut Tokenizer<'a>, ahead: &mut Option<Result<Spanned<'a>, TokenFault>>)
-    ensures { NextCall tokens.old ahead.new tokens.new }
-{
-    *ahead = tokens.next();
+    ghost invariant = { λ r. IsReadingAt r.source.text.now r.place r.seen r.fault r.source.looks };
 }
 
 impl<'a> Reader<'a> {
     /// A reader with the first item of the text ahead.
+    #[inline(always)]
     pub fn new(text: &'a str) -> Reader<'a>
         ensures text { result.text ≡ text.now }
         ensures first { Comes text.now 0 result.item result.place }
     {
-        let mut tokens = Tokenizer::new(text);
-        let mut ahead = None;
-        refill(&mut tokens, &mut ahead);
-        Reader { tokens, ahead }
+        let mut source = Source::new(text);
+        let first = source.look(0);
+        let (place, seen) = source.past_spaces(0, first);
+        Reader {
+            source,
+            place,
+            seen,
+            fault: None,
+        }
     }
 
-    /// What comes next.
-    pub fn peek(&self) -> Option<Result<Spanned<'a>, TokenFault>>
-        ensures { Sees self.now result }
+    /// Takes the next token where it is this mark.
+    #[inline(always)]
+    pub fn eat(&mut self, mark: Mark) -> bool
+        ensures same_text { self.new.text ≡ self.old.text }
+        ensures taken { IsTrue result → TakesToken self.old self.new (lexeme_of mark) }
+        ensures not_taken { IsFalse result → (self.new ≡ self.old) × LacksMark self.old mark }
     {
-        self.ahead
+        if !is_byte(self.seen, byte_of(mark)) {
+            return false;
+        }
+        let behind = self.source.look(self.place + 1);
+        let (place, seen) = self.source.past_spaces(self.place + 1, behind);
+        self.place = place;
+        self.seen = seen;
+        true
     }
 
-    /// Goes on behind the token that is ahead.
-    fn advance(&mut self)
-        requires { (t : Placed) × (self.old.item ≡ ahead.Token t) }
-        ensures { GoesOn self.old self.new }
+    /// Takes the next token where it is an identifier.
+    #[inline(always)]
+    pub fn eat_name(&mut self) -> Option<(bool, &'a str)>
+        ensures same_text { self.new.text ≡ self.old.text }
+        ensures taken { IfSome result (λ r. TakesToken self.old self.new (ident_token r.0 r.1.now)) }
+        ensures not_taken { IfNone result ((self.new ≡ self.old) × LacksName self.old) }
     {
-        refill(&mut self.tokens, &mut self.ahead);
+        let Look::Ascii(first) = self.seen else {
+            return None;
+        };
+        if first == b'r' {
+            return self.eat_name_with_r();
+        }
+        if !begins_identifier(first as char) {
+            return None;
+        }
+        let second = self.source.look(self.place + 1);
+        let (end, behind) = self.source.past_identifier(self.place + 1, second);
+        let name = self.source.slice(self.place, end);
+        let (place, seen) = self.source.past_spaces(end, behind);
+        self.place = place;
+        self.seen = seen;
+        Some((false, name))
+    }
+
+    /// The same where an `r` is next, which may begin a raw mark.
+    fn eat_name_with_r(&mut self) -> Option<(bool, &'a str)>
+        requires { (t : Placed) → self.old.item ≡ ahead.Token t → IsIdentifier t.token }
+        ensures same_text { self.new.text ≡ self.old.text }
+        ensures taken { IfSome result (λ r. TakesToken self.old self.new (ident_token r.0 r.1.now)) }
+        ensures not_taken { IfNone result ((self.new ≡ self.old) × LacksName self.old) }
+    {
+        match self.take() {
+            Some(Ok(token)) => name_of(token),
+            Some(Err(_kind)) => None,
+            None => None,
+        }
+    }
+
+    /// Takes the next token where it is a string.
+    #[inline(always)]
+    pub fn eat_string(&mut self) -> Option<&'a str>
+        ensures same_text { self.new.text ≡ self.old.text }
+        ensures taken { IfSome result (λ v. TakesToken self.old self.new (string_token v.now)) }
+        ensures not_taken { IfNone result ((self.new ≡ self.old) × LacksString self.old) }
+    {
+        if !is_byte(self.seen, b'"') {
+            return None;
+        }
+        if let Some(_kind) = self.fault {
+            return None;
+        }
+        let Some(quote) = self.source.closing_quote(self.place + 1) else {
+            self.fault = Some(TokenFaultKind::UnterminatedString);
+            return None;
+        };
+        let value = self.source.slice(self.place + 1, quote);
+        let behind = self.source.look(quote + 1);
+        let (place, seen) = self.source.past_spaces(quote + 1, behind);
+        self.place = place;
+        self.seen = seen;
+        Some(value)
+    }
+
+    /// Takes the next token, whatever it is. Behind the last one it gives what is there.
+    #[inline(never)]
+    fn take(&mut self) -> Option<Result<Token<'a>, TokenFaultKind>>
+        ensures same_text { self.new.text ≡ self.old.text }
+        ensures taken { Takes self.old self.new result }
+    {
+        if let Some(kind) = self.fault {
+            return Some(Err(kind));
+        }
+        let Some(first) = character_of(self.seen) else {
+            return None;
+        };
+        match token_at(&mut self.source, self.place, first) {
+            Ok(cut) => {
+                let (place, seen) = self.source.past_spaces(cut.end, cut.seen);
+                self.place = place;
+                self.seen = seen;
+                Some(Ok(cut.token))
+            }
+            Err(kind) => {
+                self.fault = Some(kind);
+                Some(Err(kind))
+            }
+        }
     }
 
     /// The text from what comes next on, or nothing at the end.
-    pub fn rest(&self) -> Option<&'a str>
+    #[inline(always)]
+    fn rest(&self) -> Option<&'a str>
         ensures { SeesRest self.now result }
     {
-        match self.ahead {
-            Some(Ok(spanned)) => Some(self.tokens.text_from(spanned.start)),
-            Some(Err(fault)) => Some(self.tokens.text_from(fault.at)),
+        match character_of(self.seen) {
+            Some(_first) => Some(self.source.text_from(self.place)),
             None => None,
         }
     }
 
     /// The looks that were made.
+    #[inline(always)]
     pub fn spend(self) -> Looks
         ensures at_most { result ≤ characters_from self.entry.text 0 + 1 }
         ensures whole { self.entry.item ≡ ahead.Nothing → result ≡ characters_from self.entry.text 0 + 1 }
     {
-        let Reader { tokens, ahead: _ } = self;
-        tokens.spend()
+        let Reader {
+            source,
+            place: _,
+            seen: _,
+            fault: _,
+        } = self;
+        source.spend()
     }
 }
 
+/// The raw mark and the name of an identifier.
+fn name_of<'a>(token: Token<'a>) -> Option<(bool, &'a str)>
+    ensures { MatchOption result (IsIdentifier (lexeme token.entry) → ⊥)
+        (λ r. lexeme token.entry ≡ ident_token r.0 r.1.now) }
+{
+    match token {
+        Token::Ident(raw, name) => Some((raw, name)),
+        Token::LeftParen | Token::RightParen | Token::Comma | Token::Equals | Token::String(_) =>
+            None,
+    }
+}
+
+/// Whether a look gave this byte.
+#[inline(always)]
+fn is_byte(look: Look, byte: u8) -> bool
+    ensures yes { IsTrue result → look ≡ Ascii byte }
+    ensures no { IsFalse result → look ≡ Ascii byte → ⊥ }
+{
+    match look {
+        Look::Ascii(seen) => seen == byte,
+        Look::End | Look::Wide(_) => false,
+    }
+}
+
+/// A token that is one character.
+#[derive(Clone, Copy, PartialEq, Eq)]
+pub(crate) enum Mark {
+    LeftParen,
+    RightParen,
+    Comma,
+    Equals,
+}
+
+/// The character that a mark is.
+#[inline(always)]
+fn byte_of(mark: Mark) -> u8
+    ensures { written (lexeme_of mark) ≡ result ∷ [] }
+{
+    match mark {
+        Mark::LeftParen => b'(',
+        Mark::RightParen => b')',
+        Mark::Comma => b',',
+        Mark::Equals => b'=',
+    }
+}
 /// Why nothing was read.
 #[derive(Drop)]
 pub(crate) enum Refusal<'a> {
@@ -145,122 +295,29 @@ impl<'a> From<AllocError> for Refusal<'a> {
     }
 }
 
-/// A token that is one character.
-#[derive(Clone, Copy, PartialEq, Eq)]
-pub(crate) enum Mark {
-    LeftParen,
-    RightParen,
-    Comma,
-    Equals,
-}
-
-/// The mark that a token is, if it is one.
-fn mark_of(token: Token<'_>) -> Option<Mark>
-    ensures { result ≡ mark_of_lexeme (lexeme token.entry) }
-{
-    match token {
-        Token::LeftParen => Some(Mark::LeftParen),
-        Token::RightParen => Some(Mark::RightParen),
-        Token::Comma => Some(Mark::Comma),
-        Token::Equals => Some(Mark::Equals),
-        Token::Ident(..) | Token::String(..) => None,
-    }
-}
-
-impl<'a> Reader<'a> {
-    /// The next token, if one comes next.
-    fn token(&self) -> Option<Token<'a>>
-        ensures { SeesToken self.now result }
-    {
-        match self.peek() {
-            Some(Ok(spanned)) => Some(spanned.token),
-            _ => None,
-        }
-    }
-
-    /// Takes the next token where it is this mark.
-    pub fn eat(&mut self, mark: Mark) -> bool
-        ensures same_text { self.new.text ≡ self.old.text }
-        ensures taken { IsTrue result → TakesToken self.old self.new (lexeme_of mark) }
-        ensures not_taken { IsFalse result → (self.new ≡ self.old) × LacksMark self.old mark }
-    {
-        let Some(token) = self.token() else {
-            return false;
-        };
-        let Some(ahead) = mark_of(token) else {
-            return false;
-        };
-        if ahead != mark {
-            return false;
-        }
-        self.advance();
-        true
-    }
-
-    /// Takes the next token where it is an identifier.
-    pub fn eat_name(&mut self) -> Option<(bool, &'a str)>
-        ensures same_text { self.new.text ≡ self.old.text }
-        ensures taken { IfSome result (λ r. TakesToken self.old self.new (ident_token r.0 r.1.now)) }
-        ensures not_taken { IfNone result ((self.new ≡ self.old) × LacksName self.old) }
-    {
-        let Some(token) = self.token() else {
-            return None;
-        };
-        match token {
-            Token::Ident(raw, name) => {
-                self.advance();
-                Some((raw, name))
-            }
-            Token::LeftParen
-            | Token::RightParen
-            | Token::Comma
-            | Token::Equals
-            | Token::String(..) => None,
-        }
-    }
-
-    /// Takes the next token where it is a string.
-    pub fn eat_string(&mut self) -> Option<&'a str>
-        ensures same_text { self.new.text ≡ self.old.text }
-        ensures taken { IfSome result (λ v. TakesToken self.old self.new (string_token v.now)) }
-        ensures not_taken { IfNone result ((self.new ≡ self.old) × LacksString self.old) }
-    {
-        let Some(token) = self.token() else {
-            return None;
-        };
-        match token {
-            Token::String(value) => {
-                self.advance();
-                Some(value)
-            }
-            Token::LeftParen
-            | Token::RightParen
-            | Token::Comma
-            | Token::Equals
-            | Token::Ident(..) => None,
-        }
-    }
-}
-
-/// The refusal of what comes next, where nothing ended.
+/// The refusal of what comes next, where nothing ended. The reader goes on behind it.
+#[cold]
+#[inline(never)]
 pub(crate) fn refuse<'a>(
-    reader: &Reader<'a>,
+    reader: &mut Reader<'a>,
     expected: &'static str,
     at_end: &'static str,
 ) -> Refusal<'a>
-    ensures { RefusesNext reader.now expected.now at_end.now result }
+    ensures same_text { reader.new.text ≡ reader.old.text }
+    ensures refused { RefusesNext reader.old expected.now at_end.now result }
 {
-    match reader.peek() {
-        Some(Ok(spanned)) => Refusal::Unexpected {
+    match reader.take() {
+        Some(Ok(token)) => Refusal::Unexpected {
             expected,
-            found: spanned.token.classify(),
+            found: token.classify(),
         },
-        Some(Err(fault)) => Refusal::Lexical(fault.kind),
+        Some(Err(kind)) => Refusal::Lexical(kind),
         None => Refusal::Incomplete(at_end),
     }
 }
 
 /// Refuses what is left behind a whole value or expression.
+#[inline(always)]
 pub(crate) fn expect_end<'a>(reader: &Reader<'a>) -> Result<(), Refusal<'a>>
     ensures end { OnOk result (reader.now.item ≡ ahead.Nothing) }
     ensures more { IfErr result (RefusesMore reader.now) }

@@ -134,27 +134,6 @@ impl<'a> Tokenizer<'a> {
     {
         self.source.rest_from(self.place)
     }
-
-    /// The text from a byte place on.
-    pub(crate) fn text_from(&self, at: usize) -> &'a str
-        requires { IsCharBoundary self.now.text at }
-        ensures { result.now ≡ drop at self.now.text }
-    {
-        self.source.text_from(at)
-    }
-
-    /// The looks of the calls of `next` so far.
-    pub(crate) fn spend(self) -> Looks
-        ensures { result ≡ self.entry.looks }
-    {
-        let Tokenizer {
-            source,
-            place: _,
-            seen: _,
-            failed: _,
-        } = self;
-        source.spend()
-    }
 }
 
 impl<'a> Iterator for Tokenizer<'a> {
@@ -196,7 +175,7 @@ impl<'a> Iterator for Tokenizer<'a> {
 
 /// The character that a look gave, unless it was the end.
 #[inline(always)]
-fn character_of(look: Look) -> Option<char>
+pub(crate) fn character_of(look: Look) -> Option<char>
     ensures { result ≡ character_of look }
 {
     match look {
@@ -239,15 +218,15 @@ fn seen_or_look(source: &mut Source<'_>, at: usize, seen: Option<Look>) -> Look
 
 /// A token, where it ends, and what is there.
 #[derive(Clone, Copy)]
-struct Cut<'a> {
-    token: Token<'a>,
-    end: usize,
-    seen: Look,
+pub(crate) struct Cut<'a> {
+    pub token: Token<'a>,
+    pub end: usize,
+    pub seen: Look,
 }
 
 /// The token that begins with this character at a place.
 #[inline(always)]
-fn token_at<'a>(
+pub(crate) fn token_at<'a>(
     source: &mut Source<'a>,
     start: usize,
     first: char,

@@ -1,13 +1,8 @@
 -- For proofs: what a reader has ahead of it, and how it goes on from one token to the next.
-use Rattle.std.specs.Prelude.{◌≡◌, ℕ, ◌+◌, ◌-◌, ◌≤◌, false, List, [], ◌∷◌, length, drop, Option, Some, None, Result, Ok}
-use Rattle.std.specs.Prelude.{Err}
-use Rattle.std.specs.Str.{IsCharBoundary}
-use Rattle.cargo_platform.specs.declared.tokens.Spanned.{Spanned}
-use Rattle.cargo_platform.specs.declared.tokens.TokenFault.{TokenFault}
+use Rattle.std.specs.Prelude.{◌≡◌, ℕ, ◌+◌, ◌-◌, List, [], ◌∷◌, length, drop}
 use Rattle.cargo_platform.specs.declared.tokens.TokenFaultKind.{TokenFaultKind}
-use Rattle.cargo_platform.specs.Tokens.{Placed, placed}
+use Rattle.cargo_platform.specs.Tokens.{Placed}
 use Rattle.cargo_platform.specs.Cut.{AreSpaces, IsWrittenAt, IsWhole, BeginsFault, IsCutFrom}
-use Rattle.cargo_platform.specs.Reading.{Progress, BeginsCharacter, characters_from}
 use Rattle.cargo_platform.specs.Faults.{Next, Unfit, Broken, End}
 
 -- what a tokenizer gives: a token, the fault of the tail, or nothing more
@@ -16,19 +11,11 @@ pub data Item : Type 0 where
   Lexical : (kind : TokenFaultKind) (at : ℕ) → Item
   Nothing : Item
 
-abbrev pub item_of : Option (Result Spanned TokenFault) → Item
-item_of None = Nothing
-item_of (Some (Ok s)) = Token (placed s)
-item_of (Some (Err f)) = Lexical f.kind f.at
-
 -- the item ahead, and the place from which the text goes on behind it
 pub record Ahead : Type 0 where
   pub text : List ℕ
   pub place : ℕ
   pub item : Item
-
-abbrev pub ahead_of : Progress → Option (Result Spanned TokenFault) → Ahead
-ahead_of p r = record { text = p.text; place = p.place; item = item_of r }
 
 -- from a place on the item comes next, and the text goes on behind it from another place
 abbrev pub Comes : List ℕ → ℕ → Item → ℕ → Type 0
@@ -69,18 +56,3 @@ item_count Nothing = 0
 -- at most so many items may come yet
 abbrev pub items_left : Ahead → ℕ
 items_left l = item_count l.item + (length l.text - l.place)
-
--- ---- what a reader keeps
-
--- behind a token the tokenizer goes on, and nothing comes at the end of the text
-abbrev pub IsItem : Progress → Option (Result Spanned TokenFault) → Type 0
-IsItem p None = (p.failed ≡ false) × (p.place ≡ length p.text)
-IsItem p (Some (Ok s)) = p.failed ≡ false
-IsItem p (Some (Err f)) = Unit {0}
-
-pub record IsReading (p : Progress) (ahead : Option (Result Spanned TokenFault)) : Type 0 where
-  pub reached : IsCharBoundary p.text p.place
-  pub begins : BeginsCharacter p.text ahead
-  pub item : IsItem p ahead
-  pub each : p.failed ≡ false → p.looks + characters_from p.text p.place ≡ characters_from p.text 0 + 1
-  pub at_most : p.looks ≤ characters_from p.text 0 + 1

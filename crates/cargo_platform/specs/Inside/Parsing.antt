@@ -1,11 +1,10 @@
 -- What a reader of expressions has read: the groups that are open with their members so far, and the expression that
 -- stands behind them, if one does.
 use Rattle.std.specs.Prelude.{◌≡◌, ℕ, Bool, true, false, List, [], ◌∷◌, ◌++◌, map, reverse, codes, Option, Some, None}
-use Rattle.std.specs.Prelude.{Result, IsFalse, ◌&&◌}
-use Rattle.cargo_platform.specs.declared.tokens.Spanned.{Spanned}
+use Rattle.std.specs.Prelude.{Result, Ok, Err, IsFalse, ◌&&◌}
 use Rattle.cargo_platform.specs.declared.tokens.Token.{Token}
 use denote.Ref.{Bor}
-use Rattle.cargo_platform.specs.declared.tokens.TokenFault.{TokenFault}
+use Rattle.cargo_platform.specs.declared.tokens.TokenFaultKind.{TokenFaultKind}
 use Rattle.cargo_platform.specs.declared.cfg.CfgExpr.{CfgExpr}
 use Rattle.cargo_platform.specs.declared.reader.Refusal.{Refusal}
 use Rattle.cargo_platform.specs.declared.reader.Refusal.TheVariants as refusal
@@ -20,7 +19,7 @@ use Rattle.cargo_platform.specs.declared.parser.Group.TheVariants as groups
 use Rattle.cargo_platform.specs.Tokens.{Lexeme, LeftParen, RightParen, Ident, Comma, Equals, String, Placed, plain}
 use Rattle.cargo_platform.specs.Tokens.{lexeme}
 use Rattle.cargo_platform.specs.Cut.{lexemes}
-use Rattle.cargo_platform.specs.Inside.Ahead.{Item, Nothing, item_of, Ahead, GoesOn, Path, next_of}
+use Rattle.cargo_platform.specs.Inside.Ahead.{Item, Nothing, Ahead, GoesOn, Path, next_of}
 use Rattle.cargo_platform.specs.Inside.Ahead as ahead
 use Rattle.cargo_platform.specs.Trees.{Name, CfgValue, Alone, KeyPair, Tree, All, Any, trees_of, tree_of}
 use Rattle.cargo_platform.specs.Spelling.{Spells, SpellEach}
@@ -30,19 +29,10 @@ use Rattle.cargo_platform.specs.Inside.Misfits.{IsIdentifier, IsString, misfit, 
 use Rattle.cargo_platform.specs.Walk.{Word, Several, Negation, State, Wanted, Member, Behind, Named, Keyed, Ended}
 use Rattle.cargo_platform.specs.Walk.{after, walk}
 
--- the item ahead
-abbrev pub Sees : Ahead → Option (Result Spanned TokenFault) → Type 0
-Sees l r = l.item ≡ item_of r
-
 -- the text from the item ahead on, or nothing at the end
 abbrev pub SeesRest : Ahead → Option (Bor (List ℕ)) → Type 0
 SeesRest l None = l.item ≡ Nothing
 SeesRest l (Some rest) = IsSurplus (next_of l.text l.item) (UnterminatedExpression rest.now)
-
--- the token ahead, if one is
-abbrev pub SeesToken : Ahead → Option Token → Type 0
-SeesToken l None = (t : Placed) → l.item ≡ ahead.Token t → ⊥
-SeesToken l (Some t) = (first : Placed) × (l.item ≡ ahead.Token first) × (first.token ≡ lexeme t)
 
 abbrev pub lexeme_of : Mark → Lexeme
 lexeme_of marks.LeftParen = LeftParen
@@ -50,17 +40,15 @@ lexeme_of marks.RightParen = RightParen
 lexeme_of marks.Comma = Comma
 lexeme_of marks.Equals = Equals
 
-abbrev pub mark_of_lexeme : Lexeme → Option Mark
-mark_of_lexeme LeftParen = Some marks.LeftParen
-mark_of_lexeme RightParen = Some marks.RightParen
-mark_of_lexeme Comma = Some marks.Comma
-mark_of_lexeme Equals = Some marks.Equals
-mark_of_lexeme (Ident raw name) = None
-mark_of_lexeme (String value) = None
-
 -- the token ahead, which this is, is taken
 abbrev pub TakesToken : Ahead → Ahead → Lexeme → Type 0
 TakesToken old new t = (first : Placed) × (old.item ≡ ahead.Token first) × (first.token ≡ t) × GoesOn old new
+
+-- what is ahead is taken, if it is a token
+abbrev pub Takes : Ahead → Ahead → Option (Result Token TokenFaultKind) → Type 0
+Takes old new None = (new ≡ old) × (old.item ≡ Nothing)
+Takes old new (Some (Ok t)) = TakesToken old new (lexeme t)
+Takes old new (Some (Err kind)) = (new ≡ old) × (at : ℕ) × (old.item ≡ ahead.Lexical kind at)
 
 -- no token is ahead that is so
 abbrev pub Lacks : (Lexeme → Type 0) → Ahead → Type 0

@@ -42,7 +42,7 @@ returns-clause-refused c =
     let n = c.in_default.ensures.not_taken in
     let k = c.in_default-end_list.ensures.not_closed in
     let L : Ahead → Type 0 = λ z. LacksMark z marks.RightParen in
-    stops_untaken l c.end_list.new.reader (Wants gs) c.refuse.result _ _ (k.0 ∙ n.0) c.refuse.ensures
+    stops_untaken l c.end_list.new.reader (Wants gs) c.refuse.result _ _ (k.0 ∙ n.0) c.refuse.ensures.refused
     (λ ts p. wants_refusing l gs ts n.1 (λ y. subst L n.0 (k.1 y)) p)
 
 pub returns-in-Some-clause-shorter : goal.returns-in-Some-clause-shorter

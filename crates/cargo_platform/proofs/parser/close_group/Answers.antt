@@ -12,7 +12,7 @@ returns-then-not-eat-clause-refused c = λ gs.
     let o = opening c.args.group in
     let e = tree_of c.args.last in
     let n = c.eat.ensures.not_taken c.if-not-eat.true in
-    stops_untaken l c.eat.new.self (Has (o ∷ gs) e l.item) c.refuse.result _ _ n.0 c.refuse.ensures
+    stops_untaken l c.eat.new.self (Has (o ∷ gs) e l.item) c.refuse.result _ _ n.0 c.refuse.ensures.refused
     (λ ts p. group_refusing l o gs e ts n.1 c.requires p)
 
 pub returns-in_ok-negation-in-Not-clause-closed : goal.returns-in_ok-negation-in-Not-clause-closed

@@ -18,7 +18,7 @@ returns-in_default-clause-refused c =
     let n = c.in_default.ensures.not_taken in
     let R : Ahead → Type 0 = λ z. RefusesNext z (codes "identifier") (codes "identifier") c.refuse.result in
     if_fault c.refuse.result _ _
-    (λ f h. ([], l, reads_same l Nothing Nothing (λ ts p. p), (n.1, h))) (subst R n.0 c.refuse.ensures)
+    (λ f h. ([], l, reads_same l Nothing Nothing (λ ts p. p), (n.1, h))) (subst R n.0 c.refuse.ensures.refused)
 
 pub returns-in_err-cfg-clause-refused : goal.returns-in_err-cfg-clause-refused
 returns-in_err-cfg-clause-refused c =

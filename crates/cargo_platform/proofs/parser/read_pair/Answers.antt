@@ -9,7 +9,7 @@ pub returns-in_default-clause-refused : goal.returns-in_default-clause-refused
 returns-in_default-clause-refused c =
     let n = c.in_default.ensures.not_taken in
     let R : Ahead → Type 0 = λ z. RefusesNext z (codes "a string") (codes "a string") c.refuse.result in
-    if_fault c.refuse.result _ _ (λ f h. (n.1, h)) (subst R n.0 c.refuse.ensures)
+    if_fault c.refuse.result _ _ (λ f h. (n.1, h)) (subst R n.0 c.refuse.ensures.refused)
 
 pub returns-clause-pair : goal.returns-clause-pair
 returns-clause-pair c =

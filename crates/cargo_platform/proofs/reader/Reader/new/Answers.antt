@@ -1,10 +1,50 @@
-use Rattle.std.proofs.Common.{subst, false, refl}
-use Rattle.cargo_platform.specs.Reading.{Progress, NextCall}
-use Rattle.cargo_platform.proofs.Readings.{reading_on}
+use Rattle.std.proofs.Common.{sym, ap, subst, ◌∙◌, ◌<◌, ◌^◌, List, ℕ, None, arith}
+use Rattle.std.specs.Str.{IsCharBoundary}
+use Rattle.std.proofs.lemmas.Str.{IsCharBoundary-start}
+use Rattle.cargo_platform.specs.Reading.{characters_from}
+use Rattle.cargo_platform.specs.Inside.Ahead.{Comes}
+use Rattle.cargo_platform.specs.Inside.Coming.{ahead_at, IsReadingAt}
+use Rattle.cargo_platform.proofs.Looking.{chars_fit}
+use Rattle.cargo_platform.proofs.Coming.{comes_from, comes_here}
 use Rattle.cargo_platform.proofs.reader.Reader.new.Goals as goal
+
+pub look-first-requires : goal.look-first-requires
+look-first-requires c =
+    let B : List ℕ → Type 0 = λ z. IsCharBoundary z 0 in
+    subst B (sym c.new-source.ensures.text) (IsCharBoundary-start c.args.text.now c.utf8.text)
+
+pub past_spaces-place-requires-clause-begin : goal.past_spaces-place-requires-clause-begin
+past_spaces-place-requires-clause-begin c =
+    let B : List ℕ → Type 0 = λ z. IsCharBoundary z 0 in
+    subst B (sym (ap (λ t. t.now) c.look-first.ensures.same ∙ c.new-source.ensures.text))
+    (IsCharBoundary-start c.args.text.now c.utf8.text)
 
 pub invariant_of-result : goal.invariant_of-result
 invariant_of-result c =
-    let p : Progress = record { text = c.args.text.now; place = 0; failed = false; looks = 0 } in
-    let N : Progress → Type 0 = λ z. NextCall z c.refill.new.ahead c.refill.new.tokens in
-    reading_on p c.refill.new.tokens c.refill.new.ahead refl (subst N c.new-tokens.ensures c.refill.ensures)
+    let look = rw c.new-source.ensures.text at c.look-first.ensures.cost in
+    let first = ap (λ t. t.now) c.look-first.ensures.same ∙ c.new-source.ensures.text in
+    let found = rw first at c.past_spaces-place.ensures in
+    let fits : characters_from c.args.text.now 0 < 2 ^ 64 = omega (arith, chars_fit c.args.text.now c.utf8.text) in
+    let I : List ℕ → Type 0 = λ z. IsReadingAt z c.past_spaces-place.result.0 c.past_spaces-place.result.1 None
+    c.past_spaces-place.new.self.looks in
+    subst I (sym (ap (λ t. t.now) c.past_spaces-place.ensures.same ∙ first)) (record {
+      utf8 = c.utf8.text;
+      short = fits;
+      reached = found.boundary;
+      sees = found.sees;
+      past = found.past;
+      found = tt;
+      each = λ _. omega (arith, look.at_most, look.at_least, found.cost.at_most, found.cost.at_least, fits, c.new-source.ensures.looks);
+      at_most = omega (arith, look.at_most, found.cost.at_most, c.new-source.ensures.looks);
+    })
+
+pub returns-clause-first : goal.returns-clause-first
+returns-clause-first c =
+    let first = ap (λ t. t.now) c.look-first.ensures.same ∙ c.new-source.ensures.text in
+    let found = rw first at c.past_spaces-place.ensures in
+    let to = c.past_spaces-place.result.0 in
+    let l = ahead_at c.args.text.now to in
+    let C : List ℕ → Type 0 = λ z. Comes c.args.text.now 0 (ahead_at z to).item (ahead_at z to).place in
+    subst C (sym (ap (λ t. t.now) c.past_spaces-place.ensures.same ∙ first))
+    (comes_from c.args.text.now 0 to l.place l.item found.spaces
+    (comes_here c.args.text.now to c.utf8.text found.boundary found.past))

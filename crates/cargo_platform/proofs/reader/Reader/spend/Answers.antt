@@ -1,10 +1,11 @@
 use Rattle.std.proofs.Common.{ap, ◌∙◌}
 use Rattle.cargo_platform.specs.Inside.Ahead.{Ahead}
-use Rattle.cargo_platform.proofs.Readings.{seen_whole}
+use Rattle.cargo_platform.proofs.Coming.{whole_read}
 use Rattle.cargo_platform.proofs.reader.Reader.spend.Goals as goal
 
 pub returns-clause-whole : goal.returns-clause-whole
 returns-clause-whole c = λ done.
-    let seen = seen_whole c.self.inside.tokens c.self.inside.ahead c.self.invariant
+    let r = c.self.inside in
+    let seen = whole_read r.source.text.now r.place r.seen r.fault r.source.looks c.self.invariant
     (ap (λ (z : Ahead). z.item) c.self.view_is ∙ done) in
     rw (← c.self.view_is, c.spend.ensures) seen

@@ -1,0 +1,22 @@
+use Rattle.std.proofs.Common.{ap, sym, subst, ◌∙◌}
+use Rattle.cargo_platform.specs.Faults.{UnterminatedExpression}
+use Rattle.cargo_platform.specs.Inside.Misfits.{IsSurplus}
+use Rattle.cargo_platform.specs.Inside.Ahead.{Ahead, next_of}
+use Rattle.cargo_platform.proofs.Coming.{end_ahead, rest_ahead, nothing_seen, something_seen}
+use Rattle.cargo_platform.proofs.reader.Reader.rest.Goals as goal
+
+pub returns-in-None : goal.returns-in-None
+returns-in-None c =
+    let r = c.self.inside in
+    sym (ap (λ (z : Ahead). z.item) c.self.view_is)
+    ∙ end_ahead r.source.text.now r.place
+    (nothing_seen r.source.text.now r.place r.seen c.self.invariant.sees (sym c.character_of.ensures ∙ c.in-None.is))
+
+pub returns-in-Some : goal.returns-in-Some
+returns-in-Some c =
+    let r = c.self.inside in
+    let i = c.self.invariant in
+    let within = something_seen r.source.text.now r.place _ r.seen i.sees (sym c.character_of.ensures ∙ c.in-Some.is) in
+    let S : Ahead → Type 0 = λ z. IsSurplus (next_of z.text z.item) (UnterminatedExpression c.text_from.result.now) in
+    subst S c.self.view_is
+    (rw c.text_from.ensures (rest_ahead r.source.text.now r.place i.utf8 i.reached i.past within))
