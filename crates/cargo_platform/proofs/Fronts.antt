@@ -4,12 +4,11 @@ use Rattle.std.proofs.Common.{Some, None, inl, inr, ◌⊎◌, append_assoc, len
 use Rattle.std.specs.List.{last_or}
 use Rattle.cargo_platform.specs.Tokens.{Lexeme, Placed}
 use Rattle.cargo_platform.specs.Cut.{IsCut, lexemes}
-use Rattle.cargo_platform.specs.Spelling.{Grammar, IsAccepted, Expressions}
+use Rattle.cargo_platform.specs.Spelling.{Grammar, IsAccepted}
 use Rattle.cargo_platform.specs.Faults.{IsCompletable, Next, Follows, Fault, fault_of, IsRefused}
-use Rattle.cargo_platform.specs.Walk.{State, after, walk}
-use Rattle.cargo_platform.specs.Inside.Parsing.{is_whole}
+use Rattle.cargo_platform.specs.Walk.{State, after, walk, is_whole}
 use Rattle.cargo_platform.proofs.OneTree.{head_is, tail_is}
-use Rattle.cargo_platform.proofs.Walk.{walk_on, stopped}
+use Rattle.cargo_platform.proofs.Walk.{walk_next, stopped}
 use Rattle.cargo_platform.proofs.Completing.{walked_completes, whole_accepted, accepted_whole}
 
 pub lexemes-append : (ts us : List Placed) → lexemes (ts ++ us) ≡ lexemes ts ++ lexemes us
@@ -31,45 +30,36 @@ longer_or (f ∷ fs) others (u ∷ us) rest t h =
 pub none_longer : (front longer others : List Placed) → front ++ [] ≡ longer ++ others → length longer ≤ length front
 none_longer front longer others h = omega (arith, ap length h, length-append longer others, length-append front [])
 
--- where the front with the next token is the front of no completable list, no longer front is completable
-pub longest_where : (g : Grammar) (front after : List Placed)
-    → ((t : Placed) (us : List Placed) → after ≡ t ∷ us → (more : List Lexeme)
-    → IsCompletable g (lexemes front ++ (t.token ∷ more)) → ⊥) → (longer others : List Placed)
-    → front ++ after ≡ longer ++ others → IsCompletable g (lexemes longer) → length longer ≤ length front
-longest_where g front [] unfit longer others h p = none_longer front longer others h
-longest_where g front (t ∷ rest) unfit longer others h p =
-    elim (longer_or front others longer rest t h) [
-      | inl le ↦ le
-      | inr m ↦
-          let C : List Lexeme → Type 0 = λ z. IsCompletable g z in
-          absurd (unfit t rest refl (lexemes m.0) (subst C (ap lexemes m.1 ∙ lexemes-append front (t ∷ m.0)) p))
-    ]
-
 -- where nothing that begins with the front and the next token is accepted, no longer front is completable
 pub longest_before : (g : Grammar) (front rest : List Placed) (t : Placed)
     → ((more : List Lexeme) → IsAccepted g ((lexemes front ++ (t.token ∷ [])) ++ more) → ⊥)
     → (longer others : List Placed) → front ++ (t ∷ rest) ≡ longer ++ others → IsCompletable g (lexemes longer)
     → length longer ≤ length front
 longest_before g front rest t never longer others h p =
-    longest_where g front (t ∷ rest) (λ u us e more c.
-    let Q : List Lexeme → Type 0 = λ z. IsAccepted g z in
-    let Next : Placed → Type 0 = λ z. IsAccepted g ((lexemes front ++ (z.token ∷ [])) ++ (more ++ c.0)) in
-    let parts = append_assoc (lexemes front) (u.token ∷ more) c.0
-    ∙ sym (append_assoc (lexemes front) (u.token ∷ []) (more ++ c.0)) in
-    never (more ++ c.0) (subst Next (sym (head_is e)) (subst Q parts c.2))) longer others h p
+    elim (longer_or front others longer rest t h) [
+      | inl le ↦ le
+      | inr m ↦
+          let A : List Lexeme → Type 0 = λ z. IsAccepted g z in
+          let tokens = lexemes front in
+          let is : lexemes longer ++ p.0 ≡ (tokens ++ t.token ∷ []) ++ (lexemes m.0 ++ p.0) =
+          ap (λ (z : List Placed). lexemes z ++ p.0) m.1
+          ∙ ap (λ (z : List Lexeme). z ++ p.0) (lexemes-append front (t ∷ m.0))
+          ∙ append_assoc tokens (t.token ∷ lexemes m.0) p.0
+          ∙ sym (append_assoc tokens (t.token ∷ []) (lexemes m.0 ++ p.0)) in
+          absurd (never (lexemes m.0 ++ p.0) (subst A is p.2))
+    ]
 
 -- the next token does not go on with the tokens that lead to the state
-abbrev pub goes_on : State → List Placed → Option State
-goes_on s [] = None
-goes_on s (t ∷ ts) = after s t.token
+abbrev pub goes_on : Grammar → State → List Placed → Option State
+goes_on g s [] = None
+goes_on g s (t ∷ ts) = after g s t.token
 
 -- where a front is walked, and what follows does not go on with it, the text is refused
-pub refused_walked : (text : List ℕ) (ts front behind : List Placed) (tail : ℕ) (s : State) (next : Next)
-    (fault : Fault) → IsCut text ts tail → ts ≡ front ++ behind → walk (lexemes front) ≡ Some s
-    → goes_on s behind ≡ None → Follows text behind tail next
-    → fault_of Expressions (is_whole s) (last_or None (lexemes front)) next ≡ Some fault
-    → IsRefused Expressions text fault
-refused_walked text ts front behind tail s next fault cut parts walked stops follows table = record {
+pub refused_walked : (g : Grammar) (text : List ℕ) (ts front behind : List Placed) (tail : ℕ) (s : State) (next : Next)
+    (fault : Fault) → IsCut text ts tail → ts ≡ front ++ behind → walk g (lexemes front) ≡ Some s
+    → goes_on g s behind ≡ None → Follows text behind tail next
+    → fault_of g (is_whole s) (last_or None (lexemes front)) next ≡ Some fault → IsRefused g text fault
+refused_walked g text ts front behind tail s next fault cut parts walked stops follows table = record {
   ts = ts;
   tail = tail;
   cut = cut;
@@ -77,21 +67,21 @@ refused_walked text ts front behind tail s next fault cut parts walked stops fol
   after = behind;
   is_front = record {
     parts = parts;
-    completable = walked_completes (lexemes front) s walked;
+    completable = walked_completes g (lexemes front) s walked;
     longest = λ longer others h p. no_longer front behind s walked stops longer others (sym parts ∙ h) p;
   };
   next = next;
   follows = follows;
   accepted = is_whole s;
-  is_accepted = (λ h. whole_accepted s (lexemes front) h walked, λ p. accepted_whole s (lexemes front) walked p);
+  is_accepted = (λ h. whole_accepted g s (lexemes front) h walked, λ p. accepted_whole g s (lexemes front) walked p);
   is_fault = table;
 }
   where
-    no_longer : (front behind : List Placed) (s : State) → walk (lexemes front) ≡ Some s → goes_on s behind ≡ None
-        → (longer others : List Placed) → front ++ behind ≡ longer ++ others
-        → IsCompletable Expressions (lexemes longer) → length longer ≤ length front
+    no_longer : (front behind : List Placed) (s : State) → walk g (lexemes front) ≡ Some s → goes_on g s behind ≡ None
+        → (longer others : List Placed) → front ++ behind ≡ longer ++ others → IsCompletable g (lexemes longer)
+        → length longer ≤ length front
     no_longer front [] s walked stops longer others h p = none_longer front longer others h
     no_longer front (t ∷ rest) s walked stops longer others h p =
-        longest_before Expressions front rest t
-        (λ more a. stopped (lexemes front ++ (t.token ∷ [])) more
-        (walk_on (lexemes front) (t.token ∷ []) s walked ∙ stops) a) longer others h p
+        longest_before g front rest t
+        (λ more a. stopped g (lexemes front ++ (t.token ∷ [])) more
+        (walk_next g (lexemes front) t.token s walked ∙ stops) a) longer others h p

@@ -10,10 +10,10 @@ pub mod TreeViews
 pub mod OneValue
 pub mod WellFormedness
 pub mod Walk
+pub mod Positions
 pub mod Completing
 pub mod Fronts
 pub mod Refused
-pub mod ValueFaults
 pub mod Completable
 pub mod Expecting
 pub mod OneFault
@@ -23,7 +23,6 @@ pub mod Printing
 pub mod Readings
 pub mod Paths
 pub mod Parsing
-pub mod ValueReading
 pub mod Refusing
 pub mod ReaderAnswers
 mod CutTests

@@ -1,23 +1,19 @@
 -- In each grammar a text spells something, or has a fault, and not both.
-use Rattle.std.proofs.Common.{◌≡◌, refl, sym, ap, subst, ◌∙◌, ℕ, ◌≤◌, Bool, true, false, true≢false, List, [], ◌∷◌}
+use Rattle.std.proofs.Common.{◌≡◌, refl, sym, ap, subst, ℕ, ◌≤◌, Bool, true, false, List, [], ◌∷◌}
 use Rattle.std.proofs.Common.{◌++◌, Option, Some, None, inl, inr, ◌⊎◌, append_assoc, append-nil, length, length-drop}
 use Rattle.std.proofs.Common.{arith}
 use Rattle.std.specs.Prelude.{◌↔◌, IsTrue, IsUtf8, drop}
 use Rattle.std.specs.List.{last_or}
-use Rattle.cargo_platform.specs.Tokens.{Lexeme, Ident, Equals, String, Placed}
+use Rattle.cargo_platform.specs.Tokens.{Lexeme, Placed}
 use Rattle.cargo_platform.specs.Cut.{IsCut, AreApart, lexemes}
-use Rattle.cargo_platform.specs.Trees.{Alone, KeyPair}
 use Rattle.cargo_platform.specs.Spelling.{Grammar, Values, Expressions, IsAccepted}
 use Rattle.cargo_platform.specs.Faults.{IsCompletable, IsFaultFront, Next, Unfit, Broken, End, Follows, Fault, fault_of}
 use Rattle.cargo_platform.specs.Faults.{IsRefused}
 use Rattle.cargo_platform.specs.FaultLaws.{SpellsSomething, SpellsOrIsRefused}
-use Rattle.cargo_platform.specs.Walk.{walk}
-use Rattle.cargo_platform.specs.Inside.Parsing.{is_whole}
-use Rattle.cargo_platform.proofs.Walk.{stopped}
+use Rattle.cargo_platform.specs.Walk.{walk, is_whole}
+use Rattle.cargo_platform.proofs.Walk.{stopped, completable_walks}
 use Rattle.cargo_platform.proofs.Completing.{walked_completes, whole_accepted, accepted_whole}
 use Rattle.cargo_platform.proofs.Fronts.{lexemes-append, none_longer, longest_before}
-use Rattle.cargo_platform.proofs.ValueFaults.{is_value_front, spelled_front, front_completes, completable_values}
-use Rattle.cargo_platform.proofs.ValueFaults.{none_is, key_is}
 use Rattle.cargo_platform.proofs.Refused.{refused_spells_none, refused_spells_no_value}
 use Rattle.cargo_platform.proofs.SomeCut.{some_cut}
 use Rattle.cargo_platform.proofs.Completable.{none_completable}
@@ -27,37 +23,20 @@ abbrev IsCompletableOrNot : Grammar → List Lexeme → Type 0
 IsCompletableOrNot g ts = IsCompletable g ts ⊎ ((more : List Lexeme) → IsAccepted g (ts ++ more) → ⊥)
 
 completable_or : (g : Grammar) (ts : List Lexeme) → IsCompletableOrNot g ts
-completable_or Values ts =
-    elim (is_value_front ts) as (λ z. is_value_front ts ≡ z → IsCompletableOrNot Values ts) [
-      | true ↦ λ h. inl (front_completes ts h)
-      | false ↦ λ h. inr (λ more a. true≢false (sym (spelled_front a.0 ts more a.1) ∙ h))
-    ] refl
-completable_or Expressions ts =
-    elim (walk ts) as (λ z. walk ts ≡ z → IsCompletableOrNot Expressions ts) [
-      | None ↦ λ h. inr (λ more a. stopped ts more h a)
-      | Some s ↦ λ h. inl (walked_completes ts s h)
+completable_or g ts =
+    elim (walk g ts) as (λ z. walk g ts ≡ z → IsCompletableOrNot g ts) [
+      | None ↦ λ h. inr (λ more a. stopped g ts more h a)
+      | Some s ↦ λ h. inl (walked_completes g ts s h)
     ] refl
 
 -- an answer to whether the tokens are accepted
 abbrev IsAcceptedOrNot : Grammar → List Lexeme → Type 0
 IsAcceptedOrNot g ts = (accepted : Bool) × (IsTrue accepted ↔ IsAccepted g ts)
 
-accepted_value_or : (ts : List Lexeme) → is_value_front ts ≡ true → IsAcceptedOrNot Values ts
-accepted_value_or [] h = (false, (λ n. absurd (true≢false (sym n)), λ a. absurd (none_is a)))
-accepted_value_or (Ident raw name ∷ []) h = (true, (λ _. (Alone (record { raw = raw; name = name }), refl), λ _. refl))
-accepted_value_or (Ident raw name ∷ Equals ∷ []) h =
-    (false, (λ n. absurd (true≢false (sym n)), λ a. absurd (key_is raw name a)))
-accepted_value_or (Ident raw name ∷ Equals ∷ String value ∷ []) h =
-    (true, (λ _. (KeyPair (record { raw = raw; name = name }) value, refl), λ _. refl))
-accepted_value_or ts h = absurd (true≢false (sym h))
-
 accepted_or : (g : Grammar) (ts : List Lexeme) → IsCompletable g ts → IsAcceptedOrNot g ts
-accepted_or Values ts p = accepted_value_or ts ((completable_values ts).0 p)
-accepted_or Expressions ts p =
-    elim (walk ts) as (λ z. walk ts ≡ z → IsAcceptedOrNot Expressions ts) [
-      | None ↦ λ h. absurd (stopped ts p.0 h p.2)
-      | Some s ↦ λ h. (is_whole s, (λ w. whole_accepted s ts w h, λ a. accepted_whole s ts h a))
-    ] refl
+accepted_or g ts p =
+    let w = completable_walks g ts p in
+    (is_whole w.0, (λ h. whole_accepted g w.0 ts h w.1, λ a. accepted_whole g w.0 ts w.1 a))
 
 record SomeFront (g : Grammar) (ts : List Placed) : Type 0 where
   pub front : List Placed

@@ -11,19 +11,19 @@ use Rattle.cargo_platform.specs.Faults.{IsCompletable, IsFaultFront, End, Fault,
 use Rattle.cargo_platform.specs.Faults.{expected_token, expected_end, IsRefused}
 use Rattle.cargo_platform.specs.Walk.{State, after, walk}
 
--- whether a list can be completed as an expression is told by its walk
-abbrev pub IsWalkedIffCompletable : List Lexeme → Type 0
-IsWalkedIffCompletable ts = IsCompletable Expressions ts ↔ ((s : State) × (walk ts ≡ Some s))
+-- whether a list can be completed is told by its walk
+abbrev pub IsWalkedIffCompletable : Grammar → List Lexeme → Type 0
+IsWalkedIffCompletable g ts = IsCompletable g ts ↔ ((s : State) × (walk g ts ≡ Some s))
 
 -- a front of a completable list is completable
 abbrev pub FrontsAreCompletable : Grammar → List Lexeme → List Lexeme → Type 0
 FrontsAreCompletable g front after = AllByRecursion IsWellWritten (front ++ after) → IsCompletable g (front ++ after)
     → IsCompletable g front
 
--- which tokens keep a list completable as an expression is told by the state that its walk leads to
-abbrev pub IsKeptByWalk : List Lexeme → Lexeme → Type 0
-IsKeptByWalk ts t = (s : State) → walk ts ≡ Some s
-    → (IsCompletable Expressions (ts ++ t ∷ []) ↔ ((next : State) × (after s t ≡ Some next)))
+-- which tokens keep a list completable is told by the state that its walk leads to
+abbrev pub IsKeptByWalk : Grammar → List Lexeme → Lexeme → Type 0
+IsKeptByWalk g ts t = (s : State) → walk g ts ≡ Some s
+    → (IsCompletable g (ts ++ t ∷ []) ↔ ((next : State) × (after g s t ≡ Some next)))
 
 abbrev pub is_left_paren : Lexeme → Bool
 is_left_paren LeftParen = true

@@ -101,14 +101,14 @@ pub fn completed_shortly()
     ensures { (ts : List Lexeme) → IsCompletedShortly ts }
 {}
 
-/// The words that are open and the last token tell whether tokens can be completed as an expression.
+/// The words that are open and the last token tell whether tokens can be completed.
 pub fn walked_iff_completable()
-    ensures { (ts : List Lexeme) → IsWalkedIffCompletable ts }
+    ensures { (g : Grammar) (ts : List Lexeme) → IsWalkedIffCompletable g ts }
 {}
 
-/// The words that are open and the last token tell which next tokens keep an expression completable.
+/// The words that are open and the last token tell which next tokens keep tokens completable.
 pub fn kept_by_walk()
-    ensures { (ts : List Lexeme) (t : Lexeme) → IsKeptByWalk ts t }
+    ensures { (g : Grammar) (ts : List Lexeme) (t : Lexeme) → IsKeptByWalk g ts t }
 {}
 
 /// Where a text goes wrong: the tokens before that place can be completed, with the next one they can't, and what is
