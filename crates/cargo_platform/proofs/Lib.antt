@@ -2,7 +2,6 @@ pub mod OneCut
 pub mod SomeCut
 pub mod Looking
 pub mod Scanning
-pub mod Stepping
 pub mod Runs
 pub mod Roles
 pub mod OneTree
