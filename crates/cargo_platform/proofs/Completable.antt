@@ -19,7 +19,8 @@ use Rattle.cargo_platform.specs.Walk.{Word, Several, Negation, State, Wanted, Me
 use Rattle.cargo_platform.specs.Walk.{after_role, after_name, after_expression, after, walk_from, walk, is_whole}
 use Rattle.cargo_platform.specs.FaultLaws.{is_left_paren, IsCompletedShortly, IsOfClass, CanFollow, Names}
 use Rattle.cargo_platform.proofs.OneCut.{never}
-use Rattle.cargo_platform.proofs.Walk.{none_some, walk_next, completable_walks}
+use Rattle.cargo_platform.proofs.Walk.{none_some, walk_next}
+use Rattle.cargo_platform.proofs.Building.{completable_walks}
 use Rattle.cargo_platform.proofs.Completing.{needed, walked_completes_within, walked_completes, whole_accepted}
 use Rattle.cargo_platform.proofs.Expecting.{like, walk_matches}
 

@@ -7,9 +7,15 @@ use Rattle.cargo_platform.specs.Cut.{IsCut, lexemes}
 use Rattle.cargo_platform.specs.Spelling.{Grammar, IsAccepted}
 use Rattle.cargo_platform.specs.Faults.{IsCompletable, Next, Follows, Fault, fault_of, IsRefused}
 use Rattle.cargo_platform.specs.Walk.{State, after, walk, is_whole}
-use Rattle.cargo_platform.proofs.OneTree.{head_is, tail_is}
-use Rattle.cargo_platform.proofs.Walk.{walk_next, stopped}
+use Rattle.cargo_platform.proofs.Walk.{walk_next}
+use Rattle.cargo_platform.proofs.Building.{stopped}
 use Rattle.cargo_platform.proofs.Completing.{walked_completes, whole_accepted, accepted_whole}
+
+head_is : {a b : Placed} {s t : List Placed} → a ∷ s ≡ b ∷ t → a ≡ b
+head_is h = cc
+
+tail_is : {a b : Placed} {s t : List Placed} → a ∷ s ≡ b ∷ t → s ≡ t
+tail_is h = cc
 
 pub lexemes-append : (ts us : List Placed) → lexemes (ts ++ us) ≡ lexemes ts ++ lexemes us
 lexemes-append [] us = refl

@@ -4,11 +4,11 @@ pub mod Looking
 pub mod Scanning
 pub mod Runs
 pub mod Roles
-pub mod OneTree
-pub mod TreeViews
-pub mod OneValue
-pub mod WellFormedness
 pub mod Walk
+pub mod Building
+pub mod TreeViews
+pub mod OneText
+pub mod WellFormedness
 pub mod Positions
 pub mod Completing
 pub mod Fronts

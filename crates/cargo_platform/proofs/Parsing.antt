@@ -26,8 +26,9 @@ use Rattle.cargo_platform.specs.Inside.Parsing.{is_list, is_lone, Wants, Has, Ha
 use Rattle.cargo_platform.specs.Inside.Parsing.{is_equals_next, Reads, TakesToken, LacksMark, LacksName, LacksString}
 use Rattle.cargo_platform.specs.Inside.Parsing.{IsStop, IsStuck, IfFault, StopsAt, Stops, RefusesNext, RefusesMore}
 use Rattle.cargo_platform.specs.Inside.Parsing.{ClearBehind, with_last}
-use Rattle.cargo_platform.proofs.Walk.{begins, ends, walk_next}
-use Rattle.cargo_platform.proofs.Positions.{list_not_lone, members_close, negation_close, list_close, member_comma}
+use Rattle.cargo_platform.proofs.Walk.{begins, ends, walk_next, after_end}
+use Rattle.cargo_platform.proofs.Building.{list_not_lone}
+use Rattle.cargo_platform.proofs.Positions.{members_close, negation_close, list_close, member_comma}
 use Rattle.cargo_platform.proofs.Positions.{wants_walk, word_walk, ends_walk}
 use Rattle.cargo_platform.proofs.Completing.{tree_accepted, ends_whole}
 use Rattle.cargo_platform.proofs.Expecting.{like, walk_matches}
@@ -198,12 +199,6 @@ clear_first : (n : Bool) (left : Item) (t : Placed) → IsFalse (n && is_equals_
     → IsFalse (n && is_equals t.token)
 clear_first n left t c h = ap (λ (z : Item). n && is_equals_next z) (sym h) ∙ c
 
-after_end : (g : Grammar) (n : Bool) (ws : List Word) (t : Lexeme) → IsFalse (n && is_equals t)
-    → after_expression ws t ≡ None → after g (ends n ws) t ≡ None
-after_end g true ws Equals c h = absurd (true≢false c)
-after_end g true ws t c h = h
-after_end g false ws t c h = h
-
 -- a whole value or expression was read
 pub record Whole (g : Grammar) (l : Ahead) (ts : List Lexeme) : Type 0 where
   pub lone : Bool
@@ -218,7 +213,7 @@ stops_behind {g} l P r h f = refused_here g l P r (λ ts p.
     record {
       s = ends a.lone [];
       walked = a.walked;
-      unfit = λ t x. after_end g a.lone [] t.token (clear_first a.lone l.item t a.clear x) refl;
+      unfit = λ t x. after_end g a.lone [] t.token (clear_first a.lone l.item t a.clear x);
       refused = subst F (sym (ends_whole a.lone)) (h g (last_or None ts));
     })
 
@@ -433,7 +428,7 @@ group_refusing l o gs e ts n m h =
       wants = u.1;
       wants_end = u.2;
       unfit = λ t x. after_end Expressions (is_lone e) (kind o ∷ kinds gs) t.token
-          (clear_first (is_lone e) l.item t h.clear x) (none_behind o (kinds gs) t.token (n t x) (λ y. m y t x));
+          (clear_first (is_lone e) l.item t h.clear x) ∙ none_behind o (kinds gs) t.token (n t x) (λ y. m y t x);
     }
 
 -- ---- the whole

@@ -1,17 +1,20 @@
 -- Where a reader of expressions can stand: which tokens lead there, and how the next one leads on.
-use Rattle.std.proofs.Common.{◌≡◌, refl, sym, ap, subst, ◌∙◌, ℕ, Bool, true, false, List, [], ◌∷◌, ◌++◌, Some}
+use Rattle.std.proofs.Common.{◌≡◌, refl, sym, ap, subst, ◌∙◌, ℕ, Bool, true, false, List, [], ◌∷◌, ◌++◌, Option, Some}
 use Rattle.std.proofs.Common.{None, codes, inl, inr, append_assoc, append-nil}
 use Rattle.std.proofs.lemmas.Option.{same_Some}
 use Rattle.cargo_platform.specs.Tokens.{Lexeme, LeftParen, RightParen, Ident, Comma, Equals, String, plain}
-use Rattle.cargo_platform.specs.Trees.{Name, Alone, KeyPair, Tree, Not, Value, True, False, trees_of}
+use Rattle.cargo_platform.specs.Trees.{Name, Alone, KeyPair, Tree, Not, Value, trees_of}
 use Rattle.cargo_platform.specs.Spelling.{identifier, MayStand, group, joined, IsMemberList, Spells, SpellEach}
 use Rattle.cargo_platform.specs.Spelling.{Expressions, Role, GroupWord, LiteralWord, PlainName, role}
-use Rattle.cargo_platform.specs.Walk.{Word, Several, Negation, State, Wanted, Member, Behind, Keyed, Ended}
-use Rattle.cargo_platform.specs.Walk.{word_of, after_role, after_name, after_expression, after, walk_from, walk}
+use Rattle.cargo_platform.specs.Walk.{Word, State, Behind, after_name, walk}
 use Rattle.cargo_platform.specs.Inside.Parsing.{Opening, Negated, Listed, list_word, list_tree, opening_word}
 use Rattle.cargo_platform.specs.Inside.Parsing.{kind, kinds, finished, Wants, EndsWith, is_lone, HasWord}
 use Rattle.cargo_platform.proofs.Roles.{IsGroupWord, IsLiteralWord, IsOfRole, of_role}
-use Rattle.cargo_platform.proofs.Walk.{none_some, walk_on, begins, ends, after_begins, goes_on, tree_walks}
+use Rattle.cargo_platform.proofs.Walk.{none_some, walk_next, begins, ends, after_begins}
+use Rattle.cargo_platform.proofs.Building.{Position, Wanting, WithWord, WithKey, WithTree, opened_by, literal_of}
+use Rattle.cargo_platform.proofs.Building.{at_role}
+use Rattle.cargo_platform.proofs.Building.{key_of, at_key, behind_tree, lead, lead_from, lead_on, tree_leads, state_of}
+use Rattle.cargo_platform.proofs.Building.{state_at, walk_state}
 
 -- ---- members
 
@@ -54,11 +57,6 @@ listed : (all : Bool) (es : List Tree) (ss : List (List Lexeme)) (inner : List L
     → IsMemberList ss inner → Spells (list_tree all es) (group (list_word all) inner)
 listed true es ss inner p q = (ss, inner, p, q, refl)
 listed false es ss inner p q = (ss, inner, p, q, refl)
-
--- no list is a name alone
-pub list_not_lone : (all : Bool) (es : List Tree) → is_lone (list_tree all es) ≡ false
-list_not_lone true es = refl
-list_not_lone false es = refl
 
 -- ---- from one token to the next
 
@@ -168,16 +166,52 @@ member_comma gs all es e ts o =
           ∙ ap (λ (z : List Lexeme). b.0 ++ head all z) (sym (finished_snoc b.1 o.1)),
     )
 
--- ---- the state is told by what is open, and by what stands last
+-- ---- what is open, and what stands last, tell the position and the state
 
-finished_walks : (es : List Tree) (ss : List (List Lexeme)) (ws : List Word) → SpellEach (trees_of es) ss
-    → walk_from Expressions (Some (Member ws)) (finished ss) ≡ Some (Member ws)
-finished_walks [] [] ws p = refl
-finished_walks [] (s ∷ ss) ws p = absurd p
-finished_walks (e ∷ es) [] ws p = absurd p
-finished_walks (e ∷ es) (s ∷ ss) ws p =
-    tree_walks e s (Several ∷ ws) (Comma ∷ finished ss) p.0 ∙ goes_on (is_lone e) ws (finished ss)
-    ∙ finished_walks es ss ws p.1
+-- the position that tokens lead to
+abbrev built : List Lexeme → Option Position
+built ts = lead_from false (Some (Wanting [])) ts
+
+built_on : (ts us : List Lexeme) (p : Position) → built ts ≡ Some p → built (ts ++ us) ≡ lead_from false (Some p) us
+built_on ts us p h = lead_on false (Some (Wanting [])) ts us ∙ ap (λ o. lead_from false o us) h
+
+finished_lead : (all : Bool) (es : List Tree) (ss : List (List Lexeme)) (before : List Tree) (gs : List Opening)
+    → SpellEach (trees_of es) ss
+    → lead_from false (Some (Wanting (Listed all before ∷ gs))) (finished ss)
+    ≡ Some (Wanting (Listed all (before ++ es) ∷ gs))
+finished_lead all [] [] before gs p =
+    ap (λ (z : List Tree). Some (Wanting (Listed all z ∷ gs))) (sym (append-nil before))
+finished_lead all [] (s ∷ ss) before gs p = absurd p
+finished_lead all (e ∷ es) [] before gs p = absurd p
+finished_lead all (e ∷ es) (s ∷ ss) before gs p =
+    tree_leads false e s (Listed all before ∷ gs) (Comma ∷ finished ss) p.0
+    ∙ finished_lead all es ss (before ++ e ∷ []) gs p.1
+    ∙ ap (λ (z : List Tree). Some (Wanting (Listed all z ∷ gs))) (append_assoc before (e ∷ []) es)
+
+list_lead : (all : Bool) (gs : List Opening) (us : List Lexeme)
+    → lead_from false (Some (Wanting gs)) (head all us) ≡ lead_from false (Some (Wanting (Listed all [] ∷ gs))) us
+list_lead true gs us = refl
+list_lead false gs us = refl
+
+wants_lead : (gs : List Opening) (ts : List Lexeme) → Wants gs ts → built ts ≡ Some (Wanting gs)
+wants_lead [] ts h = ap built h
+wants_lead (Negated ∷ gs) ts (before, w, is) =
+    ap built is ∙ built_on before (plain (codes "not") ∷ LeftParen ∷ []) (Wanting gs) (wants_lead gs before w)
+wants_lead (Listed all es ∷ gs) ts (before, ss, w, each, is) =
+    ap built is ∙ built_on before (head all (finished ss)) (Wanting gs) (wants_lead gs before w)
+    ∙ list_lead all gs (finished ss) ∙ finished_lead all es ss [] gs each
+
+ends_lead : (gs : List Opening) (e : Tree) (ts : List Lexeme) → EndsWith gs e ts → built ts ≡ Some (WithTree e gs)
+ends_lead gs e ts (before, s, w, spelled, is) =
+    ap built is ∙ built_on before s (Wanting gs) (wants_lead gs before w)
+    ∙ ap (lead_from false (Some (Wanting gs))) (sym (append-nil s)) ∙ tree_leads false e s gs [] spelled
+
+pub wants_walk : (gs : List Opening) (ts : List Lexeme) → Wants gs ts → walk Expressions ts ≡ Some (begins (kinds gs))
+wants_walk gs ts w = walk_state ts ∙ ap state_at (wants_lead gs ts w)
+
+pub ends_walk : (gs : List Opening) (e : Tree) (ts : List Lexeme) → EndsWith gs e ts
+    → walk Expressions ts ≡ Some (ends (is_lone e) (kinds gs))
+ends_walk gs e ts o = walk_state ts ∙ ap state_at (ends_lead gs e ts o)
 
 after_word : (o : Opening) (ws : List Word)
     → after_name Expressions false (opening_word o) ws ≡ Behind (kind o) ws
@@ -185,50 +219,14 @@ after_word Negated ws = refl
 after_word (Listed true es) ws = refl
 after_word (Listed false es) ws = refl
 
--- behind a group's word, with more behind it
-word_leads : (o : Opening) (ws : List Word) (us : List Lexeme)
-    → walk_from Expressions (Some (begins ws)) (plain (opening_word o) ∷ us)
-    ≡ walk_from Expressions (Some (Behind (kind o) ws)) us
-word_leads o ws us =
-    ap (λ s. walk_from Expressions s us) (after_begins ws false (opening_word o) ∙ ap Some (after_word o ws))
-
-pub wants_walk : (gs : List Opening) (ts : List Lexeme) → Wants gs ts → walk Expressions ts ≡ Some (begins (kinds gs))
-wants_walk [] ts h = ap (walk Expressions) h
-wants_walk (Negated ∷ gs) ts (before, w, is) =
-    ap (walk Expressions) is
-    ∙ walk_on Expressions before (plain (codes "not") ∷ LeftParen ∷ []) (begins (kinds gs)) (wants_walk gs before w)
-    ∙ word_leads Negated (kinds gs) (LeftParen ∷ [])
-wants_walk (Listed all es ∷ gs) ts (before, ss, w, each, is) =
-    ap (walk Expressions) is
-    ∙ walk_on Expressions before (head all (finished ss)) (begins (kinds gs)) (wants_walk gs before w)
-    ∙ word_leads (Listed all es) (kinds gs) (LeftParen ∷ finished ss) ∙ finished_walks es ss (kinds gs) each
-
 pub word_walk : (gs : List Opening) (o : Opening) (ts : List Lexeme) → HasWord gs o ts
     → walk Expressions ts ≡ Some (Behind (kind o) (kinds gs))
 word_walk gs o ts h =
     ap (walk Expressions) h.is
-    ∙ walk_on Expressions h.before (plain (opening_word o) ∷ []) (begins (kinds gs)) (wants_walk gs h.before h.wanted)
-    ∙ word_leads o (kinds gs) []
-
-pub ends_walk : (gs : List Opening) (e : Tree) (ts : List Lexeme) → EndsWith gs e ts
-    → walk Expressions ts ≡ Some (ends (is_lone e) (kinds gs))
-ends_walk gs e ts (before, s, w, spelled, is) =
-    ap (walk Expressions) is ∙ walk_on Expressions before s (begins (kinds gs)) (wants_walk gs before w)
-    ∙ ap (walk_from Expressions (Some (begins (kinds gs)))) (sym (append-nil s)) ∙ tree_walks e s (kinds gs) [] spelled
+    ∙ walk_next Expressions h.before (plain (opening_word o)) (begins (kinds gs)) (wants_walk gs h.before h.wanted)
+    ∙ after_begins (kinds gs) false (opening_word o) ∙ ap Some (after_word o (kinds gs))
 
 -- ---- and the other way round
-
-pub data Position : Type 0 where
-  Wanting : List Opening → Position
-  WithWord : Opening → List Opening → Position
-  WithKey : Name → List Opening → Position
-  WithTree : Tree → List Opening → Position
-
-abbrev pub state_of : Position → State
-state_of (Wanting gs) = begins (kinds gs)
-state_of (WithWord o gs) = Behind (kind o) (kinds gs)
-state_of (WithKey n gs) = Keyed (kinds gs)
-state_of (WithTree e gs) = ends (is_lone e) (kinds gs)
 
 abbrev pub Holds : Position → List Lexeme → Type 0
 Holds (Wanting gs) ts = Wants gs ts
@@ -236,109 +234,96 @@ Holds (WithWord o gs) ts = HasWord gs o ts
 Holds (WithKey n gs) ts = HasKey gs n ts
 Holds (WithTree e gs) ts = EndsWith gs e ts
 
--- the tokens led to a position of this state
-abbrev pub Reached : State → List Lexeme → Type 0
-Reached s ts = (p : Position) × (state_of p ≡ s) × Holds p ts
+moved : (p q : Position) (ts : List Lexeme) → Some p ≡ Some q → Holds p ts → Holds q ts
+moved p q ts h o = let H : Position → Type 0 = λ z. Holds z ts in subst H (same_Some _ _ h) o
 
-moved : (s t : State) (ts : List Lexeme) → Some s ≡ Some t → Reached s ts → Reached t ts
-moved s t ts h r = (r.0, r.1 ∙ same_Some _ _ h, r.2)
+no_position : {A : Type 0} {p : Position} → None ≡ Some p → A
+no_position h = absurd cc
 
--- a group's word
-word_reached : (gs : List Opening) (ts : List Lexeme) (name : List ℕ) → Wants gs ts → IsGroupWord name
-    → Reached (Behind (word_of name) (kinds gs)) (ts ++ plain name ∷ [])
-word_reached gs ts name w is = go is
+word_holds : (gs : List Opening) (ts : List Lexeme) (name : List ℕ) → Wants gs ts → IsGroupWord name
+    → HasWord gs (opened_by name) (ts ++ plain name ∷ [])
+word_holds gs ts name w is = go is
   where
-    R : List ℕ → Type 0
-    R z = Reached (Behind (word_of z) (kinds gs)) (ts ++ plain z ∷ [])
+    W : List ℕ → Type 0
+    W z = HasWord gs (opened_by z) (ts ++ plain z ∷ [])
 
-    go : IsGroupWord name → Reached (Behind (word_of name) (kinds gs)) (ts ++ plain name ∷ [])
-    go (inl h) = subst R (sym h)
-        (WithWord Negated gs, refl, record { before = ts; wanted = w; fresh = tt; is = refl })
-    go (inr (inl h)) = subst R (sym h)
-        (WithWord (Listed true []) gs, refl, record { before = ts; wanted = w; fresh = refl; is = refl })
-    go (inr (inr h)) = subst R (sym h)
-        (WithWord (Listed false []) gs, refl, record { before = ts; wanted = w; fresh = refl; is = refl })
+    go : IsGroupWord name → HasWord gs (opened_by name) (ts ++ plain name ∷ [])
+    go (inl h) = subst W (sym h) (record { before = ts; wanted = w; fresh = tt; is = refl })
+    go (inr (inl h)) = subst W (sym h) (record { before = ts; wanted = w; fresh = refl; is = refl })
+    go (inr (inr h)) = subst W (sym h) (record { before = ts; wanted = w; fresh = refl; is = refl })
 
-literal_reached : (gs : List Opening) (ts : List Lexeme) (name : List ℕ) → Wants gs ts → IsLiteralWord name
-    → Reached (Ended (kinds gs)) (ts ++ plain name ∷ [])
-literal_reached gs ts name w (inl h) =
-    (WithTree True gs, refl, (ts, plain (codes "true") ∷ [], w, refl, ap (λ z. ts ++ plain z ∷ []) h))
-literal_reached gs ts name w (inr h) =
-    (WithTree False gs, refl, (ts, plain (codes "false") ∷ [], w, refl, ap (λ z. ts ++ plain z ∷ []) h))
+literal_holds : (gs : List Opening) (ts : List Lexeme) (name : List ℕ) → Wants gs ts → IsLiteralWord name
+    → EndsWith gs (literal_of name) (ts ++ plain name ∷ [])
+literal_holds gs ts name w is = go is
+  where
+    L : List ℕ → Type 0
+    L z = EndsWith gs (literal_of z) (ts ++ plain z ∷ [])
 
-role_reached : (gs : List Opening) (ts : List Lexeme) (n : Name) (r : Role) → Wants gs ts → IsOfRole n r
-    → Reached (after_role r n.name (kinds gs)) (ts ++ identifier n ∷ [])
-role_reached gs ts n GroupWord w is =
-    let R : Bool → Type 0 = λ z. Reached (Behind (word_of n.name) (kinds gs)) (ts ++ Ident z n.name ∷ []) in
-    subst R (sym is.0) (word_reached gs ts n.name w is.1)
-role_reached gs ts n LiteralWord w is =
-    let R : Bool → Type 0 = λ z. Reached (Ended (kinds gs)) (ts ++ Ident z n.name ∷ []) in
-    subst R (sym is.0) (literal_reached gs ts n.name w is.1)
-role_reached gs ts n PlainName w is = (WithTree (Value (Alone n)) gs, refl, name_ends gs n ts w is)
+    go : IsLiteralWord name → EndsWith gs (literal_of name) (ts ++ plain name ∷ [])
+    go (inl h) = subst L (sym h) (ts, plain (codes "true") ∷ [], w, refl, refl)
+    go (inr h) = subst L (sym h) (ts, plain (codes "false") ∷ [], w, refl, refl)
+
+role_holds : (gs : List Opening) (ts : List Lexeme) (n : Name) (r : Role) → Wants gs ts → IsOfRole n r
+    → Holds (at_role r n gs) (ts ++ identifier n ∷ [])
+role_holds gs ts n GroupWord w is =
+    let W : Bool → Type 0 = λ z. HasWord gs (opened_by n.name) (ts ++ Ident z n.name ∷ []) in
+    subst W (sym is.0) (word_holds gs ts n.name w is.1)
+role_holds gs ts n LiteralWord w is =
+    let L : Bool → Type 0 = λ z. EndsWith gs (literal_of n.name) (ts ++ Ident z n.name ∷ []) in
+    subst L (sym is.0) (literal_holds gs ts n.name w is.1)
+role_holds gs ts n PlainName w is = name_ends gs n ts w is
 
 -- behind an expression
-tree_reached : (e : Tree) (gs : List Opening) (t : Lexeme) (s : State) (ts : List Lexeme) → EndsWith gs e ts
-    → after_expression (kinds gs) t ≡ Some s → Reached s (ts ++ t ∷ [])
-tree_reached e (Negated ∷ gs) RightParen s ts o h =
-    moved (Ended (kinds gs)) s _ h (WithTree (Not e) gs, refl, negation_close gs e ts o)
-tree_reached e (Listed all es ∷ gs) RightParen s ts o h = moved (Ended (kinds gs)) s _ h (
-  WithTree (list_tree all (es ++ e ∷ [])) gs,
-  ap (λ b. ends b (kinds gs)) (list_not_lone all (es ++ e ∷ [])),
-  list_close gs all es e ts o,
-)
-tree_reached e (Listed all es ∷ gs) Comma s ts o h = moved (Member (kinds gs)) s _ h
-    (Wanting (Listed all (es ++ e ∷ []) ∷ gs), refl, member_comma gs all es e ts o)
-tree_reached e gs t s ts o h = none_some h
+tree_holds : (e : Tree) (gs : List Opening) (t : Lexeme) (q : Position) (ts : List Lexeme) → EndsWith gs e ts
+    → behind_tree e gs t ≡ Some q → Holds q (ts ++ t ∷ [])
+tree_holds e (Negated ∷ gs) RightParen q ts o h = moved (WithTree (Not e) gs) q _ h (negation_close gs e ts o)
+tree_holds e (Listed all es ∷ gs) RightParen q ts o h =
+    moved (WithTree (list_tree all (es ++ e ∷ [])) gs) q _ h (list_close gs all es e ts o)
+tree_holds e (Listed all es ∷ gs) Comma q ts o h =
+    moved (Wanting (Listed all (es ++ e ∷ []) ∷ gs)) q _ h (member_comma gs all es e ts o)
+tree_holds e gs t q ts o h = no_position h
 
--- where an expression may come
-begun_reached : (gs : List Opening) (t : Lexeme) (s : State) (ts : List Lexeme) → Wants gs ts
-    → after Expressions (begins (kinds gs)) t ≡ Some s → Reached s (ts ++ t ∷ [])
-begun_reached gs (Ident raw name) s ts w h =
-    let n : Name = record { raw = raw; name = name } in
-    moved (after_name Expressions raw name (kinds gs)) s _ (sym (after_begins (kinds gs) raw name) ∙ h)
-    (role_reached gs ts n (role n) w (of_role n))
-begun_reached (Listed all es ∷ gs) RightParen s ts w h = moved (Ended (kinds gs)) s _ h (
-  WithTree (list_tree all es) gs,
-  ap (λ b. ends b (kinds gs)) (list_not_lone all es),
-  members_close gs all es ts w,
-)
-begun_reached [] t s ts w h = none_some h
-begun_reached (Negated ∷ gs) t s ts w h = none_some h
-begun_reached (Listed all es ∷ gs) t s ts w h = none_some h
+key_holds : (e : Tree) (gs : List Opening) (q : Position) (ts : List Lexeme) → EndsWith gs e ts
+    → at_key (key_of false e) gs ≡ Some q → Holds q (ts ++ Equals ∷ [])
+key_holds (Value (Alone n)) gs q ts o h = moved (WithKey n gs) q _ h (name_key gs n ts o)
+key_holds e gs q ts o h = no_position h
 
 -- the next token
-next_reached : (p : Position) (t : Lexeme) (s : State) (ts : List Lexeme) → Holds p ts
-    → after Expressions (state_of p) t ≡ Some s → Reached s (ts ++ t ∷ [])
-next_reached (Wanting gs) t s ts w h = begun_reached gs t s ts w h
-next_reached (WithWord Negated gs) LeftParen s ts o h =
-    moved (Wanted (Negation ∷ kinds gs)) s _ h (Wanting (Negated ∷ gs), refl, word_open gs Negated ts o)
-next_reached (WithWord (Listed all es) gs) LeftParen s ts o h =
-    moved (Member (kinds gs)) s _ h (Wanting (Listed all es ∷ gs), refl, word_open gs (Listed all es) ts o)
-next_reached (WithKey n gs) (String v) s ts o h =
-    moved (Ended (kinds gs)) s _ h (WithTree (Value (KeyPair n v)) gs, refl, key_pair gs n v ts o)
-next_reached (WithTree (Value (Alone n)) gs) Equals s ts o h =
-    moved (Keyed (kinds gs)) s _ h (WithKey n gs, refl, name_key gs n ts o)
-next_reached (WithTree e gs) t s ts o h = tree_reached e gs t s ts o h
-next_reached (WithWord Negated gs) t s ts o h = none_some h
-next_reached (WithWord (Listed all es) gs) t s ts o h = none_some h
-next_reached (WithKey n gs) t s ts o h = none_some h
+next_holds : (p : Position) (t : Lexeme) (q : Position) (ts : List Lexeme) → Holds p ts → lead false p t ≡ Some q
+    → Holds q (ts ++ t ∷ [])
+next_holds (Wanting gs) (Ident raw name) q ts w h =
+    let n : Name = record { raw = raw; name = name } in
+    moved (at_role (role n) n gs) q _ h (role_holds gs ts n (role n) w (of_role n))
+next_holds (Wanting (Listed all es ∷ gs)) RightParen q ts w h =
+    moved (WithTree (list_tree all es) gs) q _ h (members_close gs all es ts w)
+next_holds (WithWord o gs) LeftParen q ts w h = moved (Wanting (o ∷ gs)) q _ h (word_open gs o ts w)
+next_holds (WithKey n gs) (String v) q ts o h =
+    moved (WithTree (Value (KeyPair n v)) gs) q _ h (key_pair gs n v ts o)
+next_holds (WithTree e gs) Equals q ts o h = key_holds e gs q ts o h
+next_holds (WithTree e gs) t q ts o h = tree_holds e gs t q ts o h
+next_holds p t q ts o h = no_position h
 
-all_reached : (p : Position) (before ts : List Lexeme) (s : State) → Holds p before
-    → walk_from Expressions (Some (state_of p)) ts ≡ Some s → Reached s (before ++ ts)
-all_reached p before [] s o h =
-    let P : List Lexeme → Type 0 = λ z. Reached s z in
-    subst P (sym (append-nil before)) (p, same_Some _ _ h, o)
-all_reached p before (t ∷ ts) s o h =
-    elim (after Expressions (state_of p) t) as
-    (λ z. after Expressions (state_of p) t ≡ z → walk_from Expressions z ts ≡ Some s → Reached s (before ++ (t ∷ ts))) [
-      | None ↦ λ _ stops. none_some stops
+all_hold : (p : Position) (before ts : List Lexeme) (q : Position) → Holds p before
+    → lead_from false (Some p) ts ≡ Some q → Holds q (before ++ ts)
+all_hold p before [] q o h =
+    let H : List Lexeme → Type 0 = λ z. Holds q z in
+    subst H (sym (append-nil before)) (moved p q before h o)
+all_hold p before (t ∷ ts) q o h =
+    elim (lead false p t) as
+    (λ z. lead false p t ≡ z → lead_from false z ts ≡ Some q → Holds q (before ++ (t ∷ ts))) [
+      | None ↦ λ _ stops. no_position stops
       | Some u ↦ λ is goes.
-          let P : List Lexeme → Type 0 = λ z. Reached s z in
-          let W : State → Type 0 = λ z. walk_from Expressions (Some z) ts ≡ Some s in
-          let r = next_reached p t u before o is in
-          subst P (append_assoc before (t ∷ []) ts)
-          (all_reached r.0 (before ++ t ∷ []) ts s r.2 (subst W (sym r.1) goes))
+          let H : List Lexeme → Type 0 = λ z. Holds q z in
+          subst H (append_assoc before (t ∷ []) ts)
+          (all_hold u (before ++ t ∷ []) ts q (next_holds p t u before o is) goes)
     ] refl h
 
-pub walked_reached : (ts : List Lexeme) (s : State) → walk Expressions ts ≡ Some s → Reached s ts
-walked_reached ts s h = all_reached (Wanting []) [] ts s refl h
+-- what is walked led to a position of this state
+pub walked_reached : (ts : List Lexeme) (s : State) → walk Expressions ts ≡ Some s
+    → (p : Position) × (state_of p ≡ s) × Holds p ts
+walked_reached ts s h =
+    elim (built ts) as
+    (λ z. built ts ≡ z → state_at z ≡ Some s → (p : Position) × (state_of p ≡ s) × Holds p ts) [
+      | None ↦ λ _ stops. none_some stops
+      | Some p ↦ λ is same. (p, same_Some _ _ same, all_hold (Wanting []) [] ts p refl is)
+    ] refl (sym (walk_state ts) ∙ h)

@@ -11,7 +11,7 @@ use Rattle.cargo_platform.specs.Faults.{IsCompletable, IsFaultFront, Next, Unfit
 use Rattle.cargo_platform.specs.Faults.{IsRefused}
 use Rattle.cargo_platform.specs.FaultLaws.{SpellsSomething, SpellsOrIsRefused}
 use Rattle.cargo_platform.specs.Walk.{walk, is_whole}
-use Rattle.cargo_platform.proofs.Walk.{stopped, completable_walks}
+use Rattle.cargo_platform.proofs.Building.{stopped, completable_walks}
 use Rattle.cargo_platform.proofs.Completing.{walked_completes, whole_accepted, accepted_whole}
 use Rattle.cargo_platform.proofs.Fronts.{lexemes-append, none_longer, longest_before}
 use Rattle.cargo_platform.proofs.Refused.{refused_spells_none, refused_spells_no_value}

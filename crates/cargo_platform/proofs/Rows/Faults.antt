@@ -13,7 +13,8 @@ use Rattle.cargo_platform.specs.Faults.{UnterminatedString, UnexpectedChar, Unex
 use Rattle.cargo_platform.specs.Faults.{UnterminatedExpression, expected_token, expected_end, lexical_fault, fault_of}
 use Rattle.cargo_platform.specs.Faults.{IsRefused}
 use Rattle.cargo_platform.specs.Walk.{Several, State, Named, Keyed, walk, is_whole}
-use Rattle.cargo_platform.proofs.Walk.{none_some, completable_walks}
+use Rattle.cargo_platform.proofs.Walk.{none_some}
+use Rattle.cargo_platform.proofs.Building.{completable_walks}
 use Rattle.cargo_platform.proofs.Completing.{walked_completes}
 use Rattle.cargo_platform.proofs.Fronts.{goes_on, refused_walked}
 use Rattle.cargo_platform.proofs.Refused.{refused_spells_none}

@@ -10,7 +10,7 @@ use Rattle.cargo_platform.specs.Spelling.{IsMemberList, Spells, SpellEach, Value
 use Rattle.cargo_platform.specs.Spelling.{IsTreeText}
 use Rattle.cargo_platform.specs.Walk.{walk}
 use Rattle.cargo_platform.proofs.OneCut.{one_cut_from}
-use Rattle.cargo_platform.proofs.Walk.{stopped}
+use Rattle.cargo_platform.proofs.Building.{stopped}
 use Rattle.cargo_platform.proofs.Completing.{accepted_whole}
 use Rattle.cargo_platform.proofs.Rows.Trees.{name, marked, a}
 use Rattle.cargo_platform.proofs.Rows.Cut.{late_mark, comma_behind, lone_a}
