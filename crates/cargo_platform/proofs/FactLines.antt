@@ -6,6 +6,7 @@ use Rattle.std.specs.declared.alloc.AllocError.{AllocError}
 use Rattle.std.specs.List.{AllByRecursion}
 use Rattle.std.specs.Result.{IsErrAnd}
 use Rattle.std.proofs.lemmas.List.{get_or_read}
+use Rattle.std.specs.Prelude.{IfOk}
 use Rattle.cargo_platform.specs.declared.cfg.Cfg.{Cfg}
 use Rattle.cargo_platform.specs.declared.fact_lines.FactsError.{FactsError}
 use Rattle.cargo_platform.specs.declared.fact_lines.FactsError.TheVariants.{Line, Memory}
@@ -16,7 +17,7 @@ use Rattle.cargo_platform.specs.WellFormed.{IsWellFormedValue}
 use Rattle.cargo_platform.specs.Print.{print_value}
 use Rattle.cargo_platform.specs.Errors.{orig_of, fault_in}
 use Rattle.cargo_platform.specs.Lines.{lines_of, line_at, IsUnbroken, ended}
-use Rattle.cargo_platform.specs.FactLines.{SpellFacts, SpellsNoFact, IsFirstNoFact, IfLine, ReadsFacts}
+use Rattle.cargo_platform.specs.FactLines.{SpellFacts, SpellsNoFact, IsFirstNoFact, IfLine}
 use Rattle.cargo_platform.proofs.OneText.{one_value_text}
 use Rattle.cargo_platform.proofs.PrintedSpells.{printed_value_spells}
 use Rattle.cargo_platform.proofs.TextLines.{ended_lines}
@@ -81,39 +82,36 @@ printed text cs w u e =
 
 -- ---- the answers
 
+-- the prints of facts, one a line, are answered by those facts
+abbrev pub ReadsBack : List ℕ → Result (Vec Cfg Global) FactsError → Type 0
+ReadsBack text answer =
+    (cs : List CfgValue) → AllByRecursion IsWellFormedValue cs → AllByRecursion IsUnbroken (map print_value cs)
+    → text ≡ ended (map print_value cs) → IfOk answer (λ v. map value_of v.items ≡ cs) × IfLine answer (λ _ _. ⊥)
+
 pub accepted : (text : List ℕ) (v : Vec Cfg Global) → SpellFacts (lines_of text) (map value_of v.items)
-    → AllByRecursion IsWellFormedValue (map value_of v.items)
-    → ReadsFacts text (Ok v)
-accepted text v h w = record {
-  facts = h;
-  well_formed = w;
-  refused = tt;
-  orig = tt;
-  fault = tt;
-  reads_back = λ cs formed unbroken is.
-      (one_list (lines_of text) (map value_of v.items) cs h (printed text cs formed unbroken is), tt);
-}
+    → ReadsBack text (Ok v)
+accepted text v h cs formed unbroken is =
+    (one_list (lines_of text) (map value_of v.items) cs h (printed text cs formed unbroken is), tt)
 
 -- no line, no fact
-pub accepted_none : (text : List ℕ) (v : Vec Cfg Global) → text ≡ [] → v.items ≡ [] → ReadsFacts text (Ok v)
+pub accepted_none : (text : List ℕ) (v : Vec Cfg Global) → text ≡ [] → v.items ≡ []
+    → SpellFacts (lines_of text) (map value_of v.items) × AllByRecursion IsWellFormedValue (map value_of v.items)
 accepted_none text v empty none =
-    let P = λ (ls : List (List ℕ)). λ (cs : List Cfg). SpellFacts ls (map value_of cs) in
-    let spelled : P (lines_of text) v.items =
-    subst (λ t. P (lines_of t) v.items) (sym empty) (subst (P []) (sym none) tt) in
-    accepted text v spelled (subst (λ cs. AllByRecursion IsWellFormedValue (map value_of cs)) (sym none) tt)
+    let P = λ (ls : List (List ℕ)). λ (cs : List Cfg). SpellFacts ls (map value_of cs) in (
+      subst (λ t. P (lines_of t) v.items) (sym empty) (subst (P []) (sym none) tt),
+      subst (λ cs. AllByRecursion IsWellFormedValue (map value_of cs)) (sym none) tt,
+    )
+
+-- the line is the first that is refused, the error is of it, and is its fault, and no prints are refused so
+abbrev pub Refuses : List ℕ → Result (Vec Cfg Global) FactsError → Type 0
+Refuses text answer =
+    IfLine answer (λ n e. IsFirstNoFact (lines_of text) n)
+    × IfLine answer (λ n e. orig_of e ≡ line_at (lines_of text) n)
+    × IfLine answer (λ n e. IsRefused Values (line_at (lines_of text) n) (fault_in e)) × ReadsBack text answer
 
 -- nothing is said of want of memory
-pub out_of_memory : (text : List ℕ) (e : AllocError) → ReadsFacts text (Err (Memory e))
-out_of_memory text e =
-    record {
-      facts = tt;
-      well_formed = tt;
-      refused = tt;
-      orig = tt;
-      fault = tt;
-      reads_back =
-          λ cs formed unbroken is. (tt, tt);
-    }
+out_of_memory : (text : List ℕ) (e : AllocError) → Refuses text (Err (Memory e))
+out_of_memory text e = (tt, tt, tt, λ cs formed unbroken is. (tt, tt))
 
 first_not_spelled : (ls : List (List ℕ)) (n : ℕ) (cs : List CfgValue) → IsFirstNoFact ls n → SpellFacts ls cs → ⊥
 first_not_spelled ls n cs first h =
@@ -127,7 +125,7 @@ pub refused_at : (text : List ℕ) (r : FactsError) (i : ℕ) (facts : List CfgV
     → IfLine {A = Cfg} (Err r) (λ n e. SpellsNoFact (get_or (lines_of text) i []))
     → IfLine {A = Cfg} (Err r) (λ n e. orig_of e ≡ get_or (lines_of text) i [])
     → IfLine {A = Cfg} (Err r) (λ n e. IsRefused Values (get_or (lines_of text) i []) (fault_in e))
-    → ReadsFacts text (Err r)
+    → Refuses text (Err r)
 refused_at text (Memory e) i facts l h number none orig fault = out_of_memory text e
 refused_at text (Line n e) i facts l h number none orig fault =
     let ls = lines_of text in
@@ -137,15 +135,12 @@ refused_at text (Line n e) i facts l h number none orig fault =
       numbered = (omega arith, omega arith);
       before = (facts, subst (λ k. SpellFacts (take k ls) facts) at h);
       here = subst (λ t. SpellsNoFact t) here none;
-    } in
-    record {
-      facts = tt;
-      well_formed = tt;
-      refused = first;
-      orig = orig ∙ here;
-      fault = subst (λ t. IsRefused Values t (fault_in e)) here fault;
-      reads_back = λ cs formed unbroken is. (tt, first_not_spelled ls n cs first (printed text cs formed unbroken is));
-    }
+    } in (
+      first,
+      orig ∙ here,
+      subst (λ t. IsRefused Values t (fault_in e)) here fault,
+      λ cs formed unbroken is. (tt, first_not_spelled ls n cs first (printed text cs formed unbroken is)),
+    )
 
 -- the same, where the lines are the parts that a loop goes over, and k of them were read
 pub refused_behind : (text : List ℕ) (parts read : List (List ℕ)) (k number : ℕ) (l : List ℕ) (facts : List CfgValue)
@@ -155,7 +150,7 @@ pub refused_behind : (text : List ℕ) (parts read : List (List ℕ)) (k number 
     → IfLine {A = Cfg} (Err r) (λ n e. n ≡ number) → IfLine {A = Cfg} (Err r) (λ n e. SpellsNoFact l)
     → IfLine {A = Cfg} (Err r) (λ n e. orig_of e ≡ l)
     → IfLine {A = Cfg} (Err r) (λ n e. IsRefused Values l (fault_in e))
-    → ReadsFacts text (Err r)
+    → Refuses text (Err r)
 refused_behind text parts read k number l facts (Memory e) cut taken spelled at count n none orig fault =
     out_of_memory text e
 refused_behind text parts read k number l facts (Line n e) cut taken spelled at count same none orig fault =
@@ -170,6 +165,11 @@ refused_behind text parts read k number l facts (Line n e) cut taken spelled at 
 
 -- an error that is passed on
 pub passed_on : (text : List ℕ) (r : FactsError) (answer : Result (Vec Cfg Global) FactsError)
-    → IsErrAnd answer (λ x. x ≡ r) → ReadsFacts text (Err r) → ReadsFacts text answer
+    → IsErrAnd answer (λ x. x ≡ r) → Refuses text (Err r) → Refuses text answer
 passed_on text r (Ok v) is h = absurd is
-passed_on text r (Err e) is h = subst (λ x. ReadsFacts text (Err x)) (sym is) h
+passed_on text r (Err e) is h = subst (λ x. Refuses text (Err x)) (sym is) h
+
+pub no_facts : (r : FactsError) (answer : Result (Vec Cfg Global) FactsError) (P : Vec Cfg Global → Type 0)
+    → IsErrAnd answer (λ x. x ≡ r) → IfOk answer P
+no_facts r (Ok v) P is = absurd is
+no_facts r (Err e) P is = tt

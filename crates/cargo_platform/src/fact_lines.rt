@@ -1,14 +1,15 @@
 //! The facts of a target, read from a text.
 
-ghost use Rattle.std.specs.Prelude.{◌≡◌, ◌≢◌, ◌==◌, [], IfOk};
-ghost use Rattle.std.specs.List.{slice_split};
-ghost use Rattle.cargo_platform.specs.Trees.{value_of};
+ghost use Rattle.std.specs.Prelude.{◌≡◌, ◌≢◌, ◌==◌, List, [], map, IfOk};
+ghost use Rattle.std.specs.List.{slice_split, AllByRecursion};
+ghost use Rattle.cargo_platform.specs.Trees.{CfgValue, value_of};
 ghost use Rattle.cargo_platform.specs.Spelling.{Values, IsValueText};
 ghost use Rattle.cargo_platform.specs.Faults.{IsRefused};
 ghost use Rattle.cargo_platform.specs.WellFormed.{IsWellFormedValue};
+ghost use Rattle.cargo_platform.specs.Print.{print_value};
 ghost use Rattle.cargo_platform.specs.Errors.{orig_of, fault_in};
-ghost use Rattle.cargo_platform.specs.Lines.{lines_of};
-ghost use Rattle.cargo_platform.specs.FactLines.{IfLine, ReadsFacts, SpellsNoFact};
+ghost use Rattle.cargo_platform.specs.Lines.{lines_of, line_at, IsUnbroken, ended};
+ghost use Rattle.cargo_platform.specs.FactLines.{IfLine, SpellFacts, SpellsNoFact, IsFirstNoFact};
 
 use crate::cfg::Cfg;
 use crate::error::{ParseError, ReadError};
@@ -59,7 +60,19 @@ fn read_line(alloc: Global, number: usize, line: &str) -> Result<Cfg, FactsError
 /// no fact is refused with `FactsError::Line` of the first such line. Where memory is refused the answer is
 /// `FactsError::Memory`, whatever the text.
 pub fn read_facts(alloc: Global, text: &str) -> Result<Vec<Cfg>, FactsError>
-    ensures { ReadsFacts text.now result }
+    // What is read is what the lines spell, one fact a line.
+    ensures facts { IfOk result (λ v. SpellFacts (lines_of text.now) (map value_of v.items)) }
+    // A line is refused only if it spells no fact and each line before it spells one.
+    ensures refused { IfLine result (λ n _. IsFirstNoFact (lines_of text.now) n) }
+    // The error is of that line, and is its first fault.
+    ensures orig { IfLine result (λ n e. orig_of e ≡ line_at (lines_of text.now) n) }
+    ensures fault { IfLine result (λ n e. IsRefused Values (line_at (lines_of text.now) n) (fault_in e)) }
+    // The other clauses follow by the laws. The prints of well-formed facts, one a line, are answered by those very
+    // facts, and no line of them is refused.
+    ensures well_formed { IfOk result (λ v. AllByRecursion IsWellFormedValue (map value_of v.items)) }
+    ensures reads_back { (cs : List CfgValue) → AllByRecursion IsWellFormedValue cs
+        → AllByRecursion IsUnbroken (map print_value cs) → text.now ≡ ended (map print_value cs)
+        → IfOk result (λ v. map value_of v.items ≡ cs) × IfLine result (λ _ _. ⊥) }
 {
     let mut facts = Vec::new(alloc);
     if text.is_empty() {

@@ -1,11 +1,14 @@
 //! Conditions as JSON: a condition is the text that it prints.
 
-ghost use Rattle.std.specs.Prelude.{◌≡◌, IfOk};
+ghost use Rattle.std.specs.Prelude.{◌≡◌, ◌↔◌, ℕ, List, IfOk, IsErrOf};
 ghost use Rattle.serde_json.specs.Data as json;
 ghost use Rattle.serde_json.specs.View.{view};
-ghost use Rattle.cargo_platform.specs.Trees.{condition_of};
+ghost use Rattle.cargo_platform.specs.Trees.{Condition, condition_of};
+ghost use Rattle.cargo_platform.specs.Platforms.{IsConditionText, IsRefusedCondition};
+ghost use Rattle.cargo_platform.specs.WellFormed.{IsWellFormedCondition};
 ghost use Rattle.cargo_platform.specs.Print.{print_condition};
-ghost use Rattle.cargo_platform.specs.Json.{ReadsJson};
+ghost use Rattle.cargo_platform.specs.Errors.{orig_of, fault_in};
+ghost use Rattle.cargo_platform.specs.Json.{IfJsonParse, IsText};
 
 use crate::{ParseError, Platform, ReadError};
 use serde_json::Value;
@@ -35,7 +38,22 @@ impl Platform {
     /// A null, a truth value, a number, a list and an object are refused with `NotText`, and only these. A text is
     /// refused as `from_str` refuses it, with the same error.
     pub fn from_json(alloc: Global, value: &Value) -> Result<Platform, JsonError>
-        ensures { ReadsJson (view value.now) result }
+        // Exactly what is no text is refused as no text.
+        ensures not_text { IsErrOf result JsonError.NotText ↔ (IsText (view value.now) → ⊥) }
+        // What is read is the condition that the text spells.
+        ensures condition { (text : List ℕ) → view value.now ≡ json.string text
+            → IfOk result (λ p. IsConditionText text (condition_of p)) }
+        // The error is the fault of the text between `cfg(` and `)`, and else of the whole text.
+        ensures fault { (text : List ℕ) → view value.now ≡ json.string text
+            → IfJsonParse result (λ e. IsRefusedCondition text (orig_of e) (fault_in e)) }
+        // The other clauses follow by the laws. No text that spells a condition is refused, and the JSON text of a
+        // well-formed condition is answered by that very condition.
+        ensures well_formed { IfOk result (λ p. IsWellFormedCondition (condition_of p)) }
+        ensures refused { (text : List ℕ) → view value.now ≡ json.string text
+            → IfJsonParse result (λ _. (c : Condition) → IsConditionText text c → ⊥) }
+        ensures reads_back { (c : Condition) → IsWellFormedCondition c
+            → view value.now ≡ json.string (print_condition c)
+            → IfOk result (λ p. condition_of p ≡ c) × IfJsonParse result (λ _. ⊥) }
     {
         let Some(text) = value.as_str() else {
             return Err(JsonError::NotText);

@@ -1,22 +1,18 @@
 -- Facts, and the lines that spell them.
 use Rattle.std.proofs.Common.{◌≡◌, ◌≤◌, ◌<◌, ◌+◌, ◌-◌, ◌∙◌, ℕ, List, [], ◌∷◌, length, get_or, take, drop}
 use Rattle.std.proofs.Common.{sym, ap, subst, arith, length-drop, length-take}
-use Rattle.std.proofs.Common.{inl, inr, Result, Ok, Err, Vec}
-use Rattle.std.specs.declared.alloc.Global.{Global}
+use Rattle.std.proofs.Common.{inl, inr, Result, Ok, Err}
 use Rattle.std.specs.Result.{IfErr, IsErrAnd}
 use Rattle.std.proofs.lemmas.List.{get_or-drop, get_or-take}
-use Rattle.cargo_platform.specs.declared.cfg.Cfg.{Cfg}
 use Rattle.cargo_platform.specs.declared.error.ParseError.{ParseError}
-use Rattle.cargo_platform.specs.declared.fact_lines.FactsError.{FactsError}
-use Rattle.cargo_platform.specs.declared.fact_lines.FactsError.TheVariants as facts
 use Rattle.cargo_platform.specs.Trees.{CfgValue, Condition}
 use Rattle.cargo_platform.specs.Platforms.{IsConditionText, IsRefusedCondition}
-use Rattle.cargo_platform.specs.FactLines.{IsFirstNoFact, ReadsFacts}
+use Rattle.cargo_platform.specs.FactLines.{IsFirstNoFact}
 use Rattle.cargo_platform.specs.Errors.{orig_of, fault_in}
 use Rattle.cargo_platform.proofs.FactLines.{none_refused}
 use Rattle.platform_check.specs.declared.answering.Refusal.{Refusal}
 use Rattle.platform_check.specs.declared.answering.Refusal.TheVariants.{Line, Memory}
-use Rattle.platform_check.specs.Lines.{lines_of, line_at, fact_lines}
+use Rattle.platform_check.specs.Lines.{line_at, fact_lines}
 use Rattle.platform_check.specs.Answering.{SpellFacts, SpellsNoCondition, SpellsNoFact, IsRefusedFact, IsRefusedLine}
 use Rattle.platform_check.specs.Answering.{IsLeast, IsFactFault, IsLineFault, IsQuery, IfLine}
 
@@ -46,14 +42,6 @@ first_fact ls facts i n h l none e =
           ∙ fact_line ls k ∙ ap (line_at ls) number in
           none_refused (take i (fact_lines ls)) facts k h short (subst P (sym same) refused.2),
     )
-
--- what is said of a refused line of facts
-pub refused_line_of : (text : List ℕ) (r : Result (Vec Cfg Global) FactsError) (n : ℕ) (e : ParseError)
-    → ReadsFacts text r → r ≡ Err (facts.Line n e)
-    → IsFirstNoFact (lines_of text) n × IsFactFault (line_at (lines_of text) n) (orig_of e) (fault_in e)
-refused_line_of text r n e h is =
-    let k : ReadsFacts text (Err (facts.Line n e)) = subst (λ x. ReadsFacts text x) is h in
-    (k.refused, (k.orig, k.fault))
 
 pub number_moved : (ls : List (List ℕ)) (n : ℕ) (e : ParseError)
     → IsFirstNoFact ls n × IsFactFault (line_at ls n) (orig_of e) (fault_in e)

@@ -10,13 +10,22 @@ use Rattle.cargo_platform.specs.Trees.{CfgValue, value_of}
 use Rattle.cargo_platform.specs.WellFormed.{IsWellFormedValue}
 use Rattle.cargo_platform.specs.FactLines.{SpellFacts}
 use Rattle.cargo_platform.proofs.FactLines.{one_more, one_more_formed, accepted, accepted_none, refused_behind}
-use Rattle.cargo_platform.proofs.FactLines.{passed_on}
+use Rattle.cargo_platform.proofs.FactLines.{passed_on, no_facts}
 use Rattle.cargo_platform.proofs.fact_lines.read_facts.Goals as goal
 
 pub returns-then-is_empty : goal.returns-then-is_empty
 returns-then-is_empty c =
     let empty : c.args.text.now ≡ [] = search (rules, common_steps) in
-    accepted_none c.args.text.now c.new-facts.result empty c.new-facts.ensures.items
+    let text = c.args.text.now in
+    let none = accepted_none text c.new-facts.result empty c.new-facts.ensures.items in
+    record {
+      facts = none.0;
+      refused = tt;
+      orig = tt;
+      fault = tt;
+      well_formed = none.1;
+      reads_back = accepted text c.new-facts.result none.0;
+    }
 
 pub returns : goal.returns
 returns c =
@@ -26,9 +35,15 @@ returns c =
     let ended = YieldsList-end (YieldsList-at c.into_iter-line-iterator.ensures.into_iter_gives parts)
     c.loop-line.yielded _ c.loop-line.yielded_by _ _ c.in-None.is c.next.ensures.steps in
     let P = λ (ls : List (List ℕ)). SpellFacts ls (map value_of c.loop-line.facts.items) in
-    accepted c.args.text.now c.loop-line.facts
-    (subst P (ended.0 ∙ c.without_last_end.ensures some) c.loop-line.invariant.spelled)
-    c.loop-line.invariant.well_formed
+    let spelled = subst P (ended.0 ∙ c.without_last_end.ensures some) c.loop-line.invariant.spelled in
+    record {
+      facts = spelled;
+      refused = tt;
+      orig = tt;
+      fault = tt;
+      well_formed = c.loop-line.invariant.well_formed;
+      reads_back = accepted c.args.text.now c.loop-line.facts spelled;
+    }
 
 pub returns-in_err-fact : goal.returns-in_err-fact
 returns-in_err-fact c =
@@ -41,11 +56,19 @@ returns-in_err-fact c =
     c.next.ensures.steps in
     let facts = map value_of c.loop-line.facts.items in
     let number : c.len.result + 1 ≡ length facts + 1 = omega (arith, length-map c.loop-line.facts.items value_of) in
-    passed_on c.args.text.now c.in_err-fact.field-0.0 _ c.from_residual.ensures.1
+    let passed = passed_on c.args.text.now c.in_err-fact.field-0.0 _ c.from_residual.ensures.1
     (refused_behind c.args.text.now _ _ (length c.loop-line.yielded) (c.len.result + 1) c.in-Some.line.now facts
     c.in_err-fact.field-0.0 (c.without_last_end.ensures some)
     so_far c.loop-line.invariant.spelled turn number c.in_err-fact.ensures.numbered c.in_err-fact.ensures.refused
-    c.in_err-fact.ensures.orig c.in_err-fact.ensures.fault)
+    c.in_err-fact.ensures.orig c.in_err-fact.ensures.fault) in
+    record {
+      facts = no_facts c.in_err-fact.field-0.0 _ _ c.from_residual.ensures.1;
+      refused = passed.0;
+      orig = passed.1;
+      fault = passed.2;
+      well_formed = no_facts c.in_err-fact.field-0.0 _ _ c.from_residual.ensures.1;
+      reads_back = passed.3;
+    }
 
 pub loop-line-preserved : goal.loop-line-preserved
 loop-line-preserved c =

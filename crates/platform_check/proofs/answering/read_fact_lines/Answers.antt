@@ -1,18 +1,17 @@
-use Rattle.std.proofs.Common.{◌≡◌, Err, arith}
-use Rattle.cargo_platform.specs.declared.fact_lines.FactsError.TheVariants.{Line}
+use Rattle.std.proofs.Common.{arith}
 use Rattle.platform_check.specs.Lines.{lines_of}
 use Rattle.platform_check.proofs.Cutting.{lines_few}
-use Rattle.platform_check.proofs.Facts.{refused_line_of, number_moved}
+use Rattle.platform_check.proofs.Facts.{number_moved}
 use Rattle.platform_check.proofs.answering.read_fact_lines.Goals as goal
 
 pub overflow_add-result : goal.overflow_add-result
 overflow_add-result c =
-    let is : c.read_facts.result ≡ Err (Line c.in-Err-Line.number c.in-Err-Line.error) = cc in
-    let refused = refused_line_of c.args.text.now _ _ _ c.read_facts.ensures is in
-    omega (arith, refused.0.numbered.1, lines_few c.args.text.now)
+    let first = rw c.in-Err-Line.field-0-is at c.in-Err-Line.ensures.refused in
+    omega (arith, first.numbered.1, lines_few c.args.text.now)
 
 pub returns-in-Err-Line-clause-refused : goal.returns-in-Err-Line-clause-refused
 returns-in-Err-Line-clause-refused c =
-    let is : c.read_facts.result ≡ Err (Line c.in-Err-Line.number c.in-Err-Line.error) = cc in
+    let is = c.in-Err-Line.field-0-is in
+    let said = c.in-Err-Line.ensures in
     number_moved (lines_of c.args.text.now) c.in-Err-Line.number c.in-Err-Line.error
-    (refused_line_of c.args.text.now _ _ _ c.read_facts.ensures is)
+    (rw is at said.refused, (rw is at said.orig, rw is at said.fault))
