@@ -188,18 +188,18 @@ refused_alike p q same g text fault r = record {
   ts = r.ts;
   tail = r.tail;
   cut = r.cut;
-  front = r.front;
+  prefix = r.prefix;
   after = r.after;
-  is_front = record {
-    parts = r.is_front.parts;
-    completable = let c = r.is_front.completable in (c.0, c.1, (same (lexemes r.front ++ c.0)).0 c.2);
-    longest = λ longer others h c. r.is_front.longest longer others h (c.0, c.1, (same (lexemes longer ++ c.0)).1 c.2);
+  is_prefix = record {
+    parts = r.is_prefix.parts;
+    completable = let c = r.is_prefix.completable in (c.0, c.1, (same (lexemes r.prefix ++ c.0)).0 c.2);
+    longest = λ longer others h c. r.is_prefix.longest longer others h (c.0, c.1, (same (lexemes longer ++ c.0)).1 c.2);
   };
   next = r.next;
   follows = r.follows;
   accepted = r.accepted;
   is_accepted =
-      (λ a. (same (lexemes r.front)).0 (r.is_accepted.0 a), λ a. r.is_accepted.1 ((same (lexemes r.front)).1 a));
+      (λ a. (same (lexemes r.prefix)).0 (r.is_accepted.0 a), λ a. r.is_accepted.1 ((same (lexemes r.prefix)).1 a));
   is_fault = r.is_fault;
 }
 

@@ -1,4 +1,4 @@
--- Lists of tokens that can be completed: their fronts, how many tokens complete them, and what can follow them.
+-- Lists of tokens that can be completed: their prefixes, how many tokens complete them, and what can follow them.
 use Rattle.std.proofs.Common.{◌≡◌, refl, sym, ap, subst, ◌∙◌, ℕ, ◌+◌, ◌≤◌, suc, arith, Bool, true, false}
 use Rattle.std.proofs.Common.{true≢false, List, [], ◌∷◌, ◌++◌, Option, Some, None, codes, inl, inr, ◌⊎◌}
 use Rattle.std.proofs.Common.{append_assoc, length, length-append, cond}
@@ -13,7 +13,7 @@ use Rattle.cargo_platform.specs.Cut.{lexemes}
 use Rattle.cargo_platform.specs.Trees.{Alone, KeyPair}
 use Rattle.cargo_platform.specs.Spelling.{Grammar, Values, Expressions, IsAccepted, Role, GroupWord, LiteralWord}
 use Rattle.cargo_platform.specs.Spelling.{PlainName, role}
-use Rattle.cargo_platform.specs.Faults.{IsCompletable, IsFaultFront, Next, Unfit, Broken, End, Fault, UnexpectedToken}
+use Rattle.cargo_platform.specs.Faults.{IsCompletable, IsFaultPrefix, Next, Unfit, Broken, End, Fault, UnexpectedToken}
 use Rattle.cargo_platform.specs.Faults.{IncompleteExpr, expected_token, expected_end, fault_of, IsRefused}
 use Rattle.cargo_platform.specs.Walk.{Word, Several, Negation, State, Wanted, Member, Behind, Named, Keyed, Ended}
 use Rattle.cargo_platform.specs.Walk.{after_role, after_name, after_expression, after, walk_from, walk, is_whole}
@@ -27,20 +27,20 @@ use Rattle.cargo_platform.proofs.Expecting.{like, walk_matches}
 abbrev AreWellWritten : List Lexeme → Type 0
 AreWellWritten ts = AllByRecursion IsWellWritten ts
 
--- ---- fronts
+-- ---- prefixes
 
-well_behind : (front after more : List Lexeme) → AreWellWritten (front ++ after) → AreWellWritten more
+well_behind : (prefix after more : List Lexeme) → AreWellWritten (prefix ++ after) → AreWellWritten more
     → AreWellWritten (after ++ more)
 well_behind [] [] more a b = b
 well_behind [] (t ∷ after) more a b = (a.0, well_behind [] after more a.1 b)
-well_behind (t ∷ front) after more a b = well_behind front after more a.1 b
+well_behind (t ∷ prefix) after more a b = well_behind prefix after more a.1 b
 
--- a front of a completable list is completable
-pub front_completable : (g : Grammar) (front after : List Lexeme) → AreWellWritten (front ++ after)
-    → IsCompletable g (front ++ after) → IsCompletable g front
-front_completable g front after well p =
+-- a prefix of a completable list is completable
+pub prefix_completable : (g : Grammar) (prefix after : List Lexeme) → AreWellWritten (prefix ++ after)
+    → IsCompletable g (prefix ++ after) → IsCompletable g prefix
+prefix_completable g prefix after well p =
     let A : List Lexeme → Type 0 = λ z. IsAccepted g z in
-    (after ++ p.0, well_behind front after p.0 well p.1, subst A (append_assoc front after p.0) p.2)
+    (after ++ p.0, well_behind prefix after p.0 well p.1, subst A (append_assoc prefix after p.0) p.2)
 
 -- the empty list is completable
 pub none_completable : (g : Grammar) → IsCompletable g []
@@ -221,15 +221,15 @@ expected_follows Values ts p refused =
 expected_follows Expressions ts p refused =
     let s = completable_walks Expressions ts p in expression_followed ts s.0 s.1 refused
 
--- ---- the fault front
+-- ---- the fault prefix
 
--- the fault front with the next token is not completable
-pub stopped_by_next : (g : Grammar) (ts front after others : List Placed) (next : Placed)
-    → IsFaultFront g ts front after → after ≡ next ∷ others → IsCompletable g (lexemes (front ++ next ∷ [])) → ⊥
-stopped_by_next g ts front after others next f h p =
-    let parts : ts ≡ (front ++ next ∷ []) ++ others = f.parts ∙ ap (λ (z : List Placed). front ++ z) h
-    ∙ sym (append_assoc front (next ∷ []) others) in
-    omega (arith, f.longest (front ++ next ∷ []) others parts p, length-append front (next ∷ []))
+-- the fault prefix with the next token is not completable
+pub stopped_by_next : (g : Grammar) (ts prefix after others : List Placed) (next : Placed)
+    → IsFaultPrefix g ts prefix after → after ≡ next ∷ others → IsCompletable g (lexemes (prefix ++ next ∷ [])) → ⊥
+stopped_by_next g ts prefix after others next f h p =
+    let parts : ts ≡ (prefix ++ next ∷ []) ++ others = f.parts ∙ ap (λ (z : List Placed). prefix ++ z) h
+    ∙ sym (append_assoc prefix (next ∷ []) others) in
+    omega (arith, f.longest (prefix ++ next ∷ []) others parts p, length-append prefix (next ∷ []))
 
 -- the class that a fault names is what is expected
 named : (g : Grammar) (accepted : Bool) (last : Option Lexeme) (next : Next) (fault : Fault) (class : List ℕ)
@@ -250,12 +250,12 @@ named g false last (Broken k rest) fault class h (inr n) = absurd (let e = n.1 i
 named g false last End fault class h (inl n) = absurd (let e = n.1 in cc)
 named g false last End fault class h (inr n) = (refl, inr (let e = n.0 in cc))
 
--- what the fault of a refused text names as expected can follow its fault front
+-- what the fault of a refused text names as expected can follow its fault prefix
 pub named_follows : (g : Grammar) (text : List ℕ) (fault : Fault) (r : IsRefused g text fault) (class : List ℕ)
-    → Names r class → CanFollow g (lexemes r.front) class
+    → Names r class → CanFollow g (lexemes r.prefix) class
 named_follows g text fault r class n =
-    let is = named g r.accepted (last_or None (lexemes r.front)) r.next fault class r.is_fault n in
-    let f = expected_follows g (lexemes r.front) r.is_front.completable
+    let is = named g r.accepted (last_or None (lexemes r.prefix)) r.next fault class r.is_fault n in
+    let f = expected_follows g (lexemes r.prefix) r.is_prefix.completable
     (λ p. true≢false (sym (r.is_accepted.1 p) ∙ is.0)) in
-    let C : List ℕ → Type 0 = λ z. CanFollow g (lexemes r.front) z in
+    let C : List ℕ → Type 0 = λ z. CanFollow g (lexemes r.prefix) z in
     elim is.1 [ inl e ↦ subst C e f.0 | inr e ↦ subst C e f.1 ]

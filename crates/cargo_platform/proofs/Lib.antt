@@ -11,7 +11,7 @@ pub mod OneText
 pub mod WellFormedness
 pub mod Positions
 pub mod Completing
-pub mod Fronts
+pub mod Prefixes
 pub mod Refused
 pub mod Completable
 pub mod Expecting

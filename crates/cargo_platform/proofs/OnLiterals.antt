@@ -16,7 +16,7 @@ use Rattle.cargo_platform.specs.WellFormed.{IsWellFormed}
 use Rattle.cargo_platform.specs.Faults.{Fault, Next, Unfit, Broken, End, Follows, fault_of, IsRefused}
 use Rattle.cargo_platform.specs.Walk.{State, Wanted, after, walk, is_whole}
 use Rattle.cargo_platform.proofs.CutTests.{is_cut_from, cut_by}
-use Rattle.cargo_platform.proofs.Fronts.{goes_on, refused_walked}
+use Rattle.cargo_platform.proofs.Prefixes.{goes_on, refused_walked}
 use Rattle.cargo_platform.proofs.PrintedSpells.{canonical, canonical_spells}
 
 -- ---- the tokens of a text, with the place of its tail
@@ -119,13 +119,13 @@ fitting g (Some s) (t ∷ ts) =
     let next : Option State = after g s t.token in
     one_more next + fitting g next ts
 
-abbrev pub front_in : Grammar → List ℕ → List Placed
-front_in g text = take (fitting g (Some (Wanted [])) (tokens_in text)) (tokens_in text)
+abbrev pub prefix_in : Grammar → List ℕ → List Placed
+prefix_in g text = take (fitting g (Some (Wanted [])) (tokens_in text)) (tokens_in text)
 
 abbrev pub behind_in : Grammar → List ℕ → List Placed
 behind_in g text = drop (fitting g (Some (Wanted [])) (tokens_in text)) (tokens_in text)
 
--- what comes behind the front: what is left of the tokens, and then the tail
+-- what comes behind the prefix: what is left of the tokens, and then the tail
 abbrev pub next_before : List ℕ → Next → List Placed → Next
 next_before text last [] = last
 next_before text last (t ∷ ts) = Unfit t.token (drop t.start text)
@@ -135,11 +135,11 @@ next_follows : (text : List ℕ) (tail : ℕ) (last : Next) (behind : List Place
 next_follows text tail last [] h = h
 next_follows text tail last (t ∷ ts) h = refl
 
--- the fault by the table, where the front leads to this state and does not go on
+-- the fault by the table, where the prefix leads to this state and does not go on
 abbrev pub fault_at : Grammar → List ℕ → Next → Option State → Option State → Option Fault
 fault_at g text last (Some s) None =
     let next : Next = next_before text last (behind_in g text) in
-    fault_of g (is_whole s) (last_or None (lexemes (front_in g text))) next
+    fault_of g (is_whole s) (last_or None (lexemes (prefix_in g text))) next
 fault_at g text last s t = None
 
 abbrev pub further : Grammar → Option State → List Placed → Option State
@@ -148,7 +148,7 @@ further g (Some s) ts = goes_on g s ts
 
 abbrev pub fault_before : Grammar → List ℕ → Next → Option Fault
 fault_before g text last =
-    let reached : Option State = walk g (lexemes (front_in g text)) in
+    let reached : Option State = walk g (lexemes (prefix_in g text)) in
     fault_at g text last reached (further g reached (behind_in g text))
 
 -- the fault of a text whose characters all belong to a token or are spaces
@@ -156,12 +156,12 @@ abbrev pub fault_found : Grammar → List ℕ → Option Fault
 fault_found g text = fault_before g text End
 
 refused_there : (g : Grammar) (text : List ℕ) (fault : Fault) (tail : ℕ) (last : Next) (s t : Option State)
-    → walk g (lexemes (front_in g text)) ≡ s → further g s (behind_in g text) ≡ t → IsCut text (tokens_in text) tail
+    → walk g (lexemes (prefix_in g text)) ≡ s → further g s (behind_in g text) ≡ t → IsCut text (tokens_in text) tail
     → Follows text [] tail last → fault_at g text last s t ≡ Some fault → IsRefused g text fault
 refused_there g text fault tail last None t walked stops cut follows found = absurd cc
 refused_there g text fault tail last (Some s) (Some t) walked stops cut follows found = absurd cc
 refused_there g text fault tail last (Some s) None walked stops cut follows found =
-    refused_walked g text (tokens_in text) (front_in g text) (behind_in g text) tail s
+    refused_walked g text (tokens_in text) (prefix_in g text) (behind_in g text) tail s
     (next_before text last (behind_in g text)) fault
     cut (sym (take-append-drop (fitting g (Some (Wanted [])) (tokens_in text)) (tokens_in text))) walked stops
     (next_follows text tail last (behind_in g text) follows) found

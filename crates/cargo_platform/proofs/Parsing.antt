@@ -32,7 +32,7 @@ use Rattle.cargo_platform.proofs.Positions.{members_close, negation_close, list_
 use Rattle.cargo_platform.proofs.Positions.{wants_walk, word_walk, ends_walk}
 use Rattle.cargo_platform.proofs.Completing.{tree_accepted, ends_whole}
 use Rattle.cargo_platform.proofs.Expecting.{like, walk_matches}
-use Rattle.cargo_platform.proofs.Fronts.{lexemes-append}
+use Rattle.cargo_platform.proofs.Prefixes.{lexemes-append}
 use Rattle.cargo_platform.proofs.SomeCut.{written_length}
 
 -- ---- reading

@@ -9,7 +9,7 @@ use Rattle.cargo_platform.specs.Faults.{Next, Follows, Fault, IsRefused}
 use Rattle.cargo_platform.specs.Walk.{State}
 use Rattle.cargo_platform.specs.Inside.Ahead.{Item, Nothing, Ahead, Comes, Path, next_of, ItemIsLeft}
 use Rattle.cargo_platform.specs.Inside.Parsing.{IsStop, IsStuck, IfFault, StopsAt, Stops}
-use Rattle.cargo_platform.proofs.Fronts.{goes_on, refused_walked}
+use Rattle.cargo_platform.proofs.Prefixes.{goes_on, refused_walked}
 use Rattle.cargo_platform.proofs.SomeCut.{some_cut}
 use Rattle.cargo_platform.proofs.Paths.{comes_left, path_left, path_text, left_follows}
 use Rattle.cargo_platform.proofs.Parsing.{if_fault}

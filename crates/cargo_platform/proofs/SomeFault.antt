@@ -7,13 +7,14 @@ use Rattle.std.specs.List.{last_or}
 use Rattle.cargo_platform.specs.Tokens.{Lexeme, Placed}
 use Rattle.cargo_platform.specs.Cut.{IsCut, AreApart, lexemes}
 use Rattle.cargo_platform.specs.Spelling.{Grammar, Values, Expressions, IsAccepted}
-use Rattle.cargo_platform.specs.Faults.{IsCompletable, IsFaultFront, Next, Unfit, Broken, End, Follows, Fault, fault_of}
+use Rattle.cargo_platform.specs.Faults.{IsCompletable, IsFaultPrefix, Next, Unfit, Broken, End, Follows, Fault}
+use Rattle.cargo_platform.specs.Faults.{fault_of}
 use Rattle.cargo_platform.specs.Faults.{IsRefused}
 use Rattle.cargo_platform.specs.FaultLaws.{SpellsSomething, SpellsOrIsRefused}
 use Rattle.cargo_platform.specs.Walk.{walk, is_whole}
 use Rattle.cargo_platform.proofs.Building.{stopped, completable_walks}
 use Rattle.cargo_platform.proofs.Completing.{walked_completes, whole_accepted, accepted_whole}
-use Rattle.cargo_platform.proofs.Fronts.{lexemes-append, none_longer, longest_before}
+use Rattle.cargo_platform.proofs.Prefixes.{lexemes-append, none_longer, longest_before}
 use Rattle.cargo_platform.proofs.Refused.{refused_spells_none, refused_spells_no_value}
 use Rattle.cargo_platform.proofs.SomeCut.{some_cut}
 use Rattle.cargo_platform.proofs.Completable.{none_completable}
@@ -38,33 +39,33 @@ accepted_or g ts p =
     let w = completable_walks g ts p in
     (is_whole w.0, (λ h. whole_accepted g w.0 ts h w.1, λ a. accepted_whole g w.0 ts w.1 a))
 
-record SomeFront (g : Grammar) (ts : List Placed) : Type 0 where
-  pub front : List Placed
+record SomePrefix (g : Grammar) (ts : List Placed) : Type 0 where
+  pub prefix : List Placed
   pub after : List Placed
-  pub is : IsFaultFront g ts front after
+  pub is : IsFaultPrefix g ts prefix after
 
--- from a completable front on, the longest is found
-front_from : (g : Grammar) (front behind : List Placed) → IsCompletable g (lexemes front)
-    → SomeFront g (front ++ behind)
-front_from g front [] p = record {
-  front = front;
+-- from a completable prefix on, the longest is found
+prefix_from : (g : Grammar) (prefix behind : List Placed) → IsCompletable g (lexemes prefix)
+    → SomePrefix g (prefix ++ behind)
+prefix_from g prefix [] p = record {
+  prefix = prefix;
   after = [];
-  is = record { parts = refl; completable = p; longest = λ longer others h q. none_longer front longer others h };
+  is = record { parts = refl; completable = p; longest = λ longer others h q. none_longer prefix longer others h };
 }
-front_from g front (t ∷ ts) p =
-    elim (completable_or g (lexemes front ++ (t.token ∷ []))) [
+prefix_from g prefix (t ∷ ts) p =
+    elim (completable_or g (lexemes prefix ++ (t.token ∷ []))) [
       | inl q ↦
-          let S : List Placed → Type 0 = λ z. SomeFront g z in
+          let S : List Placed → Type 0 = λ z. SomePrefix g z in
           let C : List Lexeme → Type 0 = λ z. IsCompletable g z in
-          subst S (append_assoc front (t ∷ []) ts)
-          (front_from g (front ++ (t ∷ [])) ts (subst C (sym (lexemes-append front (t ∷ []))) q))
+          subst S (append_assoc prefix (t ∷ []) ts)
+          (prefix_from g (prefix ++ (t ∷ [])) ts (subst C (sym (lexemes-append prefix (t ∷ []))) q))
       | inr never ↦ record {
-        front = front;
+        prefix = prefix;
         after = t ∷ ts;
         is = record {
           parts = refl;
           completable = p;
-          longest = λ longer others h q. longest_before g front ts t never
+          longest = λ longer others h q. longest_before g prefix ts t never
               longer others h q;
         };
       }
@@ -75,47 +76,47 @@ tail_inside : (text : List ℕ) (from : ℕ) (ts : List Placed) (tail : ℕ) →
 tail_inside text from [] tail apart = apart.1.inside
 tail_inside text from (t ∷ ts) tail apart = tail_inside text t.end ts tail apart.1
 
--- something follows the front of a cut
-some_next : (text : List ℕ) (front after : List Placed) (tail : ℕ) → IsCut text (front ++ after) tail
+-- something follows the prefix of a cut
+some_next : (text : List ℕ) (prefix after : List Placed) (tail : ℕ) → IsCut text (prefix ++ after) tail
     → (next : Next) × Follows text after tail next
-some_next text front (t ∷ after) tail cut = (Unfit t.token (drop t.start text), refl)
-some_next text front [] tail cut =
+some_next text prefix (t ∷ after) tail cut = (Unfit t.token (drop t.start text), refl)
+some_next text prefix [] tail cut =
     elim cut.rest [
       | inl none ↦ (End, omega (arith, ap length none, length-drop tail text))
       | inr f ↦ (Broken f.0 (drop tail text), (refl, f.1))
     ]
 
--- an accepted front at the end is the whole text
-whole_text : (g : Grammar) (text : List ℕ) (front after : List Placed) (tail : ℕ) → IsCut text (front ++ after) tail
-    → Follows text after tail End → IsAccepted g (lexemes front) → SpellsSomething g text
-whole_text g text front (t ∷ after) tail cut h a = absurd (let e = h in cc)
-whole_text g text front [] tail cut h a =
-    let T : ℕ → Type 0 = λ z. IsCut text front z in
+-- an accepted prefix at the end is the whole text
+whole_text : (g : Grammar) (text : List ℕ) (prefix after : List Placed) (tail : ℕ) → IsCut text (prefix ++ after) tail
+    → Follows text after tail End → IsAccepted g (lexemes prefix) → SpellsSomething g text
+whole_text g text prefix (t ∷ after) tail cut h a = absurd (let e = h in cc)
+whole_text g text prefix [] tail cut h a =
+    let T : ℕ → Type 0 = λ z. IsCut text prefix z in
     let C : List Placed → Type 0 = λ z. IsCut text z tail in
-    let whole = subst T (omega (arith, h, tail_inside text 0 (front ++ []) tail cut.apart))
-    (subst C (append-nil front) cut) in
-    spelling g front whole a
+    let whole = subst T (omega (arith, h, tail_inside text 0 (prefix ++ []) tail cut.apart))
+    (subst C (append-nil prefix) cut) in
+    spelling g prefix whole a
   where
     spelling : (g : Grammar) (ts : List Placed) → IsCut text ts (length text) → IsAccepted g (lexemes ts)
         → SpellsSomething g text
     spelling Values ts whole a = (a.0, (ts, whole, a.1))
     spelling Expressions ts whole a = (a.0, (ts, whole, a.1))
 
-at_next : (g : Grammar) (text : List ℕ) (ts front after : List Placed) (tail : ℕ) (next : Next) (accepted : Bool)
-    → IsCut text ts tail → IsFaultFront g ts front after → Follows text after tail next
-    → (IsTrue accepted ↔ IsAccepted g (lexemes front)) → SpellsOrIsRefused g text
-at_next g text ts front after tail next accepted cut is follows told =
-    elim (fault_of g accepted (last_or None (lexemes front)) next) as
-    (λ z. fault_of g accepted (last_or None (lexemes front)) next ≡ z → SpellsOrIsRefused g text) [
+at_next : (g : Grammar) (text : List ℕ) (ts prefix after : List Placed) (tail : ℕ) (next : Next) (accepted : Bool)
+    → IsCut text ts tail → IsFaultPrefix g ts prefix after → Follows text after tail next
+    → (IsTrue accepted ↔ IsAccepted g (lexemes prefix)) → SpellsOrIsRefused g text
+at_next g text ts prefix after tail next accepted cut is follows told =
+    elim (fault_of g accepted (last_or None (lexemes prefix)) next) as
+    (λ z. fault_of g accepted (last_or None (lexemes prefix)) next ≡ z → SpellsOrIsRefused g text) [
       | Some fault ↦ λ table. inr (
         fault,
         record {
           ts = ts;
           tail = tail;
           cut = cut;
-          front = front;
+          prefix = prefix;
           after = after;
-          is_front = is;
+          is_prefix = is;
           next = next;
           follows =
               follows;
@@ -126,9 +127,9 @@ at_next g text ts front after tail next accepted cut is follows told =
       )
       | None ↦ λ table.
           let C : List Placed → Type 0 = λ z. IsCut text z tail in
-          let end = faultless g accepted (last_or None (lexemes front)) next table in
+          let end = faultless g accepted (last_or None (lexemes prefix)) next table in
           let F : Next → Type 0 = λ z. Follows text after tail z in
-          inl (whole_text g text front after tail (subst C is.parts cut) (subst F end.1 follows) (told.0 end.0))
+          inl (whole_text g text prefix after tail (subst C is.parts cut) (subst F end.1 follows) (told.0 end.0))
     ] refl
   where
     faultless : (g : Grammar) (accepted : Bool) (last : Option Lexeme) (next : Next)
@@ -144,11 +145,11 @@ at_next g text ts front after tail next accepted cut is follows told =
 pub spells_or_is_refused : (g : Grammar) (text : List ℕ) → IsUtf8 text → SpellsOrIsRefused g text
 spells_or_is_refused g text utf8 =
     let c = some_cut text utf8 in
-    let f = front_from g [] c.0 (none_completable g) in
+    let f = prefix_from g [] c.0 (none_completable g) in
     let C : List Placed → Type 0 = λ z. IsCut text z c.1 in
-    let n = some_next text f.front f.after c.1 (subst C f.is.parts c.2) in
-    let a = accepted_or g (lexemes f.front) f.is.completable in
-    at_next g text c.0 f.front f.after c.1 n.0 a.0 c.2 f.is n.1 a.1
+    let n = some_next text f.prefix f.after c.1 (subst C f.is.parts c.2) in
+    let a = accepted_or g (lexemes f.prefix) f.is.completable in
+    at_next g text c.0 f.prefix f.after c.1 n.0 a.0 c.2 f.is n.1 a.1
 
 -- and never both
 pub refused_spells_nothing : (g : Grammar) (text : List ℕ) (fault : Fault) → IsRefused g text fault
