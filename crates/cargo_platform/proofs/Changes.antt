@@ -26,7 +26,7 @@ use Rattle.cargo_platform.specs.ChangeLaws.{IsConditionTextAsReleased, KeepsCond
 use Rattle.cargo_platform.specs.ChangeLaws.{IsRefusedForLiteralKeys, WasWellFormedWithoutMarkedLiterals}
 use Rattle.cargo_platform.specs.ChangeLaws.{IsWellFormedWithoutLiteralKeys, GivesNoKeyword}
 use Rattle.cargo_platform.proofs.OneCut.{one_cut_from}
-use Rattle.cargo_platform.proofs.OneTree.{one_transitional_tree, was_spelled}
+use Rattle.cargo_platform.proofs.Building.{one_built}
 use Rattle.cargo_platform.proofs.WellFormedness.{spelled_well_formed}
 use Rattle.cargo_platform.proofs.Roles.{bytes_eq-true}
 use Rattle.cargo_platform.proofs.Conditions.{one_inner}
@@ -34,6 +34,25 @@ use Rattle.cargo_platform.proofs.Conditions.{one_inner}
 neither : (a b : Bool) → (a || b) ≡ false → (a ≡ false) × (b ≡ false)
 neither true b h = absurd (true≢false h)
 neither false b h = (refl, h)
+
+-- ---- literals that were keys
+
+mutual
+  -- what spells a tree spelled it then
+  pub was_spelled : (e : Tree) (s : List Lexeme) → Spells e s → SpellsTransitional e s
+  was_spelled (Not e) s p = (p.0, was_spelled e p.0 p.1, p.2)
+  was_spelled (All es) s p = (p.0, p.1, each_was_spelled es p.0 p.2, p.3, p.4)
+  was_spelled (Any es) s p = (p.0, p.1, each_was_spelled es p.0 p.2, p.3, p.4)
+  was_spelled (Value (Alone n)) s p = p
+  was_spelled (Value (KeyPair k v)) s p = (p.0, p.1.0)
+  was_spelled True s p = p
+  was_spelled False s p = p
+
+  each_was_spelled : (es : Trees) (ss : List (List Lexeme)) → SpellEach es ss → SpellEachTransitional es ss
+  each_was_spelled none [] p = tt
+  each_was_spelled none (s ∷ ss) p = absurd p
+  each_was_spelled (tree e es) [] p = absurd p
+  each_was_spelled (tree e es) (s ∷ ss) p = (was_spelled e s p.0, each_was_spelled es ss p.1)
 
 -- ---- marked literals
 
@@ -132,7 +151,7 @@ pub spelled_released : (ts : List Lexeme) → SpelledReleased ts
 spelled_released ts d e p = (
   λ q.
       let r = from_released d ts q in
-      sym r.2 ∙ ap released (one_transitional_tree r.0 e ts r.1 p),
+      sym r.2 ∙ ap released (one_built true r.0 e ts r.1 p),
   λ h. let S : Tree → Type 0 = λ z. SpellsReleased z ts in subst S (sym h) (to_released e ts p),
 )
 
@@ -169,18 +188,18 @@ refused_alike p q same g text fault r = record {
   ts = r.ts;
   tail = r.tail;
   cut = r.cut;
-  front = r.front;
+  prefix = r.prefix;
   after = r.after;
-  is_front = record {
-    parts = r.is_front.parts;
-    completable = let c = r.is_front.completable in (c.0, c.1, (same (lexemes r.front ++ c.0)).0 c.2);
-    longest = λ longer others h c. r.is_front.longest longer others h (c.0, c.1, (same (lexemes longer ++ c.0)).1 c.2);
+  is_prefix = record {
+    parts = r.is_prefix.parts;
+    completable = let c = r.is_prefix.completable in (c.0, c.1, (same (lexemes r.prefix ++ c.0)).0 c.2);
+    longest = λ longer others h c. r.is_prefix.longest longer others h (c.0, c.1, (same (lexemes longer ++ c.0)).1 c.2);
   };
   next = r.next;
   follows = r.follows;
   accepted = r.accepted;
   is_accepted =
-      (λ a. (same (lexemes r.front)).0 (r.is_accepted.0 a), λ a. r.is_accepted.1 ((same (lexemes r.front)).1 a));
+      (λ a. (same (lexemes r.prefix)).0 (r.is_accepted.0 a), λ a. r.is_accepted.1 ((same (lexemes r.prefix)).1 a));
   is_fault = r.is_fault;
 }
 
@@ -292,7 +311,7 @@ refused_for_literal_keys ts e p = (
       ] refl,
   λ h q.
       let K : Tree → Type 0 = λ z. has_literal_key (values z) ≡ true in
-      true≢false (sym (subst K (one_transitional_tree e q.0 ts p (was_spelled q.0 ts q.1)) h) ∙ keyless q.0 ts q.1),
+      true≢false (sym (subst K (one_built true e q.0 ts p (was_spelled q.0 ts q.1)) h) ∙ keyless q.0 ts q.1),
 )
 
 -- ---- well-formed trees

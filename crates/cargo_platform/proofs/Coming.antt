@@ -1,6 +1,8 @@
 -- What comes at a place is what its bytes tell.
-use Rattle.std.proofs.Common.{◌≡◌, ◌≢◌, refl, sym, ap, subst, ◌∙◌, ℕ, ◌+◌, ◌-◌, ◌^◌, ◌<◌, ◌≤◌, Bool, true, false, ◌||◌, ◌&&◌, List, [], ◌∷◌}
-use Rattle.std.proofs.Common.{◌++◌, codes, inl, inr, true≢false, append_assoc, append-nil, arith, length, drop, None, Some, Option}
+use Rattle.std.proofs.Common.{◌≡◌, ◌≢◌, refl, sym, ap, subst, ◌∙◌, ℕ, ◌+◌, ◌-◌, ◌^◌, ◌<◌, ◌≤◌, Bool, true, false, ◌||◌}
+use Rattle.std.proofs.Common.{◌&&◌, List, [], ◌∷◌}
+use Rattle.std.proofs.Common.{◌++◌, codes, inl, inr, true≢false, append_assoc, append-nil, arith, length, drop, None}
+use Rattle.std.proofs.Common.{Some, Option}
 use Rattle.std.proofs.Common.{lit≤, drop_of_length-le, length-drop, length-append}
 use Rattle.std.specs.Prelude.{IsUtf8, bytes_eq, ◌==◌, slice_index, slice_range, if◌then◌else◌}
 use Rattle.std.specs.List.{list_all}
@@ -19,9 +21,7 @@ use Rattle.cargo_platform.specs.Chars.{is_mark, is_known_start, starts}
 use Rattle.cargo_platform.specs.Tokens.{Lexeme, LeftParen, RightParen, Ident, Comma, Equals, String, written}
 use Rattle.cargo_platform.specs.Tokens.{IsWellWritten, Placed}
 use Rattle.cargo_platform.specs.Cut.{IsPiece, AreSpaces, EndsBefore, BeginsFault}
-use Rattle.cargo_platform.specs.Faults.{UnterminatedExpression}
 use Rattle.cargo_platform.specs.Reading.{characters_from}
-use Rattle.cargo_platform.specs.Inside.Misfits.{IsIdentifier, IsSurplus}
 use Rattle.cargo_platform.specs.Inside.Ahead.{Item, Nothing, Ahead, Comes, next_of}
 use Rattle.cargo_platform.specs.Inside.Ahead as ahead
 use Rattle.cargo_platform.specs.Inside.Coming.{front, behind, First, AtEnd, Whole, Faulty, first_char, first_marked}
@@ -29,10 +29,11 @@ use Rattle.cargo_platform.specs.Inside.Coming.{first_named, first_quoted, is_inn
 use Rattle.cargo_platform.specs.Inside.Coming.{ahead_at, IsFound, IsReadingAt}
 use Rattle.cargo_platform.specs.Inside.Looking.{IsCharAt, Shows, Costs, character_of}
 use Rattle.cargo_platform.specs.Inside.Scanning.{IsTokenAt}
-use Rattle.cargo_platform.specs.Inside.Parsing.{TakesToken, Lacks, lexeme_of}
+use Rattle.cargo_platform.specs.Inside.Parsing.{TakesToken, Lacks, lexeme_of, IsIdentifier, IsSurplus}
 use Rattle.cargo_platform.specs.declared.reader.Mark.{Mark}
 use Rattle.cargo_platform.specs.declared.reader.Mark.TheVariants as marks
-use Rattle.cargo_platform.proofs.OneCut.{both_true, both_first, both_second, never, start_is_ascii, piece_end, piece_rest}
+use Rattle.cargo_platform.proofs.OneCut.{both_true, both_first, both_second, never, start_is_ascii, piece_end}
+use Rattle.cargo_platform.proofs.OneCut.{piece_rest}
 use Rattle.cargo_platform.proofs.OneCut.{written_rest, token_begins, char_is, head_of}
 use Rattle.cargo_platform.proofs.SomeCut.{Outcome, lex, piece_at, rest_at, ascii_rest, known_is_ascii}
 use Rattle.cargo_platform.proofs.Refused.{no_char}
@@ -312,16 +313,16 @@ end_ahead text at is = ap (item_of text at) (end_comes text at (drop_of_length-l
 
 -- what is left from a place on that is not the end
 abbrev IsLeftOver : List ℕ → ℕ → First → Type 0
-IsLeftOver text at f = IsSurplus (next_of text (item_of text at f)) (UnterminatedExpression (drop at text))
+IsLeftOver text at f = IsSurplus (next_of text (item_of text at f)) (drop at text)
 
 pub rest_ahead : (text : List ℕ) (at : ℕ) → IsUtf8 text → IsCharBoundary text at → slice_index text at ≢ 0x20
-    → at < length text → IsSurplus (next_of text (ahead_at text at).item) (UnterminatedExpression (drop at text))
+    → at < length text → IsSurplus (next_of text (ahead_at text at).item) (drop at text)
 rest_ahead text at u b past within = go (outcome text at u b past)
   where
     go : Outcome (drop at text) → IsLeftOver text at (comes_at text at)
     go (inl (inl e)) = absurd (omega (arith, at_length text at b.0 e, within))
-    go (inl (inr f)) = subst (IsLeftOver text at) (sym (fault_comes text at f.0 u b f.1)) refl
-    go (inr x) = subst (IsLeftOver text at) (sym (token_comes text at x.token x.rest x.parts x.well x.ends)) refl
+    go (inl (inr f)) = subst (IsLeftOver text at) (sym (fault_comes text at f.0 u b f.1)) (λ g last. refl)
+    go (inr x) = subst (IsLeftOver text at) (sym (token_comes text at x.token x.rest x.parts x.well x.ends)) (λ g last. refl)
 
 -- at the end each character was looked at, and the end
 pub whole_read : (text : List ℕ) (at : ℕ) (seen : Look) (fault : Option TokenFaultKind) (looks : ℕ)

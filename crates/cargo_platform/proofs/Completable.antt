@@ -1,4 +1,4 @@
--- Lists of tokens that can be completed: their fronts, how many tokens complete them, and what can follow them.
+-- Lists of tokens that can be completed: their prefixes, how many tokens complete them, and what can follow them.
 use Rattle.std.proofs.Common.{◌≡◌, refl, sym, ap, subst, ◌∙◌, ℕ, ◌+◌, ◌≤◌, suc, arith, Bool, true, false}
 use Rattle.std.proofs.Common.{true≢false, List, [], ◌∷◌, ◌++◌, Option, Some, None, codes, inl, inr, ◌⊎◌}
 use Rattle.std.proofs.Common.{append_assoc, length, length-append, cond}
@@ -13,40 +13,38 @@ use Rattle.cargo_platform.specs.Cut.{lexemes}
 use Rattle.cargo_platform.specs.Trees.{Alone, KeyPair}
 use Rattle.cargo_platform.specs.Spelling.{Grammar, Values, Expressions, IsAccepted, Role, GroupWord, LiteralWord}
 use Rattle.cargo_platform.specs.Spelling.{PlainName, role}
-use Rattle.cargo_platform.specs.Faults.{IsCompletable, IsFaultFront, Next, Unfit, Broken, End, Fault, UnexpectedToken}
+use Rattle.cargo_platform.specs.Faults.{IsCompletable, IsFaultPrefix, Next, Unfit, Broken, End, Fault, UnexpectedToken}
 use Rattle.cargo_platform.specs.Faults.{IncompleteExpr, expected_token, expected_end, fault_of, IsRefused}
 use Rattle.cargo_platform.specs.Walk.{Word, Several, Negation, State, Wanted, Member, Behind, Named, Keyed, Ended}
-use Rattle.cargo_platform.specs.Walk.{after_role, after_name, after_expression, after, walk_from, walk}
-use Rattle.cargo_platform.specs.Inside.Parsing.{is_whole, expects, expects_end}
+use Rattle.cargo_platform.specs.Walk.{after_role, after_name, after_expression, after, walk_from, walk, is_whole}
 use Rattle.cargo_platform.specs.FaultLaws.{is_left_paren, IsCompletedShortly, IsOfClass, CanFollow, Names}
 use Rattle.cargo_platform.proofs.OneCut.{never}
-use Rattle.cargo_platform.proofs.Walk.{none_some, walk_from-None, walk_on, completable_walks}
+use Rattle.cargo_platform.proofs.Walk.{none_some, walk_next}
+use Rattle.cargo_platform.proofs.Building.{completable_walks}
 use Rattle.cargo_platform.proofs.Completing.{needed, walked_completes_within, walked_completes, whole_accepted}
-use Rattle.cargo_platform.proofs.Expecting.{walk_matches}
-use Rattle.cargo_platform.proofs.ValueFaults.{is_value_front, completable_values}
+use Rattle.cargo_platform.proofs.Expecting.{like, walk_matches}
 
 abbrev AreWellWritten : List Lexeme → Type 0
 AreWellWritten ts = AllByRecursion IsWellWritten ts
 
--- ---- fronts
+-- ---- prefixes
 
-well_behind : (front after more : List Lexeme) → AreWellWritten (front ++ after) → AreWellWritten more
+well_behind : (prefix after more : List Lexeme) → AreWellWritten (prefix ++ after) → AreWellWritten more
     → AreWellWritten (after ++ more)
 well_behind [] [] more a b = b
 well_behind [] (t ∷ after) more a b = (a.0, well_behind [] after more a.1 b)
-well_behind (t ∷ front) after more a b = well_behind front after more a.1 b
+well_behind (t ∷ prefix) after more a b = well_behind prefix after more a.1 b
 
--- a front of a completable list is completable
-pub front_completable : (g : Grammar) (front after : List Lexeme) → AreWellWritten (front ++ after)
-    → IsCompletable g (front ++ after) → IsCompletable g front
-front_completable g front after well p =
+-- a prefix of a completable list is completable
+pub prefix_completable : (g : Grammar) (prefix after : List Lexeme) → AreWellWritten (prefix ++ after)
+    → IsCompletable g (prefix ++ after) → IsCompletable g prefix
+prefix_completable g prefix after well p =
     let A : List Lexeme → Type 0 = λ z. IsAccepted g z in
-    (after ++ p.0, well_behind front after p.0 well p.1, subst A (append_assoc front after p.0) p.2)
+    (after ++ p.0, well_behind prefix after p.0 well p.1, subst A (append_assoc prefix after p.0) p.2)
 
 -- the empty list is completable
 pub none_completable : (g : Grammar) → IsCompletable g []
-none_completable Values = (completable_values []).1 refl
-none_completable Expressions = walked_completes [] (Wanted []) refl
+none_completable g = walked_completes g [] (Wanted []) refl
 
 -- ---- how many tokens complete a list
 
@@ -78,7 +76,7 @@ role_depth GroupWord name ws = refl
 role_depth LiteralWord name ws = refl
 role_depth PlainName name ws = refl
 
-name_depth : (raw : Bool) (name : List ℕ) (ws : List Word) → depth (after_name raw name ws) ≡ length ws
+name_depth : (raw : Bool) (name : List ℕ) (ws : List Word) → depth (after_name Expressions raw name ws) ≡ length ws
 name_depth raw name ws = role_depth (role (record { raw = raw; name = name })) name ws
 
 -- a token opens at most what it is counted for
@@ -95,12 +93,12 @@ ended_opens s (w ∷ ws) RightParen st d h = moved s (Ended ws) RightParen st h 
 ended_opens s (Several ∷ ws) Comma st d h = moved s (Member ws) Comma st h (omega arith)
 ended_opens s ws t st d h = none_some h
 
-after_opens : (s : State) (t : Lexeme) (st : State) → after s t ≡ Some st → Opens s t st
+after_opens : (s : State) (t : Lexeme) (st : State) → after Expressions s t ≡ Some st → Opens s t st
 unfolding depth opened
 after_opens (Wanted ws) (Ident raw name) st h =
-    moved (Wanted ws) (after_name raw name ws) (Ident raw name) st h (omega (arith, name_depth raw name ws))
+    moved (Wanted ws) (after_name Expressions raw name ws) (Ident raw name) st h (omega (arith, name_depth raw name ws))
 after_opens (Member ws) (Ident raw name) st h =
-    moved (Member ws) (after_name raw name (Several ∷ ws)) (Ident raw name) st h
+    moved (Member ws) (after_name Expressions raw name (Several ∷ ws)) (Ident raw name) st h
     (omega (arith, name_depth raw name (Several ∷ ws)))
 after_opens (Member ws) RightParen st h = moved (Member ws) (Ended ws) RightParen st h (omega arith)
 after_opens (Behind Negation ws) LeftParen st h =
@@ -108,11 +106,7 @@ after_opens (Behind Negation ws) LeftParen st h =
 after_opens (Behind Several ws) LeftParen st h = moved (Behind Several ws) (Member ws) LeftParen st h (omega arith)
 after_opens (Named ws) Equals st h = moved (Named ws) (Keyed ws) Equals st h (omega arith)
 after_opens (Keyed ws) (String value) st h = moved (Keyed ws) (Ended ws) (String value) st h (omega arith)
-after_opens (Named ws) LeftParen st h = ended_opens (Named ws) ws LeftParen st refl h
-after_opens (Named ws) RightParen st h = ended_opens (Named ws) ws RightParen st refl h
-after_opens (Named ws) (Ident raw name) st h = ended_opens (Named ws) ws (Ident raw name) st refl h
-after_opens (Named ws) Comma st h = ended_opens (Named ws) ws Comma st refl h
-after_opens (Named ws) (String value) st h = ended_opens (Named ws) ws (String value) st refl h
+after_opens (Named ws) t st h = ended_opens (Named ws) ws t st refl h
 after_opens (Ended ws) t st h = ended_opens (Ended ws) ws t st refl h
 after_opens s t st h = none_some h
 
@@ -120,13 +114,14 @@ counted : (t : Lexeme) (ts : List Lexeme) → count_by is_left_paren (t ∷ ts) 
 unfolding opened
 counted t ts = sum_by-cons (λ x. cond (is_left_paren x) 1 0) t ts
 
-walk_opens : (ts : List Lexeme) (s st : State) → walk_from (Some s) ts ≡ Some st
+walk_opens : (ts : List Lexeme) (s st : State) → walk_from Expressions (Some s) ts ≡ Some st
     → depth st ≤ depth s + count_by is_left_paren ts
 walk_opens [] s st h = omega (arith, ap depth (same_Some _ _ h))
 walk_opens (t ∷ ts) s st h =
-    elim (after s t) as
-    (λ z. after s t ≡ z → walk_from z ts ≡ Some st → depth st ≤ depth s + count_by is_left_paren (t ∷ ts)) [
-      | None ↦ λ _ stops. none_some (sym (walk_from-None ts) ∙ stops)
+    elim (after Expressions s t) as
+    (λ z. after Expressions s t ≡ z → walk_from Expressions z ts ≡ Some st
+    → depth st ≤ depth s + count_by is_left_paren (t ∷ ts)) [
+      | None ↦ λ _ stops. none_some stops
       | Some u ↦ λ is goes.
           let first = after_opens s t u is in
           let others = walk_opens ts u st goes in
@@ -138,7 +133,7 @@ walk_opens (t ∷ ts) s st h =
 pub completed_shortly : (ts : List Lexeme) → IsCompletedShortly ts
 unfolding depth
 completed_shortly ts p =
-    let s = completable_walks ts p in
+    let s = completable_walks Expressions ts p in
     let c = walked_completes_within ts s.0 s.1 in
     let opens = walk_opens ts (Wanted []) s.0 s.1 in
     (c.0, c.1, c.2, omega (arith, needed_depth s.0, opens, c.3))
@@ -146,92 +141,95 @@ completed_shortly ts p =
 -- ---- what can follow a list
 
 -- which tokens keep a list completable
-pub kept_by_walk : (ts : List Lexeme) (t : Lexeme) (s : State) → walk ts ≡ Some s
-    → IsCompletable Expressions (ts ++ t ∷ []) ↔ ((next : State) × (after s t ≡ Some next))
-kept_by_walk ts t s h = (
-  λ p. let w = completable_walks (ts ++ t ∷ []) p in (w.0, sym (walk_on ts (t ∷ []) s h) ∙ w.1),
-  λ n. walked_completes (ts ++ t ∷ []) n.0 (walk_on ts (t ∷ []) s h ∙ n.1),
+pub kept_by_walk : (g : Grammar) (ts : List Lexeme) (t : Lexeme) (s : State) → walk g ts ≡ Some s
+    → IsCompletable g (ts ++ t ∷ []) ↔ ((next : State) × (after g s t ≡ Some next))
+kept_by_walk g ts t s h = (
+  λ p. let w = completable_walks g (ts ++ t ∷ []) p in (w.0, sym (walk_next g ts t s h) ∙ w.1),
+  λ n. walked_completes g (ts ++ t ∷ []) n.0 (walk_next g ts t s h ∙ n.1),
 )
 
 -- a token that leads on can follow
-leads_on : (ts : List Lexeme) (s next : State) (t : Lexeme) (class : List ℕ) → walk ts ≡ Some s → IsOfClass class t
-    → IsWellWritten t → after s t ≡ Some next → CanFollow Expressions ts class
-leads_on ts s next t class h is well on = (t, is, well, (kept_by_walk ts t s h).1 (next, on))
+leads_on : (g : Grammar) (ts : List Lexeme) (s next : State) (t : Lexeme) (class : List ℕ) → walk g ts ≡ Some s
+    → IsOfClass class t → IsWellWritten t → after g s t ≡ Some next → CanFollow g ts class
+leads_on g ts s next t class h is well on = (t, is, well, (kept_by_walk g ts t s h).1 (next, on))
 
-abbrev FollowsState : List Lexeme → State → Type 0
-FollowsState ts s = CanFollow Expressions ts (expects s) × CanFollow Expressions ts (expects_end s)
+abbrev Follow : Grammar → List Lexeme → Option Lexeme → Type 0
+Follow g ts last = CanFollow g ts (expected_token g last) × CanFollow g ts (expected_end g last)
 
 abbrev an_a : Lexeme
 an_a = plain (codes "a")
 
-state_followed : (ts : List Lexeme) (s : State) → walk ts ≡ Some s → is_whole s ≡ false → FollowsState ts s
-state_followed ts (Wanted ws) h w = (
-  leads_on ts (Wanted ws) (Named ws) an_a (codes "identifier") h (inl refl) (refl, refl) refl,
-  leads_on ts (Wanted ws) (Named ws) an_a (codes "start of a cfg expression") h (inr refl) (refl, refl) refl,
+state_followed : (ts : List Lexeme) (s : State) → walk Expressions ts ≡ Some s → is_whole s ≡ false
+    → Follow Expressions ts (like s)
+state_followed ts (Wanted []) h w = (
+  leads_on Expressions ts (Wanted []) (Named []) an_a (codes "identifier") h (inl refl) (refl, refl) refl,
+  leads_on Expressions ts (Wanted []) (Named []) an_a (codes "start of a cfg expression") h (inr refl)
+      (refl, refl) refl,
+)
+state_followed ts (Wanted (v ∷ ws)) h w = (
+  leads_on Expressions ts (Wanted (v ∷ ws)) (Named (v ∷ ws)) an_a (codes "identifier") h (inl refl) (refl, refl) refl,
+  leads_on Expressions ts (Wanted (v ∷ ws)) (Named (v ∷ ws)) an_a (codes "start of a cfg expression") h (inr refl)
+      (refl, refl) refl,
 )
 state_followed ts (Member ws) h w = (
-  leads_on ts (Member ws) (Named (Several ∷ ws)) an_a (codes "identifier") h (inl refl) (refl, refl) refl,
-  leads_on ts (Member ws) (Named (Several ∷ ws)) an_a (codes "start of a cfg expression") h (inr refl)
+  leads_on Expressions ts (Member ws) (Named (Several ∷ ws)) an_a (codes "identifier") h (inl refl) (refl, refl) refl,
+  leads_on Expressions ts (Member ws) (Named (Several ∷ ws)) an_a (codes "start of a cfg expression") h (inr refl)
       (refl, refl) refl,
 )
 state_followed ts (Behind Negation ws) h w =
-    let f = leads_on ts (Behind Negation ws) (Wanted (Negation ∷ ws)) LeftParen (codes "`(`") h refl tt refl in (f, f)
+    let f = leads_on Expressions ts (Behind Negation ws) (Wanted (Negation ∷ ws)) LeftParen (codes "`(`") h
+    refl tt refl in (f, f)
 state_followed ts (Behind Several ws) h w =
-    let f = leads_on ts (Behind Several ws) (Member ws) LeftParen (codes "`(`") h refl tt refl in (f, f)
+    let f = leads_on Expressions ts (Behind Several ws) (Member ws) LeftParen (codes "`(`") h refl tt refl in (f, f)
 state_followed ts (Named (v ∷ ws)) h w =
-    let f = leads_on ts (Named (v ∷ ws)) (Ended ws) RightParen (codes "`)`") h refl tt refl in (f, f)
+    let f = leads_on Expressions ts (Named (v ∷ ws)) (Ended ws) RightParen (codes "`)`") h refl tt refl in (f, f)
 state_followed ts (Keyed ws) h w =
-    let f = leads_on ts (Keyed ws) (Ended ws) (String []) (codes "a string") h refl (([], (refl, refl)), refl) refl in
-    (f, f)
+    let f = leads_on Expressions ts (Keyed ws) (Ended ws) (String []) (codes "a string") h refl
+    (([], (refl, refl)), refl) refl in (f, f)
 state_followed ts (Ended (v ∷ ws)) h w =
-    let f = leads_on ts (Ended (v ∷ ws)) (Ended ws) RightParen (codes "`)`") h refl tt refl in (f, f)
+    let f = leads_on Expressions ts (Ended (v ∷ ws)) (Ended ws) RightParen (codes "`)`") h refl tt refl in (f, f)
 state_followed ts (Named []) h w = absurd (true≢false w)
 state_followed ts (Ended []) h w = absurd (true≢false w)
 
-abbrev LastIsFollowed : Grammar → List Lexeme → Type 0
-LastIsFollowed g ts =
-    CanFollow g ts (expected_token g (last_or None ts)) × CanFollow g ts (expected_end g (last_or None ts))
-
-expression_followed : (ts : List Lexeme) → IsCompletable Expressions ts → (IsAccepted Expressions ts → ⊥)
-    → LastIsFollowed Expressions ts
-expression_followed ts p refused =
-    let s = completable_walks ts p in
-    let unfinished : is_whole s.0 ≡ false = never (is_whole s.0) (λ w. refused (whole_accepted s.0 ts w s.1)) in
-    let f = state_followed ts s.0 s.1 unfinished in
-    let m = walk_matches ts (Wanted []) None s.0 (refl, refl) s.1 in
+expression_followed : (ts : List Lexeme) (s : State) → walk Expressions ts ≡ Some s
+    → (IsAccepted Expressions ts → ⊥) → Follow Expressions ts (last_or None ts)
+expression_followed ts s h refused =
+    let unfinished : is_whole s ≡ false = never (is_whole s) (λ w. refused (whole_accepted Expressions s ts w h)) in
+    let f = state_followed ts s h unfinished in
+    let m = walk_matches Expressions ts s h in
     let C : List ℕ → Type 0 = λ z. CanFollow Expressions ts z in
     (subst C (sym m.0) f.0, subst C (sym m.1) f.1)
 
--- a token behind which the list is a front of a value
-value_leads_on : (ts : List Lexeme) (t : Lexeme) (class : List ℕ) → IsOfClass class t → IsWellWritten t
-    → is_value_front (ts ++ t ∷ []) ≡ true → CanFollow Values ts class
-value_leads_on ts t class is well h = (t, is, well, (completable_values (ts ++ t ∷ [])).1 h)
-
-value_followed : (ts : List Lexeme) → is_value_front ts ≡ true → (IsAccepted Values ts → ⊥) → LastIsFollowed Values ts
-value_followed [] h refused = let f = value_leads_on [] an_a (codes "identifier") (inl refl) (refl, refl) refl in (f, f)
-value_followed (Ident raw name ∷ []) h refused = absurd (refused (Alone (record { raw = raw; name = name }), refl))
-value_followed (Ident raw name ∷ Equals ∷ []) h refused =
-    let f = value_leads_on (Ident raw name ∷ Equals ∷ []) (String []) (codes "a string") refl
-    (([], (refl, refl)), refl) refl in (f, f)
-value_followed (Ident raw name ∷ Equals ∷ String value ∷ []) h refused =
+value_followed : (ts : List Lexeme) (s : State) → walk Values ts ≡ Some s → (IsAccepted Values ts → ⊥)
+    → Follow Values ts (last_or None ts)
+value_followed [] s h refused =
+    let f = leads_on Values [] (Wanted []) (Named []) an_a (codes "identifier") refl (inl refl) (refl, refl) refl in
+    (f, f)
+value_followed (Ident raw name ∷ []) s h refused = absurd (refused (Alone (record { raw = raw; name = name }), refl))
+value_followed (Ident raw name ∷ Equals ∷ []) s h refused =
+    let f = leads_on Values (Ident raw name ∷ Equals ∷ []) (Keyed []) (Ended []) (String []) (codes "a string") refl
+    refl (([], (refl, refl)), refl) refl in (f, f)
+value_followed (Ident raw name ∷ Equals ∷ String value ∷ []) s h refused =
     absurd (refused (KeyPair (record { raw = raw; name = name }) value, refl))
-value_followed ts h refused = absurd (true≢false (sym h))
+value_followed ts s h refused = none_some h
 
 -- what is expected behind a list that is completable and not accepted can follow it
 pub expected_follows : (g : Grammar) (ts : List Lexeme) → IsCompletable g ts → (IsAccepted g ts → ⊥)
-    → LastIsFollowed g ts
-expected_follows Values ts p refused = value_followed ts ((completable_values ts).0 p) refused
-expected_follows Expressions ts p refused = expression_followed ts p refused
+    → Follow g ts (last_or None ts)
+expected_follows Values ts p refused =
+    let s = completable_walks Values ts p in value_followed ts s.0 s.1 refused
+expected_follows Expressions ts p refused =
+    let s = completable_walks Expressions ts p in expression_followed ts s.0 s.1 refused
 
--- ---- the fault front
+-- ---- the fault prefix
 
--- the fault front with the next token is not completable
-pub stopped_by_next : (g : Grammar) (ts front after others : List Placed) (next : Placed)
-    → IsFaultFront g ts front after → after ≡ next ∷ others → IsCompletable g (lexemes (front ++ next ∷ [])) → ⊥
-stopped_by_next g ts front after others next f h p =
-    let parts : ts ≡ (front ++ next ∷ []) ++ others = f.parts ∙ ap (λ (z : List Placed). front ++ z) h
-    ∙ sym (append_assoc front (next ∷ []) others) in
-    omega (arith, f.longest (front ++ next ∷ []) others parts p, length-append front (next ∷ []))
+-- the fault prefix with the next token is not completable
+pub stopped_by_next : (g : Grammar) (ts prefix after others : List Placed) (next : Placed)
+    → IsFaultPrefix g ts prefix after → after ≡ next ∷ others → IsCompletable g (lexemes (prefix ++ next ∷ [])) → ⊥
+stopped_by_next g ts prefix after others next f h p =
+    let parts : ts ≡ (prefix ++ next ∷ []) ++ others = f.parts ∙ ap (λ (z : List Placed). prefix ++ z) h
+    ∙ sym (append_assoc prefix (next ∷ []) others) in
+    omega (arith, f.longest (prefix ++ next ∷ []) others parts p, length-append prefix (next ∷ []))
 
 -- the class that a fault names is what is expected
 named : (g : Grammar) (accepted : Bool) (last : Option Lexeme) (next : Next) (fault : Fault) (class : List ℕ)
@@ -252,12 +250,12 @@ named g false last (Broken k rest) fault class h (inr n) = absurd (let e = n.1 i
 named g false last End fault class h (inl n) = absurd (let e = n.1 in cc)
 named g false last End fault class h (inr n) = (refl, inr (let e = n.0 in cc))
 
--- what the fault of a refused text names as expected can follow its fault front
+-- what the fault of a refused text names as expected can follow its fault prefix
 pub named_follows : (g : Grammar) (text : List ℕ) (fault : Fault) (r : IsRefused g text fault) (class : List ℕ)
-    → Names r class → CanFollow g (lexemes r.front) class
+    → Names r class → CanFollow g (lexemes r.prefix) class
 named_follows g text fault r class n =
-    let is = named g r.accepted (last_or None (lexemes r.front)) r.next fault class r.is_fault n in
-    let f = expected_follows g (lexemes r.front) r.is_front.completable
+    let is = named g r.accepted (last_or None (lexemes r.prefix)) r.next fault class r.is_fault n in
+    let f = expected_follows g (lexemes r.prefix) r.is_prefix.completable
     (λ p. true≢false (sym (r.is_accepted.1 p) ∙ is.0)) in
-    let C : List ℕ → Type 0 = λ z. CanFollow g (lexemes r.front) z in
+    let C : List ℕ → Type 0 = λ z. CanFollow g (lexemes r.prefix) z in
     elim is.1 [ inl e ↦ subst C e f.0 | inr e ↦ subst C e f.1 ]

@@ -7,7 +7,7 @@ use Rattle.cargo_platform.specs.Platforms.{IsTargetName, IsCfgOf, IsConditionTex
 use Rattle.cargo_platform.specs.WellFormed.{IsWellFormedCondition}
 use Rattle.cargo_platform.specs.Print.{print, print_condition}
 use Rattle.cargo_platform.specs.Facts.{FactSet, truth}
-use Rattle.cargo_platform.proofs.OneTree.{one_tree_text}
+use Rattle.cargo_platform.proofs.OneText.{one_tree_text}
 use Rattle.cargo_platform.proofs.PrintedSpells.{printed_spells}
 use Rattle.cargo_platform.proofs.WellFormedness.{spelled_well_formed}
 use Rattle.cargo_platform.proofs.TargetNames.{name_is_bare}

@@ -1,69 +1,81 @@
--- The last token of a list that is walked tells what is expected behind it, as the state does.
-use Rattle.std.proofs.Common.{◌≡◌, refl, sym, subst, ◌∙◌, ℕ, Bool, true, false, List, [], ◌∷◌, Option}
+-- The last token of a list that is walked tells what is expected behind it, and so does the state.
+use Rattle.std.proofs.Common.{◌≡◌, refl, subst, ℕ, Bool, true, false, List, [], ◌∷◌, Option}
 use Rattle.std.proofs.Common.{Some, None, codes}
 use Rattle.std.specs.Prelude.{if◌then◌else◌}
 use Rattle.std.specs.List.{last_or}
 use Rattle.std.proofs.lemmas.Option.{same_Some}
-use Rattle.cargo_platform.specs.Tokens.{Lexeme, LeftParen, RightParen, Ident, Comma, Equals, String}
+use Rattle.cargo_platform.specs.Tokens.{Lexeme, LeftParen, RightParen, Ident, Comma, Equals, String, plain}
 use Rattle.cargo_platform.specs.Trees.{Name}
-use Rattle.cargo_platform.specs.Spelling.{Expressions, is_group_word, is_literal_word, GroupWord, LiteralWord}
-use Rattle.cargo_platform.specs.Spelling.{PlainName}
+use Rattle.cargo_platform.specs.Spelling.{Grammar, Values, Expressions, is_group_word, is_literal_word, GroupWord}
+use Rattle.cargo_platform.specs.Spelling.{LiteralWord, PlainName}
 use Rattle.cargo_platform.specs.Faults.{expected_token, expected_end}
 use Rattle.cargo_platform.specs.Walk.{Word, Several, Negation, State, Wanted, Member, Behind, Named, Keyed, Ended}
-use Rattle.cargo_platform.specs.Walk.{after, after_role, after_name, after_expression, walk_from}
-use Rattle.cargo_platform.specs.Inside.Parsing.{expects, expects_end}
-use Rattle.cargo_platform.proofs.Walk.{none_some, walk_from-None}
+use Rattle.cargo_platform.specs.Walk.{after, after_role, after_name, after_expression, walk_from, walk}
+use Rattle.cargo_platform.proofs.Walk.{none_some}
 
--- the last token and the state expect the same
-abbrev pub Matches : Option Lexeme → State → Type 0
-Matches o s = (expected_token Expressions o ≡ expects s) × (expected_end Expressions o ≡ expects_end s)
+-- a last token, or none, that leads to a state like this one
+abbrev pub like : State → Option Lexeme
+like (Wanted []) = None
+like (Wanted (w ∷ ws)) = Some LeftParen
+like (Member ws) = Some LeftParen
+like (Behind w ws) = Some (plain (codes "not"))
+like (Named ws) = Some RightParen
+like (Keyed ws) = Some Equals
+like (Ended ws) = Some RightParen
 
-abbrev Picks : Bool → State → Type 0
-Picks b s =
-    ((if b then codes "`(`" else codes "`)`") ≡ expects s) × ((if b then codes "`(`" else codes "`)`") ≡ expects_end s)
+-- behind the last token the same is expected as in the state
+abbrev pub Matches : Grammar → Option Lexeme → State → Type 0
+Matches g o s =
+    (expected_token g o ≡ expected_token g (like s)) × (expected_end g o ≡ expected_end g (like s))
 
-picks : (g l : Bool) (name : List ℕ) (ws : List Word)
-    → Picks g (after_role (if g then GroupWord else (if l then LiteralWord else PlainName)) name ws)
-picks true l name ws = (refl, refl)
+picks : (group literal : Bool) (name : List ℕ) (ws : List Word)
+    → let s = after_role (if group then GroupWord else (if literal then LiteralWord else PlainName)) name ws in
+    ((if group then codes "`(`" else codes "`)`") ≡ expected_token Expressions (like s))
+    × ((if group then codes "`(`" else codes "`)`") ≡ expected_end Expressions (like s))
+picks true literal name ws = (refl, refl)
 picks false true name ws = (refl, refl)
 picks false false name ws = (refl, refl)
 
-named_matches : (raw : Bool) (name : List ℕ) (ws : List Word) → Matches (Some (Ident raw name)) (after_name raw name ws)
-named_matches raw name ws =
+named_matches : (g : Grammar) (raw : Bool) (name : List ℕ) (ws : List Word)
+    → Matches g (Some (Ident raw name)) (after_name g raw name ws)
+named_matches Values raw name ws = (refl, refl)
+named_matches Expressions raw name ws =
     let n : Name = record { raw = raw; name = name } in
     picks (is_group_word n) (is_literal_word n) name ws
 
-moved : (o : Option Lexeme) (s t : State) → Some s ≡ Some t → Matches o s → Matches o t
-moved o s t h m = let P : State → Type 0 = λ z. Matches o z in subst P (same_Some _ _ h) m
+moved : (g : Grammar) (o : Option Lexeme) (s t : State) → Some s ≡ Some t → Matches g o s → Matches g o t
+moved g o s t h m = let P : State → Type 0 = λ z. Matches g o z in subst P (same_Some _ _ h) m
 
-ended_matches : (ws : List Word) (t : Lexeme) (st : State) → after_expression ws t ≡ Some st → Matches (Some t) st
-ended_matches (w ∷ ws) RightParen st h = moved (Some RightParen) (Ended ws) st h (refl, refl)
-ended_matches (Several ∷ ws) Comma st h = moved (Some Comma) (Member ws) st h (refl, refl)
-ended_matches ws t st h = none_some h
+ended_matches : (g : Grammar) (ws : List Word) (t : Lexeme) (st : State) → after_expression ws t ≡ Some st
+    → Matches g (Some t) st
+ended_matches g (w ∷ ws) RightParen st h = moved g (Some RightParen) (Ended ws) st h (refl, refl)
+ended_matches g (Several ∷ ws) Comma st h = moved g (Some Comma) (Member ws) st h (refl, refl)
+ended_matches g ws t st h = none_some h
 
-after_matches : (s : State) (t : Lexeme) (st : State) → after s t ≡ Some st → Matches (Some t) st
-after_matches (Wanted ws) (Ident raw name) st h =
-    moved (Some (Ident raw name)) (after_name raw name ws) st h (named_matches raw name ws)
-after_matches (Member ws) (Ident raw name) st h =
-    moved (Some (Ident raw name)) (after_name raw name (Several ∷ ws)) st h (named_matches raw name (Several ∷ ws))
-after_matches (Member ws) RightParen st h = moved (Some RightParen) (Ended ws) st h (refl, refl)
-after_matches (Behind Negation ws) LeftParen st h = moved (Some LeftParen) (Wanted (Negation ∷ ws)) st h (refl, refl)
-after_matches (Behind Several ws) LeftParen st h = moved (Some LeftParen) (Member ws) st h (refl, refl)
-after_matches (Named ws) Equals st h = moved (Some Equals) (Keyed ws) st h (refl, refl)
-after_matches (Keyed ws) (String value) st h = moved (Some (String value)) (Ended ws) st h (refl, refl)
-after_matches (Named ws) LeftParen st h = ended_matches ws LeftParen st h
-after_matches (Named ws) RightParen st h = ended_matches ws RightParen st h
-after_matches (Named ws) (Ident raw name) st h = ended_matches ws (Ident raw name) st h
-after_matches (Named ws) Comma st h = ended_matches ws Comma st h
-after_matches (Named ws) (String value) st h = ended_matches ws (String value) st h
-after_matches (Ended ws) t st h = ended_matches ws t st h
-after_matches s t st h = none_some h
+after_matches : (g : Grammar) (s : State) (t : Lexeme) (st : State) → after g s t ≡ Some st → Matches g (Some t) st
+after_matches g (Wanted ws) (Ident raw name) st h =
+    moved g (Some (Ident raw name)) (after_name g raw name ws) st h (named_matches g raw name ws)
+after_matches g (Member ws) (Ident raw name) st h =
+    moved g (Some (Ident raw name)) (after_name g raw name (Several ∷ ws)) st h
+    (named_matches g raw name (Several ∷ ws))
+after_matches g (Member ws) RightParen st h = moved g (Some RightParen) (Ended ws) st h (refl, refl)
+after_matches g (Behind Negation ws) LeftParen st h =
+    moved g (Some LeftParen) (Wanted (Negation ∷ ws)) st h (refl, refl)
+after_matches g (Behind Several ws) LeftParen st h = moved g (Some LeftParen) (Member ws) st h (refl, refl)
+after_matches g (Named ws) Equals st h = moved g (Some Equals) (Keyed ws) st h (refl, refl)
+after_matches g (Keyed ws) (String value) st h = moved g (Some (String value)) (Ended ws) st h (refl, refl)
+after_matches g (Named ws) t st h = ended_matches g ws t st h
+after_matches g (Ended ws) t st h = ended_matches g ws t st h
+after_matches g s t st h = none_some h
 
-pub walk_matches : (ts : List Lexeme) (s : State) (o : Option Lexeme) (st : State) → Matches o s
-    → walk_from (Some s) ts ≡ Some st → Matches (last_or o ts) st
-walk_matches [] s o st m h = moved o s st h m
-walk_matches (t ∷ ts) s o st m h =
-    elim (after s t) as (λ z. after s t ≡ z → walk_from z ts ≡ Some st → Matches (last_or (Some t) ts) st) [
-      | None ↦ λ _ stops. none_some (sym (walk_from-None ts) ∙ stops)
-      | Some u ↦ λ is goes. walk_matches ts u (Some t) st (after_matches s t u is) goes
+from_matches : (g : Grammar) (ts : List Lexeme) (s : State) (o : Option Lexeme) (st : State) → Matches g o s
+    → walk_from g (Some s) ts ≡ Some st → Matches g (last_or o ts) st
+from_matches g [] s o st m h = moved g o s st h m
+from_matches g (t ∷ ts) s o st m h =
+    elim (after g s t) as (λ z. after g s t ≡ z → walk_from g z ts ≡ Some st → Matches g (last_or (Some t) ts) st) [
+      | None ↦ λ _ stops. none_some stops
+      | Some u ↦ λ is goes. from_matches g ts u (Some t) st (after_matches g s t u is) goes
     ] refl h
+
+pub walk_matches : (g : Grammar) (ts : List Lexeme) (s : State) → walk g ts ≡ Some s → Matches g (last_or None ts) s
+walk_matches g ts s h = from_matches g ts (Wanted []) None s (refl, refl) h

@@ -18,7 +18,7 @@ use Rattle.cargo_platform.specs.Print.{print_value}
 use Rattle.cargo_platform.specs.Errors.{orig_of, fault_in}
 use Rattle.cargo_platform.specs.Lines.{lines_of, line_at, IsUnbroken, ended}
 use Rattle.cargo_platform.specs.FactLines.{SpellFacts, SpellsNoFact, IsFirstNoFact, IfLine}
-use Rattle.cargo_platform.proofs.OneValue.{one_value_text}
+use Rattle.cargo_platform.proofs.OneText.{one_value_text}
 use Rattle.cargo_platform.proofs.PrintedSpells.{printed_value_spells}
 use Rattle.cargo_platform.proofs.WellFormedness.{spelled_well_formed_value}
 use Rattle.cargo_platform.proofs.TextLines.{ended_lines}

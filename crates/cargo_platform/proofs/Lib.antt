@@ -2,18 +2,17 @@ pub mod OneCut
 pub mod SomeCut
 pub mod Looking
 pub mod Scanning
-pub mod Stepping
 pub mod Runs
 pub mod Roles
-pub mod OneTree
-pub mod TreeViews
-pub mod OneValue
-pub mod WellFormedness
 pub mod Walk
+pub mod Building
+pub mod TreeViews
+pub mod OneText
+pub mod WellFormedness
+pub mod Positions
 pub mod Completing
-pub mod Fronts
+pub mod Prefixes
 pub mod Refused
-pub mod ValueFaults
 pub mod Completable
 pub mod Expecting
 pub mod OneFault
@@ -23,7 +22,6 @@ pub mod Printing
 pub mod Coming
 pub mod Paths
 pub mod Parsing
-pub mod ValueReading
 pub mod Refusing
 pub mod ReaderAnswers
 mod CutTests

@@ -11,16 +11,13 @@ use Rattle.cargo_platform.specs.Tokens.{Lexeme, LeftParen, RightParen, Ident, Co
 use Rattle.cargo_platform.specs.declared.tokens.TokenFaultKind.{TokenFaultKind}
 use Rattle.cargo_platform.specs.Cut.{IsCut, lexemes, BeginsFault}
 use Rattle.cargo_platform.specs.Trees.{CfgValue, Tree}
-use Rattle.cargo_platform.specs.Spelling.{Expressions, Values, IsTreeText, IsValueText, Spells, SpellsValue}
+use Rattle.cargo_platform.specs.Spelling.{Grammar, IsTreeText, IsValueText, Spells, SpellsValue}
 use Rattle.cargo_platform.specs.WellFormed.{IsWellFormed}
 use Rattle.cargo_platform.specs.Faults.{Fault, Next, Unfit, Broken, End, Follows, fault_of, IsRefused}
-use Rattle.cargo_platform.specs.Walk.{State, Wanted, after, walk}
-use Rattle.cargo_platform.specs.Inside.Parsing.{is_whole}
+use Rattle.cargo_platform.specs.Walk.{State, Wanted, after, walk, is_whole}
 use Rattle.cargo_platform.proofs.CutTests.{is_cut_from, cut_by}
-use Rattle.cargo_platform.proofs.Fronts.{goes_on, refused_walked}
+use Rattle.cargo_platform.proofs.Prefixes.{goes_on, refused_walked}
 use Rattle.cargo_platform.proofs.PrintedSpells.{canonical, canonical_spells}
-use Rattle.cargo_platform.proofs.ValueFaults.{is_value_front, is_value, is_value_told, lacks_stopped, stops}
-use Rattle.cargo_platform.proofs.ValueFaults.{refused_behind}
 
 -- ---- the tokens of a text, with the place of its tail
 
@@ -115,20 +112,20 @@ one_more None = 0
 one_more (Some s) = 1
 
 -- how many tokens fit, one behind another
-abbrev pub fitting : Option State → List Placed → ℕ
-fitting None ts = 0
-fitting (Some s) [] = 0
-fitting (Some s) (t ∷ ts) =
-    let next : Option State = after s t.token in
-    one_more next + fitting next ts
+abbrev pub fitting : Grammar → Option State → List Placed → ℕ
+fitting g None ts = 0
+fitting g (Some s) [] = 0
+fitting g (Some s) (t ∷ ts) =
+    let next : Option State = after g s t.token in
+    one_more next + fitting g next ts
 
-abbrev pub front_in : List ℕ → List Placed
-front_in text = take (fitting (Some (Wanted [])) (tokens_in text)) (tokens_in text)
+abbrev pub prefix_in : Grammar → List ℕ → List Placed
+prefix_in g text = take (fitting g (Some (Wanted [])) (tokens_in text)) (tokens_in text)
 
-abbrev pub behind_in : List ℕ → List Placed
-behind_in text = drop (fitting (Some (Wanted [])) (tokens_in text)) (tokens_in text)
+abbrev pub behind_in : Grammar → List ℕ → List Placed
+behind_in g text = drop (fitting g (Some (Wanted [])) (tokens_in text)) (tokens_in text)
 
--- what comes behind the front: what is left of the tokens, and then the tail
+-- what comes behind the prefix: what is left of the tokens, and then the tail
 abbrev pub next_before : List ℕ → Next → List Placed → Next
 next_before text last [] = last
 next_before text last (t ∷ ts) = Unfit t.token (drop t.start text)
@@ -138,42 +135,42 @@ next_follows : (text : List ℕ) (tail : ℕ) (last : Next) (behind : List Place
 next_follows text tail last [] h = h
 next_follows text tail last (t ∷ ts) h = refl
 
--- the fault by the table, where the front leads to this state and does not go on
-abbrev pub fault_at : List ℕ → Next → Option State → Option State → Option Fault
-fault_at text last (Some s) None =
-    let next : Next = next_before text last (behind_in text) in
-    fault_of Expressions (is_whole s) (last_or None (lexemes (front_in text))) next
-fault_at text last s t = None
+-- the fault by the table, where the prefix leads to this state and does not go on
+abbrev pub fault_at : Grammar → List ℕ → Next → Option State → Option State → Option Fault
+fault_at g text last (Some s) None =
+    let next : Next = next_before text last (behind_in g text) in
+    fault_of g (is_whole s) (last_or None (lexemes (prefix_in g text))) next
+fault_at g text last s t = None
 
-abbrev pub further : Option State → List Placed → Option State
-further None ts = None
-further (Some s) ts = goes_on s ts
+abbrev pub further : Grammar → Option State → List Placed → Option State
+further g None ts = None
+further g (Some s) ts = goes_on g s ts
 
-abbrev pub fault_before : List ℕ → Next → Option Fault
-fault_before text last =
-    let reached : Option State = walk (lexemes (front_in text)) in
-    fault_at text last reached (further reached (behind_in text))
+abbrev pub fault_before : Grammar → List ℕ → Next → Option Fault
+fault_before g text last =
+    let reached : Option State = walk g (lexemes (prefix_in g text)) in
+    fault_at g text last reached (further g reached (behind_in g text))
 
 -- the fault of a text whose characters all belong to a token or are spaces
-abbrev pub fault_found : List ℕ → Option Fault
-fault_found text = fault_before text End
+abbrev pub fault_found : Grammar → List ℕ → Option Fault
+fault_found g text = fault_before g text End
 
-refused_there : (text : List ℕ) (fault : Fault) (tail : ℕ) (last : Next) (s t : Option State)
-    → walk (lexemes (front_in text)) ≡ s → further s (behind_in text) ≡ t → IsCut text (tokens_in text) tail
-    → Follows text [] tail last → fault_at text last s t ≡ Some fault → IsRefused Expressions text fault
-refused_there text fault tail last None t walked stops cut follows found = absurd cc
-refused_there text fault tail last (Some s) (Some t) walked stops cut follows found = absurd cc
-refused_there text fault tail last (Some s) None walked stops cut follows found =
-    refused_walked text (tokens_in text) (front_in text) (behind_in text) tail s
-    (next_before text last (behind_in text)) fault
-    cut (sym (take-append-drop (fitting (Some (Wanted [])) (tokens_in text)) (tokens_in text))) walked stops
-    (next_follows text tail last (behind_in text) follows) found
+refused_there : (g : Grammar) (text : List ℕ) (fault : Fault) (tail : ℕ) (last : Next) (s t : Option State)
+    → walk g (lexemes (prefix_in g text)) ≡ s → further g s (behind_in g text) ≡ t → IsCut text (tokens_in text) tail
+    → Follows text [] tail last → fault_at g text last s t ≡ Some fault → IsRefused g text fault
+refused_there g text fault tail last None t walked stops cut follows found = absurd cc
+refused_there g text fault tail last (Some s) (Some t) walked stops cut follows found = absurd cc
+refused_there g text fault tail last (Some s) None walked stops cut follows found =
+    refused_walked g text (tokens_in text) (prefix_in g text) (behind_in g text) tail s
+    (next_before text last (behind_in g text)) fault
+    cut (sym (take-append-drop (fitting g (Some (Wanted [])) (tokens_in text)) (tokens_in text))) walked stops
+    (next_follows text tail last (behind_in g text) follows) found
 
 -- The text is refused with this fault, where each of its characters belongs to a token or is a space.
-pub refused_on_literal : (text : List ℕ) (fault : Fault) → is_cut_whole text ≡ true → fault_found text ≡ Some fault
-    → IsRefused Expressions text fault
-refused_on_literal text fault cut found =
-    refused_there text fault (length text) End _ _ refl refl (cut_whole text cut) (omega arith) found
+pub refused_on_literal : {g : Grammar} (text : List ℕ) (fault : Fault) → is_cut_whole text ≡ true
+    → fault_found g text ≡ Some fault → IsRefused g text fault
+refused_on_literal {g} text fault cut found =
+    refused_there g text fault (length text) End _ _ refl refl (cut_whole text cut) (omega arith) found
 
 -- ---- a text with a lexical fault
 
@@ -193,61 +190,9 @@ cut_to_tail : (text : List ℕ) (kind : TokenFaultKind) → is_cut_to_tail text 
 cut_to_tail text kind h begins = cut_by text (tokens_in text) (tail_in text) h (inr (kind, begins))
 
 -- The text is refused with this fault, where its tail begins the lexical one.
-pub refused_on_broken_literal : (text : List ℕ) (kind : TokenFaultKind) (fault : Fault) → is_cut_to_tail text ≡ true
-    → BeginsFault (drop (tail_in text) text) kind → fault_before text (broken_in text kind) ≡ Some fault
-    → IsRefused Expressions text fault
-refused_on_broken_literal text kind fault cut begins found =
-    refused_there text fault (tail_in text) (broken_in text kind) _ _ refl refl (cut_to_tail text kind cut begins)
-    (refl, begins) found
-
--- ---- with which fault a text of a name or a pair is refused
-
--- how many tokens begin a name or a pair
-abbrev pub value_fitting : List Lexeme → List Placed → ℕ
-value_fitting read [] = 0
-value_fitting read (t ∷ ts) =
-    if is_value_front (read ++ t.token ∷ []) then 1 + value_fitting (read ++ t.token ∷ []) ts else 0
-
-abbrev pub value_front_in : List ℕ → List Placed
-value_front_in text = take (value_fitting [] (tokens_in text)) (tokens_in text)
-
-abbrev pub value_behind_in : List ℕ → List Placed
-value_behind_in text = drop (value_fitting [] (tokens_in text)) (tokens_in text)
-
--- the fault by the table, where the front is one, and does not go on
-abbrev pub value_fault_before : List ℕ → Next → Option Fault
-value_fault_before text last =
-    let read : List Lexeme = lexemes (value_front_in text) in
-    fault_of Values (is_value read) (last_or None read) (next_before text last (value_behind_in text))
-
-value_refused_there : (text : List ℕ) (fault : Fault) (tail : ℕ) (last : Next) → IsCut text (tokens_in text) tail
-    → Follows text [] tail last → is_value_front (lexemes (value_front_in text)) ≡ true
-    → stops (lexemes (value_front_in text)) (value_behind_in text) ≡ true
-    → value_fault_before text last ≡ Some fault → IsRefused Values text fault
-value_refused_there text fault tail last cut follows front stopped found =
-    refused_behind text (tokens_in text) (value_front_in text) (value_behind_in text) tail
-    (next_before text last (value_behind_in text)) (lexemes (value_front_in text))
-    (is_value (lexemes (value_front_in text))) fault cut
-    (sym (take-append-drop (value_fitting [] (tokens_in text)) (tokens_in text))) refl
-    (next_follows text tail last (value_behind_in text) follows) front
-    (lacks_stopped (lexemes (value_front_in text)) (value_behind_in text) stopped)
-    (is_value_told (lexemes (value_front_in text))) found
-
--- The text is no name and no pair, and is refused with this fault: each of its characters belongs to a token or is a
--- space.
-pub value_refused_on_literal : (text : List ℕ) (fault : Fault) → is_cut_whole text ≡ true
-    → is_value_front (lexemes (value_front_in text)) ≡ true
-    → stops (lexemes (value_front_in text)) (value_behind_in text) ≡ true
-    → value_fault_before text End ≡ Some fault → IsRefused Values text fault
-value_refused_on_literal text fault cut front stopped found =
-    value_refused_there text fault (length text) End (cut_whole text cut) (omega arith) front stopped found
-
--- The text is no name and no pair, and is refused with this fault: its tail begins the lexical one.
-pub value_refused_on_broken_literal : (text : List ℕ) (kind : TokenFaultKind) (fault : Fault)
+pub refused_on_broken_literal : {g : Grammar} (text : List ℕ) (kind : TokenFaultKind) (fault : Fault)
     → is_cut_to_tail text ≡ true → BeginsFault (drop (tail_in text) text) kind
-    → is_value_front (lexemes (value_front_in text)) ≡ true
-    → stops (lexemes (value_front_in text)) (value_behind_in text) ≡ true
-    → value_fault_before text (broken_in text kind) ≡ Some fault → IsRefused Values text fault
-value_refused_on_broken_literal text kind fault cut begins front stopped found =
-    value_refused_there text fault (tail_in text) (broken_in text kind) (cut_to_tail text kind cut begins)
-    (refl, begins) front stopped found
+    → fault_before g text (broken_in text kind) ≡ Some fault → IsRefused g text fault
+refused_on_broken_literal {g} text kind fault cut begins found =
+    refused_there g text fault (tail_in text) (broken_in text kind) _ _ refl refl (cut_to_tail text kind cut begins)
+    (refl, begins) found

@@ -68,7 +68,7 @@ one_lexical_fault text (lexical.UnexpectedChar c) lexical.MissingIdentifier f g 
 one_lexical_fault text (lexical.UnexpectedChar c) (lexical.UnexpectedChar d) f g =
     ap lexical.UnexpectedChar (one_char text c d f g)
 
--- ---- what follows a front
+-- ---- what follows a prefix
 
 no_fault_at_end : (text : List ℕ) (tail : ℕ) (k : TokenFaultKind) (rest : List ℕ)
     → (rest ≡ drop tail text) × BeginsFault rest k → length text ≤ tail → ⊥
@@ -91,12 +91,12 @@ one_next text [] tail End End f g = refl
 
 -- ---- the fault
 
--- two fronts of one list that are as long are the same
-same_front : (front after longer others : List Placed) → front ++ after ≡ longer ++ others
-    → length front ≡ length longer → (front ≡ longer) × (after ≡ others)
-same_front front after longer others h len = (
-  sym (take-append_seam front after) ∙ (λ i. take (len i) (h i)) ∙ take-append_seam longer others,
-  sym (drop-append_seam front after) ∙ (λ i. drop (len i) (h i)) ∙ drop-append_seam longer others,
+-- two prefixes of one list that are as long are the same
+same_prefix : (prefix after longer others : List Placed) → prefix ++ after ≡ longer ++ others
+    → length prefix ≡ length longer → (prefix ≡ longer) × (after ≡ others)
+same_prefix prefix after longer others h len = (
+  sym (take-append_seam prefix after) ∙ (λ i. take (len i) (h i)) ∙ take-append_seam longer others,
+  sym (drop-append_seam prefix after) ∙ (λ i. drop (len i) (h i)) ∙ drop-append_seam longer others,
 )
 
 same_truth : (a b : Bool) → (a ≡ true → b ≡ true) → (b ≡ true → a ≡ true) → a ≡ b
@@ -108,10 +108,10 @@ same_truth false false f g = refl
 pub one_fault : (g : Grammar) (text : List ℕ) (e f : Fault) → IsRefused g text e → IsRefused g text f → e ≡ f
 one_fault g text e f p q =
     let cut = one_cut_from text p.ts q.ts 0 p.tail q.tail p.cut q.cut in
-    let parts : p.front ++ p.after ≡ q.front ++ q.after = sym p.is_front.parts ∙ cut.0 ∙ q.is_front.parts in
-    let no_longer = q.is_front.longest p.front p.after (sym cut.0 ∙ p.is_front.parts) p.is_front.completable in
-    let no_shorter = p.is_front.longest q.front q.after (cut.0 ∙ q.is_front.parts) q.is_front.completable in
-    let same = same_front p.front p.after q.front q.after parts (omega (arith, no_longer, no_shorter)) in
+    let parts : p.prefix ++ p.after ≡ q.prefix ++ q.after = sym p.is_prefix.parts ∙ cut.0 ∙ q.is_prefix.parts in
+    let no_longer = q.is_prefix.longest p.prefix p.after (sym cut.0 ∙ p.is_prefix.parts) p.is_prefix.completable in
+    let no_shorter = p.is_prefix.longest q.prefix q.after (cut.0 ∙ q.is_prefix.parts) q.is_prefix.completable in
+    let same = same_prefix p.prefix p.after q.prefix q.after parts (omega (arith, no_longer, no_shorter)) in
     let A : List Placed → Type 0 = λ z. IsAccepted g (lexemes z) in
     let accepted : p.accepted ≡ q.accepted =
     same_truth p.accepted q.accepted (λ h. q.is_accepted.1 (subst A same.0 (p.is_accepted.0 h)))

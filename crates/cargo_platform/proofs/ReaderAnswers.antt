@@ -1,18 +1,16 @@
 -- What a reader answers, from what it read or where it stopped.
-use Rattle.std.proofs.Common.{◌≡◌, refl, ℕ, List, [], Some, Err, subst}
+use Rattle.std.proofs.Common.{◌≡◌, refl, ℕ, List, [], Some, Err}
 use Rattle.std.specs.Prelude.{IsUtf8}
 use Rattle.cargo_platform.specs.declared.error.ParseError.{ParseError}
 use Rattle.cargo_platform.specs.declared.error.ReadError.{ReadError}
 use Rattle.cargo_platform.specs.declared.error.ReadError.TheVariants as errors
 use Rattle.cargo_platform.specs.declared.reader.Refusal.{Refusal}
-use Rattle.cargo_platform.specs.declared.reader.Refusal.TheVariants as refusal
 use Rattle.cargo_platform.specs.Trees.{CfgValue, Tree}
 use Rattle.cargo_platform.specs.Spelling.{value_spelling, IsValueText, IsTreeText}
-use Rattle.cargo_platform.specs.Faults.{Fault}
 use Rattle.cargo_platform.specs.Errors.{IfParse, orig_of, fault_in}
 use Rattle.cargo_platform.specs.Inside.Refusals.{refused_fault, Becomes}
 use Rattle.cargo_platform.specs.Inside.Ahead.{Nothing, Ahead, Comes}
-use Rattle.cargo_platform.specs.Inside.Parsing.{Has, Reads, HasRead, IfFault}
+use Rattle.cargo_platform.specs.Inside.Parsing.{Has, Reads, HasRead}
 use Rattle.cargo_platform.proofs.Parsing.{spelled}
 use Rattle.cargo_platform.proofs.Refusing.{path_cut}
 
@@ -26,16 +24,6 @@ pub expression_read : (text : List ℕ) (l m : Ahead) (e : Tree) → IsUtf8 text
     → Comes text 0 l.item l.place → Reads l m (λ ts. ts ≡ []) (Has [] e m.item) → m.item ≡ Nothing → IsTreeText text e
 expression_read text l m e utf8 same comes a done =
     (a.us, path_cut text l m a.us utf8 same comes a.path done, spelled l m e a)
-
-at : (g f : Fault) (P : Fault → Type 0) → Some g ≡ Some f → P g → P f
-at g f P h p = let same : g ≡ f = cc in subst P same p
-
-pub fault_is : (r : Refusal) (f : Fault) (P : Fault → Type 0) → refused_fault r ≡ Some f → IfFault r P → P f
-fault_is (refusal.Unexpected expected found) f P h p = at _ f P h p
-fault_is (refusal.Incomplete expected) f P h p = at _ f P h p
-fault_is (refusal.Lexical k) f P h p = at _ f P h p
-fault_is (refusal.Unterminated rest) f P h p = at _ f P h p
-fault_is (refusal.Memory e) f P h p = absurd cc
 
 -- what is said of the fault that a refusal stands for is said of its error
 pub parse_is : (A : Type 0) (r : Refusal) (orig : List ℕ) (x : ReadError) (P : ParseError → Type 0) → Becomes r orig x

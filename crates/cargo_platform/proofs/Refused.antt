@@ -18,10 +18,10 @@ pub accepted_completes : (g : Grammar) (ts : List Lexeme) → IsAccepted g ts �
 accepted_completes g ts p = let A : List Lexeme
     → Type 0 = λ z. IsAccepted g z in ([], tt, subst A (sym (append-nil ts)) p)
 
--- nothing is behind a front that is as long as the list
-no_more : (front after : List Placed) → length (front ++ after) ≤ length front → after ≡ []
-no_more front [] h = refl
-no_more front (t ∷ after) h = absurd (omega (arith, length-append front (t ∷ after)))
+-- nothing is behind a prefix that is as long as the list
+no_more : (prefix after : List Placed) → length (prefix ++ after) ≤ length prefix → after ≡ []
+no_more prefix [] h = refl
+no_more prefix (t ∷ after) h = absurd (omega (arith, length-append prefix (t ∷ after)))
 
 none_some : {A : Type 0} {f : Fault} → None ≡ Some f → A
 none_some h = absurd cc
@@ -52,19 +52,19 @@ refused_accepts_none g text f ts r cut p =
     let same = one_cut_from text r.ts ts 0 r.tail (length text) r.cut cut in
     let A : List Placed → Type 0 = λ z. IsAccepted g (lexemes z) in
     let whole : IsAccepted g (lexemes r.ts) = subst A (sym same.0) p in
-    let none = no_more r.front r.after
+    let none = no_more r.prefix r.after
     (let L : List Placed
     → Type 0 =
-    λ z. length z ≤ length r.front in
-    subst L r.is_front.parts
-    (r.is_front.longest r.ts [] (sym (append-nil r.ts)) (accepted_completes g (lexemes r.ts) whole))) in
-    let front_is : r.ts ≡ r.front = r.is_front.parts ∙ ap (λ (z : List Placed). r.front ++ z) none
-    ∙ append-nil r.front in
-    let yes : r.accepted ≡ true = r.is_accepted.1 (subst A front_is whole) in
+    λ z. length z ≤ length r.prefix in
+    subst L r.is_prefix.parts
+    (r.is_prefix.longest r.ts [] (sym (append-nil r.ts)) (accepted_completes g (lexemes r.ts) whole))) in
+    let prefix_is : r.ts ≡ r.prefix = r.is_prefix.parts ∙ ap (λ (z : List Placed). r.prefix ++ z) none
+    ∙ append-nil r.prefix in
+    let yes : r.accepted ≡ true = r.is_accepted.1 (subst A prefix_is whole) in
     let N : List Placed → Type 0 = λ z. Follows text z r.tail r.next in
     let M : ℕ → Type 0 = λ z. Follows text [] z r.next in
-    let F : Bool → Type 0 = λ z. fault_of g z (last_or None (lexemes r.front)) r.next ≡ Some f in
-    at_end g text (last_or None (lexemes r.front)) r.next f (subst M same.1 (subst N none r.follows))
+    let F : Bool → Type 0 = λ z. fault_of g z (last_or None (lexemes r.prefix)) r.next ≡ Some f in
+    at_end g text (last_or None (lexemes r.prefix)) r.next f (subst M same.1 (subst N none r.follows))
     (subst F yes r.is_fault)
 
 -- a text that is refused as an expression spells no tree

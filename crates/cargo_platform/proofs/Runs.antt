@@ -1,22 +1,18 @@
 -- One call of `next` after another gives the cut.
 use Rattle.std.proofs.Common.{◌≡◌, refl, sym, ap, subst, ◌∙◌, ℕ, Bool, true, false, List, [], ◌∷◌, inl, inr, arith}
-use Rattle.std.proofs.Common.{length, drop, drop_of_length-le, length-drop, length-append, true≢false, Option, Some}
+use Rattle.std.proofs.Common.{length, drop, drop_of_length-le, length-drop, true≢false, Option, Some}
 use Rattle.std.proofs.Common.{None, Result, Ok, Err}
-use Rattle.std.specs.Char.{encode_utf8}
-use Rattle.std.proofs.lemmas.Str.{length-encode, len_utf8_bounds}
 use Rattle.cargo_platform.specs.declared.tokens.Spanned.{Spanned}
 use Rattle.cargo_platform.specs.declared.tokens.TokenFault.{TokenFault}
-use Rattle.cargo_platform.specs.declared.tokens.TokenFaultKind.{TokenFaultKind}
-use Rattle.cargo_platform.specs.declared.tokens.TokenFaultKind.TheVariants.{UnterminatedString, UnexpectedChar}
-use Rattle.cargo_platform.specs.declared.tokens.TokenFaultKind.TheVariants.{MissingIdentifier}
-use Rattle.cargo_platform.specs.Chars.{BeginsWith}
 use Rattle.cargo_platform.specs.Tokens.{Placed, placed}
 use Rattle.cargo_platform.specs.Cut.{AreSpaces, BeginsFault, IsCutFrom}
 use Rattle.cargo_platform.specs.Reading.{Progress, MovesTo, GivesToken, NextGives, ReadsTo, EndsAt, GoesThrough}
 use Rattle.cargo_platform.specs.CutLaws.{CutsAreRead, IsReadAlike, GivesNoMore, EndsForGood, FailsOnce}
 use Rattle.cargo_platform.proofs.OneCut.{one_cut_from}
 use Rattle.cargo_platform.proofs.Scanning.{no_spaces}
-use Rattle.cargo_platform.proofs.Stepping.{step_token, step_fault}
+use Rattle.cargo_platform.specs.Inside.Ahead.{Token, Lexical}
+use Rattle.cargo_platform.proofs.Paths.{comes_left}
+use Rattle.cargo_platform.proofs.Refused.{no_fault}
 
 -- ---- what is read is the cut
 
@@ -120,16 +116,6 @@ failed_gives p failed = λ r new g. go r new g
     go (Some (Ok s)) new g = absurd (true≢false (sym failed ∙ g.going))
     go (Some (Err f)) new g = absurd (true≢false (sym failed ∙ g.going))
 
-no_character : (c : ℕ) (rest : List ℕ) → BeginsWith [] c rest → ⊥
-no_character c rest b =
-    omega (arith, ap length b.parts, length-append (encode_utf8 c) rest, length-encode c, (len_utf8_bounds c).0)
-
-no_fault : (fault : TokenFaultKind) → BeginsFault [] fault → ⊥
-no_fault UnterminatedString f = no_character 0x22 f.0 f.1
-no_fault MissingIdentifier f = cc
-no_fault (UnexpectedChar c) (inl f) = absurd (cc f.2)
-no_fault (UnexpectedChar c) (inr f) = no_character c f.0 f.1
-
 -- the end of a text, where its rest is cut into nothing
 end_gives : (p : Progress) → p.place ≡ length p.text → GivesNoMore p
 end_gives p at_end = λ r new g. go r new g
@@ -140,16 +126,17 @@ end_gives p at_end = λ r new g. go r new g
     cut : IsCutFrom p.text p.place [] p.place
     cut = record { written = tt; apart = no_spaces p.text p.place (omega (arith, at_end)); whole = tt; rest = inl none }
 
-    no_token : (t : Placed) (us : List Placed) → [] ≡ t ∷ us → ⊥
-    no_token t us h = cc
-
     go : (r : Option (Result Spanned TokenFault)) (new : Progress) → NextGives p r new → r ≡ None
     go None new g = refl
     go (Some (Ok s)) new g =
-        let left = step_token p new (placed s) [] p.place cut g in absurd (no_token (placed s) left.0 left.1)
+        let left = comes_left p.text p.place new.place (Token (placed s)) [] p.place cut
+        (g.apart, g.written, g.whole, g.moves.place_is) in
+        absurd (let is = left.1 in cc)
     go (Some (Err f)) new g =
-        let at = (step_fault p new f.kind f.at [] p.place cut g).1 in
-        absurd (no_fault f.kind (subst (λ z. BeginsFault z f.kind) (ap (λ k. drop k p.text) (sym at) ∙ none) g.begins))
+        let left = comes_left p.text p.place new.place (Lexical f.kind f.at) [] p.place cut
+        (g.apart, g.begins, g.moves.place_is) in
+        let B : List ℕ → Type 0 = λ z. BeginsFault z f.kind in
+        absurd (no_fault f.kind (subst B (ap (λ k. drop k p.text) (sym left.1) ∙ none) g.begins))
 
 pub ends_for_good : (old new : Progress) → EndsForGood old new
 ends_for_good old new (inl failed) = failed_gives new (ap (λ (p : Progress). p.failed) failed.1 ∙ failed.0)

@@ -1,23 +1,20 @@
 -- In each grammar a text spells something, or has a fault, and not both.
-use Rattle.std.proofs.Common.{◌≡◌, refl, sym, ap, subst, ◌∙◌, ℕ, ◌≤◌, Bool, true, false, true≢false, List, [], ◌∷◌}
+use Rattle.std.proofs.Common.{◌≡◌, refl, sym, ap, subst, ℕ, ◌≤◌, Bool, true, false, List, [], ◌∷◌}
 use Rattle.std.proofs.Common.{◌++◌, Option, Some, None, inl, inr, ◌⊎◌, append_assoc, append-nil, length, length-drop}
 use Rattle.std.proofs.Common.{arith}
 use Rattle.std.specs.Prelude.{◌↔◌, IsTrue, IsUtf8, drop}
 use Rattle.std.specs.List.{last_or}
-use Rattle.cargo_platform.specs.Tokens.{Lexeme, Ident, Equals, String, Placed}
+use Rattle.cargo_platform.specs.Tokens.{Lexeme, Placed}
 use Rattle.cargo_platform.specs.Cut.{IsCut, AreApart, lexemes}
-use Rattle.cargo_platform.specs.Trees.{Alone, KeyPair}
 use Rattle.cargo_platform.specs.Spelling.{Grammar, Values, Expressions, IsAccepted}
-use Rattle.cargo_platform.specs.Faults.{IsCompletable, IsFaultFront, Next, Unfit, Broken, End, Follows, Fault, fault_of}
+use Rattle.cargo_platform.specs.Faults.{IsCompletable, IsFaultPrefix, Next, Unfit, Broken, End, Follows, Fault}
+use Rattle.cargo_platform.specs.Faults.{fault_of}
 use Rattle.cargo_platform.specs.Faults.{IsRefused}
 use Rattle.cargo_platform.specs.FaultLaws.{SpellsSomething, SpellsOrIsRefused}
-use Rattle.cargo_platform.specs.Walk.{walk}
-use Rattle.cargo_platform.specs.Inside.Parsing.{is_whole}
-use Rattle.cargo_platform.proofs.Walk.{stopped}
+use Rattle.cargo_platform.specs.Walk.{walk, is_whole}
+use Rattle.cargo_platform.proofs.Building.{stopped, completable_walks}
 use Rattle.cargo_platform.proofs.Completing.{walked_completes, whole_accepted, accepted_whole}
-use Rattle.cargo_platform.proofs.Fronts.{lexemes-append, none_longer, longest_before}
-use Rattle.cargo_platform.proofs.ValueFaults.{is_value_front, spelled_front, front_completes, completable_values}
-use Rattle.cargo_platform.proofs.ValueFaults.{none_is, key_is}
+use Rattle.cargo_platform.proofs.Prefixes.{lexemes-append, none_longer, longest_before}
 use Rattle.cargo_platform.proofs.Refused.{refused_spells_none, refused_spells_no_value}
 use Rattle.cargo_platform.proofs.SomeCut.{some_cut}
 use Rattle.cargo_platform.proofs.Completable.{none_completable}
@@ -27,65 +24,48 @@ abbrev IsCompletableOrNot : Grammar → List Lexeme → Type 0
 IsCompletableOrNot g ts = IsCompletable g ts ⊎ ((more : List Lexeme) → IsAccepted g (ts ++ more) → ⊥)
 
 completable_or : (g : Grammar) (ts : List Lexeme) → IsCompletableOrNot g ts
-completable_or Values ts =
-    elim (is_value_front ts) as (λ z. is_value_front ts ≡ z → IsCompletableOrNot Values ts) [
-      | true ↦ λ h. inl (front_completes ts h)
-      | false ↦ λ h. inr (λ more a. true≢false (sym (spelled_front a.0 ts more a.1) ∙ h))
-    ] refl
-completable_or Expressions ts =
-    elim (walk ts) as (λ z. walk ts ≡ z → IsCompletableOrNot Expressions ts) [
-      | None ↦ λ h. inr (λ more a. stopped ts more h a)
-      | Some s ↦ λ h. inl (walked_completes ts s h)
+completable_or g ts =
+    elim (walk g ts) as (λ z. walk g ts ≡ z → IsCompletableOrNot g ts) [
+      | None ↦ λ h. inr (λ more a. stopped g ts more h a)
+      | Some s ↦ λ h. inl (walked_completes g ts s h)
     ] refl
 
 -- an answer to whether the tokens are accepted
 abbrev IsAcceptedOrNot : Grammar → List Lexeme → Type 0
 IsAcceptedOrNot g ts = (accepted : Bool) × (IsTrue accepted ↔ IsAccepted g ts)
 
-accepted_value_or : (ts : List Lexeme) → is_value_front ts ≡ true → IsAcceptedOrNot Values ts
-accepted_value_or [] h = (false, (λ n. absurd (true≢false (sym n)), λ a. absurd (none_is a)))
-accepted_value_or (Ident raw name ∷ []) h = (true, (λ _. (Alone (record { raw = raw; name = name }), refl), λ _. refl))
-accepted_value_or (Ident raw name ∷ Equals ∷ []) h =
-    (false, (λ n. absurd (true≢false (sym n)), λ a. absurd (key_is raw name a)))
-accepted_value_or (Ident raw name ∷ Equals ∷ String value ∷ []) h =
-    (true, (λ _. (KeyPair (record { raw = raw; name = name }) value, refl), λ _. refl))
-accepted_value_or ts h = absurd (true≢false (sym h))
-
 accepted_or : (g : Grammar) (ts : List Lexeme) → IsCompletable g ts → IsAcceptedOrNot g ts
-accepted_or Values ts p = accepted_value_or ts ((completable_values ts).0 p)
-accepted_or Expressions ts p =
-    elim (walk ts) as (λ z. walk ts ≡ z → IsAcceptedOrNot Expressions ts) [
-      | None ↦ λ h. absurd (stopped ts p.0 h p.2)
-      | Some s ↦ λ h. (is_whole s, (λ w. whole_accepted s ts w h, λ a. accepted_whole s ts h a))
-    ] refl
+accepted_or g ts p =
+    let w = completable_walks g ts p in
+    (is_whole w.0, (λ h. whole_accepted g w.0 ts h w.1, λ a. accepted_whole g w.0 ts w.1 a))
 
-record SomeFront (g : Grammar) (ts : List Placed) : Type 0 where
-  pub front : List Placed
+record SomePrefix (g : Grammar) (ts : List Placed) : Type 0 where
+  pub prefix : List Placed
   pub after : List Placed
-  pub is : IsFaultFront g ts front after
+  pub is : IsFaultPrefix g ts prefix after
 
--- from a completable front on, the longest is found
-front_from : (g : Grammar) (front behind : List Placed) → IsCompletable g (lexemes front)
-    → SomeFront g (front ++ behind)
-front_from g front [] p = record {
-  front = front;
+-- from a completable prefix on, the longest is found
+prefix_from : (g : Grammar) (prefix behind : List Placed) → IsCompletable g (lexemes prefix)
+    → SomePrefix g (prefix ++ behind)
+prefix_from g prefix [] p = record {
+  prefix = prefix;
   after = [];
-  is = record { parts = refl; completable = p; longest = λ longer others h q. none_longer front longer others h };
+  is = record { parts = refl; completable = p; longest = λ longer others h q. none_longer prefix longer others h };
 }
-front_from g front (t ∷ ts) p =
-    elim (completable_or g (lexemes front ++ (t.token ∷ []))) [
+prefix_from g prefix (t ∷ ts) p =
+    elim (completable_or g (lexemes prefix ++ (t.token ∷ []))) [
       | inl q ↦
-          let S : List Placed → Type 0 = λ z. SomeFront g z in
+          let S : List Placed → Type 0 = λ z. SomePrefix g z in
           let C : List Lexeme → Type 0 = λ z. IsCompletable g z in
-          subst S (append_assoc front (t ∷ []) ts)
-          (front_from g (front ++ (t ∷ [])) ts (subst C (sym (lexemes-append front (t ∷ []))) q))
+          subst S (append_assoc prefix (t ∷ []) ts)
+          (prefix_from g (prefix ++ (t ∷ [])) ts (subst C (sym (lexemes-append prefix (t ∷ []))) q))
       | inr never ↦ record {
-        front = front;
+        prefix = prefix;
         after = t ∷ ts;
         is = record {
           parts = refl;
           completable = p;
-          longest = λ longer others h q. longest_before g front ts t never
+          longest = λ longer others h q. longest_before g prefix ts t never
               longer others h q;
         };
       }
@@ -96,47 +76,47 @@ tail_inside : (text : List ℕ) (from : ℕ) (ts : List Placed) (tail : ℕ) →
 tail_inside text from [] tail apart = apart.1.inside
 tail_inside text from (t ∷ ts) tail apart = tail_inside text t.end ts tail apart.1
 
--- something follows the front of a cut
-some_next : (text : List ℕ) (front after : List Placed) (tail : ℕ) → IsCut text (front ++ after) tail
+-- something follows the prefix of a cut
+some_next : (text : List ℕ) (prefix after : List Placed) (tail : ℕ) → IsCut text (prefix ++ after) tail
     → (next : Next) × Follows text after tail next
-some_next text front (t ∷ after) tail cut = (Unfit t.token (drop t.start text), refl)
-some_next text front [] tail cut =
+some_next text prefix (t ∷ after) tail cut = (Unfit t.token (drop t.start text), refl)
+some_next text prefix [] tail cut =
     elim cut.rest [
       | inl none ↦ (End, omega (arith, ap length none, length-drop tail text))
       | inr f ↦ (Broken f.0 (drop tail text), (refl, f.1))
     ]
 
--- an accepted front at the end is the whole text
-whole_text : (g : Grammar) (text : List ℕ) (front after : List Placed) (tail : ℕ) → IsCut text (front ++ after) tail
-    → Follows text after tail End → IsAccepted g (lexemes front) → SpellsSomething g text
-whole_text g text front (t ∷ after) tail cut h a = absurd (let e = h in cc)
-whole_text g text front [] tail cut h a =
-    let T : ℕ → Type 0 = λ z. IsCut text front z in
+-- an accepted prefix at the end is the whole text
+whole_text : (g : Grammar) (text : List ℕ) (prefix after : List Placed) (tail : ℕ) → IsCut text (prefix ++ after) tail
+    → Follows text after tail End → IsAccepted g (lexemes prefix) → SpellsSomething g text
+whole_text g text prefix (t ∷ after) tail cut h a = absurd (let e = h in cc)
+whole_text g text prefix [] tail cut h a =
+    let T : ℕ → Type 0 = λ z. IsCut text prefix z in
     let C : List Placed → Type 0 = λ z. IsCut text z tail in
-    let whole = subst T (omega (arith, h, tail_inside text 0 (front ++ []) tail cut.apart))
-    (subst C (append-nil front) cut) in
-    spelling g front whole a
+    let whole = subst T (omega (arith, h, tail_inside text 0 (prefix ++ []) tail cut.apart))
+    (subst C (append-nil prefix) cut) in
+    spelling g prefix whole a
   where
     spelling : (g : Grammar) (ts : List Placed) → IsCut text ts (length text) → IsAccepted g (lexemes ts)
         → SpellsSomething g text
     spelling Values ts whole a = (a.0, (ts, whole, a.1))
     spelling Expressions ts whole a = (a.0, (ts, whole, a.1))
 
-at_next : (g : Grammar) (text : List ℕ) (ts front after : List Placed) (tail : ℕ) (next : Next) (accepted : Bool)
-    → IsCut text ts tail → IsFaultFront g ts front after → Follows text after tail next
-    → (IsTrue accepted ↔ IsAccepted g (lexemes front)) → SpellsOrIsRefused g text
-at_next g text ts front after tail next accepted cut is follows told =
-    elim (fault_of g accepted (last_or None (lexemes front)) next) as
-    (λ z. fault_of g accepted (last_or None (lexemes front)) next ≡ z → SpellsOrIsRefused g text) [
+at_next : (g : Grammar) (text : List ℕ) (ts prefix after : List Placed) (tail : ℕ) (next : Next) (accepted : Bool)
+    → IsCut text ts tail → IsFaultPrefix g ts prefix after → Follows text after tail next
+    → (IsTrue accepted ↔ IsAccepted g (lexemes prefix)) → SpellsOrIsRefused g text
+at_next g text ts prefix after tail next accepted cut is follows told =
+    elim (fault_of g accepted (last_or None (lexemes prefix)) next) as
+    (λ z. fault_of g accepted (last_or None (lexemes prefix)) next ≡ z → SpellsOrIsRefused g text) [
       | Some fault ↦ λ table. inr (
         fault,
         record {
           ts = ts;
           tail = tail;
           cut = cut;
-          front = front;
+          prefix = prefix;
           after = after;
-          is_front = is;
+          is_prefix = is;
           next = next;
           follows =
               follows;
@@ -147,9 +127,9 @@ at_next g text ts front after tail next accepted cut is follows told =
       )
       | None ↦ λ table.
           let C : List Placed → Type 0 = λ z. IsCut text z tail in
-          let end = faultless g accepted (last_or None (lexemes front)) next table in
+          let end = faultless g accepted (last_or None (lexemes prefix)) next table in
           let F : Next → Type 0 = λ z. Follows text after tail z in
-          inl (whole_text g text front after tail (subst C is.parts cut) (subst F end.1 follows) (told.0 end.0))
+          inl (whole_text g text prefix after tail (subst C is.parts cut) (subst F end.1 follows) (told.0 end.0))
     ] refl
   where
     faultless : (g : Grammar) (accepted : Bool) (last : Option Lexeme) (next : Next)
@@ -165,11 +145,11 @@ at_next g text ts front after tail next accepted cut is follows told =
 pub spells_or_is_refused : (g : Grammar) (text : List ℕ) → IsUtf8 text → SpellsOrIsRefused g text
 spells_or_is_refused g text utf8 =
     let c = some_cut text utf8 in
-    let f = front_from g [] c.0 (none_completable g) in
+    let f = prefix_from g [] c.0 (none_completable g) in
     let C : List Placed → Type 0 = λ z. IsCut text z c.1 in
-    let n = some_next text f.front f.after c.1 (subst C f.is.parts c.2) in
-    let a = accepted_or g (lexemes f.front) f.is.completable in
-    at_next g text c.0 f.front f.after c.1 n.0 a.0 c.2 f.is n.1 a.1
+    let n = some_next text f.prefix f.after c.1 (subst C f.is.parts c.2) in
+    let a = accepted_or g (lexemes f.prefix) f.is.completable in
+    at_next g text c.0 f.prefix f.after c.1 n.0 a.0 c.2 f.is n.1 a.1
 
 -- and never both
 pub refused_spells_nothing : (g : Grammar) (text : List ℕ) (fault : Fault) → IsRefused g text fault

@@ -90,7 +90,7 @@ AllPass t text = (cs : List ℕ) × IsTrue (all_scalars cs) × (text ≡ encode_
 -- c is the first character of the text that fails a test
 abbrev FirstFails : (ℕ → Bool) → List ℕ → ℕ → Type 0
 FirstFails t text c =
-    (front rest : List ℕ) × (text ≡ front ++ rest) × AllPass t front × ((after : List ℕ) × BeginsWith rest c after)
+    (prefix rest : List ℕ) × (text ≡ prefix ++ rest) × AllPass t prefix × ((after : List ℕ) × BeginsWith rest c after)
     × IsFalse (t c)
 
 abbrev Found : (ℕ → Bool) → List ℕ → Option ℕ → Type 0

@@ -10,8 +10,7 @@ use Rattle.cargo_platform.specs.Platforms.{IsConditionText, IsRefusedCondition}
 use Rattle.cargo_platform.specs.WellFormed.{IsWellFormedValue, IsWellFormed, IsWellFormedCondition}
 use Rattle.cargo_platform.specs.Print.{print_value, print, print_condition}
 use Rattle.cargo_platform.specs.Errors.{IfParse, orig_of, fault_in}
-use Rattle.cargo_platform.proofs.OneTree.{one_tree_text}
-use Rattle.cargo_platform.proofs.OneValue.{one_value_text}
+use Rattle.cargo_platform.proofs.OneText.{one_value_text, one_tree_text}
 use Rattle.cargo_platform.proofs.WellFormedness.{spelled_well_formed_value, spelled_well_formed}
 use Rattle.cargo_platform.proofs.PrintedSpells.{printed_value_spells, printed_spells}
 use Rattle.cargo_platform.proofs.Refused.{refused_spells_no_value, refused_spells_none}

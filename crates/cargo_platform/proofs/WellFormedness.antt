@@ -12,9 +12,9 @@ use Rattle.cargo_platform.specs.WellFormed.{IsWellFormedValue, IsWellFormed, Are
 abbrev AreWellWritten : List Lexeme → Type 0
 AreWellWritten ts = AllByRecursion IsWellWritten ts
 
-front_written : (s t : List Lexeme) → AreWellWritten (s ++ t) → AreWellWritten s
-front_written [] t w = tt
-front_written (x ∷ s) t w = (w.0, front_written s t w.1)
+prefix_written : (s t : List Lexeme) → AreWellWritten (s ++ t) → AreWellWritten s
+prefix_written [] t w = tt
+prefix_written (x ∷ s) t w = (w.0, prefix_written s t w.1)
 
 back_written : (s t : List Lexeme) → AreWellWritten (s ++ t) → AreWellWritten t
 back_written [] t w = w
@@ -22,13 +22,13 @@ back_written (x ∷ s) t w = back_written s t w.1
 
 -- what stands between the parentheses of a group
 inside_written : (word : List ℕ) (inner : List Lexeme) → AreWellWritten (group word inner) → AreWellWritten inner
-inside_written word inner w = front_written inner (RightParen ∷ []) w.1.1
+inside_written word inner w = prefix_written inner (RightParen ∷ []) w.1.1
 
 members_written : (ms : List (List Lexeme)) (inner : List Lexeme) → IsMemberList ms inner → AreWellWritten inner
     → AreWellWritten (joined ms)
 members_written [] inner p w = tt
 members_written (m ∷ ms) inner (inl h) w = subst AreWellWritten h w
-members_written (m ∷ ms) inner (inr h) w = front_written (joined (m ∷ ms)) (Comma ∷ []) (subst AreWellWritten h w)
+members_written (m ∷ ms) inner (inr h) w = prefix_written (joined (m ∷ ms)) (Comma ∷ []) (subst AreWellWritten h w)
 
 -- A list of well-written tokens spells only well-formed values.
 pub well_formed_value : (c : CfgValue) (ts : List Lexeme) → AllByRecursion IsWellWritten ts → SpellsValue c ts
@@ -59,7 +59,7 @@ mutual
   well_formed_members (tree e none) (m ∷ []) w p = (well_formed e m w p.0, tt)
   well_formed_members (tree e (tree f es)) (m ∷ []) w p = absurd p.1
   well_formed_members (tree e es) (m ∷ n ∷ ms) w p = (
-    well_formed e m (front_written m (Comma ∷ joined (n ∷ ms)) w) p.0,
+    well_formed e m (prefix_written m (Comma ∷ joined (n ∷ ms)) w) p.0,
     well_formed_members es (n ∷ ms) (back_written m (Comma ∷ joined (n ∷ ms)) w).1 p.1,
   )
 

@@ -1,4 +1,4 @@
--- Laws of completion and of the fault front.
+-- Laws of completion and of the fault prefix.
 use Rattle.std.specs.Prelude.{◌≡◌, ◌⊎◌, ◌↔◌, ◌≤◌, ◌+◌, ◌++◌, ℕ, Bool, true, false, List, [], ◌∷◌, Some, None, codes}
 use Rattle.std.specs.Prelude.{length}
 use Rattle.std.specs.List.{AllByRecursion, count_by, last_or}
@@ -7,23 +7,23 @@ use Rattle.cargo_platform.specs.Tokens.{IsWellWritten}
 use Rattle.cargo_platform.specs.Cut.{lexemes}
 use Rattle.cargo_platform.specs.Trees.{CfgValue, Tree}
 use Rattle.cargo_platform.specs.Spelling.{Grammar, Values, Expressions, IsAccepted, IsValueText, IsTreeText}
-use Rattle.cargo_platform.specs.Faults.{IsCompletable, IsFaultFront, End, Fault, UnexpectedToken, IncompleteExpr}
+use Rattle.cargo_platform.specs.Faults.{IsCompletable, IsFaultPrefix, End, Fault, UnexpectedToken, IncompleteExpr}
 use Rattle.cargo_platform.specs.Faults.{expected_token, expected_end, IsRefused}
 use Rattle.cargo_platform.specs.Walk.{State, after, walk}
 
--- whether a list can be completed as an expression is told by its walk
-abbrev pub IsWalkedIffCompletable : List Lexeme → Type 0
-IsWalkedIffCompletable ts = IsCompletable Expressions ts ↔ ((s : State) × (walk ts ≡ Some s))
+-- whether a list can be completed is told by its walk
+abbrev pub IsWalkedIffCompletable : Grammar → List Lexeme → Type 0
+IsWalkedIffCompletable g ts = IsCompletable g ts ↔ ((s : State) × (walk g ts ≡ Some s))
 
--- a front of a completable list is completable
-abbrev pub FrontsAreCompletable : Grammar → List Lexeme → List Lexeme → Type 0
-FrontsAreCompletable g front after = AllByRecursion IsWellWritten (front ++ after) → IsCompletable g (front ++ after)
-    → IsCompletable g front
+-- a prefix of a completable list is completable
+abbrev pub PrefixesAreCompletable : Grammar → List Lexeme → List Lexeme → Type 0
+PrefixesAreCompletable g prefix after =
+    AllByRecursion IsWellWritten (prefix ++ after) → IsCompletable g (prefix ++ after) → IsCompletable g prefix
 
--- which tokens keep a list completable as an expression is told by the state that its walk leads to
-abbrev pub IsKeptByWalk : List Lexeme → Lexeme → Type 0
-IsKeptByWalk ts t = (s : State) → walk ts ≡ Some s
-    → (IsCompletable Expressions (ts ++ t ∷ []) ↔ ((next : State) × (after s t ≡ Some next)))
+-- which tokens keep a list completable is told by the state that its walk leads to
+abbrev pub IsKeptByWalk : Grammar → List Lexeme → Lexeme → Type 0
+IsKeptByWalk g ts t = (s : State) → walk g ts ≡ Some s
+    → (IsCompletable g (ts ++ t ∷ []) ↔ ((next : State) × (after g s t ≡ Some next)))
 
 abbrev pub is_left_paren : Lexeme → Bool
 is_left_paren LeftParen = true
@@ -48,31 +48,31 @@ IsOfClass class Equals = ⊥
 abbrev pub CanFollow : Grammar → List Lexeme → List ℕ → Type 0
 CanFollow g ts class = (t : Lexeme) × IsOfClass class t × IsWellWritten t × IsCompletable g (ts ++ t ∷ [])
 
--- the fault front is completable
-abbrev pub IsFrontCompletable : Grammar → List Placed → List Placed → List Placed → Type 0
-IsFrontCompletable g ts front after = IsFaultFront g ts front after → IsCompletable g (lexemes front)
+-- the fault prefix is completable
+abbrev pub IsPrefixCompletable : Grammar → List Placed → List Placed → List Placed → Type 0
+IsPrefixCompletable g ts prefix after = IsFaultPrefix g ts prefix after → IsCompletable g (lexemes prefix)
 
--- the fault front with the next token is not completable
+-- the fault prefix with the next token is not completable
 abbrev pub IsStoppedByNext : Grammar → List Placed → List Placed → List Placed → Type 0
-IsStoppedByNext g ts front after = IsFaultFront g ts front after → (next : Placed) (others : List Placed)
-    → after ≡ next ∷ others → IsCompletable g (lexemes (front ++ next ∷ [])) → ⊥
+IsStoppedByNext g ts prefix after = IsFaultPrefix g ts prefix after → (next : Placed) (others : List Placed)
+    → after ≡ next ∷ others → IsCompletable g (lexemes (prefix ++ next ∷ [])) → ⊥
 
--- what is expected behind a fault front that is not accepted can follow it
+-- what is expected behind a fault prefix that is not accepted can follow it
 abbrev pub IsExpectedToFollow : Grammar → List Placed → List Placed → List Placed → Type 0
-IsExpectedToFollow g ts front after =
-    IsFaultFront g ts front after → (IsAccepted g (lexemes front) → ⊥) →
-    CanFollow g (lexemes front) (expected_token g (last_or None (lexemes front)))
-    × CanFollow g (lexemes front) (expected_end g (last_or None (lexemes front)))
+IsExpectedToFollow g ts prefix after =
+    IsFaultPrefix g ts prefix after → (IsAccepted g (lexemes prefix) → ⊥) →
+    CanFollow g (lexemes prefix) (expected_token g (last_or None (lexemes prefix)))
+    × CanFollow g (lexemes prefix) (expected_end g (last_or None (lexemes prefix)))
 
 -- the fault names the class as expected, at a token or at the end
 abbrev pub Names : {g : Grammar} {text : List ℕ} {fault : Fault} → IsRefused g text fault → List ℕ → Type 0
 Names {fault = fault} r class =
     ((found : List ℕ) × (fault ≡ UnexpectedToken class found)) ⊎ ((fault ≡ IncompleteExpr class) × (r.next ≡ End))
 
--- what the fault of a refused text names as expected can follow its fault front
+-- what the fault of a refused text names as expected can follow its fault prefix
 abbrev pub NamesWhatCanFollow : Grammar → List ℕ → Fault → Type 0
 NamesWhatCanFollow g text fault = (r : IsRefused g text fault) (class : List ℕ) → Names r class
-    → CanFollow g (lexemes r.front) class
+    → CanFollow g (lexemes r.prefix) class
 
 -- a text has at most one fault
 abbrev pub HasOneFault : Grammar → List ℕ → Type 0

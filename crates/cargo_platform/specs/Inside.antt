@@ -1,5 +1,4 @@
 -- What the contracts of private functions and types cite, and no promise rests on.
-pub mod Misfits
 pub mod Refusals
 pub mod Looking
 pub mod Scanning

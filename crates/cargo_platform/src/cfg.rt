@@ -78,9 +78,9 @@ impl Cfg {
     /// Reads a name, or a key, `=` and a string. Spaces may stand before, between and behind them; `all`, `any`, `not`,
     /// `true` and `false` are ordinary names here.
     ///
-    /// Any other text is refused with `ReadError::Parse` of its first fault: what can't follow the longest front of its
-    /// tokens that some tokens would complete. Where memory is refused the answer is `ReadError::Memory`, whatever the
-    /// text.
+    /// Any other text is refused with `ReadError::Parse` of its first fault: what can't follow the longest prefix of
+    /// its tokens that some tokens would complete. Where memory is refused the answer is `ReadError::Memory`, whatever
+    /// the text.
     pub fn from_str(alloc: Global, s: &str) -> Result<Cfg, ReadError>
         // What is read is what the text spells.
         ensures value { IfOk result (λ c. IsValueText s.now (value_of c)) }
@@ -116,9 +116,9 @@ impl CfgExpr {
     /// depth. Unmarked `all`, `any`, `not`, `true` and `false` are words of the language, and no names or keys. A raw
     /// mark makes each an ordinary name: `r#true` is a name, and `r#all = "x"` a pair.
     ///
-    /// Any other text is refused with `ReadError::Parse` of its first fault: what can't follow the longest front of its
-    /// tokens that some tokens would complete. Where memory is refused the answer is `ReadError::Memory`, whatever the
-    /// text.
+    /// Any other text is refused with `ReadError::Parse` of its first fault: what can't follow the longest prefix of
+    /// its tokens that some tokens would complete. Where memory is refused the answer is `ReadError::Memory`, whatever
+    /// the text.
     pub fn from_str(alloc: Global, s: &str) -> Result<CfgExpr, ReadError>
         // What is read is the tree that the text spells.
         ensures tree { IfOk result (λ e. IsTreeText s.now (tree_of e)) }

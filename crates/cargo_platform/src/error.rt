@@ -5,8 +5,8 @@ ghost use Rattle.std.specs.Prelude.{◌≡◌, IfOk};
 use std::alloc::{AllocError, Global};
 use std::fmt;
 
-/// What is wrong with a text. A text is read up to its first fault: the longest front of its tokens that some tokens
-/// would complete, and what follows that front.
+/// What is wrong with a text. A text is read up to its first fault: the longest prefix of its tokens that some tokens
+/// would complete, and what follows that prefix.
 #[derive(Debug, Drop)]
 pub enum ParseErrorKind {
     /// A `"` follows that no second `"` closes.
@@ -22,7 +22,7 @@ pub enum ParseErrorKind {
     },
     /// The text ends where this was expected; or it ends with an empty `r#`, behind which an identifier was expected.
     IncompleteExpr(&'static str),
-    /// The front is a whole value or expression, and this text is left behind it.
+    /// The prefix is a whole value or expression, and this text is left behind it.
     UnterminatedExpression(String),
     /// The text is no target name, which this message explains.
     InvalidTarget(String),

@@ -12,10 +12,10 @@ ghost use Rattle.cargo_platform.specs.Faults.{IsCompletable, Fault};
 ghost use Rattle.cargo_platform.specs.CutLaws.{HasOneCut, CutsAreRead, IsReadAlike, EndsForGood, FailsOnce};
 ghost use Rattle.cargo_platform.specs.GrammarLaws.{HasOneTree, HasOneValue, SpellsWellFormed};
 ghost use Rattle.cargo_platform.specs.TextLaws.{SpellsOne, SpellsOnly, PrintSpells, PrintsApart};
-ghost use Rattle.cargo_platform.specs.FaultLaws.{FrontsAreCompletable, IsCompletedShortly, IsWalkedIffCompletable};
-ghost use Rattle.cargo_platform.specs.FaultLaws.{IsKeptByWalk, IsFrontCompletable, IsStoppedByNext, IsExpectedToFollow};
-ghost use Rattle.cargo_platform.specs.FaultLaws.{NamesWhatCanFollow, HasOneFault, SpellsOrIsRefused};
-ghost use Rattle.cargo_platform.specs.FaultLaws.{RefusedSpellsNothing};
+ghost use Rattle.cargo_platform.specs.FaultLaws.{PrefixesAreCompletable, IsCompletedShortly, IsWalkedIffCompletable};
+ghost use Rattle.cargo_platform.specs.FaultLaws.{IsKeptByWalk, IsPrefixCompletable, IsStoppedByNext};
+ghost use Rattle.cargo_platform.specs.FaultLaws.{IsExpectedToFollow, NamesWhatCanFollow, HasOneFault};
+ghost use Rattle.cargo_platform.specs.FaultLaws.{SpellsOrIsRefused, RefusedSpellsNothing};
 ghost use Rattle.cargo_platform.specs.WellFormed.{IsWellFormedValue, IsWellFormed, IsWellFormedCondition};
 ghost use Rattle.cargo_platform.specs.Print.{print_value, print, print_condition};
 ghost use Rattle.cargo_platform.specs.Platforms.{IsConditionText};
@@ -90,9 +90,9 @@ pub fn well_formed_text()
     ensures conditions { (text : List ℕ) → SpellsOnly IsConditionText IsWellFormedCondition text }
 {}
 
-/// A front of tokens that can be completed can be completed, and so can no tokens at all.
+/// A prefix of tokens that can be completed can be completed, and so can no tokens at all.
 pub fn fronts_completable()
-    ensures fronts { (g : Grammar) (front after : List Lexeme) → FrontsAreCompletable g front after }
+    ensures fronts { (g : Grammar) (prefix after : List Lexeme) → PrefixesAreCompletable g prefix after }
     ensures none { (g : Grammar) → IsCompletable g [] }
 {}
 
@@ -101,22 +101,22 @@ pub fn completed_shortly()
     ensures { (ts : List Lexeme) → IsCompletedShortly ts }
 {}
 
-/// The words that are open and the last token tell whether tokens can be completed as an expression.
+/// The words that are open and the last token tell whether tokens can be completed.
 pub fn walked_iff_completable()
-    ensures { (ts : List Lexeme) → IsWalkedIffCompletable ts }
+    ensures { (g : Grammar) (ts : List Lexeme) → IsWalkedIffCompletable g ts }
 {}
 
-/// The words that are open and the last token tell which next tokens keep an expression completable.
+/// The words that are open and the last token tell which next tokens keep tokens completable.
 pub fn kept_by_walk()
-    ensures { (ts : List Lexeme) (t : Lexeme) → IsKeptByWalk ts t }
+    ensures { (g : Grammar) (ts : List Lexeme) (t : Lexeme) → IsKeptByWalk g ts t }
 {}
 
 /// Where a text goes wrong: the tokens before that place can be completed, with the next one they can't, and what is
 /// expected there could have come.
 pub fn fault_front()
-    ensures completable { (g : Grammar) (ts front after : List Placed) → IsFrontCompletable g ts front after }
-    ensures stopped { (g : Grammar) (ts front after : List Placed) → IsStoppedByNext g ts front after }
-    ensures expected { (g : Grammar) (ts front after : List Placed) → IsExpectedToFollow g ts front after }
+    ensures completable { (g : Grammar) (ts prefix after : List Placed) → IsPrefixCompletable g ts prefix after }
+    ensures stopped { (g : Grammar) (ts prefix after : List Placed) → IsStoppedByNext g ts prefix after }
+    ensures expected { (g : Grammar) (ts prefix after : List Placed) → IsExpectedToFollow g ts prefix after }
 {}
 
 /// What the fault of a text names as expected could have come where the text goes wrong.

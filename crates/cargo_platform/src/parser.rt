@@ -1,18 +1,18 @@
 //! The reader of expressions: a loop over the groups that are open.
 
 ghost use Rattle.std.specs.Prelude.{◌≡◌, ◌≤◌, ◌<◌, false, true, List, [], ◌∷◌, ◌++◌, length, map, IfOk, IfErr, OnOk};
-ghost use Rattle.std.specs.Prelude.{IfSome, IfNone, MatchOption, IsTrue, IsFalse};
+ghost use Rattle.std.specs.Prelude.{IfSome, IfNone, MatchOption, IsTrue, IsFalse, Some};
 ghost use Rattle.cargo_platform.specs.Tokens.{Ident as ident_token, Comma};
 ghost use Rattle.cargo_platform.specs.Inside.Ahead.{items_left};
 ghost use Rattle.cargo_platform.specs.Inside.Ahead as ahead;
-ghost use Rattle.cargo_platform.specs.Trees.{Alone, Tree, name_of, value_of, tree_of, Not};
-ghost use Rattle.cargo_platform.specs.Spelling.{is_group_word, is_literal_word, value_spelling, MayStand, Spells};
+ghost use Rattle.cargo_platform.specs.Trees.{Tree, name_of, value_of, tree_of, Not};
+ghost use Rattle.cargo_platform.specs.Spelling.{Grammar, Values, Expressions, is_group_word, is_literal_word, Spells};
+ghost use Rattle.cargo_platform.specs.Spelling.{value_spelling};
+ghost use Rattle.cargo_platform.specs.Walk.{Word, Named, walk};
 ghost use Rattle.cargo_platform.specs.Inside.Parsing.{LacksMark, Opening, Negated, Listed, opening, stack};
-ghost use Rattle.cargo_platform.specs.Inside.Parsing.{opening_word};
-ghost use Rattle.cargo_platform.specs.Inside.Parsing.{IsFresh, is_all, list_tree, Wants, Has, HasName, HasWord};
-ghost use Rattle.cargo_platform.specs.Inside.Parsing.{Stands, Reads};
-ghost use Rattle.cargo_platform.specs.Inside.Parsing.{Stops, HasRead, ClearBehind, TakesValue, LacksValue, StopsKey};
-ghost use Rattle.cargo_platform.specs.Inside.Parsing.{StopsValue, TakesToken, kinds, is_list, openings, with_last};
+ghost use Rattle.cargo_platform.specs.Inside.Parsing.{IsFresh, is_all, list_tree, is_lone, Wants, Has, HasName};
+ghost use Rattle.cargo_platform.specs.Inside.Parsing.{HasWord, Stands, Reads, Stops, HasRead, ClearBehind, TakesToken};
+ghost use Rattle.cargo_platform.specs.Inside.Parsing.{opening_word, kinds, is_list, openings, with_last};
 
 use crate::cfg::{Cfg, CfgExpr, Ident};
 use crate::iterative_drop::drop_members;
@@ -202,8 +202,7 @@ fn ident(alloc: Global, raw: bool, name: &str) -> Result<Ident, AllocError>
 #[inline(always)]
 fn literal_named(raw: bool, name: &str) -> Option<CfgExpr>
     ensures { MatchOption result (IsFalse (is_literal_word (record { raw = raw; name = name.now })))
-        (λ e. Spells (tree_of e) (ident_token raw name.now ∷ [])
-        × IsTrue (is_literal_word (record { raw = raw; name = name.now }))) }
+        (λ e. Spells (tree_of e) (ident_token raw name.now ∷ []) × IsFalse (is_lone (tree_of e))) }
 {
     if raw {
         return None;
@@ -215,47 +214,31 @@ fn literal_named(raw: bool, name: &str) -> Option<CfgExpr>
     }
 }
 
-/// Reads the string behind a key and its `=`.
-#[inline(always)]
-fn read_pair<'a>(
-    alloc: Global,
-    reader: &mut Reader<'a>,
-    raw: bool,
-    name: &str,
-) -> Result<Cfg, Refusal<'a>>
-    ensures same_text { reader.new.text ≡ reader.old.text }
-    ensures pair { IfOk result
-        (λ c. TakesValue reader.old reader.new (record { raw = raw; name = name.now }) (value_of c)) }
-    ensures refused { IfErr result (LacksValue reader.old) }
-{
-    let Some(value) = reader.eat_string() else {
-        return Err(refuse(reader, "a string", "a string"));
-    };
-    let key = ident(alloc, raw, name)?;
-    let value = String::from_str(alloc, value)?;
-    Ok(Cfg::KeyPair(key, value))
-}
-
-/// Reads what follows a name that opens no group and is no literal.
+/// Reads what follows the identifier of a name or a pair: nothing, or `=` and a string.
 #[inline(always)]
 fn read_value<'a>(
     alloc: Global,
     reader: &mut Reader<'a>,
     raw: bool,
     name: &str,
-) -> Result<CfgExpr, Refusal<'a>>
-    requires { MayStand (Alone (record { raw = raw; name = name.now })) }
+) -> Result<Cfg, Refusal<'a>>
     ensures same_text { reader.new.text ≡ reader.old.text }
     ensures value { IfOk result
-        (λ e. (gs : List Opening)
-        → Reads reader.old reader.new (HasName gs raw name.now) (Has gs (tree_of e) reader.new.item)) }
-    ensures refused { IfErr result (λ r. (gs : List Opening) → Stops reader.old (HasName gs raw name.now) r) }
+        (λ c. Reads reader.old reader.new (λ ts. ts ≡ ident_token raw name.now ∷ [])
+        (λ ts. ts ≡ value_spelling (value_of c))) }
+    ensures clear { IfOk result (λ c. ClearBehind (value_of c) reader.new) }
+    ensures refused { IfErr result
+        (λ r. (g : Grammar) (ws : List Word) → Stops g reader.old (λ ts. walk g ts ≡ Some (Named ws)) r) }
 {
-    if reader.eat(Mark::Equals) {
-        Ok(CfgExpr::Value(read_pair(alloc, reader, raw, name)?))
-    } else {
-        Ok(CfgExpr::Value(Cfg::Name(ident(alloc, raw, name)?)))
+    if !reader.eat(Mark::Equals) {
+        return Ok(Cfg::Name(ident(alloc, raw, name)?));
     }
+    let Some(value) = reader.eat_string() else {
+        return Err(refuse(reader, "a string", "a string"));
+    };
+    let key = ident(alloc, raw, name)?;
+    let value = String::from_str(alloc, value)?;
+    Ok(Cfg::KeyPair(key, value))
 }
 
 /// Reads the `(` behind a group's word.
@@ -268,7 +251,7 @@ fn open_group<'a>(
     ensures same_text { reader.new.text ≡ reader.old.text }
     ensures opened { OnOk result
         (Reads reader.old reader.new (HasWord (stack groups.old) (opening group)) (Wants (stack groups.new))) }
-    ensures refused { IfErr result (Stops reader.old (HasWord (stack groups.old) (opening group))) }
+    ensures refused { IfErr result (Stops Expressions reader.old (HasWord (stack groups.old) (opening group))) }
 {
     if !reader.eat(Mark::LeftParen) {
         return Err(refuse(reader, "`(`", "`(`"));
@@ -290,7 +273,7 @@ fn behind_name<'a>(
     ensures begun { IfOk result
         (λ done. Reads reader.old reader.new (HasName (stack groups.old) raw name.now)
         (Stands (stack groups.new) done reader.new.item)) }
-    ensures refused { IfErr result (Stops reader.old (HasName (stack groups.old) raw name.now)) }
+    ensures refused { IfErr result (Stops Expressions reader.old (HasName (stack groups.old) raw name.now)) }
 {
     if let Some(group) = group_named(alloc, raw, name) {
         open_group(reader, groups, group)?;
@@ -299,7 +282,8 @@ fn behind_name<'a>(
     if let Some(literal) = literal_named(raw, name) {
         return Ok(Some(literal));
     }
-    Ok(Some(read_value(alloc, reader, raw, name)?))
+    let value = read_value(alloc, reader, raw, name)?;
+    Ok(Some(CfgExpr::Value(value)))
 }
 
 /// Reads the `)` of a list that has no members yet, or ends with a comma.
@@ -337,7 +321,7 @@ fn begin<'a>(
     ensures begun { IfOk result
         (λ done. Reads reader.old reader.new (Wants (stack groups.old))
         (Stands (stack groups.new) done reader.new.item)) }
-    ensures refused { IfErr result (Stops reader.old (Wants (stack groups.old))) }
+    ensures refused { IfErr result (Stops Expressions reader.old (Wants (stack groups.old))) }
     ensures shorter { OnOk result (items_left reader.new < items_left reader.old) }
 {
     if let Some((raw, name)) = reader.eat_name() {
@@ -425,7 +409,8 @@ fn close_group<'a>(
         → Reads reader.old reader.new (Has (opening group ∷ gs) (tree_of last) reader.old.item)
         (Has gs (tree_of e) reader.new.item)) }
     ensures refused { IfErr result
-        (λ r. (gs : List Opening) → Stops reader.old (Has (opening group ∷ gs) (tree_of last) reader.old.item) r) }
+        (λ r. (gs : List Opening)
+        → Stops Expressions reader.old (Has (opening group ∷ gs) (tree_of last) reader.old.item) r) }
     ensures shorter { OnOk result (items_left reader.new < items_left reader.old) }
 {
     if !reader.eat(Mark::RightParen) {
@@ -447,7 +432,7 @@ pub(crate) fn read_expression<'a>(
     ensures same_text { reader.new.text ≡ reader.old.text }
     ensures tree { IfOk result (λ e. Reads reader.old reader.new (λ ts. ts ≡ []) (Has [] (tree_of e) reader.new.item)) }
     ensures ended { OnOk result (reader.new.item ≡ ahead.Nothing) }
-    ensures refused { IfErr result (Stops reader.old (λ ts. ts ≡ [])) }
+    ensures refused { IfErr result (Stops Expressions reader.old (λ ts. ts ≡ [])) }
 {
     let mut groups = OpenGroups::new(alloc);
     let mut done: Option<CfgExpr> = None;
@@ -472,39 +457,17 @@ pub(crate) fn read_expression<'a>(
     }
 }
 
-/// Reads what follows the name of a value: nothing, or `=` and a string.
-#[inline(always)]
-fn behind_cfg_name<'a>(
-    alloc: Global,
-    reader: &mut Reader<'a>,
-    raw: bool,
-    name: &str,
-) -> Result<Cfg, Refusal<'a>>
-    ensures same_text { reader.new.text ≡ reader.old.text }
-    ensures value { IfOk result
-        (λ c. Reads reader.old reader.new (λ ts. ts ≡ ident_token raw name.now ∷ [])
-        (λ ts. ts ≡ value_spelling (value_of c))) }
-    ensures clear { IfOk result (λ c. ClearBehind (value_of c) reader.new) }
-    ensures refused { IfErr result (StopsKey reader.old (ident_token raw name.now)) }
-{
-    if reader.eat(Mark::Equals) {
-        read_pair(alloc, reader, raw, name)
-    } else {
-        Ok(Cfg::Name(ident(alloc, raw, name)?))
-    }
-}
-
 /// Reads the name or the pair that the tokens spell.
 pub(crate) fn read_cfg<'a>(alloc: Global, reader: &mut Reader<'a>) -> Result<Cfg, Refusal<'a>>
     ensures same_text { reader.new.text ≡ reader.old.text }
     ensures value { IfOk result (λ c. HasRead reader.old reader.new (value_spelling (value_of c))) }
     ensures ended { OnOk result (reader.new.item ≡ ahead.Nothing) }
-    ensures refused { IfErr result (StopsValue reader.old) }
+    ensures refused { IfErr result (Stops Values reader.old (λ ts. ts ≡ [])) }
 {
     let Some((raw, name)) = reader.eat_name() else {
         return Err(refuse(reader, "identifier", "identifier"));
     };
-    let cfg = behind_cfg_name(alloc, reader, raw, name)?;
+    let cfg = read_value(alloc, reader, raw, name)?;
     expect_end(reader)?;
     Ok(cfg)
 }

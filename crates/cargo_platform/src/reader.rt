@@ -6,7 +6,7 @@ ghost use Rattle.cargo_platform.specs.Tokens.{Ident as ident_token, String as st
 ghost use Rattle.cargo_platform.specs.Reading.{characters_from};
 ghost use Rattle.cargo_platform.specs.Inside.Ahead.{Comes};
 ghost use Rattle.cargo_platform.specs.Inside.Ahead as ahead;
-ghost use Rattle.cargo_platform.specs.Inside.Misfits.{IsIdentifier};
+ghost use Rattle.cargo_platform.specs.Inside.Parsing.{IsIdentifier};
 ghost use Rattle.cargo_platform.specs.Inside.Parsing.{SeesRest, Takes, TakesToken, LacksMark, LacksName, LacksString};
 ghost use Rattle.cargo_platform.specs.Inside.Parsing.{lexeme_of, RefusesNext, RefusesMore};
 

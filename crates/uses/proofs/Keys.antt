@@ -13,7 +13,7 @@ use Rattle.cargo_platform.specs.Facts.{FactSet, truth}
 use Rattle.cargo_platform.specs.Holders.{name_fact}
 use Rattle.cargo_platform.proofs.Conditions.{one_condition}
 use Rattle.cargo_platform.proofs.OnLiterals.{tree_on_literal, spelling_on_literal, refused_on_literal}
-use Rattle.cargo_platform.proofs.OnLiterals.{refused_on_broken_literal, value_refused_on_literal}
+use Rattle.cargo_platform.proofs.OnLiterals.{refused_on_broken_literal}
 
 abbrev pub unix : Tree
 unix = Value (Alone (record { raw = false; name = codes "unix" }))
@@ -62,4 +62,4 @@ misplaced = refused_on_broken_literal (codes "all(&)") (lexical.UnexpectedChar 0
 
 -- a line of facts
 no_fact : IsRefused Values (codes "a b") (UnterminatedExpression (codes "b"))
-no_fact = value_refused_on_literal (codes "a b") _ refl refl refl refl
+no_fact = refused_on_literal (codes "a b") _ refl refl

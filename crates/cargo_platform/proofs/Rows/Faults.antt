@@ -1,5 +1,5 @@
 -- What can be completed, what is expected, and the faults of some texts read as expressions.
-use Rattle.std.proofs.Common.{◌≡◌, refl, sym, ◌∙◌, ℕ, lit≤, true, false, true≢false, List, [], ◌∷◌, ◌++◌, Some, None}
+use Rattle.std.proofs.Common.{◌≡◌, refl, sym, ◌∙◌, ℕ, lit≤, true, false, List, [], ◌∷◌, ◌++◌, Some, None}
 use Rattle.std.proofs.Common.{codes, inl, inr, arith, drop}
 use Rattle.std.specs.Char.{encode_utf8}
 use Rattle.std.specs.List.{last_or}
@@ -7,19 +7,18 @@ use Rattle.cargo_platform.specs.declared.tokens.TokenFaultKind.TheVariants as le
 use Rattle.cargo_platform.specs.Tokens.{Lexeme, LeftParen, RightParen, Ident, Comma, Equals, String, Placed, plain}
 use Rattle.cargo_platform.specs.Cut.{BeginsFault, IsTail, lexemes}
 use Rattle.cargo_platform.specs.Trees.{Alone, Value}
-use Rattle.cargo_platform.specs.Spelling.{Values, Expressions}
-use Rattle.cargo_platform.specs.Faults.{IsCompletable, IsFaultFront, Next, Broken, End, Follows, Fault}
+use Rattle.cargo_platform.specs.Spelling.{Grammar, Values, Expressions}
+use Rattle.cargo_platform.specs.Faults.{IsCompletable, IsFaultPrefix, Next, Broken, End, Follows, Fault}
 use Rattle.cargo_platform.specs.Faults.{UnterminatedString, UnexpectedChar, UnexpectedToken, IncompleteExpr}
 use Rattle.cargo_platform.specs.Faults.{UnterminatedExpression, expected_token, expected_end, lexical_fault, fault_of}
 use Rattle.cargo_platform.specs.Faults.{IsRefused}
-use Rattle.cargo_platform.specs.Walk.{Several, State, Named, walk}
-use Rattle.cargo_platform.specs.Inside.Parsing.{is_whole}
-use Rattle.cargo_platform.proofs.Walk.{none_some, completable_walks}
+use Rattle.cargo_platform.specs.Walk.{Several, State, Named, Keyed, walk, is_whole}
+use Rattle.cargo_platform.proofs.Walk.{none_some}
+use Rattle.cargo_platform.proofs.Building.{completable_walks}
 use Rattle.cargo_platform.proofs.Completing.{walked_completes}
-use Rattle.cargo_platform.proofs.Fronts.{goes_on, refused_walked}
+use Rattle.cargo_platform.proofs.Prefixes.{goes_on, refused_walked}
 use Rattle.cargo_platform.proofs.Refused.{refused_spells_none}
 use Rattle.cargo_platform.proofs.OneFault.{one_fault}
-use Rattle.cargo_platform.proofs.ValueFaults.{completable_values}
 use Rattle.cargo_platform.proofs.CutTests.{is_cut_from, cut_by}
 use Rattle.cargo_platform.proofs.Rows.Cut.{at, word, lone_a}
 
@@ -30,40 +29,40 @@ word_a = plain (codes "a")
 
 -- `all(a`
 open_group : IsCompletable Expressions (plain (codes "all") ∷ LeftParen ∷ word_a ∷ [])
-open_group = walked_completes (plain (codes "all") ∷ LeftParen ∷ word_a ∷ []) (Named (Several ∷ [])) refl
+open_group = walked_completes Expressions (plain (codes "all") ∷ LeftParen ∷ word_a ∷ []) (Named (Several ∷ [])) refl
 
 -- `a =` can be completed by a string
 key : IsCompletable Values (word_a ∷ Equals ∷ [])
-key = (completable_values (word_a ∷ Equals ∷ [])).1 refl
+key = walked_completes Values (word_a ∷ Equals ∷ []) (Keyed []) refl
 
-unwalked : (ts : List Lexeme) → walk ts ≡ None → IsCompletable Expressions ts → ⊥
-unwalked ts h p = none_some (sym h ∙ (completable_walks ts p).1)
+unwalked : (g : Grammar) (ts : List Lexeme) → walk g ts ≡ None → IsCompletable g ts → ⊥
+unwalked g ts h p = none_some (sym h ∙ (completable_walks g ts p).1)
 
 two_names : IsCompletable Expressions (word_a ∷ plain (codes "b") ∷ []) → ⊥
-two_names p = unwalked (word_a ∷ plain (codes "b") ∷ []) refl p
+two_names p = unwalked Expressions (word_a ∷ plain (codes "b") ∷ []) refl p
 
 paren_first : IsCompletable Expressions (RightParen ∷ []) → ⊥
-paren_first p = unwalked (RightParen ∷ []) refl p
+paren_first p = unwalked Expressions (RightParen ∷ []) refl p
 
 -- `all(,`
 comma_first : IsCompletable Expressions (plain (codes "all") ∷ LeftParen ∷ Comma ∷ []) → ⊥
-comma_first p = unwalked (plain (codes "all") ∷ LeftParen ∷ Comma ∷ []) refl p
+comma_first p = unwalked Expressions (plain (codes "all") ∷ LeftParen ∷ Comma ∷ []) refl p
 
 two_values : IsCompletable Values (word_a ∷ plain (codes "b") ∷ []) → ⊥
-two_values p = true≢false (sym ((completable_values (word_a ∷ plain (codes "b") ∷ [])).0 p))
+two_values p = unwalked Values (word_a ∷ plain (codes "b") ∷ []) refl p
 
--- `all(` is no front of a name or a pair
+-- `all(` is no prefix of a name or a pair
 group_of_values : IsCompletable Values (plain (codes "all") ∷ LeftParen ∷ []) → ⊥
-group_of_values p = true≢false (sym ((completable_values (plain (codes "all") ∷ LeftParen ∷ [])).0 p))
+group_of_values p = unwalked Values (plain (codes "all") ∷ LeftParen ∷ []) refl p
 
--- ---- the fault front
+-- ---- the fault prefix
 
 abbrev all_a_b : List Placed
 all_a_b = word (codes "all") 0 3 ∷ at LeftParen 3 4 ∷ word (codes "a") 4 5 ∷ word (codes "b") 6 7 ∷ []
 
--- a completable front that is not the longest
-short_front : (after : List Placed) → IsFaultFront Expressions all_a_b (word (codes "all") 0 3 ∷ []) after → ⊥
-short_front after p =
+-- a completable prefix that is not the longest
+short_prefix : (after : List Placed) → IsFaultPrefix Expressions all_a_b (word (codes "all") 0 3 ∷ []) after → ⊥
+short_prefix after p =
     absurd
     (omega (
       arith,
@@ -71,8 +70,8 @@ short_front after p =
           (word (codes "b") 6 7 ∷ []) refl open_group,
     ))
 
-long_front : (after : List Placed) → IsFaultFront Expressions all_a_b all_a_b after → ⊥
-long_front after p = unwalked (lexemes all_a_b) refl p.completable
+long_prefix : (after : List Placed) → IsFaultPrefix Expressions all_a_b all_a_b after → ⊥
+long_prefix after p = unwalked Expressions (lexemes all_a_b) refl p.completable
 
 -- the end is not what follows where a token is left, or a tail
 token_before_end : (ts : List Placed) (tail : ℕ) → Follows (codes "a") (word (codes "a") 0 1 ∷ ts) tail End → ⊥
@@ -125,15 +124,15 @@ accepted_at_end = refl
 
 -- ---- refused texts
 
--- a text, by its fault front and the tokens behind it
-row : (text : List ℕ) (front behind : List Placed) (tail : ℕ) (s : State) (next : Next) (fault : Fault)
-    → is_cut_from text 0 (front ++ behind) tail ≡ true → IsTail (drop tail text) → walk (lexemes front) ≡ Some s
-    → goes_on s behind ≡ None → Follows text behind tail next
-    → fault_of Expressions (is_whole s) (last_or None (lexemes front)) next ≡ Some fault
+-- a text, by its fault prefix and the tokens behind it
+row : (text : List ℕ) (prefix behind : List Placed) (tail : ℕ) (s : State) (next : Next) (fault : Fault)
+    → is_cut_from text 0 (prefix ++ behind) tail ≡ true → IsTail (drop tail text)
+    → walk Expressions (lexemes prefix) ≡ Some s → goes_on Expressions s behind ≡ None → Follows text behind tail next
+    → fault_of Expressions (is_whole s) (last_or None (lexemes prefix)) next ≡ Some fault
     → IsRefused Expressions text fault
-row text front behind tail s next fault cut rest walked stops follows table =
-    refused_walked text (front ++ behind) front behind tail s next fault
-    (cut_by text (front ++ behind) tail cut rest) refl walked stops follows table
+row text prefix behind tail s next fault cut rest walked stops follows table =
+    refused_walked Expressions text (prefix ++ behind) prefix behind tail s next fault
+    (cut_by text (prefix ++ behind) tail cut rest) refl walked stops follows table
 
 one_space : IsRefused Expressions (codes " ") (IncompleteExpr (codes "start of a cfg expression"))
 one_space = row _ [] [] 1 _ End _ refl (inl refl) refl refl (lit≤ tt) refl

@@ -10,7 +10,7 @@ use Rattle.cargo_platform.specs.Spelling.{IsMemberList, Spells, SpellEach, Value
 use Rattle.cargo_platform.specs.Spelling.{IsTreeText}
 use Rattle.cargo_platform.specs.Walk.{walk}
 use Rattle.cargo_platform.proofs.OneCut.{one_cut_from}
-use Rattle.cargo_platform.proofs.Walk.{stopped}
+use Rattle.cargo_platform.proofs.Building.{stopped}
 use Rattle.cargo_platform.proofs.Completing.{accepted_whole}
 use Rattle.cargo_platform.proofs.Rows.Trees.{name, marked, a}
 use Rattle.cargo_platform.proofs.Rows.Cut.{late_mark, comma_behind, lone_a}
@@ -125,12 +125,12 @@ two_commas (inl p) = absurd (omega (arith, ap length p))
 two_commas (inr p) = absurd (omega (arith, ap length p))
 
 -- where no walk is, nothing is spelled
-unwalked : (ts : List Lexeme) → walk ts ≡ None → IsAccepted Expressions ts → ⊥
+unwalked : (ts : List Lexeme) → walk Expressions ts ≡ None → IsAccepted Expressions ts → ⊥
 unwalked ts h p = let A : List Lexeme
-    → Type 0 = λ z. IsAccepted Expressions z in stopped ts [] h (subst A (sym (append-nil ts)) p)
+    → Type 0 = λ z. IsAccepted Expressions z in stopped Expressions ts [] h (subst A (sym (append-nil ts)) p)
 
 no_tokens : IsAccepted Expressions [] → ⊥
-no_tokens p = true≢false (sym (accepted_whole _ [] refl p))
+no_tokens p = true≢false (sym (accepted_whole Expressions _ [] refl p))
 
 -- `all(,)`
 lone_comma : IsAccepted Expressions (group (codes "all") (Comma ∷ [])) → ⊥
@@ -166,11 +166,11 @@ literal_as_key p = unwalked _ refl p
 
 -- `all(a`
 open_group : IsAccepted Expressions (plain (codes "all") ∷ LeftParen ∷ word_a ∷ []) → ⊥
-open_group p = true≢false (sym (accepted_whole _ _ refl p))
+open_group p = true≢false (sym (accepted_whole Expressions _ _ refl p))
 
 -- `a =`
 key_alone : IsAccepted Expressions (word_a ∷ Equals ∷ []) → ⊥
-key_alone p = true≢false (sym (accepted_whole _ _ refl p))
+key_alone p = true≢false (sym (accepted_whole Expressions _ _ refl p))
 
 -- ---- texts
 

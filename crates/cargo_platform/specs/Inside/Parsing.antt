@@ -1,13 +1,13 @@
 -- What a reader of expressions has read: the groups that are open with their members so far, and the expression that
 -- stands behind them, if one does.
 use Rattle.std.specs.Prelude.{◌≡◌, ℕ, Bool, true, false, List, [], ◌∷◌, ◌++◌, map, reverse, codes, Option, Some, None}
-use Rattle.std.specs.Prelude.{Result, Ok, Err, IsFalse, ◌&&◌}
+use Rattle.std.specs.Prelude.{Result, Ok, Err, IsFalse, ◌&&◌, IfSome}
+use Rattle.std.specs.List.{last_or}
 use Rattle.cargo_platform.specs.declared.tokens.Token.{Token}
 use denote.Ref.{Bor}
 use Rattle.cargo_platform.specs.declared.tokens.TokenFaultKind.{TokenFaultKind}
 use Rattle.cargo_platform.specs.declared.cfg.CfgExpr.{CfgExpr}
 use Rattle.cargo_platform.specs.declared.reader.Refusal.{Refusal}
-use Rattle.cargo_platform.specs.declared.reader.Refusal.TheVariants as refusal
 use Rattle.cargo_platform.specs.declared.parser.Listing.{Listing}
 use Rattle.cargo_platform.specs.declared.parser.Listing.TheVariants as listing
 use Rattle.cargo_platform.specs.declared.reader.Mark.{Mark}
@@ -21,18 +21,21 @@ use Rattle.cargo_platform.specs.Tokens.{lexeme}
 use Rattle.cargo_platform.specs.Cut.{lexemes}
 use Rattle.cargo_platform.specs.Inside.Ahead.{Item, Nothing, Ahead, GoesOn, Path, next_of}
 use Rattle.cargo_platform.specs.Inside.Ahead as ahead
-use Rattle.cargo_platform.specs.Trees.{Name, CfgValue, Alone, KeyPair, Tree, All, Any, trees_of, tree_of}
-use Rattle.cargo_platform.specs.Spelling.{Spells, SpellEach}
-use Rattle.cargo_platform.specs.Faults.{Next, Unfit, Broken, End, Fault, UnexpectedToken, IncompleteExpr}
-use Rattle.cargo_platform.specs.Faults.{UnterminatedExpression, lexical_fault}
-use Rattle.cargo_platform.specs.Inside.Misfits.{IsIdentifier, IsString, misfit, IsSurplus}
-use Rattle.cargo_platform.specs.Walk.{Word, Several, Negation, State, Wanted, Member, Behind, Named, Keyed, Ended}
-use Rattle.cargo_platform.specs.Walk.{after, walk}
+use Rattle.cargo_platform.specs.Trees.{CfgValue, Alone, KeyPair, Tree, All, Any, Value, trees_of, tree_of}
+use Rattle.cargo_platform.specs.Spelling.{Grammar, Spells, SpellEach}
+use Rattle.cargo_platform.specs.Faults.{Next, Unfit, Broken, End, Fault, UnterminatedExpression, expected_token}
+use Rattle.cargo_platform.specs.Faults.{expected_end, fault_of}
+use Rattle.cargo_platform.specs.Walk.{Word, Several, Negation, State, after, walk, is_whole}
+use Rattle.cargo_platform.specs.Inside.Refusals.{refused_fault}
 
--- the text from the item ahead on, or nothing at the end
+-- behind tokens that are accepted this text is the surplus
+abbrev pub IsSurplus : Next → List ℕ → Type 0
+IsSurplus next rest = (g : Grammar) (last : Option Lexeme) → fault_of g true last next ≡ Some (UnterminatedExpression rest)
+
+-- the text from the item ahead on, which is the surplus behind what is accepted, or nothing at the end
 abbrev pub SeesRest : Ahead → Option (Bor (List ℕ)) → Type 0
 SeesRest l None = l.item ≡ Nothing
-SeesRest l (Some rest) = IsSurplus (next_of l.text l.item) (UnterminatedExpression rest.now)
+SeesRest l (Some rest) = IsSurplus (next_of l.text l.item) rest.now
 
 abbrev pub lexeme_of : Mark → Lexeme
 lexeme_of marks.LeftParen = LeftParen
@@ -49,6 +52,14 @@ abbrev pub Takes : Ahead → Ahead → Option (Result Token TokenFaultKind) → 
 Takes old new None = (new ≡ old) × (old.item ≡ Nothing)
 Takes old new (Some (Ok t)) = TakesToken old new (lexeme t)
 Takes old new (Some (Err kind)) = (new ≡ old) × (at : ℕ) × (old.item ≡ ahead.Lexical kind at)
+
+-- the token is an identifier
+abbrev pub IsIdentifier : Lexeme → Type 0
+IsIdentifier t = (raw : Bool) × (name : List ℕ) × (t ≡ Ident raw name)
+
+-- the token is a string
+abbrev pub IsString : Lexeme → Type 0
+IsString t = (value : List ℕ) × (t ≡ String value)
 
 -- no token is ahead that is so
 abbrev pub Lacks : (Lexeme → Type 0) → Ahead → Type 0
@@ -133,34 +144,19 @@ abbrev pub finished : List (List Lexeme) → List Lexeme
 finished [] = []
 finished (s ∷ ss) = s ++ (Comma ∷ finished ss)
 
--- the tokens open these groups, the innermost first, and spell their members so far
-abbrev pub Opens : List Opening → List Lexeme → Type 0
-Opens [] ts = ts ≡ []
-Opens (Negated ∷ gs) ts =
-    (before : List Lexeme) × Opens gs before × (ts ≡ before ++ (plain (codes "not") ∷ LeftParen ∷ []))
-Opens (Listed all es ∷ gs) ts =
-    (before : List Lexeme) × (ss : List (List Lexeme)) × Opens gs before × SpellEach (trees_of es) ss
+-- The tokens that were read open these groups, the innermost first, and spell their members so far: an expression is
+-- wanted next.
+abbrev pub Wants : List Opening → List Lexeme → Type 0
+Wants [] ts = ts ≡ []
+Wants (Negated ∷ gs) ts =
+    (before : List Lexeme) × Wants gs before × (ts ≡ before ++ (plain (codes "not") ∷ LeftParen ∷ []))
+Wants (Listed all es ∷ gs) ts =
+    (before : List Lexeme) × (ss : List (List Lexeme)) × Wants gs before × SpellEach (trees_of es) ss
     × (ts ≡ before ++ (plain (list_word all) ∷ LeftParen ∷ finished ss))
 
--- with an expression behind them
-abbrev pub OpensAnd : List Opening → Tree → List Lexeme → Type 0
-OpensAnd gs e ts = (before : List Lexeme) × (s : List Lexeme) × Opens gs before × Spells e s × (ts ≡ before ++ s)
-
--- an expression may come, and `)` in a list
-abbrev pub begins : List Word → State
-begins [] = Wanted []
-begins (Several ∷ ws) = Member ws
-begins (Negation ∷ ws) = Wanted (Negation ∷ ws)
-
--- behind an expression, which may be a name
-abbrev pub ends : Bool → List Word → State
-ends true ws = Named ws
-ends false ws = Ended ws
-
--- The tokens that were read: an expression is wanted next.
-pub record Wants (gs : List Opening) (ts : List Lexeme) : Type 0 where
-  pub opens : Opens gs ts
-  pub walked : walk ts ≡ Some (begins (kinds gs))
+-- an expression stands behind them
+abbrev pub EndsWith : List Opening → Tree → List Lexeme → Type 0
+EndsWith gs e ts = (before : List Lexeme) × (s : List Lexeme) × Wants gs before × Spells e s × (ts ≡ before ++ s)
 
 -- `=` comes next
 abbrev pub is_equals_next : Item → Bool
@@ -168,12 +164,15 @@ is_equals_next (ahead.Token t) = is_equals t.token
 is_equals_next (ahead.Lexical kind at) = false
 is_equals_next Nothing = false
 
+-- the expression is a name alone, which `=` would go on with
+abbrev pub is_lone : Tree → Bool
+is_lone (Value (Alone n)) = true
+is_lone e = false
+
 -- The tokens that were read: an expression stands at their end, which the item ahead does not go on with.
 pub record Has (gs : List Opening) (e : Tree) (left : Item) (ts : List Lexeme) : Type 0 where
-  pub opens : OpensAnd gs e ts
-  pub name : Bool
-  pub walked : walk ts ≡ Some (ends name (kinds gs))
-  pub clear : IsFalse (name && is_equals_next left)
+  pub ends : EndsWith gs e ts
+  pub clear : IsFalse (is_lone e && is_equals_next left)
 
 abbrev pub Stands : List Opening → Option CfgExpr → Item → List Lexeme → Type 0
 Stands gs None left ts = Wants gs ts
@@ -192,12 +191,6 @@ pub record HasWord (gs : List Opening) (o : Opening) (ts : List Lexeme) : Type 0
   pub fresh : IsFresh o
   pub is : ts ≡ before ++ (plain (opening_word o) ∷ [])
 
--- a name and `=` were read last
-pub record HasKey (gs : List Opening) (raw : Bool) (name : List ℕ) (ts : List Lexeme) : Type 0 where
-  pub before : List Lexeme
-  pub wanted : Wants gs before
-  pub is : ts ≡ before ++ (Ident raw name ∷ Equals ∷ [])
-
 -- From one item ahead to another some tokens were read. Where P holds of all tokens before them, Q holds of all tokens
 -- with them.
 pub record Reads (old new : Ahead) (P Q : List Lexeme → Type 0) : Type 0 where
@@ -207,69 +200,45 @@ pub record Reads (old new : Ahead) (P Q : List Lexeme → Type 0) : Type 0 where
 
 -- ---- refusals
 
-abbrev pub is_whole : State → Bool
-is_whole (Named []) = true
-is_whole (Ended []) = true
-is_whole s = false
-
--- what is expected at a token, and at the end
-abbrev pub expects : State → List ℕ
-expects (Wanted ws) = codes "identifier"
-expects (Member ws) = codes "identifier"
-expects (Behind w ws) = codes "`(`"
-expects (Named ws) = codes "`)`"
-expects (Keyed ws) = codes "a string"
-expects (Ended ws) = codes "`)`"
-
-abbrev pub expects_end : State → List ℕ
-expects_end (Wanted ws) = codes "start of a cfg expression"
-expects_end (Member ws) = codes "start of a cfg expression"
-expects_end (Behind w ws) = codes "`(`"
-expects_end (Named ws) = codes "`)`"
-expects_end (Keyed ws) = codes "a string"
-expects_end (Ended ws) = codes "`)`"
-
-abbrev pub IsFaultAt : Bool → State → Next → Fault → Type 0
-IsFaultAt true s next fault = IsSurplus next fault
-IsFaultAt false s next fault = fault ≡ misfit (expects s) (expects_end s) next
-
 -- a next token does not fit
-abbrev pub IsStop : State → Next → Type 0
-IsStop s (Unfit t rest) = after s t ≡ None
-IsStop s (Broken k rest) = Unit {0}
-IsStop s End = Unit {0}
+abbrev pub IsStop : Grammar → State → Next → Type 0
+IsStop g s (Unfit t rest) = after g s t ≡ None
+IsStop g s (Broken k rest) = Unit {0}
+IsStop g s End = Unit {0}
 
 -- The tokens read cannot go on with the item ahead.
-pub record IsStuck (text : List ℕ) (ts : List Lexeme) (left : Item) (fault : Fault) : Type 0 where
+pub record IsStuck (g : Grammar) (text : List ℕ) (ts : List Lexeme) (left : Item) (fault : Fault) : Type 0 where
   pub s : State
-  pub walked : walk ts ≡ Some s
-  pub stops : IsStop s (next_of text left)
-  pub is : IsFaultAt (is_whole s) s (next_of text left) fault
+  pub walked : walk g ts ≡ Some s
+  pub stops : IsStop g s (next_of text left)
+  pub is : fault_of g (is_whole s) (last_or None ts) (next_of text left) ≡ Some fault
 
 -- what is said of the fault that a refusal stands for, where it is no want of memory
 abbrev pub IfFault : Refusal → (Fault → Type 0) → Type 0
-IfFault (refusal.Unexpected expected found) P = P (UnexpectedToken expected.now found.now)
-IfFault (refusal.Incomplete expected) P = P (IncompleteExpr expected.now)
-IfFault (refusal.Lexical k) P = P (lexical_fault k)
-IfFault (refusal.Unterminated rest) P = P (UnterminatedExpression rest.now)
-IfFault (refusal.Memory e) P = Unit {0}
+IfFault r P = IfSome (refused_fault r) P
 
 -- some tokens were read, and the fault is where they cannot go on
-pub record StopsAt (l : Ahead) (P : List Lexeme → Type 0) (fault : Fault) : Type 0 where
+pub record StopsAt (g : Grammar) (l : Ahead) (P : List Lexeme → Type 0) (fault : Fault) : Type 0 where
   pub us : List Placed
   pub stop : Ahead
   pub path : Path l us stop
-  pub stuck : (ts : List Lexeme) → P ts → IsStuck stop.text (ts ++ lexemes us) stop.item fault
+  pub stuck : (ts : List Lexeme) → P ts → IsStuck g stop.text (ts ++ lexemes us) stop.item fault
 
-abbrev pub Stops : Ahead → (List Lexeme → Type 0) → Refusal → Type 0
-Stops l P r = IfFault r (StopsAt l P)
+abbrev pub Stops : Grammar → Ahead → (List Lexeme → Type 0) → Refusal → Type 0
+Stops g l P r = IfFault r (StopsAt g l P)
 
--- the item ahead is refused
+-- the item ahead is refused, behind tokens that are not accepted and behind which these are the words for what is
+-- expected
 abbrev pub RefusesNext : Ahead → List ℕ → List ℕ → Refusal → Type 0
-RefusesNext l expected at_end r = IfFault r (λ fault. fault ≡ misfit expected at_end (next_of l.text l.item))
+RefusesNext l expected at_end r =
+    (g : Grammar) (last : Option Lexeme) → expected_token g last ≡ expected → expected_end g last ≡ at_end
+    → IfFault r (λ fault. fault_of g false last (next_of l.text l.item) ≡ Some fault)
 
+-- the item ahead is refused, behind tokens that are accepted
 abbrev pub RefusesMore : Ahead → Refusal → Type 0
-RefusesMore l r = IfFault r (λ fault. IsSurplus (next_of l.text l.item) fault)
+RefusesMore l r =
+    (g : Grammar) (last : Option Lexeme)
+    → IfFault r (λ fault. fault_of g true last (next_of l.text l.item) ≡ Some fault)
 
 -- ---- names and pairs
 
@@ -277,38 +246,7 @@ RefusesMore l r = IfFault r (λ fault. IsSurplus (next_of l.text l.item) fault)
 abbrev pub HasRead : Ahead → Ahead → List Lexeme → Type 0
 HasRead old new read = Reads old new (λ ts. ts ≡ []) (λ ts. ts ≡ read)
 
--- the string ahead is taken, and this is its pair with the key
-abbrev pub TakesValue : Ahead → Ahead → Name → CfgValue → Type 0
-TakesValue old new key value = (v : List ℕ) × TakesToken old new (String v) × (value ≡ KeyPair key v)
-
--- no string is ahead where one has to be, which is the fault
-abbrev pub IsNoString : Ahead → Fault → Type 0
-IsNoString l fault = LacksString l × (fault ≡ misfit (codes "a string") (codes "a string") (next_of l.text l.item))
-
-abbrev pub LacksValue : Ahead → Refusal → Type 0
-LacksValue l r = IfFault r (IsNoString l)
-
--- behind these tokens of a name or a pair the item ahead does not fit, which is the fault
-abbrev pub IsValueStop : List Lexeme → Ahead → Fault → Type 0
-IsValueStop [] l fault =
-    LacksName l × (fault ≡ misfit (codes "identifier") (codes "identifier") (next_of l.text l.item))
-IsValueStop (Ident raw name ∷ []) l fault = LacksMark l marks.Equals × IsSurplus (next_of l.text l.item) fault
-IsValueStop (Ident raw name ∷ Equals ∷ []) l fault = IsNoString l fault
-IsValueStop (Ident raw name ∷ Equals ∷ String value ∷ []) l fault = IsSurplus (next_of l.text l.item) fault
-IsValueStop ts l fault = ⊥
-
 -- no `=` is ahead behind a name alone
 abbrev pub ClearBehind : CfgValue → Ahead → Type 0
 ClearBehind (Alone n) l = LacksMark l marks.Equals
 ClearBehind (KeyPair k v) l = Unit {0}
-
--- behind a key and `=` no string is ahead
-abbrev pub StopsKey : Ahead → Lexeme → Refusal → Type 0
-StopsKey l t r =
-    IfFault r
-    (λ fault. (stop : Ahead) × Reads l stop (λ ts. ts ≡ t ∷ []) (λ ts. ts ≡ t ∷ Equals ∷ [])
-    × IsNoString stop fault)
-
-abbrev pub StopsValue : Ahead → Refusal → Type 0
-StopsValue l r =
-    IfFault r (λ fault. (read : List Lexeme) × (stop : Ahead) × HasRead l stop read × IsValueStop read stop fault)

@@ -1,5 +1,4 @@
-use Rattle.cargo_platform.proofs.OneTree.{was_spelled}
-use Rattle.cargo_platform.proofs.Changes.{refused_for_literal_keys}
+use Rattle.cargo_platform.proofs.Changes.{was_spelled, refused_for_literal_keys}
 use Rattle.cargo_platform.proofs.laws.literals_are_no_keys.Goals as goal
 
 pub returns-clause-spelled : goal.returns-clause-spelled

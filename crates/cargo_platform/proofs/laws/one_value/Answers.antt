@@ -1,4 +1,4 @@
-use Rattle.cargo_platform.proofs.OneValue.{one_value}
+use Rattle.cargo_platform.proofs.OneText.{one_value}
 use Rattle.cargo_platform.proofs.laws.one_value.Goals as goal
 
 pub returns : goal.returns

@@ -4,6 +4,7 @@ use Rattle.cargo_platform.specs.Tokens.{Ident}
 use Rattle.cargo_platform.specs.declared.reader.Mark.TheVariants as marks
 use Rattle.cargo_platform.specs.Inside.Ahead.{Ahead}
 use Rattle.cargo_platform.specs.Inside.Parsing.{stack, Wants, HasName, Stands, LacksMark}
+use Rattle.cargo_platform.specs.Spelling.{Expressions}
 use Rattle.cargo_platform.proofs.Parsing.{taken_shorter, reads_shorter, if_ok, if_err, reads_taken, reads_then}
 use Rattle.cargo_platform.proofs.Parsing.{stops_then, stops_untaken, wants_refusing, wants_name}
 use Rattle.cargo_platform.proofs.parser.begin.Goals as goal
@@ -30,7 +31,7 @@ returns-in-Some-clause-refused c =
     let raw = c.in-Some.raw in
     let name = c.in-Some.name.now in
     if_err c.behind_name.result _ _ (λ r a.
-    stops_then l m (Wants gs) (HasName gs raw name) r
+    stops_then Expressions l m (Wants gs) (HasName gs raw name) r
     (reads_taken l m (Ident raw name) (Wants gs) (HasName gs raw name) c.in-Some.ensures.taken
     (λ ts p. wants_name gs raw name ts p)) a)
     c.behind_name.ensures.refused

@@ -1,6 +1,11 @@
-use Rattle.cargo_platform.specs.Trees.{tree_of}
-use Rattle.cargo_platform.specs.Inside.Parsing.{stack, Has, HasName}
-use Rattle.cargo_platform.proofs.Parsing.{reads_same, literal_lone}
+use Rattle.std.proofs.Common.{◌≡◌, sym, subst, Some}
+use Rattle.std.proofs.lemmas.Result.{err_from_is_err_and}
+use Rattle.cargo_platform.specs.Trees.{Name, Tree, tree_of, value_of}
+use Rattle.cargo_platform.specs.Spelling.{Expressions}
+use Rattle.cargo_platform.specs.Walk.{Named, walk}
+use Rattle.cargo_platform.specs.Inside.Parsing.{stack, kinds, Has, HasName, Reads}
+use Rattle.cargo_platform.proofs.TreeViews.{tree_of-Value}
+use Rattle.cargo_platform.proofs.Parsing.{reads_same, stops_from, literal_lone, value_stands, name_walk}
 use Rattle.cargo_platform.proofs.parser.behind_name.Goals as goal
 
 pub returns-in-Some-literal_named-clause-begun : goal.returns-in-Some-literal_named-clause-begun
@@ -11,3 +16,27 @@ returns-in-Some-literal_named-clause-begun c =
     let is = c.in-Some-literal_named.ensures in
     reads_same l (HasName gs c.args.raw c.args.name.now) (Has gs e l.item)
     (λ ts p. literal_lone gs c.args.raw c.args.name.now e l.item ts is.1 is.0 p)
+
+pub returns-in_err-value-clause-refused : goal.returns-in_err-value-clause-refused
+returns-in_err-value-clause-refused c =
+    let l = c.args.reader.now in
+    let gs = stack c.args.groups.now in
+    let n : Name = record { raw = c.args.raw; name = c.args.name.now } in
+    let r = c.in_err-value.field-0.0 in
+    let p = err_from_is_err_and c.from_residual-in_err-value.result c.from_residual-in_err-value.ensures.1 in
+    rw (p.1, p.2)
+    (stops_from Expressions l (HasName gs n.raw n.name) (λ ts. walk Expressions ts ≡ Some (Named (kinds gs))) r
+    (λ ts h. name_walk gs n ts (c.in_default.ensures, c.in_default-literal_named.ensures) h)
+    (c.in_err-value.ensures.refused Expressions (kinds gs)))
+
+pub returns-clause-begun : goal.returns-clause-begun
+returns-clause-begun c =
+    let l = c.args.reader.now in
+    let m = c.read_value.new.reader in
+    let gs = stack c.args.groups.now in
+    let n : Name = record { raw = c.args.raw; name = c.args.name.now } in
+    let v = c.in_ok-value.value in
+    let H : Tree → Type 0 = λ z. Reads l m (HasName gs n.raw n.name) (Has gs z m.item) in
+    subst H (sym (tree_of-Value v))
+    (value_stands l m gs n (value_of v) (c.in_default.ensures, c.in_default-literal_named.ensures)
+    c.in_ok-value.ensures.value c.in_ok-value.ensures.clear)

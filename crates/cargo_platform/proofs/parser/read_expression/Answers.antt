@@ -5,7 +5,8 @@ use Rattle.cargo_platform.specs.Inside.Ahead.{Ahead}
 use Rattle.cargo_platform.specs.Tokens.{Lexeme, Comma}
 use Rattle.cargo_platform.specs.Trees.{tree_of}
 use Rattle.cargo_platform.specs.Inside.Parsing.{Opening, opening, stack, with_last, Wants, Has, Stands, Reads}
-use Rattle.cargo_platform.proofs.Parsing.{reads_taken, reads_then, stops_then, comma_taken}
+use Rattle.cargo_platform.specs.Spelling.{Expressions}
+use Rattle.cargo_platform.proofs.Parsing.{reads_taken, reads_then, stops_then, stops_behind, comma_taken, tree_whole}
 use Rattle.cargo_platform.proofs.parser.read_expression.Goals as goal
 
 -- nothing was read
@@ -77,7 +78,7 @@ returns-in_err-done-clause-refused c =
     let r = c.in_err-done.field-0.0 in
     let p = err_from_is_err_and c.from_residual.result c.from_residual.ensures.1 in
     rw (p.1, p.2)
-    (stops_then a l Nothing (Wants gs) r
+    (stops_then Expressions a l Nothing (Wants gs) r
     (subst D c.in_default.is c.groups.invariant.reads) c.in_err-done.ensures.refused)
 
 pub returns-in_err-close_group-clause-refused : goal.returns-in_err-close_group-clause-refused
@@ -96,6 +97,22 @@ returns-in_err-close_group-clause-refused c =
     let p = err_from_is_err_and c.from_residual-in_err-close_group.result
     c.from_residual-in_err-close_group.ensures.1 in
     rw (p.1, p.2)
-    (stops_then a k Nothing (Has os e k.item) r
+    (stops_then Expressions a k Nothing (Has os e k.item) r
     (subst R (sym n.0) (subst G c.in-Some-pop.ensures (subst D c.in-Some.is c.groups.invariant.reads)))
     (c.in_err-close_group.ensures.refused (stack c.pop.new.self)))
+
+pub returns-in_default-pop-clause-refused : goal.returns-in_default-pop-clause-refused
+returns-in_default-pop-clause-refused c =
+    let a = c.args.reader.now in
+    let l = c.groups.reader in
+    let k = c.eat_comma.new.reader in
+    let gs = stack c.groups.groups in
+    let e = tree_of c.in-Some.e in
+    let r = c.in-Err.refusal in
+    let D : Option CfgExpr → Type 0 = λ z. Reads a l Nothing (Stands gs z l.item) in
+    let G : List Opening → Type 0 = λ z. Reads a l Nothing (Has z e l.item) in
+    let R : Ahead → Type 0 = λ z. Reads a z Nothing (Has [] e z.item) in
+    stops_then Expressions a k Nothing (Has [] e k.item) r
+    (subst R (sym (c.eat_comma.ensures.not_taken c.if-eat_comma.false).0)
+    (subst G c.in_default-pop.ensures.0 (subst D c.in-Some.is c.groups.invariant.reads)))
+    (stops_behind k (Has [] e k.item) r c.in-Err.ensures.more (λ ts p. tree_whole k e ts p))

@@ -2,9 +2,11 @@ use Rattle.std.proofs.Common.{Ok, Err}
 use Rattle.cargo_platform.specs.declared.cfg.Cfg.{Cfg}
 use Rattle.cargo_platform.specs.Trees.{value_of}
 use Rattle.cargo_platform.specs.Errors.{fault_in}
-use Rattle.cargo_platform.proofs.ReaderAnswers.{value_read, fault_is, parse_is}
+use Rattle.cargo_platform.specs.Spelling.{Values}
+use Rattle.cargo_platform.proofs.ReaderAnswers.{value_read, parse_is}
+use Rattle.cargo_platform.proofs.Parsing.{fault_is}
+use Rattle.cargo_platform.proofs.Refusing.{stops_refused}
 use Rattle.cargo_platform.proofs.TextLaws.{value_laws, formed_answer, refused_answer, answer_back}
-use Rattle.cargo_platform.proofs.ValueReading.{value_stop_refused}
 use Rattle.cargo_platform.proofs.cfg.Cfg.from_str.Goals as goal
 
 pub returns-in-Ok : goal.returns-in-Ok
@@ -30,7 +32,7 @@ returns-in-Err c =
     let b = c.into_error.ensures in
     let fault = parse_is Cfg r s x _ b
     (λ e o f. fault_is r (fault_in e) _ f
-    (value_stop_refused s c.new-reader.result r c.utf8.s c.new-reader.ensures.text c.new-reader.ensures.first
+    (stops_refused Values s c.new-reader.result r c.utf8.s c.new-reader.ensures.text c.new-reader.ensures.first
     c.in-Err.ensures.refused)) in
     let none = refused_answer value_laws {B = Cfg} s (Err x) fault in
     record {

@@ -6,7 +6,8 @@ use Rattle.cargo_platform.specs.Trees.{tree_of}
 use Rattle.cargo_platform.specs.Spelling.{Expressions, IsTreeText}
 use Rattle.cargo_platform.specs.Faults.{IsRefused}
 use Rattle.cargo_platform.specs.Errors.{IfParse, orig_of, fault_in}
-use Rattle.cargo_platform.proofs.ReaderAnswers.{expression_read, fault_is, parse_is}
+use Rattle.cargo_platform.proofs.ReaderAnswers.{expression_read, parse_is}
+use Rattle.cargo_platform.proofs.Parsing.{fault_is}
 use Rattle.cargo_platform.proofs.Refusing.{stops_refused}
 use Rattle.cargo_platform.proofs.TextLaws.{tree_laws, formed_answer, refused_answer, answer_back}
 use Rattle.cargo_platform.proofs.cfg.CfgExpr.from_str_counted.Goals as goal
@@ -42,7 +43,7 @@ returns-clause-fault c =
       | in-Err w ↦ subst P (sym w.read-is)
           (parse_is CfgExpr w.in-Err.refusal s w.into_error.result _ w.into_error.ensures
           (λ e o f. fault_is w.in-Err.refusal (fault_in e) _ f
-          (stops_refused s c.new-reader.result w.in-Err.refusal c.utf8.s c.new-reader.ensures.text
+          (stops_refused Expressions s c.new-reader.result w.in-Err.refusal c.utf8.s c.new-reader.ensures.text
           c.new-reader.ensures.first w.in-Err.ensures.refused)))
     ]
 

@@ -6,7 +6,7 @@ use Rattle.cargo_platform.specs.Chars.{is_identifier_start}
 use Rattle.cargo_platform.specs.Tokens.{Ident}
 use Rattle.cargo_platform.specs.Inside.Ahead.{Ahead}
 use Rattle.cargo_platform.specs.Inside.Coming.{ahead_at, IsReadingAt}
-use Rattle.cargo_platform.specs.Inside.Misfits.{IsIdentifier}
+use Rattle.cargo_platform.specs.Inside.Parsing.{IsIdentifier}
 use Rattle.cargo_platform.specs.Inside.Parsing.{TakesToken, Lacks}
 use Rattle.cargo_platform.specs.Inside.Scanning.{IsTokenAt}
 use Rattle.cargo_platform.proofs.Looking.{ascii_step}

@@ -4,7 +4,7 @@ use Rattle.cargo_platform.specs.declared.tokens.TokenFaultKind.TheVariants.{Unte
 use Rattle.cargo_platform.specs.Tokens.{Lexeme, String, written}
 use Rattle.cargo_platform.specs.Inside.Ahead.{Ahead}
 use Rattle.cargo_platform.specs.Inside.Coming.{ahead_at, IsReadingAt}
-use Rattle.cargo_platform.specs.Inside.Misfits.{IsString}
+use Rattle.cargo_platform.specs.Inside.Parsing.{IsString}
 use Rattle.cargo_platform.specs.Inside.Parsing.{TakesToken, Lacks}
 use Rattle.cargo_platform.proofs.OneCut.{head_of}
 use Rattle.cargo_platform.proofs.Looking.{ascii_step}

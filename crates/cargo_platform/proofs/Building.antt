@@ -1,0 +1,340 @@
+-- The automaton of expressions with the trees that it builds: what spells a tree leads to that tree, and to no other.
+use Rattle.std.proofs.Common.{◌≡◌, refl, sym, ap, subst, ◌∙◌, ℕ, Bool, true, false, true≢false, List, [], ◌∷◌, ◌++◌}
+use Rattle.std.proofs.Common.{Option, Some, None, codes, inl, inr, ◌⊎◌, append_assoc, append-nil}
+use Rattle.std.specs.Prelude.{IsFalse, bytes_eq, if◌then◌else◌}
+use Rattle.cargo_platform.specs.Tokens.{Lexeme, LeftParen, RightParen, Ident, Comma, Equals, String}
+use Rattle.cargo_platform.specs.Trees.{Name, CfgValue, Alone, KeyPair, Tree, Not, All, Any, Value, True, False, Trees}
+use Rattle.cargo_platform.specs.Trees.{none, tree, trees_of}
+use Rattle.cargo_platform.specs.Spelling.{Role, GroupWord, LiteralWord, PlainName, role, is_group_word, MayStand}
+use Rattle.cargo_platform.specs.Spelling.{joined}
+use Rattle.cargo_platform.specs.Spelling.{IsMemberList, SpellsLiteral, SpellsBy, SpellEachBy, Grammar, Values}
+use Rattle.cargo_platform.specs.Spelling.{Expressions, IsAccepted}
+use Rattle.cargo_platform.specs.Faults.{IsCompletable}
+use Rattle.cargo_platform.specs.Earlier.{MayStandTransitional}
+use Rattle.cargo_platform.specs.Walk.{Word, Several, Negation, State, Wanted, Behind, Keyed, Ended, after, after_role}
+use Rattle.cargo_platform.specs.Walk.{after_expression, walk_from, walk}
+use Rattle.cargo_platform.specs.Inside.Parsing.{Opening, Negated, Listed, list_tree, kind, kinds, is_lone}
+use Rattle.cargo_platform.proofs.Roles.{IsOfRole, of_role, plain_name}
+use Rattle.cargo_platform.proofs.Walk.{none_some, walk_from-append, begins, ends, after_begins, after_end}
+
+-- what was read: the groups that are open, and what stands behind them
+pub data Position : Type 0 where
+  Wanting : List Opening → Position
+  WithWord : Opening → List Opening → Position
+  WithKey : Name → List Opening → Position
+  WithTree : Tree → List Opening → Position
+
+-- the group that a word opens, and the literal that a word is
+abbrev pub opened_by : List ℕ → Opening
+opened_by name = if bytes_eq name (codes "not") then Negated else Listed (bytes_eq name (codes "all")) []
+
+abbrev pub literal_of : List ℕ → Tree
+literal_of name = if bytes_eq name (codes "true") then True else False
+
+abbrev pub at_role : Role → Name → List Opening → Position
+at_role GroupWord n gs = WithWord (opened_by n.name) gs
+at_role LiteralWord n gs = WithTree (literal_of n.name) gs
+at_role PlainName n gs = WithTree (Value (Alone n)) gs
+
+-- the key that an expression is before `=`; the flag says that unmarked literals may be keys, as they once were
+abbrev pub key_of : Bool → Tree → Option Name
+key_of keys (Value (Alone n)) = Some n
+key_of true True = Some (record { raw = false; name = codes "true" })
+key_of true False = Some (record { raw = false; name = codes "false" })
+key_of keys e = None
+
+abbrev pub at_key : Option Name → List Opening → Option Position
+at_key None gs = None
+at_key (Some n) gs = Some (WithKey n gs)
+
+abbrev pub behind_tree : Tree → List Opening → Lexeme → Option Position
+behind_tree e (Negated ∷ gs) RightParen = Some (WithTree (Not e) gs)
+behind_tree e (Listed all es ∷ gs) RightParen = Some (WithTree (list_tree all (es ++ e ∷ [])) gs)
+behind_tree e (Listed all es ∷ gs) Comma = Some (Wanting (Listed all (es ++ e ∷ []) ∷ gs))
+behind_tree e gs t = None
+
+abbrev pub lead : Bool → Position → Lexeme → Option Position
+lead keys (Wanting gs) (Ident raw name) =
+    let n : Name = record { raw = raw; name = name } in
+    Some (at_role (role n) n gs)
+lead keys (Wanting (Listed all es ∷ gs)) RightParen = Some (WithTree (list_tree all es) gs)
+lead keys (WithWord o gs) LeftParen = Some (Wanting (o ∷ gs))
+lead keys (WithKey n gs) (String v) = Some (WithTree (Value (KeyPair n v)) gs)
+lead keys (WithTree e gs) Equals = at_key (key_of keys e) gs
+lead keys (WithTree e gs) t = behind_tree e gs t
+lead keys p t = None
+
+abbrev pub lead_from : Bool → Option Position → List Lexeme → Option Position
+lead_from keys None ts = None
+lead_from keys (Some p) [] = Some p
+lead_from keys (Some p) (t ∷ ts) = lead_from keys (lead keys p t) ts
+
+pub lead_on : (keys : Bool) (p : Option Position) (ts us : List Lexeme)
+    → lead_from keys p (ts ++ us) ≡ lead_from keys (lead_from keys p ts) us
+lead_on keys None ts us = refl
+lead_on keys (Some p) [] us = refl
+lead_on keys (Some p) (t ∷ ts) us = lead_on keys (lead keys p t) ts us
+
+-- ---- names and keys
+
+abbrev pub may_of : Bool → CfgValue → Type 0
+may_of true = MayStandTransitional
+may_of false = MayStand
+
+alone_plain : (keys : Bool) (n : Name) → may_of keys (Alone n) → role n ≡ PlainName
+alone_plain true n may = plain_name n may
+alone_plain false n may = plain_name n may
+
+abbrev word : List ℕ → Name
+word name = record { raw = false; name = name }
+
+-- a key and its string
+abbrev KeyLeads : Bool → List ℕ → List Opening → List Lexeme → Name → Type 0
+KeyLeads keys v gs x k =
+    lead_from keys (Some (at_role (role k) k gs)) (Equals ∷ String v ∷ x)
+    ≡ lead_from keys (Some (WithTree (Value (KeyPair k v)) gs)) x
+
+unmarked : (k : Name) (name : List ℕ) → k.raw ≡ false → k.name ≡ name → word name ≡ k
+unmarked k name raw is = λ i. record { raw = sym raw i; name = sym is i }
+
+key_leads : (keys : Bool) (k : Name) (v : List ℕ) (gs : List Opening) (x : List Lexeme) → may_of keys (KeyPair k v)
+    → KeyLeads keys v gs x k
+key_leads false k v gs x may =
+    ap (λ r. lead_from false (Some (at_role r k gs)) (Equals ∷ String v ∷ x)) (plain_name k may)
+key_leads true k v gs x may = go (role k) refl (of_role k)
+  where
+    K : Name → Type 0
+    K z = KeyLeads true v gs x z
+
+    G : Name → Type 0
+    G z = IsFalse (is_group_word z) → K k
+
+    go : (r : Role) → role k ≡ r → IsOfRole k r → KeyLeads true v gs x k
+    go PlainName is o = ap (λ r. lead_from true (Some (at_role r k gs)) (Equals ∷ String v ∷ x)) is
+    go LiteralWord is (raw, inl name) = subst K (unmarked k (codes "true") raw name) refl
+    go LiteralWord is (raw, inr name) = subst K (unmarked k (codes "false") raw name) refl
+    go GroupWord is (raw, inl name) = subst G (unmarked k (codes "not") raw name) (λ h. absurd (true≢false h)) may
+    go GroupWord is (raw, inr (inl name)) =
+        subst G (unmarked k (codes "all") raw name) (λ h. absurd (true≢false h)) may
+    go GroupWord is (raw, inr (inr name)) =
+        subst G (unmarked k (codes "any") raw name) (λ h. absurd (true≢false h)) may
+
+-- ---- what spells a tree leads to it
+
+abbrev list_of : Trees → List Tree
+list_of none = []
+list_of (tree e es) = e ∷ list_of es
+
+same_trees : (es : Trees) → trees_of (list_of es) ≡ es
+same_trees none = refl
+same_trees (tree e es) = ap (λ z. tree e z) (same_trees es)
+
+-- from one position to another, with more tokens behind
+abbrev Leads : Bool → Position → List Lexeme → List Lexeme → Position → Type 0
+Leads keys p s x q = lead_from keys (Some p) (s ++ x) ≡ lead_from keys (Some q) x
+
+-- what may follow the first member of a group, up to its `)`
+abbrev IsAfter : List (List Lexeme) → List Lexeme → Type 0
+IsAfter [] ts = (ts ≡ []) ⊎ (ts ≡ Comma ∷ [])
+IsAfter (s ∷ ss) ts = (rest : List Lexeme) × (ts ≡ Comma ∷ (s ++ rest)) × IsAfter ss rest
+
+-- members and commas, as what stands after the first member
+after_first : (s : List Lexeme) (ss : List (List Lexeme)) (ts : List Lexeme) → IsMemberList (s ∷ ss) ts
+    → (rest : List Lexeme) × (ts ≡ s ++ rest) × IsAfter ss rest
+after_first s [] ts (inl h) = ([], h ∙ sym (append-nil s), inl refl)
+after_first s [] ts (inr h) = (Comma ∷ [], h, inr refl)
+after_first s (t ∷ ss) ts (inl h) =
+    let r = after_first t ss (joined (t ∷ ss)) (inl refl) in
+    (Comma ∷ joined (t ∷ ss), h, (r.0, ap (λ (z : List Lexeme). Comma ∷ z) r.1, r.2))
+after_first s (t ∷ ss) ts (inr h) =
+    let r = after_first t ss (joined (t ∷ ss) ++ Comma ∷ []) (inr refl) in (
+      Comma ∷ (joined (t ∷ ss) ++ Comma ∷ []),
+      h ∙ append_assoc s (Comma ∷ joined (t ∷ ss)) (Comma ∷ []),
+      (r.0, ap (λ (z : List Lexeme). Comma ∷ z) r.1, r.2),
+    )
+
+-- the tokens of a member, and those behind it up to `)`
+member_first : (keys : Bool) (p : Position) (i s rest x : List Lexeme) → i ≡ s ++ rest
+    → lead_from keys (Some p) ((i ++ RightParen ∷ []) ++ x)
+    ≡ lead_from keys (Some p) (s ++ ((rest ++ RightParen ∷ []) ++ x))
+member_first keys p i s rest x h =
+    ap (λ (z : List Lexeme). lead_from keys (Some p) ((z ++ RightParen ∷ []) ++ x)) h
+    ∙ ap (λ (z : List Lexeme). lead_from keys (Some p) (z ++ x)) (append_assoc s rest (RightParen ∷ []))
+    ∙ ap (lead_from keys (Some p)) (append_assoc s (rest ++ RightParen ∷ []) x)
+
+mutual
+  pub tree_leads : (keys : Bool) (e : Tree) (s : List Lexeme) (gs : List Opening) (x : List Lexeme)
+      → SpellsBy (may_of keys) SpellsLiteral e s → Leads keys (Wanting gs) s x (WithTree e gs)
+  tree_leads keys (Not e) s gs x p =
+      ap (λ (z : List Lexeme). lead_from keys (Some (Wanting gs)) (z ++ x)) p.2
+      ∙ ap (lead_from keys (Some (Wanting (Negated ∷ gs)))) (append_assoc p.0 (RightParen ∷ []) x)
+      ∙ tree_leads keys e p.0 (Negated ∷ gs) (RightParen ∷ x) p.1
+  tree_leads keys (All es) s gs x p =
+      ap (λ (z : List Lexeme). lead_from keys (Some (Wanting gs)) (z ++ x)) p.4
+      ∙ members_lead keys true es p.0 p.1 [] gs x p.2 p.3
+      ∙ ap (λ z. lead_from keys (Some (WithTree (All z) gs)) x) (same_trees es)
+  tree_leads keys (Any es) s gs x p =
+      ap (λ (z : List Lexeme). lead_from keys (Some (Wanting gs)) (z ++ x)) p.4
+      ∙ members_lead keys false es p.0 p.1 [] gs x p.2 p.3
+      ∙ ap (λ z. lead_from keys (Some (WithTree (Any z) gs)) x) (same_trees es)
+  tree_leads keys (Value (Alone n)) s gs x p =
+      ap (λ (z : List Lexeme). lead_from keys (Some (Wanting gs)) (z ++ x)) p.0
+      ∙ ap (λ r. lead_from keys (Some (at_role r n gs)) x) (alone_plain keys n p.1)
+  tree_leads keys (Value (KeyPair k v)) s gs x p =
+      ap (λ (z : List Lexeme). lead_from keys (Some (Wanting gs)) (z ++ x)) p.0 ∙ key_leads keys k v gs x p.1
+  tree_leads keys True s gs x p = ap (λ (z : List Lexeme). lead_from keys (Some (Wanting gs)) (z ++ x)) p
+  tree_leads keys False s gs x p = ap (λ (z : List Lexeme). lead_from keys (Some (Wanting gs)) (z ++ x)) p
+
+  members_lead : (keys all : Bool) (es : Trees) (ms : List (List Lexeme)) (i : List Lexeme) (before : List Tree)
+      (gs : List Opening) (x : List Lexeme) → SpellEachBy (may_of keys) SpellsLiteral es ms → IsMemberList ms i
+      → Leads keys (Wanting (Listed all before ∷ gs)) (i ++ RightParen ∷ []) x
+      (WithTree (list_tree all (before ++ list_of es)) gs)
+  members_lead keys all none [] i before gs x p q =
+      ap (λ (z : List Lexeme). lead_from keys (Some (Wanting (Listed all before ∷ gs))) ((z ++ RightParen ∷ []) ++ x)) q
+      ∙ ap (λ (z : List Tree). lead_from keys (Some (WithTree (list_tree all z) gs)) x) (sym (append-nil before))
+  members_lead keys all none (s ∷ ss) i before gs x p q = absurd p
+  members_lead keys all (tree e es) [] i before gs x p q = absurd p
+  members_lead keys all (tree e es) (s ∷ ss) i before gs x p q =
+      let d = after_first s ss i q in
+      member_first keys (Wanting (Listed all before ∷ gs)) i s d.0 x d.1
+      ∙ tree_leads keys e s (Listed all before ∷ gs) ((d.0 ++ RightParen ∷ []) ++ x) p.0
+      ∙ others_lead keys all e es ss d.0 before gs x p.1 d.2
+
+  others_lead : (keys all : Bool) (e : Tree) (es : Trees) (ms : List (List Lexeme)) (i : List Lexeme)
+      (before : List Tree) (gs : List Opening) (x : List Lexeme) → SpellEachBy (may_of keys) SpellsLiteral es ms
+      → IsAfter ms i
+      → Leads keys (WithTree e (Listed all before ∷ gs)) (i ++ RightParen ∷ []) x
+      (WithTree (list_tree all (before ++ e ∷ list_of es)) gs)
+  others_lead keys all e none [] i before gs x p (inl q) =
+      ap (λ (z : List Lexeme). lead_from keys (Some (WithTree e (Listed all before ∷ gs))) ((z ++ RightParen ∷ []) ++ x))
+      q
+  others_lead keys all e none [] i before gs x p (inr q) =
+      ap (λ (z : List Lexeme). lead_from keys (Some (WithTree e (Listed all before ∷ gs))) ((z ++ RightParen ∷ []) ++ x))
+      q
+  others_lead keys all e none (s ∷ ss) i before gs x p q = absurd p
+  others_lead keys all e (tree f es) [] i before gs x p q = absurd p
+  others_lead keys all e (tree f es) (s ∷ ss) i before gs x p q =
+      let more = before ++ e ∷ [] in
+      member_first keys (WithTree e (Listed all before ∷ gs)) i (Comma ∷ s) q.0 x q.1
+      ∙ tree_leads keys f s (Listed all more ∷ gs) ((q.0 ++ RightParen ∷ []) ++ x) p.0
+      ∙ others_lead keys all f es ss q.0 more gs x p.1 q.2
+      ∙ ap (λ (z : List Tree). lead_from keys (Some (WithTree (list_tree all z) gs)) x)
+      (append_assoc before (e ∷ []) (f ∷ list_of es))
+
+pub whole_leads : (keys : Bool) (e : Tree) (ts : List Lexeme) → SpellsBy (may_of keys) SpellsLiteral e ts
+    → lead_from keys (Some (Wanting [])) ts ≡ Some (WithTree e [])
+whole_leads keys e ts p =
+    ap (lead_from keys (Some (Wanting []))) (sym (append-nil ts)) ∙ tree_leads keys e ts [] [] p
+
+-- ---- the state is told by the position
+
+abbrev pub state_of : Position → State
+state_of (Wanting gs) = begins (kinds gs)
+state_of (WithWord o gs) = Behind (kind o) (kinds gs)
+state_of (WithKey n gs) = Keyed (kinds gs)
+state_of (WithTree e gs) = ends (is_lone e) (kinds gs)
+
+abbrev pub state_at : Option Position → Option State
+state_at None = None
+state_at (Some p) = Some (state_of p)
+
+-- no list is a name alone
+pub list_not_lone : (all : Bool) (es : List Tree) → is_lone (list_tree all es) ≡ false
+list_not_lone true es = refl
+list_not_lone false es = refl
+
+role_state : (r : Role) (n : Name) (gs : List Opening) → after_role r n.name (kinds gs) ≡ state_of (at_role r n gs)
+role_state GroupWord n gs =
+    elim (bytes_eq n.name (codes "not")) as (λ b. Behind (if b then Negation else Several) (kinds gs)
+    ≡ Behind (kind (if b then Negated else Listed (bytes_eq n.name (codes "all")) [])) (kinds gs)) [
+      | true ↦ refl
+      | false ↦ refl
+    ]
+role_state LiteralWord n gs =
+    elim (bytes_eq n.name (codes "true")) as
+    (λ b. Ended (kinds gs) ≡ ends (is_lone (if b then True else False)) (kinds gs)) [
+      | true ↦ refl
+      | false ↦ refl
+    ]
+role_state PlainName n gs = refl
+
+list_state : (all : Bool) (es : List Tree) (gs : List Opening)
+    → Some (Ended (kinds gs)) ≡ Some (state_of (WithTree (list_tree all es) gs))
+list_state all es gs = ap (λ b. Some (ends b (kinds gs))) (sym (list_not_lone all es))
+
+behind_state : (e : Tree) (gs : List Opening) (t : Lexeme)
+    → after_expression (kinds gs) t ≡ state_at (behind_tree e gs t)
+behind_state e (Listed all es ∷ gs) RightParen = list_state all (es ++ e ∷ []) gs
+behind_state e (Listed all es ∷ gs) t = refl
+behind_state e (Negated ∷ gs) RightParen = refl
+behind_state e (Negated ∷ gs) t = refl
+behind_state e [] t = refl
+
+no_equals : (ws : List Word) → after_expression ws Equals ≡ None
+no_equals [] = refl
+no_equals (Several ∷ ws) = refl
+no_equals (Negation ∷ ws) = refl
+
+tree_state : (e : Tree) (gs : List Opening) (t : Lexeme)
+    → after Expressions (ends (is_lone e) (kinds gs)) t ≡ state_at (lead false (WithTree e gs) t)
+tree_state (Value (Alone n)) gs Equals = refl
+tree_state e gs Equals = no_equals (kinds gs)
+tree_state e gs t = after_end Expressions (is_lone e) (kinds gs) t refl ∙ behind_state e gs t
+
+next_state : (p : Position) (t : Lexeme) → after Expressions (state_of p) t ≡ state_at (lead false p t)
+next_state (Wanting gs) (Ident raw name) =
+    let n : Name = record { raw = raw; name = name } in
+    after_begins (kinds gs) raw name ∙ ap Some (role_state (role n) n gs)
+next_state (Wanting (Listed all es ∷ gs)) RightParen = list_state all es gs
+next_state (Wanting (Listed all es ∷ gs)) t = refl
+next_state (Wanting (Negated ∷ gs)) t = refl
+next_state (Wanting []) t = refl
+next_state (WithWord Negated gs) LeftParen = refl
+next_state (WithWord Negated gs) t = refl
+next_state (WithWord (Listed all es) gs) LeftParen = refl
+next_state (WithWord (Listed all es) gs) t = refl
+next_state (WithKey n gs) (String v) = refl
+next_state (WithKey n gs) t = refl
+next_state (WithTree e gs) t = tree_state e gs t
+
+states : (p : Option Position) (ts : List Lexeme)
+    → walk_from Expressions (state_at p) ts ≡ state_at (lead_from false p ts)
+states None ts = refl
+states (Some p) [] = refl
+states (Some p) (t ∷ ts) = ap (λ s. walk_from Expressions s ts) (next_state p t) ∙ states (lead false p t) ts
+
+-- where tokens lead is told by the position
+pub walk_state : (ts : List Lexeme) → walk Expressions ts ≡ state_at (lead_from false (Some (Wanting [])) ts)
+walk_state ts = states (Some (Wanting [])) ts
+
+-- what leads to a tree spells no other
+pub one_built : (keys : Bool) (e f : Tree) (ts : List Lexeme) → SpellsBy (may_of keys) SpellsLiteral e ts
+    → SpellsBy (may_of keys) SpellsLiteral f ts → e ≡ f
+one_built keys e f ts p q = ap tree_at (sym (whole_leads keys e ts p) ∙ whole_leads keys f ts q)
+  where
+    tree_at : Option Position → Tree
+    tree_at (Some (WithTree e gs)) = e
+    tree_at p = True
+
+-- ---- what is accepted is walked
+
+-- what is accepted leads behind a value or an expression, with nothing open
+pub accepted_walks : (g : Grammar) (ts : List Lexeme) → IsAccepted g ts → (n : Bool) × (walk g ts ≡ Some (ends n []))
+accepted_walks Values ts (Alone n, h) = (true, ap (walk Values) h)
+accepted_walks Values ts (KeyPair k v, h) = (false, ap (walk Values) h)
+accepted_walks Expressions ts (e, p) = (is_lone e, walk_state ts ∙ ap state_at (whole_leads false e ts p))
+
+-- where a walk stops, nothing that follows makes the list accepted
+pub stopped : (g : Grammar) (ts more : List Lexeme) → walk g ts ≡ None → IsAccepted g (ts ++ more) → ⊥
+stopped g ts more h p =
+    let r = accepted_walks g (ts ++ more) p in
+    none_some
+    (sym (ap (λ s. walk_from g s more) h) ∙ sym (walk_from-append g (Some (Wanted [])) ts more) ∙ r.1)
+
+-- what can be completed is walked
+pub completable_walks : (g : Grammar) (ts : List Lexeme) → IsCompletable g ts → (s : State) × (walk g ts ≡ Some s)
+completable_walks g ts p =
+    elim (walk g ts) as (λ o. walk g ts ≡ o → (s : State) × (walk g ts ≡ Some s)) [
+      | None ↦ λ h. absurd (stopped g ts p.0 h p.2)
+      | Some s ↦ λ h. (s, h)
+    ] refl

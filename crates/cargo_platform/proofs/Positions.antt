@@ -1,0 +1,329 @@
+-- Where a reader of expressions can stand: which tokens lead there, and how the next one leads on.
+use Rattle.std.proofs.Common.{◌≡◌, refl, sym, ap, subst, ◌∙◌, ℕ, Bool, true, false, List, [], ◌∷◌, ◌++◌, Option, Some}
+use Rattle.std.proofs.Common.{None, codes, inl, inr, append_assoc, append-nil}
+use Rattle.std.proofs.lemmas.Option.{same_Some}
+use Rattle.cargo_platform.specs.Tokens.{Lexeme, LeftParen, RightParen, Ident, Comma, Equals, String, plain}
+use Rattle.cargo_platform.specs.Trees.{Name, Alone, KeyPair, Tree, Not, Value, trees_of}
+use Rattle.cargo_platform.specs.Spelling.{identifier, MayStand, group, joined, IsMemberList, Spells, SpellEach}
+use Rattle.cargo_platform.specs.Spelling.{Expressions, Role, GroupWord, LiteralWord, PlainName, role}
+use Rattle.cargo_platform.specs.Walk.{Word, State, Behind, after_name, walk}
+use Rattle.cargo_platform.specs.Inside.Parsing.{Opening, Negated, Listed, list_word, list_tree, opening_word}
+use Rattle.cargo_platform.specs.Inside.Parsing.{kind, kinds, finished, Wants, EndsWith, is_lone, HasWord}
+use Rattle.cargo_platform.proofs.Roles.{IsGroupWord, IsLiteralWord, IsOfRole, of_role}
+use Rattle.cargo_platform.proofs.Walk.{none_some, walk_next, begins, ends, after_begins}
+use Rattle.cargo_platform.proofs.Building.{Position, Wanting, WithWord, WithKey, WithTree, opened_by, literal_of}
+use Rattle.cargo_platform.proofs.Building.{at_role}
+use Rattle.cargo_platform.proofs.Building.{key_of, at_key, behind_tree, lead, lead_from, lead_on, tree_leads, state_of}
+use Rattle.cargo_platform.proofs.Building.{state_at, walk_state}
+
+-- ---- members
+
+each_snoc : (es : List Tree) (ss : List (List Lexeme)) (f : Tree) (s : List Lexeme) → SpellEach (trees_of es) ss
+    → Spells f s → SpellEach (trees_of (es ++ f ∷ [])) (ss ++ s ∷ [])
+each_snoc [] [] f s p q = (q, tt)
+each_snoc [] (t ∷ ss) f s p q = absurd p
+each_snoc (e ∷ es) [] f s p q = absurd p
+each_snoc (e ∷ es) (t ∷ ss) f s p q = (p.0, each_snoc es ss f s p.1 q)
+
+finished_snoc : (ss : List (List Lexeme)) (s : List Lexeme)
+    → finished (ss ++ s ∷ []) ≡ finished ss ++ (s ++ Comma ∷ [])
+finished_snoc [] s = refl
+finished_snoc (t ∷ ss) s =
+    ap (λ (z : List Lexeme). t ++ (Comma ∷ z)) (finished_snoc ss s)
+    ∙ sym (append_assoc t (Comma ∷ finished ss) (s ++ Comma ∷ []))
+
+-- the members with one more, and no comma behind it
+joined_snoc : (ss : List (List Lexeme)) (s : List Lexeme) → finished ss ++ s ≡ joined (ss ++ s ∷ [])
+joined_snoc [] s = refl
+joined_snoc (t ∷ []) s = append_assoc t (Comma ∷ []) s
+joined_snoc (t ∷ u ∷ ss) s =
+    append_assoc t (Comma ∷ finished (u ∷ ss)) s ∙ ap (λ (z : List Lexeme). t ++ (Comma ∷ z)) (joined_snoc (u ∷ ss) s)
+
+list_snoc : (ss : List (List Lexeme)) (s : List Lexeme) → IsMemberList (ss ++ s ∷ []) (finished ss ++ s)
+list_snoc [] s = inl refl
+list_snoc (t ∷ ss) s = inl (joined_snoc (t ∷ ss) s)
+
+joined_comma : (s : List Lexeme) (ss : List (List Lexeme)) → finished (s ∷ ss) ≡ joined (s ∷ ss) ++ Comma ∷ []
+joined_comma s [] = refl
+joined_comma s (t ∷ ss) =
+    ap (λ (z : List Lexeme). s ++ (Comma ∷ z)) (joined_comma t ss)
+    ∙ sym (append_assoc s (Comma ∷ joined (t ∷ ss)) (Comma ∷ []))
+
+list_finished : (ss : List (List Lexeme)) → IsMemberList ss (finished ss)
+list_finished [] = refl
+list_finished (s ∷ ss) = inr (joined_comma s ss)
+
+listed : (all : Bool) (es : List Tree) (ss : List (List Lexeme)) (inner : List Lexeme) → SpellEach (trees_of es) ss
+    → IsMemberList ss inner → Spells (list_tree all es) (group (list_word all) inner)
+listed true es ss inner p q = (ss, inner, p, q, refl)
+listed false es ss inner p q = (ss, inner, p, q, refl)
+
+-- ---- from one token to the next
+
+-- a key and `=` were read last
+pub record HasKey (gs : List Opening) (n : Name) (ts : List Lexeme) : Type 0 where
+  pub before : List Lexeme
+  pub wanted : Wants gs before
+  pub may : MayStand (Alone n)
+  pub is : ts ≡ before ++ (identifier n ∷ Equals ∷ [])
+
+pub word_open : (gs : List Opening) (o : Opening) (ts : List Lexeme) → HasWord gs o ts
+    → Wants (o ∷ gs) (ts ++ LeftParen ∷ [])
+word_open gs Negated ts h = (
+  h.before,
+  h.wanted,
+  ap (λ (z : List Lexeme). z ++ LeftParen ∷ []) h.is
+      ∙ append_assoc h.before (plain (codes "not") ∷ []) (LeftParen ∷ []),
+)
+word_open gs (Listed all es) ts h =
+    let E : List Tree → Type 0 = λ z. SpellEach (trees_of z) [] in (
+      h.before,
+      [],
+      h.wanted,
+      subst E (sym h.fresh) tt,
+      ap (λ (z : List Lexeme). z ++ LeftParen ∷ []) h.is
+          ∙ append_assoc h.before (plain (list_word all) ∷ []) (LeftParen ∷ []),
+    )
+
+pub name_ends : (gs : List Opening) (n : Name) (ts : List Lexeme) → Wants gs ts → MayStand (Alone n)
+    → EndsWith gs (Value (Alone n)) (ts ++ identifier n ∷ [])
+name_ends gs n ts w may = (ts, identifier n ∷ [], w, (refl, may), refl)
+
+pub name_key : (gs : List Opening) (n : Name) (ts : List Lexeme) → EndsWith gs (Value (Alone n)) ts
+    → HasKey gs n (ts ++ Equals ∷ [])
+name_key gs n ts h = record {
+  before = h.0;
+  wanted = h.2;
+  may = h.3.1;
+  is =
+      ap (λ (z : List Lexeme). z ++ Equals ∷ []) (h.4 ∙ ap (λ (z : List Lexeme). h.0 ++ z) h.3.0)
+      ∙ append_assoc h.0 (identifier n ∷ []) (Equals ∷ []);
+}
+
+pub key_pair : (gs : List Opening) (n : Name) (v : List ℕ) (ts : List Lexeme) → HasKey gs n ts
+    → EndsWith gs (Value (KeyPair n v)) (ts ++ String v ∷ [])
+key_pair gs n v ts h = (
+  h.before,
+  identifier n ∷ Equals ∷ String v ∷ [],
+  h.wanted,
+  (refl, h.may),
+  ap (λ (z : List Lexeme). z ++ String v ∷ []) h.is
+      ∙ append_assoc h.before (identifier n ∷ Equals ∷ []) (String v ∷ []),
+)
+
+abbrev head : Bool → List Lexeme → List Lexeme
+head all inner = plain (list_word all) ∷ LeftParen ∷ inner
+
+-- `)` behind `all(` or behind a comma
+pub members_close : (gs : List Opening) (all : Bool) (es : List Tree) (ts : List Lexeme) → Wants (Listed all es ∷ gs) ts
+    → EndsWith gs (list_tree all es) (ts ++ RightParen ∷ [])
+members_close gs all es ts o = (
+  o.0,
+  group (list_word all) (finished o.1),
+  o.2,
+  listed all es o.1 (finished o.1) o.3 (list_finished o.1),
+  ap (λ (z : List Lexeme). z ++ RightParen ∷ []) o.4 ∙ append_assoc o.0 (head all (finished o.1)) (RightParen ∷ []),
+)
+
+pub negation_close : (gs : List Opening) (e : Tree) (ts : List Lexeme) → EndsWith (Negated ∷ gs) e ts
+    → EndsWith gs (Not e) (ts ++ RightParen ∷ [])
+negation_close gs e ts o =
+    let b = o.2 in (
+      b.0,
+      group (codes "not") o.1,
+      b.1,
+      (o.1, o.3, refl),
+      ap (λ (z : List Lexeme). z ++ RightParen ∷ [])
+          (o.4 ∙ ap (λ (z : List Lexeme). z ++ o.1) b.2 ∙ append_assoc b.0 (plain (codes "not") ∷ LeftParen ∷ []) o.1)
+          ∙ append_assoc b.0 (plain (codes "not") ∷ LeftParen ∷ o.1) (RightParen ∷ []),
+    )
+
+pub list_close : (gs : List Opening) (all : Bool) (es : List Tree) (e : Tree) (ts : List Lexeme)
+    → EndsWith (Listed all es ∷ gs) e ts → EndsWith gs (list_tree all (es ++ e ∷ [])) (ts ++ RightParen ∷ [])
+list_close gs all es e ts o =
+    let b = o.2 in (
+      b.0,
+      group (list_word all) (finished b.1 ++ o.1),
+      b.2,
+      listed all (es ++ e ∷ []) (b.1 ++ o.1 ∷ []) (finished b.1 ++ o.1) (each_snoc es b.1 e o.1 b.3 o.3)
+          (list_snoc b.1 o.1),
+      ap (λ (z : List Lexeme). z ++ RightParen ∷ [])
+          (o.4 ∙ ap (λ (z : List Lexeme). z ++ o.1) b.4 ∙ append_assoc b.0 (head all (finished b.1)) o.1)
+          ∙ append_assoc b.0 (head all (finished b.1 ++ o.1)) (RightParen ∷ []),
+    )
+
+pub member_comma : (gs : List Opening) (all : Bool) (es : List Tree) (e : Tree) (ts : List Lexeme)
+    → EndsWith (Listed all es ∷ gs) e ts → Wants (Listed all (es ++ e ∷ []) ∷ gs) (ts ++ Comma ∷ [])
+member_comma gs all es e ts o =
+    let b = o.2 in (
+      b.0,
+      b.1 ++ o.1 ∷ [],
+      b.2,
+      each_snoc es b.1 e o.1 b.3 o.3,
+      ap (λ (z : List Lexeme). z ++ Comma ∷ []) (o.4 ∙ ap (λ (z : List Lexeme). z ++ o.1) b.4)
+          ∙ append_assoc (b.0 ++ head all (finished b.1)) o.1 (Comma ∷ [])
+          ∙ append_assoc b.0 (head all (finished b.1)) (o.1 ++ Comma ∷ [])
+          ∙ ap (λ (z : List Lexeme). b.0 ++ head all z) (sym (finished_snoc b.1 o.1)),
+    )
+
+-- ---- what is open, and what stands last, tell the position and the state
+
+-- the position that tokens lead to
+abbrev built : List Lexeme → Option Position
+built ts = lead_from false (Some (Wanting [])) ts
+
+built_on : (ts us : List Lexeme) (p : Position) → built ts ≡ Some p → built (ts ++ us) ≡ lead_from false (Some p) us
+built_on ts us p h = lead_on false (Some (Wanting [])) ts us ∙ ap (λ o. lead_from false o us) h
+
+finished_lead : (all : Bool) (es : List Tree) (ss : List (List Lexeme)) (before : List Tree) (gs : List Opening)
+    → SpellEach (trees_of es) ss
+    → lead_from false (Some (Wanting (Listed all before ∷ gs))) (finished ss)
+    ≡ Some (Wanting (Listed all (before ++ es) ∷ gs))
+finished_lead all [] [] before gs p =
+    ap (λ (z : List Tree). Some (Wanting (Listed all z ∷ gs))) (sym (append-nil before))
+finished_lead all [] (s ∷ ss) before gs p = absurd p
+finished_lead all (e ∷ es) [] before gs p = absurd p
+finished_lead all (e ∷ es) (s ∷ ss) before gs p =
+    tree_leads false e s (Listed all before ∷ gs) (Comma ∷ finished ss) p.0
+    ∙ finished_lead all es ss (before ++ e ∷ []) gs p.1
+    ∙ ap (λ (z : List Tree). Some (Wanting (Listed all z ∷ gs))) (append_assoc before (e ∷ []) es)
+
+list_lead : (all : Bool) (gs : List Opening) (us : List Lexeme)
+    → lead_from false (Some (Wanting gs)) (head all us) ≡ lead_from false (Some (Wanting (Listed all [] ∷ gs))) us
+list_lead true gs us = refl
+list_lead false gs us = refl
+
+wants_lead : (gs : List Opening) (ts : List Lexeme) → Wants gs ts → built ts ≡ Some (Wanting gs)
+wants_lead [] ts h = ap built h
+wants_lead (Negated ∷ gs) ts (before, w, is) =
+    ap built is ∙ built_on before (plain (codes "not") ∷ LeftParen ∷ []) (Wanting gs) (wants_lead gs before w)
+wants_lead (Listed all es ∷ gs) ts (before, ss, w, each, is) =
+    ap built is ∙ built_on before (head all (finished ss)) (Wanting gs) (wants_lead gs before w)
+    ∙ list_lead all gs (finished ss) ∙ finished_lead all es ss [] gs each
+
+ends_lead : (gs : List Opening) (e : Tree) (ts : List Lexeme) → EndsWith gs e ts → built ts ≡ Some (WithTree e gs)
+ends_lead gs e ts (before, s, w, spelled, is) =
+    ap built is ∙ built_on before s (Wanting gs) (wants_lead gs before w)
+    ∙ ap (lead_from false (Some (Wanting gs))) (sym (append-nil s)) ∙ tree_leads false e s gs [] spelled
+
+pub wants_walk : (gs : List Opening) (ts : List Lexeme) → Wants gs ts → walk Expressions ts ≡ Some (begins (kinds gs))
+wants_walk gs ts w = walk_state ts ∙ ap state_at (wants_lead gs ts w)
+
+pub ends_walk : (gs : List Opening) (e : Tree) (ts : List Lexeme) → EndsWith gs e ts
+    → walk Expressions ts ≡ Some (ends (is_lone e) (kinds gs))
+ends_walk gs e ts o = walk_state ts ∙ ap state_at (ends_lead gs e ts o)
+
+after_word : (o : Opening) (ws : List Word)
+    → after_name Expressions false (opening_word o) ws ≡ Behind (kind o) ws
+after_word Negated ws = refl
+after_word (Listed true es) ws = refl
+after_word (Listed false es) ws = refl
+
+pub word_walk : (gs : List Opening) (o : Opening) (ts : List Lexeme) → HasWord gs o ts
+    → walk Expressions ts ≡ Some (Behind (kind o) (kinds gs))
+word_walk gs o ts h =
+    ap (walk Expressions) h.is
+    ∙ walk_next Expressions h.before (plain (opening_word o)) (begins (kinds gs)) (wants_walk gs h.before h.wanted)
+    ∙ after_begins (kinds gs) false (opening_word o) ∙ ap Some (after_word o (kinds gs))
+
+-- ---- and the other way round
+
+abbrev pub Holds : Position → List Lexeme → Type 0
+Holds (Wanting gs) ts = Wants gs ts
+Holds (WithWord o gs) ts = HasWord gs o ts
+Holds (WithKey n gs) ts = HasKey gs n ts
+Holds (WithTree e gs) ts = EndsWith gs e ts
+
+moved : (p q : Position) (ts : List Lexeme) → Some p ≡ Some q → Holds p ts → Holds q ts
+moved p q ts h o = let H : Position → Type 0 = λ z. Holds z ts in subst H (same_Some _ _ h) o
+
+no_position : {A : Type 0} {p : Position} → None ≡ Some p → A
+no_position h = absurd cc
+
+word_holds : (gs : List Opening) (ts : List Lexeme) (name : List ℕ) → Wants gs ts → IsGroupWord name
+    → HasWord gs (opened_by name) (ts ++ plain name ∷ [])
+word_holds gs ts name w is = go is
+  where
+    W : List ℕ → Type 0
+    W z = HasWord gs (opened_by z) (ts ++ plain z ∷ [])
+
+    go : IsGroupWord name → HasWord gs (opened_by name) (ts ++ plain name ∷ [])
+    go (inl h) = subst W (sym h) (record { before = ts; wanted = w; fresh = tt; is = refl })
+    go (inr (inl h)) = subst W (sym h) (record { before = ts; wanted = w; fresh = refl; is = refl })
+    go (inr (inr h)) = subst W (sym h) (record { before = ts; wanted = w; fresh = refl; is = refl })
+
+literal_holds : (gs : List Opening) (ts : List Lexeme) (name : List ℕ) → Wants gs ts → IsLiteralWord name
+    → EndsWith gs (literal_of name) (ts ++ plain name ∷ [])
+literal_holds gs ts name w is = go is
+  where
+    L : List ℕ → Type 0
+    L z = EndsWith gs (literal_of z) (ts ++ plain z ∷ [])
+
+    go : IsLiteralWord name → EndsWith gs (literal_of name) (ts ++ plain name ∷ [])
+    go (inl h) = subst L (sym h) (ts, plain (codes "true") ∷ [], w, refl, refl)
+    go (inr h) = subst L (sym h) (ts, plain (codes "false") ∷ [], w, refl, refl)
+
+role_holds : (gs : List Opening) (ts : List Lexeme) (n : Name) (r : Role) → Wants gs ts → IsOfRole n r
+    → Holds (at_role r n gs) (ts ++ identifier n ∷ [])
+role_holds gs ts n GroupWord w is =
+    let W : Bool → Type 0 = λ z. HasWord gs (opened_by n.name) (ts ++ Ident z n.name ∷ []) in
+    subst W (sym is.0) (word_holds gs ts n.name w is.1)
+role_holds gs ts n LiteralWord w is =
+    let L : Bool → Type 0 = λ z. EndsWith gs (literal_of n.name) (ts ++ Ident z n.name ∷ []) in
+    subst L (sym is.0) (literal_holds gs ts n.name w is.1)
+role_holds gs ts n PlainName w is = name_ends gs n ts w is
+
+-- behind an expression
+tree_holds : (e : Tree) (gs : List Opening) (t : Lexeme) (q : Position) (ts : List Lexeme) → EndsWith gs e ts
+    → behind_tree e gs t ≡ Some q → Holds q (ts ++ t ∷ [])
+tree_holds e (Negated ∷ gs) RightParen q ts o h = moved (WithTree (Not e) gs) q _ h (negation_close gs e ts o)
+tree_holds e (Listed all es ∷ gs) RightParen q ts o h =
+    moved (WithTree (list_tree all (es ++ e ∷ [])) gs) q _ h (list_close gs all es e ts o)
+tree_holds e (Listed all es ∷ gs) Comma q ts o h =
+    moved (Wanting (Listed all (es ++ e ∷ []) ∷ gs)) q _ h (member_comma gs all es e ts o)
+tree_holds e gs t q ts o h = no_position h
+
+key_holds : (e : Tree) (gs : List Opening) (q : Position) (ts : List Lexeme) → EndsWith gs e ts
+    → at_key (key_of false e) gs ≡ Some q → Holds q (ts ++ Equals ∷ [])
+key_holds (Value (Alone n)) gs q ts o h = moved (WithKey n gs) q _ h (name_key gs n ts o)
+key_holds e gs q ts o h = no_position h
+
+-- the next token
+next_holds : (p : Position) (t : Lexeme) (q : Position) (ts : List Lexeme) → Holds p ts → lead false p t ≡ Some q
+    → Holds q (ts ++ t ∷ [])
+next_holds (Wanting gs) (Ident raw name) q ts w h =
+    let n : Name = record { raw = raw; name = name } in
+    moved (at_role (role n) n gs) q _ h (role_holds gs ts n (role n) w (of_role n))
+next_holds (Wanting (Listed all es ∷ gs)) RightParen q ts w h =
+    moved (WithTree (list_tree all es) gs) q _ h (members_close gs all es ts w)
+next_holds (WithWord o gs) LeftParen q ts w h = moved (Wanting (o ∷ gs)) q _ h (word_open gs o ts w)
+next_holds (WithKey n gs) (String v) q ts o h =
+    moved (WithTree (Value (KeyPair n v)) gs) q _ h (key_pair gs n v ts o)
+next_holds (WithTree e gs) Equals q ts o h = key_holds e gs q ts o h
+next_holds (WithTree e gs) t q ts o h = tree_holds e gs t q ts o h
+next_holds p t q ts o h = no_position h
+
+all_hold : (p : Position) (before ts : List Lexeme) (q : Position) → Holds p before
+    → lead_from false (Some p) ts ≡ Some q → Holds q (before ++ ts)
+all_hold p before [] q o h =
+    let H : List Lexeme → Type 0 = λ z. Holds q z in
+    subst H (sym (append-nil before)) (moved p q before h o)
+all_hold p before (t ∷ ts) q o h =
+    elim (lead false p t) as
+    (λ z. lead false p t ≡ z → lead_from false z ts ≡ Some q → Holds q (before ++ (t ∷ ts))) [
+      | None ↦ λ _ stops. no_position stops
+      | Some u ↦ λ is goes.
+          let H : List Lexeme → Type 0 = λ z. Holds q z in
+          subst H (append_assoc before (t ∷ []) ts)
+          (all_hold u (before ++ t ∷ []) ts q (next_holds p t u before o is) goes)
+    ] refl h
+
+-- what is walked led to a position of this state
+pub walked_reached : (ts : List Lexeme) (s : State) → walk Expressions ts ≡ Some s
+    → (p : Position) × (state_of p ≡ s) × Holds p ts
+walked_reached ts s h =
+    elim (built ts) as
+    (λ z. built ts ≡ z → state_at z ≡ Some s → (p : Position) × (state_of p ≡ s) × Holds p ts) [
+      | None ↦ λ _ stops. none_some stops
+      | Some p ↦ λ is same. (p, same_Some _ _ same, all_hold (Wanting []) [] ts p refl is)
+    ] refl (sym (walk_state ts) ∙ h)

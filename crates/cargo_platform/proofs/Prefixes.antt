@@ -1,0 +1,93 @@
+-- The longest prefix that is completable.
+use Rattle.std.proofs.Common.{◌≡◌, refl, sym, ap, subst, ◌∙◌, ℕ, ◌≤◌, zero-le, suc-le-suc, List, [], ◌∷◌, ◌++◌, Option}
+use Rattle.std.proofs.Common.{Some, None, inl, inr, ◌⊎◌, append_assoc, length, length-append, arith}
+use Rattle.std.specs.List.{last_or}
+use Rattle.cargo_platform.specs.Tokens.{Lexeme, Placed}
+use Rattle.cargo_platform.specs.Cut.{IsCut, lexemes}
+use Rattle.cargo_platform.specs.Spelling.{Grammar, IsAccepted}
+use Rattle.cargo_platform.specs.Faults.{IsCompletable, Next, Follows, Fault, fault_of, IsRefused}
+use Rattle.cargo_platform.specs.Walk.{State, after, walk, is_whole}
+use Rattle.cargo_platform.proofs.Walk.{walk_next}
+use Rattle.cargo_platform.proofs.Building.{stopped}
+use Rattle.cargo_platform.proofs.Completing.{walked_completes, whole_accepted, accepted_whole}
+
+head_is : {a b : Placed} {s t : List Placed} → a ∷ s ≡ b ∷ t → a ≡ b
+head_is h = cc
+
+tail_is : {a b : Placed} {s t : List Placed} → a ∷ s ≡ b ∷ t → s ≡ t
+tail_is h = cc
+
+pub lexemes-append : (ts us : List Placed) → lexemes (ts ++ us) ≡ lexemes ts ++ lexemes us
+lexemes-append [] us = refl
+lexemes-append (t ∷ ts) us = ap (λ z. t.token ∷ z) (lexemes-append ts us)
+
+-- of two prefixes of one list, the second is no longer, or goes on with the next token
+longer_or : (prefix others longer rest : List Placed) (t : Placed) → prefix ++ (t ∷ rest) ≡ longer ++ others
+    → (length longer ≤ length prefix) ⊎ ((more : List Placed) × (longer ≡ prefix ++ (t ∷ more)))
+longer_or prefix others [] rest t h = inl (zero-le)
+longer_or [] others (u ∷ us) rest t h = inr (us, λ i. sym (head_is h) i ∷ us)
+longer_or (f ∷ fs) others (u ∷ us) rest t h =
+    elim (longer_or fs others us rest t (tail_is h)) [
+      | inl le ↦ inl (suc-le-suc le)
+      | inr m ↦ inr (m.0, λ i. sym (head_is h) i ∷ m.1 i)
+    ]
+
+-- no prefix of a list is longer than the list
+pub none_longer : (prefix longer others : List Placed) → prefix ++ [] ≡ longer ++ others → length longer ≤ length prefix
+none_longer prefix longer others h = omega (arith, ap length h, length-append longer others, length-append prefix [])
+
+-- where nothing that begins with the prefix and the next token is accepted, no longer prefix is completable
+pub longest_before : (g : Grammar) (prefix rest : List Placed) (t : Placed)
+    → ((more : List Lexeme) → IsAccepted g ((lexemes prefix ++ (t.token ∷ [])) ++ more) → ⊥)
+    → (longer others : List Placed) → prefix ++ (t ∷ rest) ≡ longer ++ others → IsCompletable g (lexemes longer)
+    → length longer ≤ length prefix
+longest_before g prefix rest t never longer others h p =
+    elim (longer_or prefix others longer rest t h) [
+      | inl le ↦ le
+      | inr m ↦
+          let A : List Lexeme → Type 0 = λ z. IsAccepted g z in
+          let tokens = lexemes prefix in
+          let is : lexemes longer ++ p.0 ≡ (tokens ++ t.token ∷ []) ++ (lexemes m.0 ++ p.0) =
+          ap (λ (z : List Placed). lexemes z ++ p.0) m.1
+          ∙ ap (λ (z : List Lexeme). z ++ p.0) (lexemes-append prefix (t ∷ m.0))
+          ∙ append_assoc tokens (t.token ∷ lexemes m.0) p.0
+          ∙ sym (append_assoc tokens (t.token ∷ []) (lexemes m.0 ++ p.0)) in
+          absurd (never (lexemes m.0 ++ p.0) (subst A is p.2))
+    ]
+
+-- the next token does not go on with the tokens that lead to the state
+abbrev pub goes_on : Grammar → State → List Placed → Option State
+goes_on g s [] = None
+goes_on g s (t ∷ ts) = after g s t.token
+
+-- where a prefix is walked, and what follows does not go on with it, the text is refused
+pub refused_walked : (g : Grammar) (text : List ℕ) (ts prefix behind : List Placed) (tail : ℕ) (s : State) (next : Next)
+    (fault : Fault) → IsCut text ts tail → ts ≡ prefix ++ behind → walk g (lexemes prefix) ≡ Some s
+    → goes_on g s behind ≡ None → Follows text behind tail next
+    → fault_of g (is_whole s) (last_or None (lexemes prefix)) next ≡ Some fault → IsRefused g text fault
+refused_walked g text ts prefix behind tail s next fault cut parts walked stops follows table = record {
+  ts = ts;
+  tail = tail;
+  cut = cut;
+  prefix = prefix;
+  after = behind;
+  is_prefix = record {
+    parts = parts;
+    completable = walked_completes g (lexemes prefix) s walked;
+    longest = λ longer others h p. no_longer prefix behind s walked stops longer others (sym parts ∙ h) p;
+  };
+  next = next;
+  follows = follows;
+  accepted = is_whole s;
+  is_accepted = (λ h. whole_accepted g s (lexemes prefix) h walked, λ p. accepted_whole g s (lexemes prefix) walked p);
+  is_fault = table;
+}
+  where
+    no_longer : (prefix behind : List Placed) (s : State) → walk g (lexemes prefix) ≡ Some s → goes_on g s behind ≡ None
+        → (longer others : List Placed) → prefix ++ behind ≡ longer ++ others → IsCompletable g (lexemes longer)
+        → length longer ≤ length prefix
+    no_longer prefix [] s walked stops longer others h p = none_longer prefix longer others h
+    no_longer prefix (t ∷ rest) s walked stops longer others h p =
+        longest_before g prefix rest t
+        (λ more a. stopped g (lexemes prefix ++ (t.token ∷ [])) more
+        (walk_next g (lexemes prefix) t.token s walked ∙ stops) a) longer others h p
