@@ -1,8 +1,9 @@
 //! Copies of names, pairs, expressions and platforms, with their raw marks.
 
-ghost use Rattle.std.specs.Prelude.{◌≡◌, ◌≤◌, ◌+◌, ◌*◌, IfOk, IfSome, OnOk, MatchOption};
+ghost use Rattle.std.specs.Prelude.{◌≡◌, ◌≤◌, ◌+◌, ◌*◌, ◌++◌, map, IfOk, IfSome, OnOk, MatchOption, MatchResult};
 ghost use Rattle.cargo_platform.specs.Trees.{Tree, name_of, value_of, tree_of, condition_of};
-ghost use Rattle.cargo_platform.specs.ExpressionSizes.{node_count};
+ghost use Rattle.cargo_platform.specs.ExpressionSizes.{node_count, node_counts};
+ghost use Rattle.cargo_platform.specs.Inside.Parsing.{is_all, list_tree};
 ghost use Rattle.cargo_platform.specs.Inside.Copying.{around, whole, left_in, work};
 
 use crate::Platform;
@@ -13,6 +14,7 @@ use std::alloc::{AllocError, Global};
 
 impl Ident {
     /// A copy with the same name and the same raw mark. It refuses only where memory is refused.
+    #[inline(always)]
     pub fn clone(&self, alloc: Global) -> Result<Ident, AllocError>
         ensures { IfOk result (λ copy. name_of copy ≡ name_of self.now) }
     {
@@ -25,6 +27,7 @@ impl Ident {
 
 impl Cfg {
     /// A copy with the same name or key, raw mark and value. It refuses only where memory is refused.
+    #[inline(always)]
     pub fn clone(&self, alloc: Global) -> Result<Cfg, AllocError>
         ensures { IfOk result (λ copy. value_of copy ≡ value_of self.now) }
     {
@@ -40,26 +43,25 @@ impl Cfg {
 
 impl CfgExpr {
     /// A copy of the whole tree, with its raw marks. It refuses only where memory is refused.
+    #[inline(always)]
     pub fn clone(&self, alloc: Global) -> Result<CfgExpr, AllocError>
         ensures { IfOk result (λ copy. tree_of copy ≡ tree_of self.now) }
     {
-        let mut groups = CopiedGroups::new(alloc);
-        let mut copy = copy_first(alloc, self, &mut groups)?;
-        'groups: loop {
-            copy = match groups.pop() {
-                None => return Ok(copy),
-                Some(CopiedGroup::Not) => negation(alloc, copy)?,
-                Some(CopiedGroup::List(word, mut copies, left)) => {
-                    push_member(&mut copies, copy)?;
-                    match left.split_first() {
-                        Some((next, left)) => {
-                            groups.push(CopiedGroup::List(word, copies, left))?;
-                            copy_first(alloc, next, &mut groups)?
-                        }
-                        None => close_list(word, copies),
-                    }
-                }
-            };
+        copy_tree(alloc, self)
+    }
+}
+
+/// A copy of the whole tree.
+fn copy_tree(alloc: Global, e: &CfgExpr) -> Result<CfgExpr, AllocError>
+    ensures { IfOk result (λ copy. tree_of copy ≡ tree_of e.now) }
+{
+    let mut groups = CopiedGroups::new(alloc);
+    let mut part = e;
+    'parts: loop {
+        let copy = copy_first(alloc, part, &mut groups)?;
+        match put_into_groups(alloc, copy, &mut groups)? {
+            Ok(next) => part = next,
+            Err(whole) => return Ok(whole),
         }
     }
 }
@@ -131,6 +133,7 @@ fn drop_group(group: CopiedGroup<'_>) {
 }
 
 /// Opens the groups that an expression begins with, and copies the first that stands inside them and has none inside.
+#[inline(always)]
 fn copy_first<'a>(
     alloc: Global,
     e: &'a CfgExpr,
@@ -141,36 +144,125 @@ fn copy_first<'a>(
 {
     let mut part = e;
     'groups: loop {
-        match part {
+        let opened = match part {
             CfgExpr::Not(inner) => {
                 groups.push(CopiedGroup::Not)?;
                 part = inner;
+                continue;
             }
-            CfgExpr::All(members) => match members.split_first() {
-                Some((first, left)) => {
-                    let copies = Vec::with_capacity(alloc, members.len())?;
-                    groups.push(CopiedGroup::List(Listing::All, copies, left))?;
-                    part = first;
-                }
-                None => return Ok(CfgExpr::All(Vec::new(alloc))),
-            },
-            CfgExpr::Any(members) => match members.split_first() {
-                Some((first, left)) => {
-                    let copies = Vec::with_capacity(alloc, members.len())?;
-                    groups.push(CopiedGroup::List(Listing::Any, copies, left))?;
-                    part = first;
-                }
-                None => return Ok(CfgExpr::Any(Vec::new(alloc))),
-            },
+            CfgExpr::All(members) => {
+                let copies = Vec::with_capacity(alloc, members.len())?;
+                copy_members(alloc, Listing::All, copies, members, groups)?
+            }
+            CfgExpr::Any(members) => {
+                let copies = Vec::with_capacity(alloc, members.len())?;
+                copy_members(alloc, Listing::Any, copies, members, groups)?
+            }
             CfgExpr::Value(c) => return Ok(CfgExpr::Value(c.clone(alloc)?)),
             CfgExpr::True => return Ok(CfgExpr::True),
             CfgExpr::False => return Ok(CfgExpr::False),
+        };
+        match opened {
+            Ok(next) => part = next,
+            Err(list) => return Ok(list),
         }
     }
 }
 
+/// Puts a copy into the groups around it, from the innermost on, up to one with members that are still to be copied.
+/// Answers the first of these, or the whole.
+#[inline(always)]
+fn put_into_groups<'a>(
+    alloc: Global,
+    copied: CfgExpr,
+    groups: &mut CopiedGroups<'a>,
+) -> Result<Result<&'a CfgExpr, CfgExpr>, AllocError>
+    ensures whole { IfOk result
+        (λ r. MatchResult r
+        (λ next. whole groups.new (tree_of next.now) ≡ whole groups.old (tree_of copied))
+        (λ copy. tree_of copy ≡ whole groups.old (tree_of copied))) }
+    ensures work { IfOk result
+        (λ r. IfOk r (λ next. work groups.new + 2 * node_count next.now ≤ work groups.old)) }
+{
+    let mut copy = copied;
+    'groups: loop {
+        copy = match groups.pop() {
+            None => return Ok(Err(copy)),
+            Some(CopiedGroup::Not) => negation(alloc, copy)?,
+            Some(CopiedGroup::List(word, mut copies, left)) => {
+                push_member(&mut copies, copy)?;
+                match copy_members(alloc, word, copies, left, groups)? {
+                    Ok(next) => return Ok(Ok(next)),
+                    Err(list) => list,
+                }
+            }
+        };
+    }
+}
+
+/// Copies members of a list, up to one that is no name or pair, for which the list stays open. Answers that one, or the
+/// list.
+#[inline(always)]
+fn copy_members<'a>(
+    alloc: Global,
+    word: Listing,
+    mut copies: Vec<CfgExpr>,
+    members: &'a [CfgExpr],
+    groups: &mut CopiedGroups<'a>,
+) -> Result<Result<&'a CfgExpr, CfgExpr>, AllocError>
+    ensures whole { IfOk result
+        (λ r. MatchResult r
+        (λ next. whole groups.new (tree_of next.now)
+        ≡ whole groups.old (list_tree (is_all word) (map tree_of copies.items ++ map tree_of members.now)))
+        (λ list. whole groups.new (tree_of list)
+        ≡ whole groups.old (list_tree (is_all word) (map tree_of copies.items ++ map tree_of members.now)))) }
+    ensures work { IfOk result
+        (λ r. MatchResult r
+        (λ next. work groups.new + 2 * node_count next.now ≤ work groups.old + 2 * node_counts members.now + 1)
+        (λ _. work groups.new ≡ work groups.old)) }
+{
+    let left = match copy_values(alloc, members, &mut copies) {
+        Ok(left) => left,
+        Err(refused) => {
+            drop_members(copies);
+            return Err(refused);
+        }
+    };
+    match left.split_first() {
+        Some((next, left)) => {
+            groups.push(CopiedGroup::List(word, copies, left))?;
+            Ok(Ok(next))
+        }
+        None => Ok(Err(close_list(word, copies))),
+    }
+}
+
+// Most members are names and pairs. They are copied in a row, with no group pushed and popped between them.
+/// Copies the names and pairs that members begin with, and answers the members behind these.
+fn copy_values<'a>(
+    alloc: Global,
+    members: &'a [CfgExpr],
+    copies: &mut Vec<CfgExpr>,
+) -> Result<&'a [CfgExpr], AllocError>
+    ensures copied { IfOk result
+        (λ left. map tree_of copies.new.items ++ map tree_of left.now
+        ≡ map tree_of copies.old.items ++ map tree_of members.now) }
+    ensures size { IfOk result (λ left. node_counts left.now ≤ node_counts members.now) }
+{
+    let mut left = members;
+    'members: while let Some((first, others)) = left.split_first() {
+        let CfgExpr::Value(c) = first else {
+            return Ok(left);
+        };
+        push_member(copies, CfgExpr::Value(c.clone(alloc)?))?;
+        left = others;
+    }
+    Ok(left)
+}
+
 impl Platform {
     /// A copy of the same platform, with the raw marks of its expression. It refuses only where memory is refused.
+    #[inline(always)]
     pub fn clone(&self, alloc: Global) -> Result<Platform, AllocError>
         ensures { IfOk result (λ copy. condition_of copy ≡ condition_of self.now) }
     {

@@ -10,4 +10,4 @@ invariant-groups l =
     × (work l.groups + 2 * node_count l.part ≤ work l.initial.groups + 2 * node_count l.e)
 
 abbrev pub decreases-groups : goal.decreases-groups
-decreases-groups l = node_count l.part
+decreases-groups l = work l.groups + 2 * node_count l.part
