@@ -20,7 +20,7 @@ use std::marker::Model;
 const BLOCK: usize = 64;
 
 /// From how many bytes on a text is long.
-const LONG: usize = 128;
+const LONG: usize = 1_024;
 
 /// How many looks a source was asked for. Only a source that is spent makes one.
 #[derive(Drop)]
