@@ -8,7 +8,7 @@ use Rattle.std.specs.Str.{IsCharBoundary, IsUtf8, chars}
 use Rattle.std.specs.Prelude.{encode_utf8}
 use Rattle.std.proofs.lemmas.Str.{IsUtf8-drop, IsCharBoundary-past_char, drop_past_char, len_utf8_ascii, byte_from_char}
 use Rattle.std.proofs.lemmas.Str.{char_from_byte, chars_past_char, scalars-chars, length-encode, len_utf8_bounds}
-use Rattle.std.proofs.lemmas.Str.{encode_ascii, inside_one}
+use Rattle.std.proofs.lemmas.Str.{encode_ascii, inside_one, IsCharBoundary-end, IsCharBoundary-before_ascii}
 use Rattle.std.specs.Str.{encode_utf8_all}
 use Rattle.std.specs.List.{count_by}
 use Rattle.std.proofs.lemmas.Bool.Decides.{nat_tests}
@@ -151,3 +151,25 @@ first_and_others P from end first others i above below = go (ltb from i) refl
     go : (t : Bool) → ltb from i ≡ t → P i
     go true e = others i (omega (arith, ltb-true from i e)) below
     go false e = let is : from ≡ i = omega (arith, ltb-false from i e) in subst P is first
+
+-- what holds from one place to another, and from there on, holds from the one on
+pub one_after_other : (P : ℕ → Type 0) (from mid to : ℕ) → ((i : ℕ) → from ≤ i → i < mid → P i) →
+    ((i : ℕ) → mid ≤ i → i < to → P i) → (i : ℕ) → from ≤ i → i < to → P i
+one_after_other P from mid to first others i above below = go (ltb i mid) refl
+  where
+    go : (t : Bool) → ltb i mid ≡ t → P i
+    go true e = first i above (ltb-true i mid e)
+    go false e = others i (ltb-false i mid e) below
+
+-- a place is a boundary where a quote stands, and at the end
+pub boundary_at_quote : (text : List ℕ) (at : ℕ) → IsUtf8 text → at ≤ length text
+    → (at < length text → get_or text at 0 ≡ 0x22) → IsCharBoundary text at
+boundary_at_quote text at utf8 within quote = go (ltb at (length text)) refl
+  where
+    go : (t : Bool) → ltb at (length text) ≡ t → IsCharBoundary text at
+    go true e =
+        let below : at < length text = ltb-true at (length text) e in
+        IsCharBoundary-before_ascii text at below (omega (arith, quote below))
+    go false e =
+        let end : length text ≡ at = omega (arith, within, ltb-false at (length text) e) in
+        subst (IsCharBoundary text) end (IsCharBoundary-end text)

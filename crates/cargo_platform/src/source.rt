@@ -5,15 +5,22 @@
 //! goes over bytes, counts once, and hands on what ended it, so that nobody need look there again.
 
 ghost use Rattle.std.specs.Prelude.{◌≡◌, ◌≢◌, ℕ, ◌+◌, ◌-◌, ◌^◌, ◌<◌, ◌≤◌, true, false, length, drop, slice_index};
-ghost use Rattle.std.specs.Prelude.{slice_range, IfSome, IfNone, MatchOption};
+ghost use Rattle.std.specs.Prelude.{slice_range, IfSome, IfNone, MatchOption, IsFalse};
 ghost use Rattle.std.specs.Str.{IsCharBoundary};
 ghost use Rattle.cargo_platform.specs.Chars.{is_identifier_rest, is_character_start};
 ghost use Rattle.cargo_platform.specs.Cut.{AreSpaces};
 ghost use Rattle.cargo_platform.specs.Reading.{IsRestFrom, characters_from};
-ghost use Rattle.cargo_platform.specs.Inside.Looking.{IsCharAt, Shows, Costs};
+ghost use Rattle.std.specs.List.{count_by};
+ghost use Rattle.cargo_platform.specs.Inside.Looking.{IsCharAt, Shows, Costs, IsFirstQuote};
 
 use crate::classes::continues_identifier;
 use std::marker::Model;
+
+/// How many bytes are searched for a quote at once.
+const BLOCK: usize = 64;
+
+/// From how many bytes on a text is long.
+const LONG: usize = 1_024;
 
 /// How many looks a source was asked for. Only a source that is spent makes one.
 #[derive(Drop)]
@@ -283,14 +290,78 @@ fn value_end(text: &str, from: usize) -> (usize, usize)
     ensures quote { result.0 < length text.now → IsCharAt text.now result.0 0x22 }
     ensures characters { characters_from text.now from ≡ characters_from text.now result.0 + result.1 }
 {
-    let bytes = text.as_bytes();
+    quote_from(text.as_bytes(), from)
+}
+
+/// The place of the first quote from `from` on, or else the end, and how many bytes before it begin a character. What
+/// is left of a long text is searched by blocks.
+#[inline(always)]
+fn quote_from(bytes: &[u8], from: usize) -> (usize, usize)
+    requires { from ≤ length bytes.now }
+    ensures { IsFirstQuote bytes.now from result.0 result.1 }
+{
+    if LONG <= bytes.len() - from {
+        return far_quote(bytes, from);
+    }
+    near_quote(bytes, from)
+}
+
+/// The same, byte by byte.
+#[inline(always)]
+fn near_quote(bytes: &[u8], from: usize) -> (usize, usize)
+    requires { from ≤ length bytes.now }
+    ensures { IsFirstQuote bytes.now from result.0 result.1 }
+{
     let mut at = from;
-    let mut characters = 0;
+    let mut starts = 0;
     'value: while at < bytes.len() && bytes[at] != b'"' {
-        characters += usize::from(begins_character(bytes[at]));
+        starts += usize::from(begins_character(bytes[at]));
         at += 1;
     }
-    (at, characters)
+    (at, starts)
+}
+
+/// The same, by blocks up to the one that has the quote.
+#[cold]
+#[inline(never)]
+fn far_quote(bytes: &[u8], from: usize) -> (usize, usize)
+    requires { from ≤ length bytes.now }
+    ensures { IsFirstQuote bytes.now from result.0 result.1 }
+{
+    let mut at = from;
+    let mut starts = 0;
+    'free: while BLOCK <= bytes.len() - at {
+        let (quoted, more) = in_block(bytes, at);
+        if quoted {
+            break;
+        }
+        starts += usize::from(more);
+        at += BLOCK;
+    }
+    let (end, more) = near_quote(bytes, at);
+    (end, starts + more)
+}
+
+/// Whether a quote is in the block that begins at a place, and how many of its bytes begin a character. It goes over
+/// the whole block, so that many bytes are compared at once.
+#[inline(always)]
+fn in_block(bytes: &[u8], at: usize) -> (bool, u8)
+    requires { at + BLOCK ≤ length bytes.now }
+    ensures none { IsFalse result.0 → (i : ℕ) → at ≤ i → i < at + BLOCK → slice_index bytes.now i ≢ 0x22 }
+    ensures few { result.1 ≤ BLOCK }
+    ensures starts { count_by is_character_start (drop at bytes.now)
+        ≡ result.1 + count_by is_character_start (drop (at + BLOCK) bytes.now) }
+{
+    let mut quoted = false;
+    let mut starts = 0u8;
+    let mut i = 0;
+    'block: while i < BLOCK {
+        let byte = bytes[at + i];
+        quoted |= byte == b'"';
+        starts += u8::from(begins_character(byte));
+        i += 1;
+    }
+    (quoted, starts)
 }
 
 /// Whether a character begins with the byte; every other one goes on with it.

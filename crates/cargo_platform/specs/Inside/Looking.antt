@@ -1,8 +1,10 @@
 -- What a look at a place of a text gives, and what looks cost.
-use Rattle.std.specs.Prelude.{◌≡◌, ℕ, ◌+◌, ◌-◌, ◌<◌, ◌≤◌, ◌^◌, Bool, false, List, ◌∷◌, ◌++◌, length, drop, slice_index}
+use Rattle.std.specs.Prelude.{◌≡◌, ◌≢◌, ℕ, ◌+◌, ◌-◌, ◌<◌, ◌≤◌, ◌^◌, Bool, false, List, ◌∷◌, ◌++◌, length, drop, slice_index}
 use Rattle.std.specs.Prelude.{encode_utf8, Option, Some, None}
 use Rattle.std.specs.Char.{IsScalar, len_utf8}
 use Rattle.std.specs.Str.{IsCharBoundary, chars}
+use Rattle.std.specs.List.{count_by}
+use Rattle.cargo_platform.specs.Chars.{is_character_start}
 use Rattle.cargo_platform.specs.declared.source.Look.{Look}
 use Rattle.cargo_platform.specs.declared.source.Look.TheVariants.{End, Ascii, Wide}
 use Rattle.cargo_platform.specs.Reading.{characters_from}
@@ -59,3 +61,13 @@ pub record IsStanding (text : List ℕ) (place : ℕ) (seen : Option Look) (fail
   pub sees : ShowedBefore text place seen
   pub each : failed ≡ false → looks + characters_from text place + unseen seen ≡ characters_from text 0 + 1
   pub at_most : looks ≤ characters_from text 0 + 1
+
+-- the first quote from a place on stands at another, or none does and that is the end; and so many bytes between them
+-- begin a character
+pub record IsFirstQuote (bytes : List ℕ) (from end starts : ℕ) : Type 0 where
+  pub order : from ≤ end
+  pub within : end ≤ length bytes
+  pub value : (i : ℕ) → from ≤ i → i < end → slice_index bytes i ≢ 0x22
+  pub quote : end < length bytes → slice_index bytes end ≡ 0x22
+  pub few : starts + from ≤ end
+  pub starts_are : count_by is_character_start (drop from bytes) ≡ starts + count_by is_character_start (drop end bytes)

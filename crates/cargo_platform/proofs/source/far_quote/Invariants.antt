@@ -1,0 +1,18 @@
+use Rattle.std.proofs.Common.{◌≡◌, ◌≢◌, ℕ, ◌+◌, ◌-◌, ◌≤◌, ◌<◌, length, drop}
+use Rattle.std.specs.Prelude.{slice_index}
+use Rattle.std.specs.List.{count_by}
+use Rattle.cargo_platform.specs.Chars.{is_character_start}
+use Rattle.cargo_platform.proofs.source.far_quote.Given as goal
+
+abbrev pub invariant-free : goal.invariant-free
+invariant-free l = record {
+  order : l.from ≤ l.at;
+  within : l.at ≤ length l.bytes;
+  value : (i : ℕ) → l.from ≤ i → i < l.at → slice_index l.bytes i ≢ 0x22;
+  few : l.starts + l.from ≤ l.at;
+  starts_are : count_by is_character_start (drop l.from l.bytes) ≡ l.starts + count_by is_character_start
+      (drop l.at l.bytes);
+}
+
+abbrev pub decreases-free : goal.decreases-free
+decreases-free l = length l.bytes - l.at
