@@ -1,6 +1,8 @@
 -- What comes at a place is what its bytes tell.
-use Rattle.std.proofs.Common.{◌≡◌, ◌≢◌, refl, sym, ap, subst, ◌∙◌, ℕ, ◌+◌, ◌-◌, ◌^◌, ◌<◌, ◌≤◌, Bool, true, false, ◌||◌, ◌&&◌, List, [], ◌∷◌}
-use Rattle.std.proofs.Common.{◌++◌, codes, inl, inr, true≢false, append_assoc, append-nil, arith, length, drop, None, Some, Option}
+use Rattle.std.proofs.Common.{◌≡◌, ◌≢◌, refl, sym, ap, subst, ◌∙◌, ℕ, ◌+◌, ◌-◌, ◌^◌, ◌<◌, ◌≤◌, Bool, true, false, ◌||◌}
+use Rattle.std.proofs.Common.{◌&&◌, List, [], ◌∷◌}
+use Rattle.std.proofs.Common.{◌++◌, codes, inl, inr, true≢false, append_assoc, append-nil, arith, length, drop, None}
+use Rattle.std.proofs.Common.{Some, Option}
 use Rattle.std.proofs.Common.{lit≤, drop_of_length-le, length-drop, length-append}
 use Rattle.std.specs.Prelude.{IsUtf8, bytes_eq, ◌==◌, slice_index, slice_range, if◌then◌else◌}
 use Rattle.std.specs.List.{list_all}
@@ -32,7 +34,8 @@ use Rattle.cargo_platform.specs.Inside.Scanning.{IsTokenAt}
 use Rattle.cargo_platform.specs.Inside.Parsing.{TakesToken, Lacks, lexeme_of}
 use Rattle.cargo_platform.specs.declared.reader.Mark.{Mark}
 use Rattle.cargo_platform.specs.declared.reader.Mark.TheVariants as marks
-use Rattle.cargo_platform.proofs.OneCut.{both_true, both_first, both_second, never, start_is_ascii, piece_end, piece_rest}
+use Rattle.cargo_platform.proofs.OneCut.{both_true, both_first, both_second, never, start_is_ascii, piece_end}
+use Rattle.cargo_platform.proofs.OneCut.{piece_rest}
 use Rattle.cargo_platform.proofs.OneCut.{written_rest, token_begins, char_is, head_of}
 use Rattle.cargo_platform.proofs.SomeCut.{Outcome, lex, piece_at, rest_at, ascii_rest, known_is_ascii}
 use Rattle.cargo_platform.proofs.Refused.{no_char}
@@ -93,8 +96,8 @@ byte_fails p ascii b bs rest c h f = never (p b) (λ passes.
 first_char_is : (bs rest : List ℕ) (c : ℕ) → IsUtf8 bs → bs ≡ encode_utf8 c ++ rest → first_char bs ≡ c
 first_char_is bs rest c u h = ap (λ (z : List ℕ). slice_index z 0) (chars_past_char bs rest c u h)
 
-marked_fault : (after rest : List ℕ) (c : ℕ) → IsUtf8 after → after ≡ encode_utf8 c ++ rest → is_identifier_start c ≡ false
-    → first_marked after ≡ Faulty (UnexpectedChar c)
+marked_fault : (after rest : List ℕ) (c : ℕ) → IsUtf8 after → after ≡ encode_utf8 c ++ rest
+    → is_identifier_start c ≡ false → first_marked after ≡ Faulty (UnexpectedChar c)
 marked_fault [] rest c u h f = absurd (no_char c rest h)
 marked_fault (d ∷ ds) rest c u h f =
     if_false (is_identifier_start d) _ _ (byte_fails is_identifier_start start_is_ascii d ds rest c h f)
@@ -165,8 +168,10 @@ comes_here text at u b past = go (outcome text at u b past)
     go : Outcome (drop at text) → Comes text at (ahead_at text at).item (ahead_at text at).place
     go (inl (inl e)) =
         let S : ℕ → Type 0 = λ z. AreSpaces text at z in
-        subst (IsComing text at) (sym (end_comes text at e)) (subst S (at_length text at b.0 e) (no_spaces text at b.0), refl)
-    go (inl (inr f)) = subst (IsComing text at) (sym (fault_comes text at f.0 u b f.1)) (no_spaces text at b.0, f.1, refl)
+        subst (IsComing text at) (sym (end_comes text at e))
+        (subst S (at_length text at b.0 e) (no_spaces text at b.0), refl)
+    go (inl (inr f)) =
+        subst (IsComing text at) (sym (fault_comes text at f.0 u b f.1)) (no_spaces text at b.0, f.1, refl)
     go (inr x) =
         let E : List ℕ → Type 0 = λ z. EndsBefore x.token z in
         subst (IsComing text at) (sym (token_comes text at x.token x.rest x.parts x.well x.ends)) (
@@ -419,7 +424,8 @@ mark_stands text at b m is here lt = go m is
     go marks.Equals e = record { forward = omega arith; written = (tt, piece (codes "=") e); whole = tt }
 
 -- no character but the end
-pub nothing_seen : (text : List ℕ) (at : ℕ) (seen : Look) → Shows text at seen → character_of seen ≡ None → at ≡ length text
+pub nothing_seen : (text : List ℕ) (at : ℕ) (seen : Look) → Shows text at seen → character_of seen ≡ None →
+    at ≡ length text
 nothing_seen text at End shows h = shows
 nothing_seen text at (Ascii b) shows h = absurd cc
 nothing_seen text at (Wide c) shows h = absurd cc
