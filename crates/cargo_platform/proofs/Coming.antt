@@ -94,8 +94,8 @@ byte_fails p ascii b bs rest c h f = never (p b) (λ passes.
 first_char_is : (bs rest : List ℕ) (c : ℕ) → IsUtf8 bs → bs ≡ encode_utf8 c ++ rest → first_char bs ≡ c
 first_char_is bs rest c u h = ap (λ (z : List ℕ). slice_index z 0) (chars_past_char bs rest c u h)
 
-marked_fault : (after rest : List ℕ) (c : ℕ) → IsUtf8 after → after ≡ encode_utf8 c ++ rest → is_identifier_start c ≡ false
-    → first_marked after ≡ Faulty (UnexpectedChar c)
+marked_fault : (after rest : List ℕ) (c : ℕ) → IsUtf8 after → after ≡ encode_utf8 c ++ rest
+    → is_identifier_start c ≡ false → first_marked after ≡ Faulty (UnexpectedChar c)
 marked_fault [] rest c u h f = absurd (no_char c rest h)
 marked_fault (d ∷ ds) rest c u h f =
     if_false (is_identifier_start d) _ _ (byte_fails is_identifier_start start_is_ascii d ds rest c h f)
@@ -166,8 +166,10 @@ comes_here text at u b past = go (outcome text at u b past)
     go : Outcome (drop at text) → Comes text at (ahead_at text at).item (ahead_at text at).place
     go (inl (inl e)) =
         let S : ℕ → Type 0 = λ z. AreSpaces text at z in
-        subst (IsComing text at) (sym (end_comes text at e)) (subst S (at_length text at b.0 e) (no_spaces text at b.0), refl)
-    go (inl (inr f)) = subst (IsComing text at) (sym (fault_comes text at f.0 u b f.1)) (no_spaces text at b.0, f.1, refl)
+        subst (IsComing text at) (sym (end_comes text at e))
+        (subst S (at_length text at b.0 e) (no_spaces text at b.0), refl)
+    go (inl (inr f)) =
+        subst (IsComing text at) (sym (fault_comes text at f.0 u b f.1)) (no_spaces text at b.0, f.1, refl)
     go (inr x) =
         let E : List ℕ → Type 0 = λ z. EndsBefore x.token z in
         subst (IsComing text at) (sym (token_comes text at x.token x.rest x.parts x.well x.ends)) (
@@ -420,7 +422,8 @@ mark_stands text at b m is here lt = go m is
     go marks.Equals e = record { forward = omega arith; written = (tt, piece (codes "=") e); whole = tt }
 
 -- no character but the end
-pub nothing_seen : (text : List ℕ) (at : ℕ) (seen : Look) → Shows text at seen → character_of seen ≡ None → at ≡ length text
+pub nothing_seen : (text : List ℕ) (at : ℕ) (seen : Look) → Shows text at seen → character_of seen ≡ None →
+    at ≡ length text
 nothing_seen text at End shows h = shows
 nothing_seen text at (Ascii b) shows h = absurd cc
 nothing_seen text at (Wide c) shows h = absurd cc

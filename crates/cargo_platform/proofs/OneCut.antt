@@ -194,7 +194,8 @@ token_begins (Ident false (c ∷ cs)) r w = record {
 }
 
 -- a text that begins with an ASCII byte begins with that character
-pub char_is : (text rest : List ℕ) (c b : ℕ) (bs : List ℕ) → text ≡ encode_utf8 c ++ rest → text ≡ b ∷ bs → b < 128 → c ≡ b
+pub char_is : (text rest : List ℕ) (c b : ℕ) (bs : List ℕ) → text ≡ encode_utf8 c ++ rest → text ≡ b ∷ bs → b < 128
+    → c ≡ b
 char_is text rest c b bs h e lt = char_from_byte (b ∷ bs) rest c (sym e ∙ h) lt (omega arith)
 
 -- a text that begins with a token begins no lexical fault

@@ -39,7 +39,8 @@ all_from p text from each = all_each p (drop from text) (λ i below.
     ap p (get_or-drop from text i 0) ∙ each (from + i) (omega arith) (omega (arith, length-drop from text)))
 
 -- at the end of the text `slice_index` gives 0, which passes none of the tests
-pub starts_at : (p : ℕ → Bool) (text : List ℕ) (at : ℕ) → p (slice_index text at) ≡ false → starts p (drop at text) ≡ false
+pub starts_at : (p : ℕ → Bool) (text : List ℕ) (at : ℕ) → p (slice_index text at) ≡ false
+    → starts p (drop at text) ≡ false
 starts_at p [] zero h = refl
 starts_at p [] (suc at) h = refl
 starts_at p (x ∷ text) zero h = h

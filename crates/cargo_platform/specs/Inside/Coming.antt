@@ -1,5 +1,6 @@
 -- For proofs: what comes in a text from a place on, read off its bytes.
-use Rattle.std.specs.Prelude.{◌≡◌, ◌≢◌, ℕ, ◌+◌, ◌<◌, ◌≤◌, ◌^◌, Bool, true, false, not, ◌&&◌, ◌==◌, List, [], ◌∷◌, length, drop, codes}
+use Rattle.std.specs.Prelude.{◌≡◌, ◌≢◌, ℕ, ◌+◌, ◌<◌, ◌≤◌, ◌^◌, Bool, true, false, not, ◌&&◌, ◌==◌, List, [], ◌∷◌}
+use Rattle.std.specs.Prelude.{length, drop, codes}
 use Rattle.std.specs.Prelude.{slice_index, Option, Some, None, bytes_eq, if◌then◌else◌}
 use Rattle.std.specs.Str.{IsUtf8, IsCharBoundary, chars}
 use Rattle.cargo_platform.specs.declared.source.Look.{Look}
@@ -36,12 +37,14 @@ first_char bs = slice_index (chars bs) 0
 abbrev pub first_marked : List ℕ → First
 first_marked [] = Faulty MissingIdentifier
 first_marked (b ∷ bs) =
-    if is_identifier_start b then Whole (Ident true (b ∷ front is_identifier_rest bs)) else Faulty (UnexpectedChar (first_char (b ∷ bs)))
+    if is_identifier_start b then Whole (Ident true (b ∷ front is_identifier_rest bs))
+    else Faulty (UnexpectedChar (first_char (b ∷ bs)))
 
 -- a name, and what is behind it
 abbrev pub first_named : List ℕ → List ℕ → First
 first_named name rest =
-    if bytes_eq name (codes "r") && starts is_number_sign rest then first_marked (drop 1 rest) else Whole (Ident false name)
+    if bytes_eq name (codes "r") && starts is_number_sign rest then first_marked (drop 1 rest)
+    else Whole (Ident false name)
 
 -- what is behind a quote: bytes that are none, and what is behind them
 abbrev pub first_quoted : List ℕ → List ℕ → First
@@ -89,7 +92,8 @@ IsFound text (Some kind) = BeginsFault text kind
 
 -- Where a reader stands: at no space, with what is there seen. Until a fault is found each character before the place
 -- was looked at once, and what is at the place too.
-pub record IsReadingAt (text : List ℕ) (place : ℕ) (seen : Look) (fault : Option TokenFaultKind) (looks : ℕ) : Type 0 where
+pub record IsReadingAt (text : List ℕ) (place : ℕ) (seen : Look) (fault : Option TokenFaultKind) (looks : ℕ)
+    : Type 0 where
   pub utf8 : IsUtf8 text
   pub short : characters_from text 0 < 2 ^ 64
   pub reached : IsCharBoundary text place

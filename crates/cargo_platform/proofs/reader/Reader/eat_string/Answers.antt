@@ -30,7 +30,8 @@ returns-in-Some-clause-not_taken c =
     let i = c.self.invariant in
     let L : Ahead → Type 0 = λ z. Lacks IsString z in
     let found = rw c.in-Some.is at i.found in
-    (refl, subst L c.self.view_is (fault_lacks IsString r.source.text.now r.place c.in-Some._kind i.utf8 i.reached found))
+    let lacks_it = fault_lacks IsString r.source.text.now r.place c.in-Some._kind i.utf8 i.reached found in
+    (refl, subst L c.self.view_is lacks_it)
 
 pub invariant_of-self : goal.invariant_of-self
 invariant_of-self c =
@@ -42,8 +43,8 @@ invariant_of-self c =
     let ends = c.in_default-closing_quote.ensures in
     subst
     (λ t. IsReadingAt t.now r.place r.seen (Some UnterminatedString) c.closing_quote.new.self.looks) (sym ends.same)
-    (finds text r.place r.seen r.fault UnterminatedString r.source.looks c.closing_quote.new.self.looks i c.in_default.is
-    (unterminated text r.place here.1 ends.none) (omega (arith, ends.cost_to_end.at_most, step.1)))
+    (finds text r.place r.seen r.fault UnterminatedString r.source.looks c.closing_quote.new.self.looks i
+    c.in_default.is (unterminated text r.place here.1 ends.none) (omega (arith, ends.cost_to_end.at_most, step.1)))
 
 pub returns-in_default-closing_quote-clause-not_taken : goal.returns-in_default-closing_quote-clause-not_taken
 returns-in_default-closing_quote-clause-not_taken c =

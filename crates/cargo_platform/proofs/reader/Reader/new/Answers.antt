@@ -34,7 +34,15 @@ invariant_of-result c =
       sees = found.sees;
       past = found.past;
       found = tt;
-      each = λ _. omega (arith, look.at_most, look.at_least, found.cost.at_most, found.cost.at_least, fits, c.new-source.ensures.looks);
+      each = λ _. omega (
+        arith,
+        look.at_most,
+        look.at_least,
+        found.cost.at_most,
+        found.cost.at_least,
+        fits,
+        c.new-source.ensures.looks,
+      );
       at_most = omega (arith, look.at_most, found.cost.at_most, c.new-source.ensures.looks);
     })
 
