@@ -324,7 +324,8 @@ rest_ahead text at u b past within = go (outcome text at u b past)
     go : Outcome (drop at text) → IsLeftOver text at (comes_at text at)
     go (inl (inl e)) = absurd (omega (arith, at_length text at b.0 e, within))
     go (inl (inr f)) = subst (IsLeftOver text at) (sym (fault_comes text at f.0 u b f.1)) (λ g last. refl)
-    go (inr x) = subst (IsLeftOver text at) (sym (token_comes text at x.token x.rest x.parts x.well x.ends)) (λ g last. refl)
+    go (inr x) = subst (IsLeftOver text at) (sym (token_comes text at x.token x.rest x.parts x.well x.ends))
+        (λ g last. refl)
 
 -- at the end each character was looked at, and the end
 pub whole_read : (text : List ℕ) (at : ℕ) (seen : Look) (fault : Option TokenFaultKind) (looks : ℕ)

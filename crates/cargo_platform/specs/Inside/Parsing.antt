@@ -30,7 +30,8 @@ use Rattle.cargo_platform.specs.Inside.Refusals.{refused_fault}
 
 -- behind tokens that are accepted this text is the surplus
 abbrev pub IsSurplus : Next → List ℕ → Type 0
-IsSurplus next rest = (g : Grammar) (last : Option Lexeme) → fault_of g true last next ≡ Some (UnterminatedExpression rest)
+IsSurplus next rest =
+    (g : Grammar) (last : Option Lexeme) → fault_of g true last next ≡ Some (UnterminatedExpression rest)
 
 -- the text from the item ahead on, which is the surplus behind what is accepted, or nothing at the end
 abbrev pub SeesRest : Ahead → Option (Bor (List ℕ)) → Type 0

@@ -18,7 +18,8 @@ returns-then-is_empty c =
     let empty : text ≡ [] = search (rules, common_steps) in
     let P = λ (ls : List (List ℕ)). λ (cs : List Cfg). SpellFacts ls (map value_of cs) in
     let facts : P (lines_of text) c.new-facts.result.items =
-    subst (λ t. P (lines_of t) c.new-facts.result.items) (sym empty) (subst (P []) (sym c.new-facts.ensures.items) tt) in
+    subst (λ t. P (lines_of t) c.new-facts.result.items) (sym empty)
+    (subst (P []) (sym c.new-facts.ensures.items) tt) in
     record {
       facts = facts;
       refused = tt;
