@@ -1,10 +1,9 @@
 //! All short texts, read by the library and by the plain reader, and cut texts.
 
 use crate::looks::negations;
-use crate::made::{assert_prints, same, same_value, value};
 use crate::plain_reader::{self, Stop};
 use crate::real_facts::{LINUX, MACOS, WASM, WINDOWS};
-use crate::refusals::{error_of, is_fault};
+use crate::support::{assert_prints, error_of, is_fault, same, same_value, value};
 use crate::{expressions, matching, names_and_pairs, order, platforms, printing, warnings};
 use cargo_platform::tokens::Looks;
 use cargo_platform::{Cfg, CfgExpr, ParseErrorKind, ReadError};

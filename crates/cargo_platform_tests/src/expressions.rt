@@ -1,9 +1,8 @@
 //! Expressions, read from text.
 
 use crate::all_short_texts::{is_cfg, is_expression};
-use crate::made::{assert_prints, expression, repeated, same};
 use crate::platforms::is_condition;
-use crate::refusals::{Fault, assert_refused};
+use crate::support::{Fault, assert_prints, assert_refused, expression, repeated, same};
 use cargo_platform::{Cfg, CfgExpr};
 use std::test::Fail;
 

@@ -1,8 +1,7 @@
 //! Facts, read from a text of lines.
 
-use crate::made::{assert_prints, same_value, values};
 use crate::real_facts::LINUX;
-use crate::refusals::{Fault, is_fault};
+use crate::support::{Fault, assert_prints, is_fault, same_value, values};
 use cargo_platform::{FactsError, read_facts};
 use std::test::Fail;
 

@@ -1,7 +1,6 @@
 //! Conditions as JSON.
 
-use crate::made::assert_prints;
-use crate::refusals::{Fault, assert_refused};
+use crate::support::{Fault, assert_prints, assert_refused};
 use cargo_platform::{JsonError, Platform, ReadError};
 use serde_json::Value;
 use std::test::Fail;

@@ -15,8 +15,6 @@ mod long_names;
 #[cfg(test)]
 mod looks;
 #[cfg(test)]
-mod made;
-#[cfg(test)]
 mod matching;
 #[cfg(test)]
 mod names_and_pairs;
@@ -30,7 +28,7 @@ mod platforms;
 mod printing;
 pub mod real_facts;
 #[cfg(test)]
-mod refusals;
+mod support;
 #[cfg(test)]
 mod tokens;
 #[cfg(test)]

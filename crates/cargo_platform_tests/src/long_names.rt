@@ -1,8 +1,7 @@
 //! Names, keys, values and lists that are longer than any in the tables.
 
 use crate::all_short_texts::{is_cfg, is_expression};
-use crate::made::{assert_prints, repeated, same, same_value, value};
-use crate::refusals::{Fault, assert_refused};
+use crate::support::{Fault, assert_prints, assert_refused, repeated, same, same_value, value};
 use crate::warnings::{on_attributes, on_word};
 use cargo_platform::{Cfg, CfgExpr, FactIndex, Facts, Platform, read_facts};
 use std::alloc::Global;

@@ -1,8 +1,7 @@
 //! How often a text is looked at while it is read.
 
 use crate::all_short_texts::{is_cfg, is_expression};
-use crate::made::{assert_prints, repeated, same, values};
-use crate::refusals::{Fault, assert_refused};
+use crate::support::{Fault, assert_prints, assert_refused, repeated, same, values};
 use cargo_platform::CfgExpr;
 use std::alloc::{AllocError, Global};
 use std::test::Fail;

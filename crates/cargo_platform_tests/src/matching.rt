@@ -6,8 +6,8 @@ ghost use Rattle.cargo_platform.specs.Facts.{fact_set};
 ghost use Rattle.cargo_platform.specs.Holders.{name_fact, pair_fact, only, where_set};
 ghost use Rattle.cargo_platform.specs.Trees.{value_of};
 
-use crate::made::{value, values};
 use crate::real_facts::{LINUX, MACOS, WASM, WINDOWS};
+use crate::support::{value, values};
 use cargo_platform::cfg::{Cfg, CfgExpr, FactIndex, Facts, Listed};
 use cargo_platform::read_facts;
 use std::alloc::{AllocError, Global};

@@ -1,7 +1,6 @@
 //! Names and pairs, read from text.
 
-use crate::made::assert_prints;
-use crate::refusals::{Fault, assert_refused};
+use crate::support::{Fault, assert_prints, assert_refused};
 use cargo_platform::Cfg;
 use std::test::Fail;
 

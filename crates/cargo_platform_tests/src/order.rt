@@ -1,6 +1,8 @@
 //! Equality, order, hash and copies, where raw marks differ.
 
-use crate::made::{assert_prints, expression, ident, same, same_ident, same_value, value, values};
+use crate::support::{
+    assert_prints, expression, ident, same, same_ident, same_value, value, values,
+};
 use cargo_platform::{Cfg, CfgExpr, FactIndex, Facts};
 use std::alloc::{AllocError, Global};
 use std::cmp::Ordering;

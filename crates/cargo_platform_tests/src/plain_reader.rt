@@ -1,7 +1,7 @@
 //! A reader of names, pairs and expressions by recursive descent, written as the grammar reads, over the public
 //! tokenizer alone. The library's reader, which keeps a stack of open groups, is compared with it.
 
-use crate::refusals::Fault;
+use crate::support::Fault;
 use cargo_platform::{Cfg, CfgExpr, Ident, Spanned, Token, TokenFault, TokenFaultKind, Tokenizer};
 use std::alloc::{AllocError, Global};
 

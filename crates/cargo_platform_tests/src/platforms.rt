@@ -1,10 +1,11 @@
 //! Conditions: names of targets and `cfg(..)` expressions, read from text, printed, compared and matched.
 
 use crate::all_short_texts::{Alphabet, CHARACTERS, COUNTS, PIECES, assert_same_refusal, text_at};
-use crate::made::{assert_prints, repeated, same, value, values};
 use crate::order::assert_order;
 use crate::plain_reader::{self, Stop};
-use crate::refusals::{Fault, assert_refused, error_of, is_fault};
+use crate::support::{
+    Fault, assert_prints, assert_refused, error_of, is_fault, repeated, same, value, values,
+};
 use cargo_platform::{CfgExpr, Platform, ReadError};
 use std::alloc::{AllocError, Global};
 use std::cmp::Ordering;

@@ -1,7 +1,6 @@
 //! What is printed of values made by hand, also of those that no text gives.
 
-use crate::made::{assert_prints, expression, ident, value};
-use crate::refusals::{Fault, assert_refused, is_fault};
+use crate::support::{Fault, assert_prints, assert_refused, expression, ident, is_fault, value};
 use cargo_platform::{Cfg, CfgExpr, ParseError, ParseErrorKind, Platform, ReadError};
 use std::alloc::Global;
 use std::error::Error;

@@ -1,6 +1,6 @@
 //! Warnings on conditions, in their exact texts.
 
-use crate::made::{expression, value};
+use crate::support::{expression, value};
 use cargo_platform::{CfgExpr, Platform};
 use std::alloc::{AllocError, Global};
 use std::test::Fail;
