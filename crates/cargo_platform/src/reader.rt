@@ -139,7 +139,7 @@ impl<'a> Reader<'a> {
         Some(value)
     }
 
-    /// Takes the next token, whatever it is. Behind the last one it gives what is there.
+    /// Takes the next token, whatever it is. Where none is next it gives the fault, or nothing at the end of the text.
     #[inline(never)]
     fn take(&mut self) -> Option<Result<Token<'a>, TokenFaultKind>>
         ensures same_text { self.new.text ≡ self.old.text }
@@ -167,7 +167,7 @@ impl<'a> Reader<'a> {
 
     /// The text from what comes next on, or nothing at the end.
     #[inline(always)]
-    fn rest(&self) -> Option<&'a str>
+    pub fn rest(&self) -> Option<&'a str>
         ensures { SeesRest self.now result }
     {
         match character_of(self.seen) {
@@ -217,7 +217,7 @@ fn is_byte(look: Look, byte: u8) -> bool
 }
 
 /// A token that is one character.
-#[derive(Clone, Copy, PartialEq, Eq)]
+#[derive(Clone, Copy)]
 pub(crate) enum Mark {
     LeftParen,
     RightParen,
