@@ -30,8 +30,8 @@ use Rattle.cargo_platform.specs.Inside.Coming.{ahead_at, IsFound, IsReadingAt}
 use Rattle.cargo_platform.specs.Inside.Looking.{IsCharAt, Shows, Costs, character_of}
 use Rattle.cargo_platform.specs.Inside.Scanning.{IsTokenAt}
 use Rattle.cargo_platform.specs.Inside.Parsing.{TakesToken, Lacks, lexeme_of, IsIdentifier, IsSurplus}
-use Rattle.cargo_platform.specs.declared.reader.Mark.{Mark}
-use Rattle.cargo_platform.specs.declared.reader.Mark.TheVariants as marks
+use Rattle.cargo_platform.specs.declared.reader.Punctuation.{Punctuation}
+use Rattle.cargo_platform.specs.declared.reader.Punctuation.TheVariants as punctuation
 use Rattle.cargo_platform.proofs.OneCut.{both_true, both_first, both_second, never, start_is_ascii, piece_end}
 use Rattle.cargo_platform.proofs.OneCut.{piece_rest}
 use Rattle.cargo_platform.proofs.OneCut.{written_rest, token_begins, char_is, head_of}
@@ -403,7 +403,7 @@ finds text at seen fault k looks new r none begins few = record {
 }
 
 -- a mark stands where its byte does
-pub mark_stands : (text : List ℕ) (at b : ℕ) (m : Mark) → written (lexeme_of m) ≡ b ∷ [] → IsCharAt text at b → b < 128
+pub mark_stands : (text : List ℕ) (at b : ℕ) (m : Punctuation) → written (lexeme_of m) ≡ b ∷ [] → IsCharAt text at b → b < 128
     → IsTokenAt text (lexeme_of m) at (at + 1)
 mark_stands text at b m is here lt = go m is
   where
@@ -416,11 +416,11 @@ mark_stands text at b m is here lt = go m is
     piece : (p : List ℕ) → p ≡ b ∷ [] → IsPiece text at (at + 1) p
     piece p e = record { ordered = omega arith; inside = omega (arith, here.within); bytes = bytes ∙ sym e }
 
-    go : (m : Mark) → written (lexeme_of m) ≡ b ∷ [] → IsTokenAt text (lexeme_of m) at (at + 1)
-    go marks.LeftParen e = record { forward = omega arith; written = (tt, piece (codes "(") e); whole = tt }
-    go marks.RightParen e = record { forward = omega arith; written = (tt, piece (codes ")") e); whole = tt }
-    go marks.Comma e = record { forward = omega arith; written = (tt, piece (codes ",") e); whole = tt }
-    go marks.Equals e = record { forward = omega arith; written = (tt, piece (codes "=") e); whole = tt }
+    go : (m : Punctuation) → written (lexeme_of m) ≡ b ∷ [] → IsTokenAt text (lexeme_of m) at (at + 1)
+    go punctuation.LeftParen e = record { forward = omega arith; written = (tt, piece (codes "(") e); whole = tt }
+    go punctuation.RightParen e = record { forward = omega arith; written = (tt, piece (codes ")") e); whole = tt }
+    go punctuation.Comma e = record { forward = omega arith; written = (tt, piece (codes ",") e); whole = tt }
+    go punctuation.Equals e = record { forward = omega arith; written = (tt, piece (codes "=") e); whole = tt }
 
 -- no character but the end
 pub nothing_seen : (text : List ℕ) (at : ℕ) (seen : Look) → Shows text at seen → character_of seen ≡ None →

@@ -8,7 +8,7 @@ use Rattle.std.specs.List.{last_or}
 use Rattle.std.proofs.lemmas.Option.{IfSome_then}
 use Rattle.std.proofs.lemmas.List.Edits.{length-between}
 use Rattle.cargo_platform.specs.declared.reader.Refusal.{Refusal}
-use Rattle.cargo_platform.specs.declared.reader.Mark.TheVariants as marks
+use Rattle.cargo_platform.specs.declared.reader.Punctuation.TheVariants as punctuation
 use Rattle.cargo_platform.specs.Tokens.{Lexeme, LeftParen, RightParen, Ident, Comma, Equals, String, Placed}
 use Rattle.cargo_platform.specs.Tokens.{written}
 use Rattle.cargo_platform.specs.Cut.{lexemes}
@@ -23,7 +23,7 @@ use Rattle.cargo_platform.specs.Inside.Ahead as ahead
 use Rattle.cargo_platform.specs.Inside.Refusals.{refused_fault}
 use Rattle.cargo_platform.specs.Inside.Parsing.{Opening, Negated, Listed, list_tree, kind, kinds}
 use Rattle.cargo_platform.specs.Inside.Parsing.{is_list, is_lone, Wants, Has, HasName, HasWord, is_equals}
-use Rattle.cargo_platform.specs.Inside.Parsing.{is_equals_next, Reads, TakesToken, LacksMark, LacksName, LacksString}
+use Rattle.cargo_platform.specs.Inside.Parsing.{is_equals_next, Reads, TakesToken, LacksPunctuation, LacksName, LacksString}
 use Rattle.cargo_platform.specs.Inside.Parsing.{IsStop, IsStuck, IfFault, StopsAt, Stops, RefusesNext, RefusesMore}
 use Rattle.cargo_platform.specs.Inside.Parsing.{ClearBehind, with_last}
 use Rattle.cargo_platform.proofs.Walk.{begins, ends, walk_next, after_end}
@@ -220,7 +220,7 @@ stops_behind {g} l P r h f = refused_here g l P r (λ ts p.
 -- ---- names and pairs
 
 -- no `=` comes next
-pub lacks_equals : (l : Ahead) → LacksMark l marks.Equals → IsFalse (is_equals_next l.item)
+pub lacks_equals : (l : Ahead) → LacksPunctuation l punctuation.Equals → IsFalse (is_equals_next l.item)
 lacks_equals l h = go l.item h
   where
     is : (t : Lexeme) → (t ≡ Equals → ⊥) → is_equals t ≡ false
@@ -375,7 +375,7 @@ begun (Several ∷ ws) = (refl, refl, refl)
 begun (Negation ∷ ws) = (refl, refl, refl)
 
 pub wants_refusing : (l : Ahead) (gs : List Opening) (ts : List Lexeme) → LacksName l
-    → (is_list (kinds gs) ≡ true → LacksMark l marks.RightParen) → Wants gs ts
+    → (is_list (kinds gs) ≡ true → LacksPunctuation l punctuation.RightParen) → Wants gs ts
     → Refusing Expressions l (codes "identifier") (codes "start of a cfg expression") ts
 wants_refusing l gs ts n r w =
     let b = begun (kinds gs) in
@@ -394,7 +394,7 @@ after_behind w ws LeftParen h = absurd (h refl)
 after_behind Several ws t h = refl
 after_behind Negation ws t h = refl
 
-pub word_refusing : (l : Ahead) (gs : List Opening) (o : Opening) (ts : List Lexeme) → LacksMark l marks.LeftParen
+pub word_refusing : (l : Ahead) (gs : List Opening) (o : Opening) (ts : List Lexeme) → LacksPunctuation l punctuation.LeftParen
     → HasWord gs o ts → Refusing Expressions l (codes "`(`") (codes "`(`") ts
 word_refusing l gs o ts n h = record {
   s = Behind (kind o) (kinds gs);
@@ -417,7 +417,7 @@ none_behind (Listed all es) ws t h k = refl
 none_behind Negated ws t h k = refl
 
 pub group_refusing : (l : Ahead) (o : Opening) (gs : List Opening) (e : Tree) (ts : List Lexeme)
-    → LacksMark l marks.RightParen → (is_list (kinds (o ∷ [])) ≡ true → LacksMark l marks.Comma)
+    → LacksPunctuation l punctuation.RightParen → (is_list (kinds (o ∷ [])) ≡ true → LacksPunctuation l punctuation.Comma)
     → Has (o ∷ gs) e l.item ts → Refusing Expressions l (codes "`)`") (codes "`)`") ts
 group_refusing l o gs e ts n m h =
     let u = unclosed (is_lone e) (kind o) (kinds gs) in

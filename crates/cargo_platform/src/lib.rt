@@ -18,12 +18,10 @@ mod json;
 pub mod laws;
 mod order;
 mod parser;
-mod platform_order;
 mod platforms;
 mod reader;
 mod source;
 pub mod tokens;
-mod tree_order;
 mod values;
 mod warnings;
 

@@ -1,4 +1,4 @@
-//! Equality, order and hash of names, pairs and expressions, all by the key: the value with every raw mark taken off.
+//! Equality, order and hash, all by the key: the value with every raw mark taken off. Those of names and pairs are here.
 
 ghost use Rattle.std.specs.Prelude.{refl};
 ghost use Rattle.std.specs.Cmp.{eq_by_cmp_equiv, on_equiv, on_total, partial_equiv_from_equiv};
@@ -8,6 +8,9 @@ ghost use Rattle.cargo_platform.specs.Trees.{name_of, value_of};
 ghost use Rattle.cargo_platform.specs.Key.{name_cmp, value_cmp};
 ghost use Rattle.cargo_platform.specs.OrderLaws.{name_total, value_total};
 ghost use Rattle.cargo_platform.specs.Hashing.{name_hash, value_hash, name_alike, value_alike};
+
+mod expressions;
+mod platforms;
 
 use crate::cfg::{Cfg, Ident};
 use std::cmp::Ordering;

@@ -9,14 +9,14 @@ ghost use Rattle.cargo_platform.specs.Trees.{Tree, name_of, value_of, tree_of, N
 ghost use Rattle.cargo_platform.specs.Spelling.{Grammar, Values, Expressions, is_group_word, is_literal_word, Spells};
 ghost use Rattle.cargo_platform.specs.Spelling.{value_spelling};
 ghost use Rattle.cargo_platform.specs.Walk.{Word, Named, walk};
-ghost use Rattle.cargo_platform.specs.Inside.Parsing.{LacksMark, Opening, Negated, Listed, opening, stack};
+ghost use Rattle.cargo_platform.specs.Inside.Parsing.{LacksPunctuation, Opening, Negated, Listed, opening, stack};
 ghost use Rattle.cargo_platform.specs.Inside.Parsing.{IsFresh, is_all, list_tree, is_lone, Wants, Has, HasName};
 ghost use Rattle.cargo_platform.specs.Inside.Parsing.{HasWord, Stands, Reads, Stops, HasRead, ClearBehind, TakesToken};
 ghost use Rattle.cargo_platform.specs.Inside.Parsing.{opening_word, kinds, is_list, openings, with_last};
 
 use crate::cfg::{Cfg, CfgExpr, Ident};
 use crate::iterative_drop::drop_members;
-use crate::reader::{Mark, Reader, Refusal, expect_end, refuse};
+use crate::reader::{Punctuation, Reader, Refusal, expect_end, refuse};
 use std::alloc::{AllocError, Global};
 use std::mem;
 
@@ -230,7 +230,7 @@ fn read_value<'a>(
     ensures refused { IfErr result
         (λ r. (g : Grammar) (ws : List Word) → Stops g reader.old (λ ts. walk g ts ≡ Some (Named ws)) r) }
 {
-    if !reader.eat(Mark::Equals) {
+    if !reader.eat(Punctuation::Equals) {
         return Ok(Cfg::Name(ident(alloc, raw, name)?));
     }
     let Some(value) = reader.eat_string() else {
@@ -253,7 +253,7 @@ fn open_group<'a>(
         (Reads reader.old reader.new (HasWord (stack groups.old) (opening group)) (Wants (stack groups.new))) }
     ensures refused { IfErr result (Stops Expressions reader.old (HasWord (stack groups.old) (opening group))) }
 {
-    if !reader.eat(Mark::LeftParen) {
+    if !reader.eat(Punctuation::LeftParen) {
         return Err(refuse(reader, "`(`", "`(`"));
     }
     groups.push(group)?;
@@ -295,11 +295,11 @@ fn end_list(reader: &mut Reader<'_>, groups: &mut OpenGroups) -> Option<CfgExpr>
     ensures shorter { IfSome result (λ e. items_left reader.new < items_left reader.old) }
     ensures not_closed { IfNone result
         ((reader.new ≡ reader.old)
-        × (is_list (kinds (stack groups.old)) ≡ true → LacksMark reader.old Mark.RightParen)) }
+        × (is_list (kinds (stack groups.old)) ≡ true → LacksPunctuation reader.old Punctuation.RightParen)) }
 {
     match groups.pop() {
         Some(Group::List(word, members)) => {
-            if !reader.eat(Mark::RightParen) {
+            if !reader.eat(Punctuation::RightParen) {
                 drop_members(members);
                 return None;
             }
@@ -389,9 +389,9 @@ fn eat_comma(reader: &mut Reader<'_>, groups: &OpenGroups) -> bool
     ensures in_list { IsTrue result → is_list (kinds (stack groups.now)) ≡ true }
     ensures taken { IsTrue result → TakesToken reader.old reader.new Comma }
     ensures not_taken { IsFalse result →
-        (reader.new ≡ reader.old) × (is_list (kinds (stack groups.now)) ≡ true → LacksMark reader.old Mark.Comma) }
+        (reader.new ≡ reader.old) × (is_list (kinds (stack groups.now)) ≡ true → LacksPunctuation reader.old Punctuation.Comma) }
 {
-    groups.is_in_list() && reader.eat(Mark::Comma)
+    groups.is_in_list() && reader.eat(Punctuation::Comma)
 }
 
 /// Reads the `)` of a group, behind its last member.
@@ -402,7 +402,7 @@ fn close_group<'a>(
     group: Group,
     last: CfgExpr,
 ) -> Result<CfgExpr, Refusal<'a>>
-    requires { is_list (kinds (opening group ∷ [])) ≡ true → LacksMark reader.old Mark.Comma }
+    requires { is_list (kinds (opening group ∷ [])) ≡ true → LacksPunctuation reader.old Punctuation.Comma }
     ensures same_text { reader.new.text ≡ reader.old.text }
     ensures closed { IfOk result
         (λ e. (gs : List Opening)
@@ -413,7 +413,7 @@ fn close_group<'a>(
         → Stops Expressions reader.old (Has (opening group ∷ gs) (tree_of last) reader.old.item) r) }
     ensures shorter { OnOk result (items_left reader.new < items_left reader.old) }
 {
-    if !reader.eat(Mark::RightParen) {
+    if !reader.eat(Punctuation::RightParen) {
         last.drop_iteratively(alloc);
         drop_group(group);
         return Err(refuse(reader, "`)`", "`)`"));

@@ -7,7 +7,7 @@ ghost use Rattle.cargo_platform.specs.Reading.{characters_from};
 ghost use Rattle.cargo_platform.specs.Inside.Ahead.{Comes};
 ghost use Rattle.cargo_platform.specs.Inside.Ahead as ahead;
 ghost use Rattle.cargo_platform.specs.Inside.Parsing.{IsIdentifier};
-ghost use Rattle.cargo_platform.specs.Inside.Parsing.{SeesRest, Takes, TakesToken, LacksMark, LacksName, LacksString};
+ghost use Rattle.cargo_platform.specs.Inside.Parsing.{SeesRest, Takes, TakesToken, LacksPunctuation, LacksName, LacksString};
 ghost use Rattle.cargo_platform.specs.Inside.Parsing.{lexeme_of, RefusesNext, RefusesMore};
 
 use crate::Looks;
@@ -58,14 +58,14 @@ impl<'a> Reader<'a> {
         }
     }
 
-    /// Takes the next token where it is this mark.
+    /// Takes the next token where it is this character.
     #[inline(always)]
-    pub fn eat(&mut self, mark: Mark) -> bool
+    pub fn eat(&mut self, wanted: Punctuation) -> bool
         ensures same_text { self.new.text ≡ self.old.text }
-        ensures taken { IsTrue result → TakesToken self.old self.new (lexeme_of mark) }
-        ensures not_taken { IsFalse result → (self.new ≡ self.old) × LacksMark self.old mark }
+        ensures taken { IsTrue result → TakesToken self.old self.new (lexeme_of wanted) }
+        ensures not_taken { IsFalse result → (self.new ≡ self.old) × LacksPunctuation self.old wanted }
     {
-        if !is_byte(self.seen, byte_of(mark)) {
+        if !is_byte(self.seen, byte_of(wanted)) {
             return false;
         }
         let behind = self.source.look(self.place + 1);
@@ -218,23 +218,23 @@ fn is_byte(look: Look, byte: u8) -> bool
 
 /// A token that is one character.
 #[derive(Clone, Copy)]
-pub(crate) enum Mark {
+pub(crate) enum Punctuation {
     LeftParen,
     RightParen,
     Comma,
     Equals,
 }
 
-/// The character that a mark is.
+/// The byte that it is written as.
 #[inline(always)]
-fn byte_of(mark: Mark) -> u8
-    ensures { written (lexeme_of mark) ≡ result ∷ [] }
+fn byte_of(wanted: Punctuation) -> u8
+    ensures { written (lexeme_of wanted) ≡ result ∷ [] }
 {
-    match mark {
-        Mark::LeftParen => b'(',
-        Mark::RightParen => b')',
-        Mark::Comma => b',',
-        Mark::Equals => b'=',
+    match wanted {
+        Punctuation::LeftParen => b'(',
+        Punctuation::RightParen => b')',
+        Punctuation::Comma => b',',
+        Punctuation::Equals => b'=',
     }
 }
 /// Why nothing was read.

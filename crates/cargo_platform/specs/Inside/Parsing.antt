@@ -10,8 +10,8 @@ use Rattle.cargo_platform.specs.declared.cfg.CfgExpr.{CfgExpr}
 use Rattle.cargo_platform.specs.declared.reader.Refusal.{Refusal}
 use Rattle.cargo_platform.specs.declared.parser.Listing.{Listing}
 use Rattle.cargo_platform.specs.declared.parser.Listing.TheVariants as listing
-use Rattle.cargo_platform.specs.declared.reader.Mark.{Mark}
-use Rattle.cargo_platform.specs.declared.reader.Mark.TheVariants as marks
+use Rattle.cargo_platform.specs.declared.reader.Punctuation.{Punctuation}
+use Rattle.cargo_platform.specs.declared.reader.Punctuation.TheVariants as punctuation
 use Rattle.cargo_platform.specs.declared.parser.Group.{Group}
 use Rattle.cargo_platform.specs.declared.parser.Opened.{Opened}
 use Rattle.cargo_platform.specs.declared.parser.OpenGroups.{OpenGroups}
@@ -38,11 +38,11 @@ abbrev pub SeesRest : Ahead → Option (Bor (List ℕ)) → Type 0
 SeesRest l None = l.item ≡ Nothing
 SeesRest l (Some rest) = IsSurplus (next_of l.text l.item) rest.now
 
-abbrev pub lexeme_of : Mark → Lexeme
-lexeme_of marks.LeftParen = LeftParen
-lexeme_of marks.RightParen = RightParen
-lexeme_of marks.Comma = Comma
-lexeme_of marks.Equals = Equals
+abbrev pub lexeme_of : Punctuation → Lexeme
+lexeme_of punctuation.LeftParen = LeftParen
+lexeme_of punctuation.RightParen = RightParen
+lexeme_of punctuation.Comma = Comma
+lexeme_of punctuation.Equals = Equals
 
 -- the token ahead, which this is, is taken
 abbrev pub TakesToken : Ahead → Ahead → Lexeme → Type 0
@@ -66,8 +66,8 @@ IsString t = (value : List ℕ) × (t ≡ String value)
 abbrev pub Lacks : (Lexeme → Type 0) → Ahead → Type 0
 Lacks P l = (first : Placed) → l.item ≡ ahead.Token first → P first.token → ⊥
 
-abbrev pub LacksMark : Ahead → Mark → Type 0
-LacksMark l mark = Lacks (λ t. t ≡ lexeme_of mark) l
+abbrev pub LacksPunctuation : Ahead → Punctuation → Type 0
+LacksPunctuation l p = Lacks (λ t. t ≡ lexeme_of p) l
 
 abbrev pub LacksName : Ahead → Type 0
 LacksName l = Lacks IsIdentifier l
@@ -249,5 +249,5 @@ HasRead old new read = Reads old new (λ ts. ts ≡ []) (λ ts. ts ≡ read)
 
 -- no `=` is ahead behind a name alone
 abbrev pub ClearBehind : CfgValue → Ahead → Type 0
-ClearBehind (Alone n) l = LacksMark l marks.Equals
+ClearBehind (Alone n) l = LacksPunctuation l punctuation.Equals
 ClearBehind (KeyPair k v) l = Unit {0}

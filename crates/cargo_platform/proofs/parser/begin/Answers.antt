@@ -1,9 +1,9 @@
 use Rattle.std.proofs.Common.{subst, ◌∙◌, ◌<◌, arith}
 use Rattle.cargo_platform.specs.Inside.Ahead.{items_left}
 use Rattle.cargo_platform.specs.Tokens.{Ident}
-use Rattle.cargo_platform.specs.declared.reader.Mark.TheVariants as marks
+use Rattle.cargo_platform.specs.declared.reader.Punctuation.TheVariants as punctuation
 use Rattle.cargo_platform.specs.Inside.Ahead.{Ahead}
-use Rattle.cargo_platform.specs.Inside.Parsing.{stack, Wants, HasName, Stands, LacksMark}
+use Rattle.cargo_platform.specs.Inside.Parsing.{stack, Wants, HasName, Stands, LacksPunctuation}
 use Rattle.cargo_platform.specs.Spelling.{Expressions}
 use Rattle.cargo_platform.proofs.Parsing.{taken_shorter, reads_shorter, if_ok, if_err, reads_taken, reads_then}
 use Rattle.cargo_platform.proofs.Parsing.{stops_then, stops_untaken, wants_refusing, wants_name}
@@ -42,7 +42,7 @@ returns-clause-refused c =
     let gs = stack c.args.groups.now in
     let n = c.in_default.ensures.not_taken in
     let k = c.in_default-end_list.ensures.not_closed in
-    let L : Ahead → Type 0 = λ z. LacksMark z marks.RightParen in
+    let L : Ahead → Type 0 = λ z. LacksPunctuation z punctuation.RightParen in
     stops_untaken l c.end_list.new.reader (Wants gs) c.refuse.result _ _ (k.0 ∙ n.0) c.refuse.ensures.refused
     (λ ts p. wants_refusing l gs ts n.1 (λ y. subst L n.0 (k.1 y)) p)
 

@@ -12,7 +12,7 @@ pub returns-then-not-is_byte-clause-not_taken : goal.returns-then-not-is_byte-cl
 returns-then-not-is_byte-clause-not_taken c = λ _.
     let r = c.self.inside in
     let i = c.self.invariant in
-    let P : Lexeme → Type 0 = λ t. t ≡ lexeme_of c.args.mark in
+    let P : Lexeme → Type 0 = λ t. t ≡ lexeme_of c.args.wanted in
     let L : Ahead → Type 0 = λ z. Lacks P z in (
       refl,
       subst L c.self.view_is
@@ -29,8 +29,8 @@ invariant_of-self c =
     let text = r.source.text.now in
     let end = r.place + 1 in
     let here = rw (c.is_byte.ensures.yes c.if-not-is_byte.false) at i.sees in
-    let stands = mark_stands text r.place c.byte_of.result c.args.mark c.byte_of.ensures here.1 here.0 in
-    let none = token_no_fault text r.place end (lexeme_of c.args.mark) r.seen r.fault r.source.looks i stands in
+    let stands = mark_stands text r.place c.byte_of.result c.args.wanted c.byte_of.ensures here.1 here.0 in
+    let none = token_no_fault text r.place end (lexeme_of c.args.wanted) r.seen r.fault r.source.looks i stands in
     let step = ascii_step text r.place i.utf8 here.1.within (omega (arith, here.1.ascii here.0, here.0)) i.reached in
     let found = rw c.look-behind.ensures.same at c.past_spaces-place.ensures in
     subst
@@ -47,9 +47,9 @@ returns-clause-taken c = λ _.
     let i = c.self.invariant in
     let text = r.source.text.now in
     let to = c.past_spaces-place.result.0 in
-    let t = lexeme_of c.args.mark in
+    let t = lexeme_of c.args.wanted in
     let here = rw (c.is_byte.ensures.yes c.if-not-is_byte.false) at i.sees in
-    let stands = mark_stands text r.place c.byte_of.result c.args.mark c.byte_of.ensures here.1 here.0 in
+    let stands = mark_stands text r.place c.byte_of.result c.args.wanted c.byte_of.ensures here.1 here.0 in
     let found = rw c.look-behind.ensures.same at c.past_spaces-place.ensures in
     let T : Ahead → Type 0 = λ z. TakesToken z (ahead_at c.past_spaces-place.new.self.text.now to) t in
     subst T c.self.view_is

@@ -3,7 +3,7 @@ use Rattle.cargo_platform.specs.Trees.{tree_of, trees_of}
 use Rattle.cargo_platform.specs.Hashing.{trees_hash}
 use Rattle.cargo_platform.proofs.Members.{count_members}
 use Rattle.cargo_platform.proofs.LastMembers.{last_fed}
-use Rattle.cargo_platform.proofs.tree_order.+feed.Goals as goal
+use Rattle.cargo_platform.proofs.order.expressions.+feed.Goals as goal
 
 -- no member is left behind the last
 pub feed_all_but_last-returns-clause-fed : goal.feed_all_but_last-returns-clause-fed

@@ -2,7 +2,7 @@ use Rattle.std.proofs.Common.{◌≡◌, ◌∷◌, ◌+◌, ◌*◌, ◌≤◌,
 use Rattle.cargo_platform.specs.Trees.{tree_of, trees_of}
 use Rattle.cargo_platform.specs.Hashing.{tree_hash, trees_hash}
 use Rattle.cargo_platform.specs.ExpressionSizes.{node_count, node_counts}
-use Rattle.cargo_platform.proofs.tree_order.+feed.Given as goal
+use Rattle.cargo_platform.proofs.order.expressions.+feed.Given as goal
 
 abbrev pub decreases-feed : goal.decreases-feed
 decreases-feed g l = 2 * node_count l.e.now

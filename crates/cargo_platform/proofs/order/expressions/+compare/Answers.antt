@@ -3,7 +3,7 @@ use Rattle.std.specs.Ordering.{is_eq}
 use Rattle.std.proofs.lemmas.Slice.Zip.{zip_end}
 use Rattle.cargo_platform.proofs.Members.{ended}
 use Rattle.cargo_platform.proofs.LastMembers.{last_decides, front_decides}
-use Rattle.cargo_platform.proofs.tree_order.+compare.Goals as goal
+use Rattle.cargo_platform.proofs.order.expressions.+compare.Goals as goal
 
 -- one of the lists has ended
 pub compare_members-returns : goal.compare_members-returns

@@ -2,7 +2,7 @@ use Rattle.std.proofs.Common.{◌≡◌, ◌+◌, ◌*◌, ◌≤◌, drop, map,
 use Rattle.cargo_platform.specs.Trees.{tree_of, trees_of}
 use Rattle.cargo_platform.specs.Key.{tree_cmp, trees_cmp}
 use Rattle.cargo_platform.specs.ExpressionSizes.{node_count, node_counts}
-use Rattle.cargo_platform.proofs.tree_order.+compare.Given as goal
+use Rattle.cargo_platform.proofs.order.expressions.+compare.Given as goal
 
 abbrev pub decreases-compare : goal.decreases-compare
 decreases-compare l = 4 * node_count l.a.now + 1
