@@ -85,23 +85,13 @@ fn by_length(a: &Cfg, b: &Cfg) -> Ordering
     let length = length_of(a);
     let other = length_of(b);
     if length == other {
-        return by_text(a, b);
+        return a.cmp(b);
     }
     if length < other {
         Ordering::Less
     } else {
         Ordering::Greater
     }
-}
-
-// Stands apart, so that the loops that sort and search by lengths are short.
-/// The order of names, keys and values.
-#[cold]
-#[inline(never)]
-fn by_text(a: &Cfg, b: &Cfg) -> Ordering
-    ensures { result ≡ value_cmp (value_of a.now) (value_of b.now) }
-{
-    a.cmp(b)
 }
 
 /// Facts kept in order, so that asking for one goes over few of them. It means the set of the pairs of the values that
