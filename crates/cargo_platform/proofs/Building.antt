@@ -206,10 +206,12 @@ mutual
       → Leads keys (WithTree e (Listed all before ∷ gs)) (i ++ RightParen ∷ []) x
       (WithTree (list_tree all (before ++ e ∷ list_of es)) gs)
   others_lead keys all e none [] i before gs x p (inl q) =
-      ap (λ (z : List Lexeme). lead_from keys (Some (WithTree e (Listed all before ∷ gs))) ((z ++ RightParen ∷ []) ++ x))
+      ap (λ (z : List Lexeme). lead_from keys (Some (WithTree e (Listed all before ∷ gs)))
+      ((z ++ RightParen ∷ []) ++ x))
       q
   others_lead keys all e none [] i before gs x p (inr q) =
-      ap (λ (z : List Lexeme). lead_from keys (Some (WithTree e (Listed all before ∷ gs))) ((z ++ RightParen ∷ []) ++ x))
+      ap (λ (z : List Lexeme). lead_from keys (Some (WithTree e (Listed all before ∷ gs)))
+      ((z ++ RightParen ∷ []) ++ x))
       q
   others_lead keys all e none (s ∷ ss) i before gs x p q = absurd p
   others_lead keys all e (tree f es) [] i before gs x p q = absurd p

@@ -403,9 +403,10 @@ finds text at seen fault k looks new r none begins few = record {
 }
 
 -- a mark stands where its byte does
-pub mark_stands : (text : List ℕ) (at b : ℕ) (m : Punctuation) → written (lexeme_of m) ≡ b ∷ [] → IsCharAt text at b → b < 128
+pub punctuation_stands : (text : List ℕ) (at b : ℕ) (m : Punctuation) → written (lexeme_of m) ≡ b ∷ []
+    → IsCharAt text at b → b < 128
     → IsTokenAt text (lexeme_of m) at (at + 1)
-mark_stands text at b m is here lt = go m is
+punctuation_stands text at b m is here lt = go m is
   where
     bytes : slice_range text at (at + 1) ≡ b ∷ []
     bytes =

@@ -23,7 +23,8 @@ use Rattle.cargo_platform.specs.Inside.Ahead as ahead
 use Rattle.cargo_platform.specs.Inside.Refusals.{refused_fault}
 use Rattle.cargo_platform.specs.Inside.Parsing.{Opening, Negated, Listed, list_tree, kind, kinds}
 use Rattle.cargo_platform.specs.Inside.Parsing.{is_list, is_lone, Wants, Has, HasName, HasWord, is_equals}
-use Rattle.cargo_platform.specs.Inside.Parsing.{is_equals_next, Reads, TakesToken, LacksPunctuation, LacksName, LacksString}
+use Rattle.cargo_platform.specs.Inside.Parsing.{is_equals_next, Reads, TakesToken, LacksPunctuation, LacksName}
+use Rattle.cargo_platform.specs.Inside.Parsing.{LacksString}
 use Rattle.cargo_platform.specs.Inside.Parsing.{IsStop, IsStuck, IfFault, StopsAt, Stops, RefusesNext, RefusesMore}
 use Rattle.cargo_platform.specs.Inside.Parsing.{ClearBehind, with_last}
 use Rattle.cargo_platform.proofs.Walk.{begins, ends, walk_next, after_end}
@@ -394,7 +395,8 @@ after_behind w ws LeftParen h = absurd (h refl)
 after_behind Several ws t h = refl
 after_behind Negation ws t h = refl
 
-pub word_refusing : (l : Ahead) (gs : List Opening) (o : Opening) (ts : List Lexeme) → LacksPunctuation l punctuation.LeftParen
+pub word_refusing : (l : Ahead) (gs : List Opening) (o : Opening) (ts : List Lexeme)
+    → LacksPunctuation l punctuation.LeftParen
     → HasWord gs o ts → Refusing Expressions l (codes "`(`") (codes "`(`") ts
 word_refusing l gs o ts n h = record {
   s = Behind (kind o) (kinds gs);
@@ -417,7 +419,8 @@ none_behind (Listed all es) ws t h k = refl
 none_behind Negated ws t h k = refl
 
 pub group_refusing : (l : Ahead) (o : Opening) (gs : List Opening) (e : Tree) (ts : List Lexeme)
-    → LacksPunctuation l punctuation.RightParen → (is_list (kinds (o ∷ [])) ≡ true → LacksPunctuation l punctuation.Comma)
+    → LacksPunctuation l punctuation.RightParen
+    → (is_list (kinds (o ∷ [])) ≡ true → LacksPunctuation l punctuation.Comma)
     → Has (o ∷ gs) e l.item ts → Refusing Expressions l (codes "`)`") (codes "`)`") ts
 group_refusing l o gs e ts n m h =
     let u = unclosed (is_lone e) (kind o) (kinds gs) in

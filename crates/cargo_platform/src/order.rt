@@ -1,4 +1,5 @@
-//! Equality, order and hash, all by the key: the value with every raw mark taken off. Those of names and pairs are here.
+//! Equality, order and hash, all by the key: the value with every raw mark taken off. Here are those of names and
+//! pairs.
 
 ghost use Rattle.std.specs.Prelude.{refl};
 ghost use Rattle.std.specs.Cmp.{eq_by_cmp_equiv, on_equiv, on_total, partial_equiv_from_equiv};

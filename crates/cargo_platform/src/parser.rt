@@ -389,7 +389,8 @@ fn eat_comma(reader: &mut Reader<'_>, groups: &OpenGroups) -> bool
     ensures in_list { IsTrue result → is_list (kinds (stack groups.now)) ≡ true }
     ensures taken { IsTrue result → TakesToken reader.old reader.new Comma }
     ensures not_taken { IsFalse result →
-        (reader.new ≡ reader.old) × (is_list (kinds (stack groups.now)) ≡ true → LacksPunctuation reader.old Punctuation.Comma) }
+        (reader.new ≡ reader.old)
+        × (is_list (kinds (stack groups.now)) ≡ true → LacksPunctuation reader.old Punctuation.Comma) }
 {
     groups.is_in_list() && reader.eat(Punctuation::Comma)
 }

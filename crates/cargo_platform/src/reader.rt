@@ -7,7 +7,8 @@ ghost use Rattle.cargo_platform.specs.Reading.{characters_from};
 ghost use Rattle.cargo_platform.specs.Inside.Ahead.{Comes};
 ghost use Rattle.cargo_platform.specs.Inside.Ahead as ahead;
 ghost use Rattle.cargo_platform.specs.Inside.Parsing.{IsIdentifier};
-ghost use Rattle.cargo_platform.specs.Inside.Parsing.{SeesRest, Takes, TakesToken, LacksPunctuation, LacksName, LacksString};
+ghost use Rattle.cargo_platform.specs.Inside.Parsing.{SeesRest, Takes, TakesToken, LacksPunctuation, LacksName};
+ghost use Rattle.cargo_platform.specs.Inside.Parsing.{LacksString};
 ghost use Rattle.cargo_platform.specs.Inside.Parsing.{lexeme_of, RefusesNext, RefusesMore};
 
 use crate::Looks;

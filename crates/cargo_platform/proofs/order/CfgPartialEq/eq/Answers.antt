@@ -20,7 +20,8 @@ returns-then-eq c =
     let w = c.in-KeyPair-KeyPair in
     let keys = name_cmp (name_of w.j) (name_of w.k) in
     let texts = text_cmp (string_bytes w.a) (string_bytes w.b) in
-    let values = sym c.if-eq.true ∙ c.eq-in-KeyPair-KeyPair.ensures ∙ texts_ties (string_bytes w.a) (string_bytes w.b) in
+    let values = sym c.if-eq.true ∙ c.eq-in-KeyPair-KeyPair.ensures
+    ∙ texts_ties (string_bytes w.a) (string_bytes w.b) in
     rw (w.is-0, w.is-1)
     (first_of_true c.eq-then-eq.result ∙ both_tied c.eq-then-eq.result true keys texts c.eq-then-eq.ensures values)
 
@@ -29,6 +30,7 @@ returns-else-eq c =
     let w = c.in-KeyPair-KeyPair in
     let keys = name_cmp (name_of w.j) (name_of w.k) in
     let texts = text_cmp (string_bytes w.a) (string_bytes w.b) in
-    let values = sym c.if-eq.false ∙ c.eq-in-KeyPair-KeyPair.ensures ∙ texts_ties (string_bytes w.a) (string_bytes w.b) in
+    let values = sym c.if-eq.false ∙ c.eq-in-KeyPair-KeyPair.ensures
+    ∙ texts_ties (string_bytes w.a) (string_bytes w.b) in
     rw (w.is-0, w.is-1)
     (c.if-eq.false ∙ none_of_false (is_eq keys) ∙ both_tied (is_eq keys) false keys texts refl values)

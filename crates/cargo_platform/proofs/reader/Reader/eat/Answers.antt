@@ -5,7 +5,7 @@ use Rattle.cargo_platform.specs.Inside.Coming.{ahead_at, IsReadingAt}
 use Rattle.cargo_platform.specs.Inside.Parsing.{TakesToken, Lacks, lexeme_of}
 use Rattle.cargo_platform.proofs.OneCut.{head_of}
 use Rattle.cargo_platform.proofs.Looking.{ascii_step}
-use Rattle.cargo_platform.proofs.Coming.{lacks, mark_stands, token_no_fault, reads_on, takes}
+use Rattle.cargo_platform.proofs.Coming.{lacks, punctuation_stands, token_no_fault, reads_on, takes}
 use Rattle.cargo_platform.proofs.reader.Reader.eat.Goals as goal
 
 pub returns-then-not-is_byte-clause-not_taken : goal.returns-then-not-is_byte-clause-not_taken
@@ -29,7 +29,7 @@ invariant_of-self c =
     let text = r.source.text.now in
     let end = r.place + 1 in
     let here = rw (c.is_byte.ensures.yes c.if-not-is_byte.false) at i.sees in
-    let stands = mark_stands text r.place c.byte_of.result c.args.wanted c.byte_of.ensures here.1 here.0 in
+    let stands = punctuation_stands text r.place c.byte_of.result c.args.wanted c.byte_of.ensures here.1 here.0 in
     let none = token_no_fault text r.place end (lexeme_of c.args.wanted) r.seen r.fault r.source.looks i stands in
     let step = ascii_step text r.place i.utf8 here.1.within (omega (arith, here.1.ascii here.0, here.0)) i.reached in
     let found = rw c.look-behind.ensures.same at c.past_spaces-place.ensures in
@@ -49,7 +49,7 @@ returns-clause-taken c = λ _.
     let to = c.past_spaces-place.result.0 in
     let t = lexeme_of c.args.wanted in
     let here = rw (c.is_byte.ensures.yes c.if-not-is_byte.false) at i.sees in
-    let stands = mark_stands text r.place c.byte_of.result c.args.wanted c.byte_of.ensures here.1 here.0 in
+    let stands = punctuation_stands text r.place c.byte_of.result c.args.wanted c.byte_of.ensures here.1 here.0 in
     let found = rw c.look-behind.ensures.same at c.past_spaces-place.ensures in
     let T : Ahead → Type 0 = λ z. TakesToken z (ahead_at c.past_spaces-place.new.self.text.now to) t in
     subst T c.self.view_is
