@@ -24,7 +24,7 @@ use Rattle.cargo_platform.specs.Cut.{IsPiece, AreSpaces, EndsBefore, BeginsFault
 use Rattle.cargo_platform.specs.Reading.{characters_from}
 use Rattle.cargo_platform.specs.Inside.Ahead.{Item, Nothing, Ahead, Comes, next_of}
 use Rattle.cargo_platform.specs.Inside.Ahead as ahead
-use Rattle.cargo_platform.specs.Inside.Coming.{front, behind, First, AtEnd, Whole, Faulty, first_char, first_marked}
+use Rattle.cargo_platform.specs.Inside.Coming.{passing, behind, First, AtEnd, Whole, Faulty, first_char, first_marked}
 use Rattle.cargo_platform.specs.Inside.Coming.{first_named, first_quoted, is_inner, first, comes_at, item_of, place_of}
 use Rattle.cargo_platform.specs.Inside.Coming.{ahead_at, IsFound, IsReadingAt}
 use Rattle.cargo_platform.specs.Inside.Looking.{IsCharAt, Shows, Costs, character_of}
@@ -49,14 +49,14 @@ if_true {A} t x y h = ap (λ (z : Bool). if z then x else y) h
 if_false : {A : Type 0} (t : Bool) (x y : A) → t ≡ false → (if t then x else y) ≡ y
 if_false {A} t x y h = ap (λ (z : Bool). if z then x else y) h
 
-front_is : (p : ℕ → Bool) (xs rest : List ℕ) → list_all p xs ≡ true → starts p rest ≡ false
-    → (front p (xs ++ rest) ≡ xs) × (behind p (xs ++ rest) ≡ rest)
-front_is p [] [] h e = (refl, refl)
-front_is p [] (b ∷ bs) h e = (if_false (p b) (b ∷ front p bs) [] e, if_false (p b) (behind p bs) (b ∷ bs) e)
-front_is p (x ∷ xs) rest h e =
-    let s = front_is p xs rest (both_second (p x) (list_all p xs) h) e in
+passing_is : (p : ℕ → Bool) (xs rest : List ℕ) → list_all p xs ≡ true → starts p rest ≡ false
+    → (passing p (xs ++ rest) ≡ xs) × (behind p (xs ++ rest) ≡ rest)
+passing_is p [] [] h e = (refl, refl)
+passing_is p [] (b ∷ bs) h e = (if_false (p b) (b ∷ passing p bs) [] e, if_false (p b) (behind p bs) (b ∷ bs) e)
+passing_is p (x ∷ xs) rest h e =
+    let s = passing_is p xs rest (both_second (p x) (list_all p xs) h) e in
     let q = both_first (p x) (list_all p xs) h in (
-      if_true (p x) (x ∷ front p (xs ++ rest)) [] q ∙ ap (λ (z : List ℕ). x ∷ z) s.0,
+      if_true (p x) (x ∷ passing p (xs ++ rest)) [] q ∙ ap (λ (z : List ℕ). x ∷ z) s.0,
       if_true (p x) (behind p (xs ++ rest)) (x ∷ (xs ++ rest)) q ∙ s.1,
     )
 
@@ -66,17 +66,17 @@ first_token RightParen r w e = refl
 first_token Comma r w e = refl
 first_token Equals r w e = refl
 first_token (String v) r w e =
-    let s = front_is is_inner v (0x22 ∷ r) w.1 refl in
-    ap (λ (z : List ℕ). first_quoted (front is_inner z) (behind is_inner z)) (append_assoc v (codes "\"") r)
+    let s = passing_is is_inner v (0x22 ∷ r) w.1 refl in
+    ap (λ (z : List ℕ). first_quoted (passing is_inner z) (behind is_inner z)) (append_assoc v (codes "\"") r)
     ∙ (λ i. first_quoted (s.0 i) (s.1 i))
 first_token (Ident true []) r w e = absurd w
 first_token (Ident true (c ∷ cs)) r w e =
-    if_true (is_identifier_start c) (Whole (Ident true (c ∷ front is_identifier_rest (cs ++ r))))
+    if_true (is_identifier_start c) (Whole (Ident true (c ∷ passing is_identifier_rest (cs ++ r))))
     (Faulty (UnexpectedChar (first_char (c ∷ (cs ++ r))))) w.0
-    ∙ ap (λ (z : List ℕ). Whole (Ident true (c ∷ z))) (front_is is_identifier_rest cs r w.1 e.0).0
+    ∙ ap (λ (z : List ℕ). Whole (Ident true (c ∷ z))) (passing_is is_identifier_rest cs r w.1 e.0).0
 first_token (Ident false []) r w e = absurd w
 first_token (Ident false (c ∷ cs)) r w e =
-    let s = front_is is_identifier_rest cs r w.1 e.0 in
+    let s = passing_is is_identifier_rest cs r w.1 e.0 in
     if_true (is_identifier_start c) _ _ w.0 ∙ (λ i. first_named (c ∷ s.0 i) (s.1 i))
     ∙ if_false (bytes_eq (c ∷ cs) (codes "r") && starts is_number_sign r) _ _ e.1
 
@@ -118,9 +118,9 @@ unknown_fault (b ∷ bs) rest c u h f =
 
 first_fault : (text : List ℕ) (k : TokenFaultKind) → IsUtf8 text → BeginsFault text k → first text ≡ Faulty k
 first_fault text UnterminatedString u f =
-    let s = front_is is_inner f.0 [] f.2 refl in
+    let s = passing_is is_inner f.0 [] f.2 refl in
     ap first (f.1.parts ∙ ap (λ (z : List ℕ). z ++ f.0) (encode_ascii 0x22 (lit≤ tt)))
-    ∙ ap (λ (z : List ℕ). first_quoted (front is_inner z) (behind is_inner z)) (sym (append-nil f.0))
+    ∙ ap (λ (z : List ℕ). first_quoted (passing is_inner z) (behind is_inner z)) (sym (append-nil f.0))
     ∙ (λ i. first_quoted (s.0 i) (s.1 i))
 first_fault text MissingIdentifier u f = ap first f
 first_fault text (UnexpectedChar c) u (inl f) =

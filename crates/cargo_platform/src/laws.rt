@@ -91,8 +91,8 @@ pub fn well_formed_text()
 {}
 
 /// A prefix of tokens that can be completed can be completed, and so can no tokens at all.
-pub fn fronts_completable()
-    ensures fronts { (g : Grammar) (prefix after : List Lexeme) → PrefixesAreCompletable g prefix after }
+pub fn prefixes_completable()
+    ensures prefixes { (g : Grammar) (prefix after : List Lexeme) → PrefixesAreCompletable g prefix after }
     ensures none { (g : Grammar) → IsCompletable g [] }
 {}
 
@@ -113,7 +113,7 @@ pub fn kept_by_walk()
 
 /// Where a text goes wrong: the tokens before that place can be completed, with the next one they can't, and what is
 /// expected there could have come.
-pub fn fault_front()
+pub fn fault_prefix()
     ensures completable { (g : Grammar) (ts prefix after : List Placed) → IsPrefixCompletable g ts prefix after }
     ensures stopped { (g : Grammar) (ts prefix after : List Placed) → IsStoppedByNext g ts prefix after }
     ensures expected { (g : Grammar) (ts prefix after : List Placed) → IsExpectedToFollow g ts prefix after }

@@ -15,10 +15,10 @@ use Rattle.cargo_platform.specs.Inside.Ahead.{Item, Nothing, Ahead}
 use Rattle.cargo_platform.specs.Inside.Ahead as ahead
 use Rattle.cargo_platform.specs.Inside.Looking.{Shows}
 
--- the longest front whose bytes pass a test, and what is behind it
-abbrev pub front : (ℕ → Bool) → List ℕ → List ℕ
-front p [] = []
-front p (b ∷ bs) = if p b then b ∷ front p bs else []
+-- the longest prefix whose bytes pass a test, and what is behind it
+abbrev pub passing : (ℕ → Bool) → List ℕ → List ℕ
+passing p [] = []
+passing p (b ∷ bs) = if p b then b ∷ passing p bs else []
 
 abbrev pub behind : (ℕ → Bool) → List ℕ → List ℕ
 behind p [] = []
@@ -37,7 +37,7 @@ first_char bs = slice_index (chars bs) 0
 abbrev pub first_marked : List ℕ → First
 first_marked [] = Faulty MissingIdentifier
 first_marked (b ∷ bs) =
-    if is_identifier_start b then Whole (Ident true (b ∷ front is_identifier_rest bs))
+    if is_identifier_start b then Whole (Ident true (b ∷ passing is_identifier_rest bs))
     else Faulty (UnexpectedChar (first_char (b ∷ bs)))
 
 -- a name, and what is behind it
@@ -57,8 +57,8 @@ is_inner b = not (is_quote b)
 abbrev pub first : List ℕ → First
 first [] = AtEnd
 first (b ∷ bs) =
-    if is_identifier_start b then first_named (b ∷ front is_identifier_rest bs) (behind is_identifier_rest bs)
-    else (if is_quote b then first_quoted (front is_inner bs) (behind is_inner bs)
+    if is_identifier_start b then first_named (b ∷ passing is_identifier_rest bs) (behind is_identifier_rest bs)
+    else (if is_quote b then first_quoted (passing is_inner bs) (behind is_inner bs)
     else (if b == 0x28 then Whole LeftParen
     else (if b == 0x29 then Whole RightParen
     else (if b == 0x2C then Whole Comma

@@ -1,6 +1,6 @@
 use Rattle.cargo_platform.specs.Cut.{lexemes}
 use Rattle.cargo_platform.proofs.Completable.{stopped_by_next, expected_follows}
-use Rattle.cargo_platform.proofs.laws.fault_front.Goals as goal
+use Rattle.cargo_platform.proofs.laws.fault_prefix.Goals as goal
 
 pub returns-clause-completable : goal.returns-clause-completable
 returns-clause-completable c = λ g ts prefix after f. f.completable
