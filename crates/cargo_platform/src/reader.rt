@@ -6,10 +6,8 @@ ghost use Rattle.cargo_platform.specs.Tokens.{Ident as ident_token, String as st
 ghost use Rattle.cargo_platform.specs.Reading.{characters_from};
 ghost use Rattle.cargo_platform.specs.Inside.Ahead.{Comes};
 ghost use Rattle.cargo_platform.specs.Inside.Ahead as ahead;
-ghost use Rattle.cargo_platform.specs.Inside.Parsing.{IsIdentifier};
-ghost use Rattle.cargo_platform.specs.Inside.Parsing.{SeesRest, Takes, TakesToken, LacksPunctuation, LacksName};
-ghost use Rattle.cargo_platform.specs.Inside.Parsing.{LacksString};
-ghost use Rattle.cargo_platform.specs.Inside.Parsing.{lexeme_of, RefusesNext, RefusesMore};
+ghost use Rattle.cargo_platform.specs.Inside.Parsing.{IsIdentifier, SeesRest, Takes, TakesToken, LacksPunctuation};
+ghost use Rattle.cargo_platform.specs.Inside.Parsing.{LacksName, LacksString, lexeme_of, RefusesNext, RefusesMore};
 
 use crate::Looks;
 use crate::classes::begins_identifier;
@@ -110,8 +108,7 @@ impl<'a> Reader<'a> {
     {
         match self.take() {
             Some(Ok(token)) => name_of(token),
-            Some(Err(_kind)) => None,
-            None => None,
+            Some(Err(_)) | None => None,
         }
     }
 
@@ -238,6 +235,7 @@ fn byte_of(wanted: Punctuation) -> u8
         Punctuation::Equals => b'=',
     }
 }
+
 /// Why nothing was read.
 #[derive(Drop)]
 pub(crate) enum Refusal<'a> {
