@@ -14,7 +14,8 @@ use Rattle.cargo_platform.specs.Spelling.{Expressions, IsTreeText}
 use Rattle.cargo_platform.specs.Faults.{Fault, InvalidTarget, IsRefused}
 use Rattle.cargo_platform.specs.Platforms.{is_target_char, IsTargetName, IsCfgOf, IsBare, IsFirstRefused}
 use Rattle.cargo_platform.specs.Platforms.{IsTargetMessage, IsConditionText, IsRefusedCondition}
-use Rattle.cargo_platform.specs.PlatformLaws.{SpellsConditionOrIsRefused, HasOneConditionFault}
+use Rattle.cargo_platform.specs.Platforms.{IsConditionRefusal}
+use Rattle.cargo_platform.specs.TextLaws.{SpellsOrIsRefused}
 use Rattle.cargo_platform.proofs.OneFault.{one_fault}
 use Rattle.cargo_platform.proofs.SomeFault.{spells_or_is_refused}
 use Rattle.cargo_platform.proofs.SomeCut.{ascii_sides}
@@ -57,14 +58,16 @@ some_message text c first =
     ] refl
 
 bare_text : (text : List ℕ) (o : Option ℕ) → IsBare text
-    → MatchOption o (IsTargetName text) (λ c. IsFirstRefused text c) → SpellsConditionOrIsRefused text
+    → MatchOption o (IsTargetName text) (λ c. IsFirstRefused text c)
+    → SpellsOrIsRefused IsConditionText IsConditionRefusal text
 bare_text text None bare name = inl (Target text, (refl, bare, name))
 bare_text text (Some c) bare first =
     let m = some_message text c first in
-    inr (text, InvalidTarget m.0, inr (bare, refl, (m.0, m.1, refl)))
+    inr ((text, InvalidTarget m.0), inr (bare, refl, (m.0, m.1, refl)))
 
 -- a text of characters spells a condition, or is refused
-pub spells_condition_or_is_refused : (text : List ℕ) → IsUtf8 text → SpellsConditionOrIsRefused text
+pub spells_condition_or_is_refused : (text : List ℕ) → IsUtf8 text
+    → SpellsOrIsRefused IsConditionText IsConditionRefusal text
 spells_condition_or_is_refused text u =
     elim (cfg_or_bare text) [
       | inr bare ↦
@@ -73,7 +76,7 @@ spells_condition_or_is_refused text u =
       | inl cfg ↦
           elim (spells_or_is_refused Expressions cfg.0 (inner_utf8 text cfg.0 u cfg.1)) [
             | inl e ↦ inl (Expression e.0, (cfg.0, cfg.1, e.1))
-            | inr f ↦ inr (cfg.0, f.0, inl (cfg.1, f.1))
+            | inr f ↦ inr ((cfg.0, f.0), inl (cfg.1, f.1))
           ]
     ]
 
@@ -115,7 +118,8 @@ one_message text m n (inr p) (inr q) =
     (one_first_refused text p.1.0 q.1.0 p.1.1 q.1.1) ∙ sym q.1.2
 
 -- a text has at most one fault as a condition, of one text
-pub one_condition_fault : (text : List ℕ) → HasOneConditionFault text
+pub one_condition_fault : (text o p : List ℕ) (e f : Fault) → IsRefusedCondition text o e → IsRefusedCondition text p f
+    → (o ≡ p) × (e ≡ f)
 one_condition_fault text o p e f (inl a) (inl b) =
     let same = one_inner text o p a.0 b.0 in
     let R : List ℕ → Type 0 = λ z. IsRefused Expressions z e in

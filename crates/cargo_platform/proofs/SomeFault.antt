@@ -6,18 +6,26 @@ use Rattle.std.specs.Prelude.{◌↔◌, IsTrue, IsUtf8, drop}
 use Rattle.std.specs.List.{last_or}
 use Rattle.cargo_platform.specs.Tokens.{Lexeme, Placed}
 use Rattle.cargo_platform.specs.Cut.{IsCut, AreApart, lexemes}
-use Rattle.cargo_platform.specs.Spelling.{Grammar, Values, Expressions, IsAccepted}
+use Rattle.cargo_platform.specs.Spelling.{Grammar, Values, Expressions, IsAccepted, IsValueText, IsTreeText}
 use Rattle.cargo_platform.specs.Faults.{IsCompletable, IsFaultPrefix, Next, Unfit, Broken, End, Follows, Fault}
 use Rattle.cargo_platform.specs.Faults.{fault_of}
 use Rattle.cargo_platform.specs.Faults.{IsRefused}
-use Rattle.cargo_platform.specs.FaultLaws.{SpellsSomething, SpellsOrIsRefused}
+use Rattle.cargo_platform.specs.Trees.{CfgValue, Tree}
 use Rattle.cargo_platform.specs.Walk.{walk, is_whole}
 use Rattle.cargo_platform.proofs.Building.{stopped, completable_walks}
 use Rattle.cargo_platform.proofs.Completing.{walked_completes, whole_accepted, accepted_whole}
 use Rattle.cargo_platform.proofs.Prefixes.{lexemes-append, none_longer, longest_before}
-use Rattle.cargo_platform.proofs.Refused.{refused_spells_none, refused_spells_no_value}
 use Rattle.cargo_platform.proofs.SomeCut.{some_cut}
 use Rattle.cargo_platform.proofs.Completable.{none_completable}
+
+-- a text spells something of the grammar
+abbrev SpellsSomething : Grammar → List ℕ → Type 0
+SpellsSomething Values text = (c : CfgValue) × IsValueText text c
+SpellsSomething Expressions text = (e : Tree) × IsTreeText text e
+
+-- a text spells something of the grammar, or has a fault
+abbrev SpellsOrIsRefused : Grammar → List ℕ → Type 0
+SpellsOrIsRefused g text = SpellsSomething g text ⊎ ((fault : Fault) × IsRefused g text fault)
 
 -- the tokens are completable, or no further tokens make them accepted
 abbrev IsCompletableOrNot : Grammar → List Lexeme → Type 0
@@ -150,9 +158,3 @@ spells_or_is_refused g text utf8 =
     let n = some_next text f.prefix f.after c.1 (subst C f.is.parts c.2) in
     let a = accepted_or g (lexemes f.prefix) f.is.completable in
     at_next g text c.0 f.prefix f.after c.1 n.0 a.0 c.2 f.is n.1 a.1
-
--- and never both
-pub refused_spells_nothing : (g : Grammar) (text : List ℕ) (fault : Fault) → IsRefused g text fault
-    → SpellsSomething g text → ⊥
-refused_spells_nothing Values text fault r s = refused_spells_no_value text fault s.0 r s.1
-refused_spells_nothing Expressions text fault r s = refused_spells_none text fault s.0 r s.1

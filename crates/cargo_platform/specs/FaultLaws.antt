@@ -5,8 +5,7 @@ use Rattle.std.specs.List.{AllByRecursion, count_by, last_or}
 use Rattle.cargo_platform.specs.Tokens.{Lexeme, LeftParen, RightParen, Ident, Comma, Equals, String, Placed}
 use Rattle.cargo_platform.specs.Tokens.{IsWellWritten}
 use Rattle.cargo_platform.specs.Cut.{lexemes}
-use Rattle.cargo_platform.specs.Trees.{CfgValue, Tree}
-use Rattle.cargo_platform.specs.Spelling.{Grammar, Values, Expressions, IsAccepted, IsValueText, IsTreeText}
+use Rattle.cargo_platform.specs.Spelling.{Grammar, Expressions, IsAccepted}
 use Rattle.cargo_platform.specs.Faults.{IsCompletable, IsFaultPrefix, End, Fault, UnexpectedToken, IncompleteExpr}
 use Rattle.cargo_platform.specs.Faults.{expected_token, expected_end, IsRefused}
 use Rattle.cargo_platform.specs.Walk.{State, after, walk}
@@ -73,20 +72,3 @@ Names {fault = fault} r class =
 abbrev pub NamesWhatCanFollow : Grammar → List ℕ → Fault → Type 0
 NamesWhatCanFollow g text fault = (r : IsRefused g text fault) (class : List ℕ) → Names r class
     → CanFollow g (lexemes r.prefix) class
-
--- a text has at most one fault
-abbrev pub HasOneFault : Grammar → List ℕ → Type 0
-HasOneFault g text = (e f : Fault) → IsRefused g text e → IsRefused g text f → e ≡ f
-
--- a text spells something of the grammar
-abbrev pub SpellsSomething : Grammar → List ℕ → Type 0
-SpellsSomething Values text = (c : CfgValue) × IsValueText text c
-SpellsSomething Expressions text = (e : Tree) × IsTreeText text e
-
--- a text spells something of the grammar, or has a fault
-abbrev pub SpellsOrIsRefused : Grammar → List ℕ → Type 0
-SpellsOrIsRefused g text = SpellsSomething g text ⊎ ((fault : Fault) × IsRefused g text fault)
-
--- a text that has a fault spells nothing of the grammar
-abbrev pub RefusedSpellsNothing : Grammar → List ℕ → Fault → Type 0
-RefusedSpellsNothing g text fault = IsRefused g text fault → SpellsSomething g text → ⊥

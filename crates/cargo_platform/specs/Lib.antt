@@ -15,7 +15,6 @@ pub mod FaultLaws
 pub mod Print
 pub mod TextLaws
 pub mod Platforms
-pub mod PlatformLaws
 pub mod Errors
 pub mod Json
 pub mod Facts

@@ -7,20 +7,18 @@ ghost use Rattle.cargo_platform.specs.declared.cfg.CfgExpr.{CfgExpr};
 ghost use Rattle.cargo_platform.specs.Tokens.{Lexeme, Placed};
 ghost use Rattle.cargo_platform.specs.Reading.{Progress};
 ghost use Rattle.cargo_platform.specs.Trees.{Name, CfgValue, Tree, All, Any, Trees, none, Condition};
-ghost use Rattle.cargo_platform.specs.Spelling.{Grammar, IsValueText, IsTreeText};
-ghost use Rattle.cargo_platform.specs.Faults.{IsCompletable, Fault};
+ghost use Rattle.cargo_platform.specs.Spelling.{Grammar, Values, Expressions, IsValueText, IsTreeText};
+ghost use Rattle.cargo_platform.specs.Faults.{IsCompletable, IsRefused, Fault};
 ghost use Rattle.cargo_platform.specs.CutLaws.{HasOneCut, CutsAreRead, IsReadAlike, EndsForGood, FailsOnce};
 ghost use Rattle.cargo_platform.specs.GrammarLaws.{HasOneTree, HasOneValue, SpellsWellFormed};
-ghost use Rattle.cargo_platform.specs.TextLaws.{SpellsOne, SpellsOnly, PrintSpells, PrintsApart};
+ghost use Rattle.cargo_platform.specs.TextLaws.{AtMostOne, SpellsOrIsRefused, RefusedSpellsNothing, SpellsOnly};
+ghost use Rattle.cargo_platform.specs.TextLaws.{PrintSpells, PrintsApart};
 ghost use Rattle.cargo_platform.specs.FaultLaws.{PrefixesAreCompletable, IsCompletedShortly, IsWalkedIffCompletable};
 ghost use Rattle.cargo_platform.specs.FaultLaws.{IsKeptByWalk, IsPrefixCompletable, IsStoppedByNext};
-ghost use Rattle.cargo_platform.specs.FaultLaws.{IsExpectedToFollow, NamesWhatCanFollow, HasOneFault};
-ghost use Rattle.cargo_platform.specs.FaultLaws.{SpellsOrIsRefused, RefusedSpellsNothing};
+ghost use Rattle.cargo_platform.specs.FaultLaws.{IsExpectedToFollow, NamesWhatCanFollow};
 ghost use Rattle.cargo_platform.specs.WellFormed.{IsWellFormedValue, IsWellFormed, IsWellFormedCondition};
 ghost use Rattle.cargo_platform.specs.Print.{print_value, print, print_condition};
-ghost use Rattle.cargo_platform.specs.Platforms.{IsConditionText};
-ghost use Rattle.cargo_platform.specs.PlatformLaws.{SpellsConditionOrIsRefused, RefusedSpellsNoCondition};
-ghost use Rattle.cargo_platform.specs.PlatformLaws.{HasOneConditionFault};
+ghost use Rattle.cargo_platform.specs.Platforms.{IsConditionText, IsConditionRefusal};
 ghost use Rattle.cargo_platform.specs.ChangeLaws.{SpelledReleased, IsAcceptedAsReleased, IsRefusedAsReleased};
 ghost use Rattle.cargo_platform.specs.ChangeLaws.{IsTreeTextAsReleased, KeepsTree, IsConditionTextAsReleased};
 ghost use Rattle.cargo_platform.specs.ChangeLaws.{KeepsCondition, SpelledTransitional, IsRefusedForLiteralKeys};
@@ -73,9 +71,9 @@ pub fn one_tree()
 
 /// A text spells at most one name or pair, one expression, and one condition.
 pub fn one_text()
-    ensures values { (text : List ℕ) → SpellsOne IsValueText text }
-    ensures expressions { (text : List ℕ) → SpellsOne IsTreeText text }
-    ensures conditions { (text : List ℕ) → SpellsOne IsConditionText text }
+    ensures values { (text : List ℕ) → AtMostOne IsValueText text }
+    ensures expressions { (text : List ℕ) → AtMostOne IsTreeText text }
+    ensures conditions { (text : List ℕ) → AtMostOne IsConditionText text }
 {}
 
 /// Well-written tokens spell only well-formed values and trees.
@@ -124,15 +122,25 @@ pub fn named_can_follow()
     ensures { (g : Grammar) (text : List ℕ) (fault : Fault) → NamesWhatCanFollow g text fault }
 {}
 
-/// A text has at most one fault as a name or a pair, and at most one as an expression.
+/// A text has at most one fault as a name or a pair, one as an expression, and one as a condition, which is that of one
+/// text.
 pub fn one_fault()
-    ensures { (g : Grammar) (text : List ℕ) → HasOneFault g text }
+    ensures texts { (g : Grammar) (text : List ℕ) → AtMostOne (IsRefused g) text }
+    ensures conditions { (text : List ℕ) → AtMostOne IsConditionRefusal text }
 {}
 
-/// A text spells a name or a pair, or has a fault as one, and never both. So it is with expressions.
+/// A text spells a name or a pair, or has a fault as one. So it is with expressions and conditions.
 pub fn spelled_or_refused()
-    ensures either { (g : Grammar) (text : List ℕ) → IsUtf8 text → SpellsOrIsRefused g text }
-    ensures not_both { (g : Grammar) (text : List ℕ) (fault : Fault) → RefusedSpellsNothing g text fault }
+    ensures values { (text : List ℕ) → IsUtf8 text → SpellsOrIsRefused IsValueText (IsRefused Values) text }
+    ensures expressions { (text : List ℕ) → IsUtf8 text → SpellsOrIsRefused IsTreeText (IsRefused Expressions) text }
+    ensures conditions { (text : List ℕ) → IsUtf8 text → SpellsOrIsRefused IsConditionText IsConditionRefusal text }
+{}
+
+/// A text never does both.
+pub fn refused_spells_nothing()
+    ensures values { (text : List ℕ) → RefusedSpellsNothing IsValueText (IsRefused Values) text }
+    ensures expressions { (text : List ℕ) → RefusedSpellsNothing IsTreeText (IsRefused Expressions) text }
+    ensures conditions { (text : List ℕ) → RefusedSpellsNothing IsConditionText IsConditionRefusal text }
 {}
 
 /// The print of what is well-formed spells it.
@@ -147,17 +155,6 @@ pub fn prints_apart()
     ensures values { (c d : CfgValue) → PrintsApart IsWellFormedValue print_value c d }
     ensures expressions { (d e : Tree) → PrintsApart IsWellFormed print d e }
     ensures conditions { (p q : Condition) → PrintsApart IsWellFormedCondition print_condition p q }
-{}
-
-/// A text is refused as a condition with at most one fault, which is the fault of one text.
-pub fn one_condition_fault()
-    ensures { (text : List ℕ) → HasOneConditionFault text }
-{}
-
-/// A text spells a condition, or is refused as one, and never both.
-pub fn condition_spelled_or_refused()
-    ensures either { (text : List ℕ) → IsUtf8 text → SpellsConditionOrIsRefused text }
-    ensures not_both { (text orig : List ℕ) (fault : Fault) → RefusedSpellsNoCondition text orig fault }
 {}
 
 /// Marked `true` and `false` alone are names; in the Rust crate they are the literals. What tokens spelled there is

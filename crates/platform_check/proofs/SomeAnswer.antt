@@ -127,14 +127,17 @@ lines_answered : (ls : List (List ℕ)) → AllByRecursion IsUtf8 ls → HaveAns
 lines_answered ls us =
     elim (spells_condition_or_is_refused (line_at ls 1) (nth_text ls 0 us)) [
       | inr r ↦ (
-        line (refused_line 1 r.0 r.1),
+        line (refused_line 1 r.0.0 r.0.1),
         Refused,
         inr (
           1,
-          r.0,
-          r.1,
-          (inl (refl, refused_spells_no_condition (line_at ls 1) r.0 r.1 r.2), λ m before. no_line_before ls m before),
-          inl (refl, r.2),
+          r.0.0,
+          r.0.1,
+          (
+            inl (refl, refused_spells_no_condition (line_at ls 1) r.0.0 r.0.1 r.1),
+            λ m before. no_line_before ls m before,
+          ),
+          inl (refl, r.1),
           (refl, refl),
         ),
       )
