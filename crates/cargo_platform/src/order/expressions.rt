@@ -56,24 +56,13 @@ fn compare_forms<'a>(a: &'a CfgExpr, b: &'a CfgExpr) -> Result<(&'a CfgExpr, &'a
         (λ order. order ≡ tree_cmp (tree_of a.now) (tree_of b.now)) }
     ensures size { IfOk result (λ inner. node_count inner.0.now < node_count a.now) }
 {
-    match a {
-        CfgExpr::Not(d) => match b {
-            CfgExpr::Not(e) => Ok((&**d, &**e)),
-            _ => Err(rank(a).cmp(&rank(b))),
-        },
-        CfgExpr::All(ds) => match b {
-            CfgExpr::All(es) => compare_all_but_last(ds, es),
-            _ => Err(rank(a).cmp(&rank(b))),
-        },
-        CfgExpr::Any(ds) => match b {
-            CfgExpr::Any(es) => compare_all_but_last(ds, es),
-            _ => Err(rank(a).cmp(&rank(b))),
-        },
-        CfgExpr::Value(c) => match b {
-            CfgExpr::Value(d) => Err(c.cmp(d)),
-            _ => Err(rank(a).cmp(&rank(b))),
-        },
-        CfgExpr::True | CfgExpr::False => Err(rank(a).cmp(&rank(b))),
+    match (a, b) {
+        (CfgExpr::Not(d), CfgExpr::Not(e)) => Ok((&**d, &**e)),
+        (CfgExpr::All(ds), CfgExpr::All(es)) | (CfgExpr::Any(ds), CfgExpr::Any(es)) => {
+            compare_all_but_last(ds, es)
+        }
+        (CfgExpr::Value(c), CfgExpr::Value(d)) => Err(c.cmp(d)),
+        _ => Err(rank(a).cmp(&rank(b))),
     }
 }
 
