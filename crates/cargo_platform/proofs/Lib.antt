@@ -2,6 +2,7 @@ pub mod OneCut
 pub mod SomeCut
 pub mod Looking
 pub mod Scanning
+pub mod Lanes
 pub mod Runs
 pub mod Roles
 pub mod Walk

@@ -1,5 +1,5 @@
 -- The character at a place, from what the text has there.
-use Rattle.std.proofs.Common.{◌≡◌, ℕ, ◌+◌, ◌-◌, ◌<◌, ◌≤◌, List, [], ◌∷◌, ◌++◌, length, get_or, drop, refl, sym, ap}
+use Rattle.std.proofs.Common.{◌≡◌, ℕ, zero, suc, ◌+◌, ◌-◌, ◌<◌, ◌≤◌, List, [], ◌∷◌, ◌++◌, length, get_or, drop, refl, sym, ap}
 use Rattle.std.proofs.Common.{subst, ◌∙◌, arith, add-zero, add-one, true, false, ◌&&◌, Bool, cond, ltb, ◌/◌, ◌%◌}
 use Rattle.std.proofs.lemmas.List.{get_or-drop, length-append, length-drop}
 use Rattle.std.proofs.Math.Seq.{drop-cons}
@@ -71,6 +71,21 @@ ascii_step text at utf8 within small boundary =
     let one : at + len_utf8 (get_or text at 0) ≡ at + 1 = ap (λ n. at + n) (len_utf8_ascii _ small) in
     let B : ℕ → Type 0 = IsCharBoundary text in
     (subst B one here.boundary, here.fewer ∙ ap (λ n. characters_from text n + 1) one)
+
+pub ascii_steps : (text : List ℕ) (at n : ℕ) → IsUtf8 text → at + n ≤ length text
+    → ((i : ℕ) → at ≤ i → i < at + n → get_or text i 0 < 128) → IsCharBoundary text at →
+    IsCharBoundary text (at + n) × (characters_from text at ≡ characters_from text (at + n) + n)
+ascii_steps text at zero utf8 within small boundary =
+    let none : at ≡ at + 0 = sym (add-zero at) in
+    (subst (IsCharBoundary text) none boundary, omega (arith, ap (λ n. characters_from text n) none))
+ascii_steps text at (suc n) utf8 within small boundary =
+    let step = ascii_step text at utf8 (omega arith) (small at (omega arith) (omega arith)) boundary in
+    let steps = ascii_steps text (at + 1) n utf8 (omega arith)
+    (λ i from below. small i (omega arith) (omega arith)) step.0 in
+    let there : at + 1 + n ≡ at + suc n = omega arith in (
+      subst (IsCharBoundary text) there steps.0,
+      omega (arith, step.1, steps.1, ap (λ n. characters_from text n) there),
+    )
 
 -- ---- the characters of a text are as many as its bytes that begin one
 

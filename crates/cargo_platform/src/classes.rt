@@ -1,7 +1,13 @@
 //! The classes of the bytes that names are made of.
 
-ghost use Rattle.std.specs.Prelude.{◌≡◌};
+ghost use Rattle.std.specs.Prelude.{◌≡◌, ◌≤◌, ◌+◌, length};
 ghost use Rattle.cargo_platform.specs.Chars.{is_identifier_start, is_identifier_rest};
+ghost use Rattle.cargo_platform.specs.Inside.Looking.{IsRun};
+
+use std::simd::prelude::*;
+
+/// How many bytes are compared at once.
+pub(crate) const LANES: usize = 16;
 
 const Y: bool = true;
 
@@ -57,4 +63,23 @@ pub(crate) fn continues_identifier(byte: u8) -> bool
     ensures { result ≡ is_identifier_rest byte }
 {
     IDENTIFIER_REST[byte as usize]
+}
+
+/// How many of the next `LANES` bytes an identifier may go on with, before the first that it may not.
+#[inline(always)]
+pub(crate) fn identifier_run(bytes: &[u8], at: usize) -> usize
+    requires { at + LANES ≤ length bytes.now }
+    ensures { IsRun is_identifier_rest bytes.now at LANES result }
+{
+    let lanes = u8x16::from_slice(&bytes[at..]);
+    let letters = (lanes | u8x16::splat(0x20)) - u8x16::splat(b'a');
+    let digits = lanes - u8x16::splat(b'0');
+    let others = letters.simd_ge(u8x16::splat(26))
+        & digits.simd_ge(u8x16::splat(10))
+        & lanes.simd_ne(u8x16::splat(b'_'));
+    let ends = others.to_bitmask();
+    if ends == 0 {
+        return LANES;
+    }
+    ends.trailing_zeros() as usize
 }

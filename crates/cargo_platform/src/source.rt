@@ -11,16 +11,11 @@ ghost use Rattle.cargo_platform.specs.Chars.{is_identifier_rest, is_character_st
 ghost use Rattle.cargo_platform.specs.Cut.{AreSpaces};
 ghost use Rattle.cargo_platform.specs.Reading.{IsRestFrom, characters_from};
 ghost use Rattle.std.specs.List.{count_by};
-ghost use Rattle.cargo_platform.specs.Inside.Looking.{IsCharAt, Shows, Costs, IsFirstQuote};
+ghost use Rattle.cargo_platform.specs.Inside.Looking.{IsCharAt, Shows, Costs, IsFirstQuote, IsRun, is_no_quote};
 
-use crate::classes::continues_identifier;
+use crate::classes::{LANES, continues_identifier, identifier_run};
 use std::marker::Model;
-
-/// How many bytes are searched for a quote at once.
-const BLOCK: usize = 64;
-
-/// From how many bytes on a text is long.
-const LONG: usize = 1_024;
+use std::simd::prelude::*;
 
 /// How many looks a source was asked for. Only a source that is spent makes one.
 #[derive(Drop)]
@@ -274,6 +269,13 @@ fn identifier_end(text: &str, from: usize) -> usize
 {
     let bytes = text.as_bytes();
     let mut at = from;
+    'by_block: while LANES <= bytes.len() - at {
+        let run = identifier_run(bytes, at);
+        at += run;
+        if run < LANES {
+            return at;
+        }
+    }
     'rest: while at < bytes.len() && continues_identifier(bytes[at]) {
         at += 1;
     }
@@ -293,27 +295,22 @@ fn value_end(text: &str, from: usize) -> (usize, usize)
     quote_from(text.as_bytes(), from)
 }
 
-/// The place of the first quote from `from` on, or else the end, and how many bytes before it begin a character. What
-/// is left of a long text is searched by blocks.
+/// The place of the first quote from `from` on, or else the end, and how many bytes before it begin a character.
 #[inline(always)]
 fn quote_from(bytes: &[u8], from: usize) -> (usize, usize)
     requires { from ≤ length bytes.now }
     ensures { IsFirstQuote bytes.now from result.0 result.1 }
 {
-    if LONG <= bytes.len() - from {
-        return far_quote(bytes, from);
-    }
-    near_quote(bytes, from)
-}
-
-/// The same, byte by byte.
-#[inline(always)]
-fn near_quote(bytes: &[u8], from: usize) -> (usize, usize)
-    requires { from ≤ length bytes.now }
-    ensures { IsFirstQuote bytes.now from result.0 result.1 }
-{
     let mut at = from;
     let mut starts = 0;
+    'by_block: while LANES <= bytes.len() - at {
+        let (run, more) = value_run(bytes, at);
+        at += run;
+        starts += more;
+        if run < LANES {
+            return (at, starts);
+        }
+    }
     'value: while at < bytes.len() && bytes[at] != b'"' {
         starts += usize::from(begins_character(bytes[at]));
         at += 1;
@@ -321,47 +318,25 @@ fn near_quote(bytes: &[u8], from: usize) -> (usize, usize)
     (at, starts)
 }
 
-/// The same, by blocks up to the one that has the quote.
-#[cold]
-#[inline(never)]
-fn far_quote(bytes: &[u8], from: usize) -> (usize, usize)
-    requires { from ≤ length bytes.now }
-    ensures { IsFirstQuote bytes.now from result.0 result.1 }
-{
-    let mut at = from;
-    let mut starts = 0;
-    'free: while BLOCK <= bytes.len() - at {
-        let (quoted, more) = in_block(bytes, at);
-        if quoted {
-            break;
-        }
-        starts += usize::from(more);
-        at += BLOCK;
-    }
-    let (end, more) = near_quote(bytes, at);
-    (end, starts + more)
-}
-
-/// Whether a quote is in the block that begins at a place, and how many of its bytes begin a character. It goes over
-/// the whole block, so that many bytes are compared at once.
+/// How many of the next `LANES` bytes come before the first quote, and how many of these begin a character.
 #[inline(always)]
-fn in_block(bytes: &[u8], at: usize) -> (bool, u8)
-    requires { at + BLOCK ≤ length bytes.now }
-    ensures none { IsFalse result.0 → (i : ℕ) → at ≤ i → i < at + BLOCK → slice_index bytes.now i ≢ 0x22 }
-    ensures few { result.1 ≤ BLOCK }
+fn value_run(bytes: &[u8], at: usize) -> (usize, usize)
+    requires { at + LANES ≤ length bytes.now }
+    ensures run { IsRun is_no_quote bytes.now at LANES result.0 }
+    ensures few { result.1 ≤ result.0 }
     ensures starts { count_by is_character_start (drop at bytes.now)
-        ≡ result.1 + count_by is_character_start (drop (at + BLOCK) bytes.now) }
+        ≡ result.1 + count_by is_character_start (drop (at + result.0) bytes.now) }
 {
-    let mut quoted = false;
-    let mut starts = 0u8;
-    let mut i = 0;
-    'block: while i < BLOCK {
-        let byte = bytes[at + i];
-        quoted |= byte == b'"';
-        starts += u8::from(begins_character(byte));
-        i += 1;
+    let lanes = u8x16::from_slice(&bytes[at..]);
+    let quotes = lanes.simd_eq(u8x16::splat(b'"')).to_bitmask();
+    let starts = (lanes & u8x16::splat(0xC0))
+        .simd_ne(u8x16::splat(0x80))
+        .to_bitmask();
+    if quotes == 0 {
+        return (LANES, starts.count_ones() as usize);
     }
-    (quoted, starts)
+    let run = quotes.trailing_zeros();
+    (run as usize, (starts % (1 << run)).count_ones() as usize)
 }
 
 /// Whether a character begins with the byte; every other one goes on with it.

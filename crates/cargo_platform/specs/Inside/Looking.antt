@@ -1,11 +1,11 @@
 -- What a look at a place of a text gives, and what looks cost.
-use Rattle.std.specs.Prelude.{◌≡◌, ◌≢◌, ℕ, ◌+◌, ◌-◌, ◌<◌, ◌≤◌, ◌^◌, Bool, false, List, ◌∷◌, ◌++◌, length, drop}
-use Rattle.std.specs.Prelude.{slice_index}
+use Rattle.std.specs.Prelude.{◌≡◌, ◌≢◌, ℕ, ◌+◌, ◌-◌, ◌<◌, ◌≤◌, ◌^◌, Bool, true, false, List, ◌∷◌, ◌++◌, length, drop}
+use Rattle.std.specs.Prelude.{slice_index, not}
 use Rattle.std.specs.Prelude.{encode_utf8, Option, Some, None}
 use Rattle.std.specs.Char.{IsScalar, len_utf8}
 use Rattle.std.specs.Str.{IsCharBoundary, chars}
 use Rattle.std.specs.List.{count_by}
-use Rattle.cargo_platform.specs.Chars.{is_character_start}
+use Rattle.cargo_platform.specs.Chars.{is_character_start, is_quote}
 use Rattle.cargo_platform.specs.declared.source.Look.{Look}
 use Rattle.cargo_platform.specs.declared.source.Look.TheVariants.{End, Ascii, Wide}
 use Rattle.cargo_platform.specs.Reading.{characters_from}
@@ -72,3 +72,13 @@ pub record IsFirstQuote (bytes : List ℕ) (from end starts : ℕ) : Type 0 wher
   pub quote : end < length bytes → slice_index bytes end ≡ 0x22
   pub few : starts + from ≤ end
   pub starts_are : count_by is_character_start (drop from bytes) ≡ starts + count_by is_character_start (drop end bytes)
+
+-- a byte of a string's value
+abbrev pub is_no_quote : ℕ → Bool
+is_no_quote b = not (is_quote b)
+
+-- of so many bytes from a place on, the first ones pass a test, and the next one fails it
+pub record IsRun (test : ℕ → Bool) (bytes : List ℕ) (from most run : ℕ) : Type 0 where
+  pub within : run ≤ most
+  pub passes : (i : ℕ) → from ≤ i → i < from + run → test (slice_index bytes i) ≡ true
+  pub fails : run < most → test (slice_index bytes (from + run)) ≡ false
