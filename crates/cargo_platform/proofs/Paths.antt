@@ -5,16 +5,17 @@ use Rattle.cargo_platform.specs.Chars.{is_space, starts}
 use Rattle.cargo_platform.specs.Tokens.{Placed}
 use Rattle.cargo_platform.specs.Cut.{IsCutFrom}
 use Rattle.cargo_platform.specs.Faults.{Follows}
-use Rattle.cargo_platform.specs.Inside.Ahead.{Item, Nothing, Ahead, Comes, Path, next_of, IsLeft, ItemIsLeft}
-use Rattle.cargo_platform.specs.Inside.Ahead as ahead
+use Rattle.cargo_platform.specs.Cut.{Item, Nothing, Comes}
+use Rattle.cargo_platform.specs.Inside.Ahead.{Ahead, Path, next_of, IsLeft, ItemIsLeft}
+use Rattle.cargo_platform.specs.Cut as cut
 use Rattle.cargo_platform.proofs.OneCut.{same_start, same_token, not_both, tail_no_space}
 
 -- the item that comes is the first that is left
 pub comes_left : (text : List ℕ) (from to : ℕ) (i : Item) (ts : List Placed) (tail : ℕ) → IsCutFrom text from ts tail
     → Comes text from i to → ItemIsLeft text to i ts tail
-comes_left text from to (ahead.Token t) [] tail cut g =
+comes_left text from to (cut.Token t) [] tail cut g =
     absurd (not_both text from tail t cut.apart cut.rest g.0 g.1 g.2)
-comes_left text from to (ahead.Token t) (u ∷ us) tail cut g =
+comes_left text from to (cut.Token t) (u ∷ us) tail cut g =
     let same = same_token text from u t cut.apart.0 g.0 cut.written.0 g.1 cut.whole.0 g.2 in
     let A : ℕ → Type 0 = λ z. IsCutFrom text z us tail in (
       us,
@@ -22,13 +23,13 @@ comes_left text from to (ahead.Token t) (u ∷ us) tail cut g =
       subst A (ap (λ (z : Placed). z.end) same ∙ sym g.3)
           (record { written = cut.written.1; apart = cut.apart.1; whole = cut.whole.1; rest = cut.rest }),
     )
-comes_left text from to (ahead.Lexical k at) [] tail cut g = (
+comes_left text from to (cut.Lexical k at) [] tail cut g = (
   refl,
   same_start text from tail at cut.apart g.0 (tail_no_space (drop tail text) cut.rest)
       (tail_no_space (drop at text) (inr (k, g.1))),
   g.1,
 )
-comes_left text from to (ahead.Lexical k at) (u ∷ us) tail cut g =
+comes_left text from to (cut.Lexical k at) (u ∷ us) tail cut g =
     absurd (not_both text from at u g.0 (inr (k, g.1)) cut.apart.0 cut.written.0 cut.whole.0)
 comes_left text from to Nothing ts tail cut g = go ts cut
   where
@@ -73,13 +74,13 @@ path_text l m (t ∷ us) p = path_text p.0 m us p.3 ∙ p.2.same_text
 -- what is left says what follows
 pub left_follows : (text : List ℕ) (place : ℕ) (i : Item) (ts : List Placed) (tail : ℕ)
     → ItemIsLeft text place i ts tail → Follows text ts tail (next_of text i)
-left_follows text place (ahead.Token t) [] tail h = absurd (let e = h.1 in cc)
-left_follows text place (ahead.Token t) (u ∷ us) tail h = ap (λ (z : List Placed). next_of text (first z)) (sym h.1)
+left_follows text place (cut.Token t) [] tail h = absurd (let e = h.1 in cc)
+left_follows text place (cut.Token t) (u ∷ us) tail h = ap (λ (z : List Placed). next_of text (first z)) (sym h.1)
   where
     first : List Placed → Item
     first [] = Nothing
-    first (t ∷ ts) = ahead.Token t
-left_follows text place (ahead.Lexical k at) [] tail h = (ap (λ (z : ℕ). drop z text) (sym h.1), h.2)
-left_follows text place (ahead.Lexical k at) (u ∷ us) tail h = absurd (let e = h.0 in cc)
+    first (t ∷ ts) = cut.Token t
+left_follows text place (cut.Lexical k at) [] tail h = (ap (λ (z : ℕ). drop z text) (sym h.1), h.2)
+left_follows text place (cut.Lexical k at) (u ∷ us) tail h = absurd (let e = h.0 in cc)
 left_follows text place Nothing [] tail h = omega (arith, h.1)
 left_follows text place Nothing (u ∷ us) tail h = absurd (let e = h.0 in cc)

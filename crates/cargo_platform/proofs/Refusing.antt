@@ -7,7 +7,8 @@ use Rattle.cargo_platform.specs.Cut.{IsCut, lexemes}
 use Rattle.cargo_platform.specs.Spelling.{Grammar}
 use Rattle.cargo_platform.specs.Faults.{Next, Follows, Fault, IsRefused}
 use Rattle.cargo_platform.specs.Walk.{State}
-use Rattle.cargo_platform.specs.Inside.Ahead.{Item, Nothing, Ahead, Comes, Path, next_of, ItemIsLeft}
+use Rattle.cargo_platform.specs.Cut.{Item, Nothing, Comes}
+use Rattle.cargo_platform.specs.Inside.Ahead.{Ahead, Path, next_of, ItemIsLeft}
 use Rattle.cargo_platform.specs.Inside.Parsing.{IsStop, IsStuck, IfFault, StopsAt, Stops}
 use Rattle.cargo_platform.proofs.Prefixes.{goes_on, refused_walked}
 use Rattle.cargo_platform.proofs.SomeCut.{some_cut}

@@ -19,8 +19,9 @@ use Rattle.cargo_platform.specs.declared.parser.Group.TheVariants as groups
 use Rattle.cargo_platform.specs.Tokens.{Lexeme, LeftParen, RightParen, Ident, Comma, Equals, String, Placed, plain}
 use Rattle.cargo_platform.specs.Tokens.{lexeme}
 use Rattle.cargo_platform.specs.Cut.{lexemes}
-use Rattle.cargo_platform.specs.Inside.Ahead.{Item, Nothing, Ahead, GoesOn, Path, next_of}
-use Rattle.cargo_platform.specs.Inside.Ahead as ahead
+use Rattle.cargo_platform.specs.Cut.{Item, Nothing}
+use Rattle.cargo_platform.specs.Inside.Ahead.{Ahead, GoesOn, Path, next_of}
+use Rattle.cargo_platform.specs.Cut as cut
 use Rattle.cargo_platform.specs.Trees.{CfgValue, Alone, KeyPair, Tree, All, Any, Value, trees_of, tree_of}
 use Rattle.cargo_platform.specs.Spelling.{Grammar, Spells, SpellEach}
 use Rattle.cargo_platform.specs.Faults.{Next, Unfit, Broken, End, Fault, UnterminatedExpression, expected_token}
@@ -46,13 +47,13 @@ lexeme_of punctuation.Equals = Equals
 
 -- the token ahead, which this is, is taken
 abbrev pub TakesToken : Ahead → Ahead → Lexeme → Type 0
-TakesToken old new t = (first : Placed) × (old.item ≡ ahead.Token first) × (first.token ≡ t) × GoesOn old new
+TakesToken old new t = (first : Placed) × (old.item ≡ cut.Token first) × (first.token ≡ t) × GoesOn old new
 
 -- what is ahead is taken, if it is a token
 abbrev pub Takes : Ahead → Ahead → Option (Result Token TokenFaultKind) → Type 0
 Takes old new None = (new ≡ old) × (old.item ≡ Nothing)
 Takes old new (Some (Ok t)) = TakesToken old new (lexeme t)
-Takes old new (Some (Err kind)) = (new ≡ old) × (at : ℕ) × (old.item ≡ ahead.Lexical kind at)
+Takes old new (Some (Err kind)) = (new ≡ old) × (at : ℕ) × (old.item ≡ cut.Lexical kind at)
 
 -- the token is an identifier
 abbrev pub IsIdentifier : Lexeme → Type 0
@@ -64,7 +65,7 @@ IsString t = (value : List ℕ) × (t ≡ String value)
 
 -- no token is ahead that is so
 abbrev pub Lacks : (Lexeme → Type 0) → Ahead → Type 0
-Lacks P l = (first : Placed) → l.item ≡ ahead.Token first → P first.token → ⊥
+Lacks P l = (first : Placed) → l.item ≡ cut.Token first → P first.token → ⊥
 
 abbrev pub LacksPunctuation : Ahead → Punctuation → Type 0
 LacksPunctuation l p = Lacks (λ t. t ≡ lexeme_of p) l
@@ -161,8 +162,8 @@ EndsWith gs e ts = (before : List Lexeme) × (s : List Lexeme) × Wants gs befor
 
 -- `=` comes next
 abbrev pub is_equals_next : Item → Bool
-is_equals_next (ahead.Token t) = is_equals t.token
-is_equals_next (ahead.Lexical kind at) = false
+is_equals_next (cut.Token t) = is_equals t.token
+is_equals_next (cut.Lexical kind at) = false
 is_equals_next Nothing = false
 
 -- the expression is a name alone, which `=` would go on with
