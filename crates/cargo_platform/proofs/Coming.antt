@@ -23,7 +23,6 @@ use Rattle.cargo_platform.specs.Tokens.{IsWellWritten, Placed}
 use Rattle.cargo_platform.specs.Cut.{IsPiece, AreSpaces, EndsBefore, BeginsFault}
 use Rattle.cargo_platform.specs.Reading.{characters_from}
 use Rattle.cargo_platform.specs.Cut.{Item, Nothing, Comes}
-use Rattle.cargo_platform.specs.Inside.Ahead.{next_of}
 use Rattle.cargo_platform.specs.Cut as cut
 use Rattle.cargo_platform.specs.Inside.Coming.{passing, behind, First, AtEnd, Whole, Faulty, first_char, first_marked}
 use Rattle.cargo_platform.specs.Inside.Coming.{first_named, first_quoted, is_inner, first, comes_at, item_of, place_of}
@@ -316,10 +315,10 @@ end_ahead text at is = ap (item_of text at) (end_comes text at (drop_of_length-l
 
 -- what is left from a place on that is not the end
 abbrev IsLeftOver : List ℕ → ℕ → First → Type 0
-IsLeftOver text at f = IsSurplus (next_of text (item_of text at f)) (drop at text)
+IsLeftOver text at f = IsSurplus text (item_of text at f) (drop at text)
 
 pub rest_ahead : (text : List ℕ) (at : ℕ) → IsUtf8 text → IsCharBoundary text at → slice_index text at ≢ 0x20
-    → at < length text → IsSurplus (next_of text (ahead_at text at).item) (drop at text)
+    → at < length text → IsSurplus text (ahead_at text at).item (drop at text)
 rest_ahead text at u b past within = go (outcome text at u b past)
   where
     go : Outcome (drop at text) → IsLeftOver text at (comes_at text at)

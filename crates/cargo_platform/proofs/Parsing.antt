@@ -19,7 +19,7 @@ use Rattle.cargo_platform.specs.Faults.{Fault, expected_token, expected_end, fau
 use Rattle.cargo_platform.specs.Walk.{Word, Several, Negation, State, Behind, Named, Keyed, after, after_expression}
 use Rattle.cargo_platform.specs.Walk.{walk, is_whole}
 use Rattle.cargo_platform.specs.Cut.{Item, Nothing, Comes}
-use Rattle.cargo_platform.specs.Inside.Ahead.{Ahead, Path, next_of, items_left, item_count}
+use Rattle.cargo_platform.specs.Inside.Ahead.{Ahead, Path, items_left, item_count}
 use Rattle.cargo_platform.specs.Cut as cut
 use Rattle.cargo_platform.specs.Inside.Refusals.{refused_fault}
 use Rattle.cargo_platform.specs.Inside.Parsing.{Opening, Negated, Listed, list_tree, kind, kinds}
@@ -137,18 +137,18 @@ stops_from g l P Q r f s =
     if_fault r (StopsAt g l Q) (StopsAt g l P)
     (λ _ b. record { us = b.us; stop = b.stop; path = b.path; stuck = λ ts p. b.stuck ts (f ts p) }) s
 
-stop_is : (g : Grammar) (text : List ℕ) (i : Item) (s : State)
-    → ((t : Placed) → i ≡ cut.Token t → after g s t.token ≡ None) → IsStop g s (next_of text i)
-stop_is g text (cut.Token t) s u = u t refl
-stop_is g text (cut.Lexical kind at) s u = tt
-stop_is g text Nothing s u = tt
+stop_is : (g : Grammar) (i : Item) (s : State)
+    → ((t : Placed) → i ≡ cut.Token t → after g s t.token ≡ None) → IsStop g s i
+stop_is g (cut.Token t) s u = u t refl
+stop_is g (cut.Lexical kind at) s u = tt
+stop_is g Nothing s u = tt
 
 -- The tokens read are in a state that the next token does not fit, and what is ahead is refused there.
 record Refused (g : Grammar) (l : Ahead) (r : Refusal) (ts : List Lexeme) : Type 0 where
   s : State
   walked : walk g ts ≡ Some s
   unfit : (t : Placed) → l.item ≡ cut.Token t → after g s t.token ≡ None
-  refused : IfFault r (λ f. fault_of g (is_whole s) (last_or None ts) (next_of l.text l.item) ≡ Some f)
+  refused : IfFault r (λ f. fault_of g l.text (is_whole s) (last_or None ts) l.item ≡ Some f)
 
 refused_here : (g : Grammar) (l : Ahead) (P : List Lexeme → Type 0) (r : Refusal)
     → ((ts : List Lexeme) → P ts → Refused g l r ts) → Stops g l P r
@@ -163,7 +163,7 @@ refused_here g l P r h =
           subst S (sym (append-nil ts)) (record {
             s = a.s;
             walked = a.walked;
-            stops = stop_is g l.text l.item a.s a.unfit;
+            stops = stop_is g l.item a.s a.unfit;
             is = fault_is r f _ is a.refused;
           });
     })
@@ -182,7 +182,7 @@ stops_here : {g : Grammar} (l : Ahead) (P : List Lexeme → Type 0) (r : Refusal
 stops_here {g} l P r expected at_end h f = refused_here g l P r (λ ts p.
     let a = f ts p in
     let m = walk_matches g ts a.s a.walked in
-    let F : Bool → Type 0 = λ b. IfFault r (λ z. fault_of g b (last_or None ts) (next_of l.text l.item) ≡ Some z) in
+    let F : Bool → Type 0 = λ b. IfFault r (λ z. fault_of g l.text b (last_or None ts) l.item ≡ Some z) in
     record {
       s = a.s;
       walked = a.walked;
@@ -211,7 +211,7 @@ pub stops_behind : {g : Grammar} (l : Ahead) (P : List Lexeme → Type 0) (r : R
     → ((ts : List Lexeme) → P ts → Whole g l ts) → Stops g l P r
 stops_behind {g} l P r h f = refused_here g l P r (λ ts p.
     let a = f ts p in
-    let F : Bool → Type 0 = λ b. IfFault r (λ z. fault_of g b (last_or None ts) (next_of l.text l.item) ≡ Some z) in
+    let F : Bool → Type 0 = λ b. IfFault r (λ z. fault_of g l.text b (last_or None ts) l.item ≡ Some z) in
     record {
       s = ends a.lone [];
       walked = a.walked;

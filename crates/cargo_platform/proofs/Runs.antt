@@ -1,5 +1,5 @@
 -- One call of `next` after another gives the cut.
-use Rattle.std.proofs.Common.{◌≡◌, refl, sym, ap, subst, ◌∙◌, ℕ, true, List, [], ◌∷◌, ◌++◌, inl, inr, arith}
+use Rattle.std.proofs.Common.{◌≡◌, refl, sym, ap, subst, ◌∙◌, ℕ, true, List, [], ◌∷◌, inl, inr, arith}
 use Rattle.std.proofs.Common.{length, drop, drop_of_length-le, length-drop, append-nil, true≢false, Option, Some}
 use Rattle.std.proofs.Common.{None, Result, Ok, Err}
 use Rattle.std.specs.Prelude.{IsFalse}
@@ -12,7 +12,7 @@ use Rattle.cargo_platform.specs.Reading.{Progress, given}
 use Rattle.cargo_platform.specs.CutLaws.{CutsAreRead, IsReadAlike, GivesNoMore, EndsForGood, FailsOnce}
 use Rattle.cargo_platform.proofs.OneCut.{one_cut_from}
 use Rattle.cargo_platform.proofs.Scanning.{no_spaces}
-use Rattle.cargo_platform.proofs.Paths.{comes_left}
+use Rattle.cargo_platform.proofs.Paths.{next_is, cut_parts}
 use Rattle.cargo_platform.proofs.Refused.{no_fault}
 
 -- ---- what is read is the cut
@@ -50,15 +50,6 @@ read_cut text from to tail (t ∷ ts) last (behind, c, more) none ends =
     }
 
 -- ---- the cut is read
-
--- the first tokens of what is left come one after another, and the others are left behind them
-pub cut_parts : (text : List ℕ) (from tail : ℕ) (ts us : List Placed) → IsCutFrom text from (ts ++ us) tail
-    → (to : ℕ) × ComeInTurn text from ts to × IsCutFrom text to us tail
-cut_parts text from tail [] us cut = (from, refl, cut)
-cut_parts text from tail (t ∷ ts) us cut =
-    let left = cut_parts text t.end tail ts us
-    (record { written = cut.written.1; apart = cut.apart.1; whole = cut.whole.1; rest = cut.rest }) in
-    (left.0, (t.end, (cut.apart.0, cut.written.0, cut.whole.0, refl), left.1), left.2)
 
 -- behind the last token comes the fault of the tail, or nothing
 tail_comes : (text : List ℕ) (from tail : ℕ) → IsCutFrom text from [] tail
@@ -103,12 +94,11 @@ end_gives p at_end r new (inl g) = go r g.comes
 
     go : (r : Option (Result Spanned TokenFault)) → Comes p.text p.place (given r) new.place → r ≡ None
     go None c = refl
-    go (Some (Ok s)) c =
-        absurd (let is = (comes_left p.text p.place new.place (Token (placed s)) [] p.place cut c).1 in cc)
+    go (Some (Ok s)) c = absurd (next_is p.text p.place new.place p.place (Token (placed s)) [] cut c)
     go (Some (Err f)) c =
-        let left = comes_left p.text p.place new.place (Lexical f.kind f.at) [] p.place cut c in
+        let left = next_is p.text p.place new.place p.place (Lexical f.kind f.at) [] cut c in
         let B : List ℕ → Type 0 = λ z. BeginsFault z f.kind in
-        absurd (no_fault f.kind (subst B (ap (λ k. drop k p.text) (sym left.1) ∙ none) c.1))
+        absurd (no_fault f.kind (subst B (ap (λ k. drop k p.text) left.0 ∙ none) c.1))
 
 pub ends_for_good : (old new : Progress) → EndsForGood old new
 ends_for_good old new (inr g) = failed_gives new (ap (λ (p : Progress). p.failed) g.2 ∙ g.0)

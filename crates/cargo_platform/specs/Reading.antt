@@ -69,6 +69,6 @@ pub record IsRestFrom (text : List ℕ) (from : ℕ) (rest : List ℕ) : Type 0 
   pub bytes : rest ≡ drop start text
   pub begins : (b : ℕ) × (after : List ℕ) × (rest ≡ b ∷ after) × IsFalse (is_space b)
 
--- what comes from the start of a text on is these tokens, and then a fault at this place, or nothing where the text ends
+-- from the start of a text these tokens come, and then a fault at this place, or nothing where the text ends
 abbrev pub GoesThrough : List ℕ → List Placed → ℕ → Type 0
 GoesThrough text ts tail = (last : Item) × IsFalse (is_token last) × ComesBehind text ts last tail

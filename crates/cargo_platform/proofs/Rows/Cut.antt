@@ -171,7 +171,7 @@ number_sign_comes = (spaces _ _ _ refl, inr ([], record { scalar = refl; parts =
 pub nothing_comes : Comes (codes "a  ") 1 Nothing 3
 nothing_comes = (spaces _ _ _ refl, refl)
 
-something_comes : (to : ℕ) → Comes (codes "a") 0 Nothing to → ⊥
+pub something_comes : (to : ℕ) → Comes (codes "a") 0 Nothing to → ⊥
 something_comes to p = true≢false (sym p.0.2 ∙ sym (ap (list_all is_space) p.0.1.bytes))
 
 rest_is : IsRestFrom (codes "a  b ") 1 (codes "b ")

@@ -60,7 +60,8 @@ begins_at_end kind = (lit≤ tt, λ below high. absurd (omega (arith, below)))
 a_comes : Comes (codes "a") 0 (Token (word (codes "a") 0 1)) 1
 a_comes = (spaces _ _ _ refl, written_at _ (word (codes "a") 0 1) refl, (refl, refl), refl)
 
-gives_a : (looks new : ℕ) → Gives (reached (codes "a") 0 looks) (reached (codes "a") 1 new) (Token (word (codes "a") 0 1))
+gives_a : (looks new : ℕ)
+    → Gives (reached (codes "a") 0 looks) (reached (codes "a") 1 new) (Token (word (codes "a") 0 1))
 gives_a looks new = record { going = refl; same_text = refl; comes = a_comes; failed_is = refl }
 
 a_in_turn : ComeInTurn (codes "a") 0 (word (codes "a") 0 1 ∷ []) 1

@@ -2,7 +2,6 @@
 use Rattle.std.specs.Prelude.{◌≡◌, ℕ, ◌+◌, ◌-◌, List, [], ◌∷◌, length, drop}
 use Rattle.cargo_platform.specs.Tokens.{Placed}
 use Rattle.cargo_platform.specs.Cut.{BeginsFault, IsCutFrom, Item, Token, Lexical, Nothing, Comes}
-use Rattle.cargo_platform.specs.Faults.{Next, Unfit, Broken, End}
 
 -- the item ahead, and the place from which the text goes on behind it
 pub record Ahead : Type 0 where
@@ -19,12 +18,6 @@ pub record GoesOn (old new : Ahead) : Type 0 where
 abbrev pub Path : Ahead → List Placed → Ahead → Type 0
 Path old [] new = new ≡ old
 Path old (t ∷ ts) new = (mid : Ahead) × (old.item ≡ Token t) × GoesOn old mid × Path mid ts new
-
--- what comes next, with the text from there on
-abbrev pub next_of : List ℕ → Item → Next
-next_of text (Token t) = Unfit t.token (drop t.start text)
-next_of text (Lexical kind at) = Broken kind (drop at text)
-next_of text Nothing = End
 
 -- these tokens are left, up to the tail
 abbrev pub ItemIsLeft : List ℕ → ℕ → Item → List Placed → ℕ → Type 0
