@@ -196,6 +196,7 @@ refused_alike p q same g text fault r = record {
     longest = λ longer others h c. r.is_prefix.longest longer others h (c.0, c.1, (same (lexemes longer ++ c.0)).1 c.2);
   };
   next = r.next;
+  place = r.place;
   follows = r.follows;
   accepted = r.accepted;
   is_accepted =

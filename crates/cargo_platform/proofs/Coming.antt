@@ -22,8 +22,8 @@ use Rattle.cargo_platform.specs.Tokens.{Lexeme, LeftParen, RightParen, Ident, Co
 use Rattle.cargo_platform.specs.Tokens.{IsWellWritten, Placed}
 use Rattle.cargo_platform.specs.Cut.{IsPiece, AreSpaces, EndsBefore, BeginsFault}
 use Rattle.cargo_platform.specs.Reading.{characters_from}
-use Rattle.cargo_platform.specs.Inside.Ahead.{Item, Nothing, Ahead, Comes, next_of}
-use Rattle.cargo_platform.specs.Inside.Ahead as ahead
+use Rattle.cargo_platform.specs.Cut.{Item, Nothing, Comes}
+use Rattle.cargo_platform.specs.Cut as cut
 use Rattle.cargo_platform.specs.Inside.Coming.{passing, behind, First, AtEnd, Whole, Faulty, first_char, first_marked}
 use Rattle.cargo_platform.specs.Inside.Coming.{first_named, first_quoted, is_inner, first, comes_at, item_of, place_of}
 use Rattle.cargo_platform.specs.Inside.Coming.{ahead_at, IsFound, IsReadingAt}
@@ -192,8 +192,8 @@ join text from mid to s t =
 
 pub comes_from : (text : List ℕ) (from at to : ℕ) (i : Item) → AreSpaces text from at → Comes text at i to
     → Comes text from i to
-comes_from text from at to (ahead.Token t) s h = (join text from at t.start s h.0, h.1, h.2, h.3)
-comes_from text from at to (ahead.Lexical k place) s h = (join text from at place s h.0, h.1, h.2)
+comes_from text from at to (cut.Token t) s h = (join text from at t.start s h.0, h.1, h.2, h.3)
+comes_from text from at to (cut.Lexical k place) s h = (join text from at place s h.0, h.1, h.2)
 comes_from text from at to Nothing s h = (join text from at (length text) s h.0, h.1)
 
 -- a token is taken, and the spaces behind it
@@ -235,10 +235,10 @@ pub record IsHere (text : List ℕ) (at : ℕ) (t : Lexeme) : Type 0 where
   pub well : IsWellWritten t
 
 pub token_here : (text : List ℕ) (at : ℕ) (t : Placed) → IsUtf8 text → IsCharBoundary text at
-    → slice_index text at ≢ 0x20 → (ahead_at text at).item ≡ ahead.Token t → IsHere text at t.token
+    → slice_index text at ≢ 0x20 → (ahead_at text at).item ≡ cut.Token t → IsHere text at t.token
 token_here text at t u b past is = go (outcome text at u b past)
   where
-    token_is : {a b : Placed} → ahead.Token a ≡ ahead.Token b → a.token ≡ b.token
+    token_is : {a b : Placed} → cut.Token a ≡ cut.Token b → a.token ≡ b.token
     token_is h = cc
 
     go : Outcome (drop at text) → IsHere text at t.token
@@ -282,7 +282,7 @@ lacks_name text at seen u b past shows unseen =
 -- a token that begins as an identifier is one
 pub name_ahead : (text : List ℕ) (at : ℕ) (seen : Look) (c : ℕ) → IsUtf8 text → IsCharBoundary text at
     → slice_index text at ≢ 0x20 → Shows text at seen → seen ≡ Ascii c → is_identifier_start c ≡ true → (t : Placed)
-    → (ahead_at text at).item ≡ ahead.Token t → IsIdentifier t.token
+    → (ahead_at text at).item ≡ cut.Token t → IsIdentifier t.token
 name_ahead text at seen c u b past shows is start t h =
     let here = token_here text at t u b past h in go t.token here.rest here.well here.parts
   where
@@ -307,7 +307,7 @@ fault_lacks P text at k u b f = λ t is p.
     absurd (let h = sym (ap (item_of text at) (fault_comes text at k u b f)) ∙ is in cc)
 
 pub fault_ahead : (text : List ℕ) (at : ℕ) (k : TokenFaultKind) → IsUtf8 text → IsCharBoundary text at
-    → BeginsFault (drop at text) k → (ahead_at text at).item ≡ ahead.Lexical k at
+    → BeginsFault (drop at text) k → (ahead_at text at).item ≡ cut.Lexical k at
 fault_ahead text at k u b f = ap (item_of text at) (fault_comes text at k u b f)
 
 pub end_ahead : (text : List ℕ) (at : ℕ) → at ≡ length text → (ahead_at text at).item ≡ Nothing
@@ -315,10 +315,10 @@ end_ahead text at is = ap (item_of text at) (end_comes text at (drop_of_length-l
 
 -- what is left from a place on that is not the end
 abbrev IsLeftOver : List ℕ → ℕ → First → Type 0
-IsLeftOver text at f = IsSurplus (next_of text (item_of text at f)) (drop at text)
+IsLeftOver text at f = IsSurplus text (item_of text at f) (drop at text)
 
 pub rest_ahead : (text : List ℕ) (at : ℕ) → IsUtf8 text → IsCharBoundary text at → slice_index text at ≢ 0x20
-    → at < length text → IsSurplus (next_of text (ahead_at text at).item) (drop at text)
+    → at < length text → IsSurplus text (ahead_at text at).item (drop at text)
 rest_ahead text at u b past within = go (outcome text at u b past)
   where
     go : Outcome (drop at text) → IsLeftOver text at (comes_at text at)

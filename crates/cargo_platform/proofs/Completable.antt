@@ -10,10 +10,11 @@ use Rattle.cargo_platform.specs.declared.tokens.TokenFaultKind.TheVariants as le
 use Rattle.cargo_platform.specs.Tokens.{Lexeme, LeftParen, RightParen, Ident, Comma, Equals, String, Placed, plain}
 use Rattle.cargo_platform.specs.Tokens.{IsWellWritten}
 use Rattle.cargo_platform.specs.Cut.{lexemes}
+use Rattle.cargo_platform.specs.Cut.{Item, Token, Lexical, Nothing}
 use Rattle.cargo_platform.specs.Trees.{Alone, KeyPair}
 use Rattle.cargo_platform.specs.Spelling.{Grammar, Values, Expressions, IsAccepted, Role, GroupWord, LiteralWord}
 use Rattle.cargo_platform.specs.Spelling.{PlainName, role}
-use Rattle.cargo_platform.specs.Faults.{IsCompletable, IsFaultPrefix, Next, Unfit, Broken, End, Fault, UnexpectedToken}
+use Rattle.cargo_platform.specs.Faults.{IsCompletable, IsFaultPrefix, Fault, UnexpectedToken}
 use Rattle.cargo_platform.specs.Faults.{IncompleteExpr, expected_token, expected_end, fault_of, IsRefused}
 use Rattle.cargo_platform.specs.Walk.{Word, Several, Negation, State, Wanted, Member, Behind, Named, Keyed, Ended}
 use Rattle.cargo_platform.specs.Walk.{after_role, after_name, after_expression, after, walk_from, walk, is_whole}
@@ -232,29 +233,29 @@ stopped_by_next g ts prefix after others next f h p =
     omega (arith, f.longest (prefix ++ next ∷ []) others parts p, length-append prefix (next ∷ []))
 
 -- the class that a fault names is what is expected
-named : (g : Grammar) (accepted : Bool) (last : Option Lexeme) (next : Next) (fault : Fault) (class : List ℕ)
-    → fault_of g accepted last next ≡ Some fault
-    → ((found : List ℕ) × (fault ≡ UnexpectedToken class found)) ⊎ ((fault ≡ IncompleteExpr class) × (next ≡ End))
+named : (g : Grammar) (text : List ℕ) (accepted : Bool) (last : Option Lexeme) (next : Item) (fault : Fault)
+    (class : List ℕ) → fault_of g text accepted last next ≡ Some fault
+    → ((found : List ℕ) × (fault ≡ UnexpectedToken class found)) ⊎ ((fault ≡ IncompleteExpr class) × (next ≡ Nothing))
     → (accepted ≡ false) × ((expected_token g last ≡ class) ⊎ (expected_end g last ≡ class))
-named g true last (Unfit t rest) fault class h (inl n) = absurd (let e = n.1 in cc)
-named g true last (Unfit t rest) fault class h (inr n) = absurd (let e = n.1 in cc)
-named g true last (Broken k rest) fault class h (inl n) = absurd (let e = n.1 in cc)
-named g true last (Broken k rest) fault class h (inr n) = absurd (let e = n.1 in cc)
-named g true last End fault class h n = absurd cc
-named g false last (Unfit t rest) fault class h (inl n) = (refl, inl (let e = n.1 in cc))
-named g false last (Unfit t rest) fault class h (inr n) = absurd (let e = n.1 in cc)
-named g false last (Broken lexical.UnterminatedString rest) fault class h (inl n) = absurd (let e = n.1 in cc)
-named g false last (Broken (lexical.UnexpectedChar c) rest) fault class h (inl n) = absurd (let e = n.1 in cc)
-named g false last (Broken lexical.MissingIdentifier rest) fault class h (inl n) = absurd (let e = n.1 in cc)
-named g false last (Broken k rest) fault class h (inr n) = absurd (let e = n.1 in cc)
-named g false last End fault class h (inl n) = absurd (let e = n.1 in cc)
-named g false last End fault class h (inr n) = (refl, inr (let e = n.0 in cc))
+named g text true last (Token t) fault class h (inl n) = absurd (let e = n.1 in cc)
+named g text true last (Token t) fault class h (inr n) = absurd (let e = n.1 in cc)
+named g text true last (Lexical k at) fault class h (inl n) = absurd (let e = n.1 in cc)
+named g text true last (Lexical k at) fault class h (inr n) = absurd (let e = n.1 in cc)
+named g text true last Nothing fault class h n = absurd cc
+named g text false last (Token t) fault class h (inl n) = (refl, inl (let e = n.1 in cc))
+named g text false last (Token t) fault class h (inr n) = absurd (let e = n.1 in cc)
+named g text false last (Lexical lexical.UnterminatedString at) fault class h (inl n) = absurd (let e = n.1 in cc)
+named g text false last (Lexical (lexical.UnexpectedChar c) at) fault class h (inl n) = absurd (let e = n.1 in cc)
+named g text false last (Lexical lexical.MissingIdentifier at) fault class h (inl n) = absurd (let e = n.1 in cc)
+named g text false last (Lexical k at) fault class h (inr n) = absurd (let e = n.1 in cc)
+named g text false last Nothing fault class h (inl n) = absurd (let e = n.1 in cc)
+named g text false last Nothing fault class h (inr n) = (refl, inr (let e = n.0 in cc))
 
 -- what the fault of a refused text names as expected can follow its fault prefix
 pub named_follows : (g : Grammar) (text : List ℕ) (fault : Fault) (r : IsRefused g text fault) (class : List ℕ)
     → Names r class → CanFollow g (lexemes r.prefix) class
 named_follows g text fault r class n =
-    let is = named g r.accepted (last_or None (lexemes r.prefix)) r.next fault class r.is_fault n in
+    let is = named g text r.accepted (last_or None (lexemes r.prefix)) r.next fault class r.is_fault n in
     let f = expected_follows g (lexemes r.prefix) r.is_prefix.completable
     (λ p. true≢false (sym (r.is_accepted.1 p) ∙ is.0)) in
     let C : List ℕ → Type 0 = λ z. CanFollow g (lexemes r.prefix) z in

@@ -2,7 +2,7 @@
 -- a caller answers it by `refl`.
 use Rattle.std.proofs.Common.{◌≡◌, refl, sym, subst, ℕ, ◌+◌, Bool, true, false, not, ◌&&◌, if◌then◌else◌, List}
 use Rattle.std.proofs.Common.{[], ◌∷◌}
-use Rattle.std.proofs.Common.{◌++◌, Option, Some, None, codes, inl, inr, length, take, drop, arith}
+use Rattle.std.proofs.Common.{◌++◌, Option, Some, None, codes, inl, inr, length, take, drop}
 use Rattle.std.specs.Prelude.{◌==◌, bytes_eq}
 use Rattle.std.proofs.lemmas.List.{take-append-drop}
 use Rattle.std.specs.List.{last_or}
@@ -10,12 +10,14 @@ use Rattle.cargo_platform.specs.Chars.{is_identifier_start, is_identifier_rest, 
 use Rattle.cargo_platform.specs.Tokens.{Lexeme, LeftParen, RightParen, Ident, Comma, Equals, String, Placed}
 use Rattle.cargo_platform.specs.declared.tokens.TokenFaultKind.{TokenFaultKind}
 use Rattle.cargo_platform.specs.Cut.{IsCut, lexemes, BeginsFault}
+use Rattle.cargo_platform.specs.Cut.{Item, Token, Lexical, Nothing}
 use Rattle.cargo_platform.specs.Trees.{CfgValue, Tree}
 use Rattle.cargo_platform.specs.Spelling.{Grammar, IsTreeText, IsValueText, Spells, SpellsValue}
 use Rattle.cargo_platform.specs.WellFormed.{IsWellFormed}
-use Rattle.cargo_platform.specs.Faults.{Fault, Next, Unfit, Broken, End, Follows, fault_of, IsRefused}
+use Rattle.cargo_platform.specs.Faults.{Fault, fault_of, IsRefused}
 use Rattle.cargo_platform.specs.Walk.{State, Wanted, after, walk, is_whole}
 use Rattle.cargo_platform.proofs.CutTests.{is_cut_from, cut_by}
+use Rattle.cargo_platform.proofs.Paths.{IsNext}
 use Rattle.cargo_platform.proofs.Prefixes.{goes_on, refused_walked}
 use Rattle.cargo_platform.proofs.PrintedSpells.{canonical, canonical_spells}
 
@@ -126,43 +128,43 @@ abbrev pub behind_in : Grammar → List ℕ → List Placed
 behind_in g text = drop (fitting g (Some (Wanted [])) (tokens_in text)) (tokens_in text)
 
 -- what comes behind the prefix: what is left of the tokens, and then the tail
-abbrev pub next_before : List ℕ → Next → List Placed → Next
-next_before text last [] = last
-next_before text last (t ∷ ts) = Unfit t.token (drop t.start text)
+abbrev pub next_before : Item → List Placed → Item
+next_before last [] = last
+next_before last (t ∷ ts) = Token t
 
-next_follows : (text : List ℕ) (tail : ℕ) (last : Next) (behind : List Placed) → Follows text [] tail last
-    → Follows text behind tail (next_before text last behind)
+next_follows : (text : List ℕ) (tail : ℕ) (last : Item) (behind : List Placed) → IsNext text [] tail last
+    → IsNext text behind tail (next_before last behind)
 next_follows text tail last [] h = h
 next_follows text tail last (t ∷ ts) h = refl
 
 -- the fault by the table, where the prefix leads to this state and does not go on
-abbrev pub fault_at : Grammar → List ℕ → Next → Option State → Option State → Option Fault
+abbrev pub fault_at : Grammar → List ℕ → Item → Option State → Option State → Option Fault
 fault_at g text last (Some s) None =
-    let next : Next = next_before text last (behind_in g text) in
-    fault_of g (is_whole s) (last_or None (lexemes (prefix_in g text))) next
+    let next : Item = next_before last (behind_in g text) in
+    fault_of g text (is_whole s) (last_or None (lexemes (prefix_in g text))) next
 fault_at g text last s t = None
 
 abbrev pub further : Grammar → Option State → List Placed → Option State
 further g None ts = None
 further g (Some s) ts = goes_on g s ts
 
-abbrev pub fault_before : Grammar → List ℕ → Next → Option Fault
+abbrev pub fault_before : Grammar → List ℕ → Item → Option Fault
 fault_before g text last =
     let reached : Option State = walk g (lexemes (prefix_in g text)) in
     fault_at g text last reached (further g reached (behind_in g text))
 
 -- the fault of a text whose characters all belong to a token or are spaces
 abbrev pub fault_found : Grammar → List ℕ → Option Fault
-fault_found g text = fault_before g text End
+fault_found g text = fault_before g text Nothing
 
-refused_there : (g : Grammar) (text : List ℕ) (fault : Fault) (tail : ℕ) (last : Next) (s t : Option State)
+refused_there : (g : Grammar) (text : List ℕ) (fault : Fault) (tail : ℕ) (last : Item) (s t : Option State)
     → walk g (lexemes (prefix_in g text)) ≡ s → further g s (behind_in g text) ≡ t → IsCut text (tokens_in text) tail
-    → Follows text [] tail last → fault_at g text last s t ≡ Some fault → IsRefused g text fault
+    → IsNext text [] tail last → fault_at g text last s t ≡ Some fault → IsRefused g text fault
 refused_there g text fault tail last None t walked stops cut follows found = absurd cc
 refused_there g text fault tail last (Some s) (Some t) walked stops cut follows found = absurd cc
 refused_there g text fault tail last (Some s) None walked stops cut follows found =
     refused_walked g text (tokens_in text) (prefix_in g text) (behind_in g text) tail s
-    (next_before text last (behind_in g text)) fault
+    (next_before last (behind_in g text)) fault
     cut (sym (take-append-drop (fitting g (Some (Wanted [])) (tokens_in text)) (tokens_in text))) walked stops
     (next_follows text tail last (behind_in g text) follows) found
 
@@ -170,7 +172,7 @@ refused_there g text fault tail last (Some s) None walked stops cut follows foun
 pub refused_on_literal : {g : Grammar} (text : List ℕ) (fault : Fault) → is_cut_whole text ≡ true
     → fault_found g text ≡ Some fault → IsRefused g text fault
 refused_on_literal {g} text fault cut found =
-    refused_there g text fault (length text) End _ _ refl refl (cut_whole text cut) (omega arith) found
+    refused_there g text fault (length text) Nothing _ _ refl refl (cut_whole text cut) refl found
 
 -- ---- a text with a lexical fault
 
@@ -178,8 +180,8 @@ refused_on_literal {g} text fault cut found =
 abbrev pub tail_in : List ℕ → ℕ
 tail_in text = (scan Between 0 text).1
 
-abbrev pub broken_in : List ℕ → TokenFaultKind → Next
-broken_in text kind = Broken kind (drop (tail_in text) text)
+abbrev pub broken_in : List ℕ → TokenFaultKind → Item
+broken_in text kind = Lexical kind (tail_in text)
 
 -- the tokens are those of the text before its tail
 abbrev pub is_cut_to_tail : List ℕ → Bool

@@ -1,5 +1,5 @@
 -- A text has at most one fault.
-use Rattle.std.proofs.Common.{◌≡◌, refl, sym, ap, subst, ◌∙◌, ℕ, ◌≤◌, Bool, true, false, true≢false, List, [], ◌∷◌}
+use Rattle.std.proofs.Common.{◌≡◌, refl, sym, ap, subst, ◌∙◌, ℕ, Bool, true, false, true≢false, List, [], ◌∷◌}
 use Rattle.std.proofs.Common.{◌++◌, None, codes, inl, inr, arith, length, take, drop, drop_of_length-le}
 use Rattle.std.proofs.Math.Seq.{take-append_seam, drop-append_seam}
 use Rattle.std.specs.Prelude.{IsFalse}
@@ -11,10 +11,11 @@ use Rattle.cargo_platform.specs.declared.tokens.TokenFaultKind.{TokenFaultKind}
 use Rattle.cargo_platform.specs.declared.tokens.TokenFaultKind.TheVariants as lexical
 use Rattle.cargo_platform.specs.Chars.{is_quote, is_known_start, starts}
 use Rattle.cargo_platform.specs.Tokens.{Placed}
-use Rattle.cargo_platform.specs.Cut.{BeginsFault, lexemes}
+use Rattle.cargo_platform.specs.Cut.{BeginsFault, IsCut, lexemes, Item, Token, Lexical, Nothing, ComesBehind}
 use Rattle.cargo_platform.specs.Spelling.{Grammar, IsAccepted}
-use Rattle.cargo_platform.specs.Faults.{Next, Unfit, Broken, End, Follows, Fault, fault_of, IsRefused}
+use Rattle.cargo_platform.specs.Faults.{Fault, fault_of, IsRefused}
 use Rattle.cargo_platform.proofs.OneCut.{one_cut_from}
+use Rattle.cargo_platform.proofs.Paths.{IsNext, behind_is}
 use Rattle.cargo_platform.proofs.Refused.{no_char, no_fault}
 
 -- ---- lexical faults
@@ -70,24 +71,25 @@ one_lexical_fault text (lexical.UnexpectedChar c) (lexical.UnexpectedChar d) f g
 
 -- ---- what follows a prefix
 
-no_fault_at_end : (text : List ℕ) (tail : ℕ) (k : TokenFaultKind) (rest : List ℕ)
-    → (rest ≡ drop tail text) × BeginsFault rest k → length text ≤ tail → ⊥
-no_fault_at_end text tail k rest f le = let B : List ℕ
-    → Type 0 = λ z. BeginsFault z k in no_fault k (subst B (f.0 ∙ drop_of_length-le text le) f.1)
+no_fault_at_end : (text : List ℕ) (tail at : ℕ) (k : TokenFaultKind) → (at ≡ tail) × BeginsFault (drop at text) k
+    → tail ≡ length text → ⊥
+no_fault_at_end text tail at k f end =
+    let B : List ℕ → Type 0 = λ z. BeginsFault z k in
+    no_fault k (subst B (drop_of_length-le text (omega (arith, f.0, end))) f.1)
 
-one_next : (text : List ℕ) (after : List Placed) (tail : ℕ) (n m : Next) → Follows text after tail n
-    → Follows text after tail m → n ≡ m
-one_next text (t ∷ after) tail n m f g = f ∙ sym g
-one_next text [] tail (Unfit t rest) m f g = absurd f
-one_next text [] tail n (Unfit t rest) f g = absurd g
-one_next text [] tail (Broken k r) (Broken l s) f g =
-    let same : s ≡ r = g.0 ∙ sym f.0 in
-    let B : List ℕ → Type 0 = λ z. BeginsFault z l in
-    let kind = one_lexical_fault r k l f.1 (subst B same g.1) in
-    λ i. Broken (kind i) (sym same i)
-one_next text [] tail (Broken k r) End f g = absurd (no_fault_at_end text tail k r f g)
-one_next text [] tail End (Broken k r) f g = absurd (no_fault_at_end text tail k r g f)
-one_next text [] tail End End f g = refl
+one_next : (text : List ℕ) (after : List Placed) (tail : ℕ) (i j : Item) → IsNext text after tail i
+    → IsNext text after tail j → i ≡ j
+one_next text (t ∷ after) tail i j f g = f ∙ sym g
+one_next text [] tail (Token t) j f g = absurd f
+one_next text [] tail i (Token t) f g = absurd g
+one_next text [] tail (Lexical k at) (Lexical l place) f g =
+    let same : at ≡ place = f.0 ∙ sym g.0 in
+    let B : ℕ → Type 0 = λ z. BeginsFault (drop z text) l in
+    let kind = one_lexical_fault (drop at text) k l f.1 (subst B (sym same) g.1) in
+    λ i. Lexical (kind i) (same i)
+one_next text [] tail (Lexical k at) Nothing f g = absurd (no_fault_at_end text tail at k f g)
+one_next text [] tail Nothing (Lexical k at) f g = absurd (no_fault_at_end text tail at k g f)
+one_next text [] tail Nothing Nothing f g = refl
 
 -- ---- the fault
 
@@ -116,8 +118,11 @@ one_fault g text e f p q =
     let accepted : p.accepted ≡ q.accepted =
     same_truth p.accepted q.accepted (λ h. q.is_accepted.1 (subst A same.0 (p.is_accepted.0 h)))
     (λ h. p.is_accepted.1 (subst A (sym same.0) (q.is_accepted.0 h))) in
-    let F : List Placed → Type 0 = λ z. Follows text z q.tail p.next in
-    let T : ℕ → Type 0 = λ z. Follows text p.after z p.next in
-    let next = one_next text q.after q.tail p.next q.next (subst F same.1 (subst T cut.1 p.follows)) q.follows in
+    let C : List Placed → Type 0 = λ z. IsCut text z q.tail in
+    let B : List Placed → Type 0 = λ z. ComesBehind text z p.next p.place in
+    let c = subst C q.is_prefix.parts q.cut in
+    let next = one_next text q.after q.tail p.next q.next
+    (behind_is text q.prefix q.after q.tail p.place p.next c (subst B same.0 p.follows))
+    (behind_is text q.prefix q.after q.tail q.place q.next c q.follows) in
     same_Some _ _
-    (sym p.is_fault ∙ (λ i. fault_of g (accepted i) (last_or None (lexemes (same.0 i))) (next i)) ∙ q.is_fault)
+    (sym p.is_fault ∙ (λ i. fault_of g text (accepted i) (last_or None (lexemes (same.0 i))) (next i)) ∙ q.is_fault)

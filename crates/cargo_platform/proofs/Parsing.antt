@@ -18,8 +18,9 @@ use Rattle.cargo_platform.specs.Spelling.{is_group_word, is_literal_word, Spells
 use Rattle.cargo_platform.specs.Faults.{Fault, expected_token, expected_end, fault_of}
 use Rattle.cargo_platform.specs.Walk.{Word, Several, Negation, State, Behind, Named, Keyed, after, after_expression}
 use Rattle.cargo_platform.specs.Walk.{walk, is_whole}
-use Rattle.cargo_platform.specs.Inside.Ahead.{Item, Nothing, Ahead, Comes, Path, next_of, items_left, item_count}
-use Rattle.cargo_platform.specs.Inside.Ahead as ahead
+use Rattle.cargo_platform.specs.Cut.{Item, Nothing, Comes}
+use Rattle.cargo_platform.specs.Inside.Ahead.{Ahead, Path, items_left, item_count}
+use Rattle.cargo_platform.specs.Cut as cut
 use Rattle.cargo_platform.specs.Inside.Refusals.{refused_fault}
 use Rattle.cargo_platform.specs.Inside.Parsing.{Opening, Negated, Listed, list_tree, kind, kinds}
 use Rattle.cargo_platform.specs.Inside.Parsing.{is_list, is_lone, Wants, Has, HasName, HasWord, is_equals}
@@ -75,7 +76,7 @@ reads_then l m n P Q R a b = record {
 
 comes_behind : (text : List ℕ) (from to : ℕ) (i : Item) → Comes text from i to
     → item_count i + (length text - to) ≤ length text - from
-comes_behind text from to (ahead.Token t) c =
+comes_behind text from to (cut.Token t) c =
     let some = written_length t.token c.1.0 in
     let size : length (slice_range text t.start t.end) ≡ length (written t.token) = ap length c.1.1.bytes in
     omega (
@@ -88,7 +89,7 @@ comes_behind text from to (ahead.Token t) c =
       some,
       c.3,
     )
-comes_behind text from to (ahead.Lexical kind at) c = omega (arith, c.0.1.ordered, c.2)
+comes_behind text from to (cut.Lexical kind at) c = omega (arith, c.0.1.ordered, c.2)
 comes_behind text from to Nothing c = omega (arith, c.1)
 
 pub taken_shorter : (l m : Ahead) (t : Lexeme) → TakesToken l m t → items_left m < items_left l
@@ -136,18 +137,18 @@ stops_from g l P Q r f s =
     if_fault r (StopsAt g l Q) (StopsAt g l P)
     (λ _ b. record { us = b.us; stop = b.stop; path = b.path; stuck = λ ts p. b.stuck ts (f ts p) }) s
 
-stop_is : (g : Grammar) (text : List ℕ) (i : Item) (s : State)
-    → ((t : Placed) → i ≡ ahead.Token t → after g s t.token ≡ None) → IsStop g s (next_of text i)
-stop_is g text (ahead.Token t) s u = u t refl
-stop_is g text (ahead.Lexical kind at) s u = tt
-stop_is g text Nothing s u = tt
+stop_is : (g : Grammar) (i : Item) (s : State)
+    → ((t : Placed) → i ≡ cut.Token t → after g s t.token ≡ None) → IsStop g s i
+stop_is g (cut.Token t) s u = u t refl
+stop_is g (cut.Lexical kind at) s u = tt
+stop_is g Nothing s u = tt
 
 -- The tokens read are in a state that the next token does not fit, and what is ahead is refused there.
 record Refused (g : Grammar) (l : Ahead) (r : Refusal) (ts : List Lexeme) : Type 0 where
   s : State
   walked : walk g ts ≡ Some s
-  unfit : (t : Placed) → l.item ≡ ahead.Token t → after g s t.token ≡ None
-  refused : IfFault r (λ f. fault_of g (is_whole s) (last_or None ts) (next_of l.text l.item) ≡ Some f)
+  unfit : (t : Placed) → l.item ≡ cut.Token t → after g s t.token ≡ None
+  refused : IfFault r (λ f. fault_of g l.text (is_whole s) (last_or None ts) l.item ≡ Some f)
 
 refused_here : (g : Grammar) (l : Ahead) (P : List Lexeme → Type 0) (r : Refusal)
     → ((ts : List Lexeme) → P ts → Refused g l r ts) → Stops g l P r
@@ -162,7 +163,7 @@ refused_here g l P r h =
           subst S (sym (append-nil ts)) (record {
             s = a.s;
             walked = a.walked;
-            stops = stop_is g l.text l.item a.s a.unfit;
+            stops = stop_is g l.item a.s a.unfit;
             is = fault_is r f _ is a.refused;
           });
     })
@@ -174,14 +175,14 @@ pub record Refusing (g : Grammar) (l : Ahead) (expected at_end : List ℕ) (ts :
   pub unfinished : is_whole s ≡ false
   pub wants : expected_token g (like s) ≡ expected
   pub wants_end : expected_end g (like s) ≡ at_end
-  pub unfit : (t : Placed) → l.item ≡ ahead.Token t → after g s t.token ≡ None
+  pub unfit : (t : Placed) → l.item ≡ cut.Token t → after g s t.token ≡ None
 
 stops_here : {g : Grammar} (l : Ahead) (P : List Lexeme → Type 0) (r : Refusal) (expected at_end : List ℕ)
     → RefusesNext l expected at_end r → ((ts : List Lexeme) → P ts → Refusing g l expected at_end ts) → Stops g l P r
 stops_here {g} l P r expected at_end h f = refused_here g l P r (λ ts p.
     let a = f ts p in
     let m = walk_matches g ts a.s a.walked in
-    let F : Bool → Type 0 = λ b. IfFault r (λ z. fault_of g b (last_or None ts) (next_of l.text l.item) ≡ Some z) in
+    let F : Bool → Type 0 = λ b. IfFault r (λ z. fault_of g l.text b (last_or None ts) l.item ≡ Some z) in
     record {
       s = a.s;
       walked = a.walked;
@@ -196,7 +197,7 @@ stops_untaken l m P r expected at_end e h f = let R : Ahead
     → Type 0 = λ z. RefusesNext z expected at_end r in stops_here l P r expected at_end (subst R e h) f
 
 -- no `=` goes on with a name that stands last
-clear_first : (n : Bool) (left : Item) (t : Placed) → IsFalse (n && is_equals_next left) → left ≡ ahead.Token t
+clear_first : (n : Bool) (left : Item) (t : Placed) → IsFalse (n && is_equals_next left) → left ≡ cut.Token t
     → IsFalse (n && is_equals t.token)
 clear_first n left t c h = ap (λ (z : Item). n && is_equals_next z) (sym h) ∙ c
 
@@ -210,7 +211,7 @@ pub stops_behind : {g : Grammar} (l : Ahead) (P : List Lexeme → Type 0) (r : R
     → ((ts : List Lexeme) → P ts → Whole g l ts) → Stops g l P r
 stops_behind {g} l P r h f = refused_here g l P r (λ ts p.
     let a = f ts p in
-    let F : Bool → Type 0 = λ b. IfFault r (λ z. fault_of g b (last_or None ts) (next_of l.text l.item) ≡ Some z) in
+    let F : Bool → Type 0 = λ b. IfFault r (λ z. fault_of g l.text b (last_or None ts) l.item ≡ Some z) in
     record {
       s = ends a.lone [];
       walked = a.walked;
@@ -228,10 +229,10 @@ lacks_equals l h = go l.item h
     is Equals h = absurd (h refl)
     is t h = refl
 
-    go : (left : Item) → ((first : Placed) → left ≡ ahead.Token first → first.token ≡ Equals → ⊥)
+    go : (left : Item) → ((first : Placed) → left ≡ cut.Token first → first.token ≡ Equals → ⊥)
         → is_equals_next left ≡ false
-    go (ahead.Token t) h = is t.token (h t refl)
-    go (ahead.Lexical kind at) h = refl
+    go (cut.Token t) h = is t.token (h t refl)
+    go (cut.Lexical kind at) h = refl
     go Nothing h = refl
 
 after_keyed : (g : Grammar) (ws : List Word) (t : Lexeme) → ((v : List ℕ) → t ≡ String v → ⊥)

@@ -4,9 +4,11 @@ use Rattle.std.proofs.Common.{Some, None, inl, inr, ◌⊎◌, append_assoc, len
 use Rattle.std.specs.List.{last_or}
 use Rattle.cargo_platform.specs.Tokens.{Lexeme, Placed}
 use Rattle.cargo_platform.specs.Cut.{IsCut, lexemes}
+use Rattle.cargo_platform.specs.Cut.{Item, ComesBehind}
 use Rattle.cargo_platform.specs.Spelling.{Grammar, IsAccepted}
-use Rattle.cargo_platform.specs.Faults.{IsCompletable, Next, Follows, Fault, fault_of, IsRefused}
+use Rattle.cargo_platform.specs.Faults.{IsCompletable, Fault, fault_of, IsRefused}
 use Rattle.cargo_platform.specs.Walk.{State, after, walk, is_whole}
+use Rattle.cargo_platform.proofs.Paths.{IsNext, comes_behind}
 use Rattle.cargo_platform.proofs.Walk.{walk_next}
 use Rattle.cargo_platform.proofs.Building.{stopped}
 use Rattle.cargo_platform.proofs.Completing.{walked_completes, whole_accepted, accepted_whole}
@@ -61,10 +63,10 @@ goes_on g s [] = None
 goes_on g s (t ∷ ts) = after g s t.token
 
 -- where a prefix is walked, and what follows does not go on with it, the text is refused
-pub refused_walked : (g : Grammar) (text : List ℕ) (ts prefix behind : List Placed) (tail : ℕ) (s : State) (next : Next)
+pub refused_walked : (g : Grammar) (text : List ℕ) (ts prefix behind : List Placed) (tail : ℕ) (s : State) (next : Item)
     (fault : Fault) → IsCut text ts tail → ts ≡ prefix ++ behind → walk g (lexemes prefix) ≡ Some s
-    → goes_on g s behind ≡ None → Follows text behind tail next
-    → fault_of g (is_whole s) (last_or None (lexemes prefix)) next ≡ Some fault → IsRefused g text fault
+    → goes_on g s behind ≡ None → IsNext text behind tail next
+    → fault_of g text (is_whole s) (last_or None (lexemes prefix)) next ≡ Some fault → IsRefused g text fault
 refused_walked g text ts prefix behind tail s next fault cut parts walked stops follows table = record {
   ts = ts;
   tail = tail;
@@ -77,12 +79,19 @@ refused_walked g text ts prefix behind tail s next fault cut parts walked stops 
     longest = λ longer others h p. no_longer prefix behind s walked stops longer others (sym parts ∙ h) p;
   };
   next = next;
-  follows = follows;
+  place = comes.0;
+  follows = comes.1;
   accepted = is_whole s;
   is_accepted = (λ h. whole_accepted g s (lexemes prefix) h walked, λ p. accepted_whole g s (lexemes prefix) walked p);
   is_fault = table;
 }
   where
+    C : List Placed → Type 0
+    C z = IsCut text z tail
+
+    comes : (to : ℕ) × ComesBehind text prefix next to
+    comes = comes_behind text prefix behind tail next (subst C parts cut) follows
+
     no_longer : (prefix behind : List Placed) (s : State) → walk g (lexemes prefix) ≡ Some s → goes_on g s behind ≡ None
         → (longer others : List Placed) → prefix ++ behind ≡ longer ++ others → IsCompletable g (lexemes longer)
         → length longer ≤ length prefix

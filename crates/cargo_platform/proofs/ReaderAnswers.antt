@@ -9,7 +9,8 @@ use Rattle.cargo_platform.specs.Trees.{CfgValue, Tree}
 use Rattle.cargo_platform.specs.Spelling.{value_spelling, IsValueText, IsTreeText}
 use Rattle.cargo_platform.specs.Errors.{IfParse, orig_of, fault_in}
 use Rattle.cargo_platform.specs.Inside.Refusals.{refused_fault, Becomes}
-use Rattle.cargo_platform.specs.Inside.Ahead.{Nothing, Ahead, Comes}
+use Rattle.cargo_platform.specs.Cut.{Nothing, Comes}
+use Rattle.cargo_platform.specs.Inside.Ahead.{Ahead}
 use Rattle.cargo_platform.specs.Inside.Parsing.{Has, Reads, HasRead}
 use Rattle.cargo_platform.proofs.Parsing.{spelled}
 use Rattle.cargo_platform.proofs.Refusing.{path_cut}

@@ -7,11 +7,12 @@ use Rattle.std.proofs.lemmas.Str.{length-encode, len_utf8_bounds}
 use Rattle.cargo_platform.specs.declared.tokens.TokenFaultKind.{TokenFaultKind}
 use Rattle.cargo_platform.specs.declared.tokens.TokenFaultKind.TheVariants as lexical
 use Rattle.cargo_platform.specs.Tokens.{Lexeme, Placed}
-use Rattle.cargo_platform.specs.Cut.{BeginsFault, IsCut, lexemes}
+use Rattle.cargo_platform.specs.Cut.{BeginsFault, IsCut, lexemes, Item, Token, Lexical, Nothing}
 use Rattle.cargo_platform.specs.Trees.{CfgValue, Tree}
 use Rattle.cargo_platform.specs.Spelling.{Grammar, Values, Expressions, IsAccepted, IsValueText, IsTreeText}
-use Rattle.cargo_platform.specs.Faults.{IsCompletable, Next, Unfit, Broken, End, Follows, Fault, fault_of, IsRefused}
+use Rattle.cargo_platform.specs.Faults.{IsCompletable, Fault, fault_of, IsRefused}
 use Rattle.cargo_platform.proofs.OneCut.{one_cut_from}
+use Rattle.cargo_platform.proofs.Paths.{IsNext, behind_is}
 
 -- what is accepted needs no further tokens
 pub accepted_completes : (g : Grammar) (ts : List Lexeme) → IsAccepted g ts → IsCompletable g ts
@@ -38,12 +39,13 @@ no_fault lexical.MissingIdentifier p = absurd cc
 no_fault (lexical.UnexpectedChar c) (inl p) = absurd (let h = p.2 in cc)
 no_fault (lexical.UnexpectedChar c) (inr p) = no_char c p.0 p.1.parts
 
-at_end : (g : Grammar) (text : List ℕ) (o : Option Lexeme) (next : Next) (f : Fault)
-    → Follows text [] (length text) next → fault_of g true o next ≡ Some f → ⊥
-at_end g text o (Unfit t rest) f h e = absurd h
-at_end g text o (Broken k rest) f h e = let B : List ℕ
-    → Type 0 = λ z. BeginsFault z k in no_fault k (subst B (h.0 ∙ drop_of_length-le text (omega arith)) h.1)
-at_end g text o End f h e = none_some e
+at_end : (g : Grammar) (text : List ℕ) (o : Option Lexeme) (next : Item) (f : Fault)
+    → IsNext text [] (length text) next → fault_of g text true o next ≡ Some f → ⊥
+at_end g text o (Token t) f h e = absurd h
+at_end g text o (Lexical k at) f h e =
+    let B : List ℕ → Type 0 = λ z. BeginsFault z k in
+    no_fault k (subst B (drop_of_length-le text (omega (arith, h.0))) h.1)
+at_end g text o Nothing f h e = none_some e
 
 -- the tokens of a refused text, where it has an empty tail, are not accepted
 pub refused_accepts_none : (g : Grammar) (text : List ℕ) (f : Fault) (ts : List Placed) → IsRefused g text f
@@ -61,10 +63,12 @@ refused_accepts_none g text f ts r cut p =
     let prefix_is : r.ts ≡ r.prefix = r.is_prefix.parts ∙ ap (λ (z : List Placed). r.prefix ++ z) none
     ∙ append-nil r.prefix in
     let yes : r.accepted ≡ true = r.is_accepted.1 (subst A prefix_is whole) in
-    let N : List Placed → Type 0 = λ z. Follows text z r.tail r.next in
-    let M : ℕ → Type 0 = λ z. Follows text [] z r.next in
-    let F : Bool → Type 0 = λ z. fault_of g z (last_or None (lexemes r.prefix)) r.next ≡ Some f in
-    at_end g text (last_or None (lexemes r.prefix)) r.next f (subst M same.1 (subst N none r.follows))
+    let C : List Placed → Type 0 = λ z. IsCut text z r.tail in
+    let N : List Placed → Type 0 = λ z. IsNext text z r.tail r.next in
+    let M : ℕ → Type 0 = λ z. IsNext text [] z r.next in
+    let F : Bool → Type 0 = λ z. fault_of g text z (last_or None (lexemes r.prefix)) r.next ≡ Some f in
+    let next = behind_is text r.prefix r.after r.tail r.place r.next (subst C r.is_prefix.parts r.cut) r.follows in
+    at_end g text (last_or None (lexemes r.prefix)) r.next f (subst M same.1 (subst N none next))
     (subst F yes r.is_fault)
 
 -- a text that is refused as an expression spells no tree

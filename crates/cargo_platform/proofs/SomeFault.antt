@@ -1,20 +1,19 @@
 -- In each grammar a text spells something, or has a fault, and not both.
-use Rattle.std.proofs.Common.{◌≡◌, refl, sym, ap, subst, ℕ, ◌≤◌, Bool, true, false, List, [], ◌∷◌}
+use Rattle.std.proofs.Common.{◌≡◌, refl, sym, ap, subst, ℕ, Bool, true, false, List, [], ◌∷◌}
 use Rattle.std.proofs.Common.{◌++◌, Option, Some, None, inl, inr, ◌⊎◌, append_assoc, append-nil, length, length-drop}
 use Rattle.std.proofs.Common.{arith}
-use Rattle.std.specs.Prelude.{◌↔◌, IsTrue, IsUtf8, drop}
+use Rattle.std.specs.Prelude.{◌↔◌, IsTrue, IsUtf8}
 use Rattle.std.specs.List.{last_or}
 use Rattle.cargo_platform.specs.Tokens.{Lexeme, Placed}
-use Rattle.cargo_platform.specs.Cut.{IsCut, AreApart, lexemes}
+use Rattle.cargo_platform.specs.Cut.{IsCut, lexemes, Item, Token, Lexical, Nothing}
 use Rattle.cargo_platform.specs.Spelling.{Grammar, Values, Expressions, IsAccepted, IsValueText, IsTreeText}
-use Rattle.cargo_platform.specs.Faults.{IsCompletable, IsFaultPrefix, Next, Unfit, Broken, End, Follows, Fault}
-use Rattle.cargo_platform.specs.Faults.{fault_of}
-use Rattle.cargo_platform.specs.Faults.{IsRefused}
+use Rattle.cargo_platform.specs.Faults.{IsCompletable, IsFaultPrefix, Fault, fault_of, IsRefused}
 use Rattle.cargo_platform.specs.Trees.{CfgValue, Tree}
 use Rattle.cargo_platform.specs.Walk.{walk, is_whole}
 use Rattle.cargo_platform.proofs.Building.{stopped, completable_walks}
 use Rattle.cargo_platform.proofs.Completing.{walked_completes, whole_accepted, accepted_whole}
 use Rattle.cargo_platform.proofs.Prefixes.{lexemes-append, none_longer, longest_before}
+use Rattle.cargo_platform.proofs.Paths.{IsNext, cut_parts, comes_behind}
 use Rattle.cargo_platform.proofs.SomeCut.{some_cut}
 use Rattle.cargo_platform.proofs.Completable.{none_completable}
 
@@ -79,43 +78,40 @@ prefix_from g prefix (t ∷ ts) p =
       }
     ]
 
--- the tokens lie inside the text
-tail_inside : (text : List ℕ) (from : ℕ) (ts : List Placed) (tail : ℕ) → AreApart text from ts tail → tail ≤ length text
-tail_inside text from [] tail apart = apart.1.inside
-tail_inside text from (t ∷ ts) tail apart = tail_inside text t.end ts tail apart.1
-
 -- something follows the prefix of a cut
 some_next : (text : List ℕ) (prefix after : List Placed) (tail : ℕ) → IsCut text (prefix ++ after) tail
-    → (next : Next) × Follows text after tail next
-some_next text prefix (t ∷ after) tail cut = (Unfit t.token (drop t.start text), refl)
+    → (next : Item) × IsNext text after tail next
+some_next text prefix (t ∷ after) tail cut = (Token t, refl)
 some_next text prefix [] tail cut =
     elim cut.rest [
-      | inl none ↦ (End, omega (arith, ap length none, length-drop tail text))
-      | inr f ↦ (Broken f.0 (drop tail text), (refl, f.1))
+      | inl none ↦
+          let inside = (cut_parts text 0 tail prefix [] cut).2.apart.1.inside in
+          (Nothing, omega (arith, inside, ap length none, length-drop tail text))
+      | inr f ↦ (Lexical f.0 tail, (refl, f.1))
     ]
 
 -- an accepted prefix at the end is the whole text
 whole_text : (g : Grammar) (text : List ℕ) (prefix after : List Placed) (tail : ℕ) → IsCut text (prefix ++ after) tail
-    → Follows text after tail End → IsAccepted g (lexemes prefix) → SpellsSomething g text
+    → IsNext text after tail Nothing → IsAccepted g (lexemes prefix) → SpellsSomething g text
 whole_text g text prefix (t ∷ after) tail cut h a = absurd (let e = h in cc)
 whole_text g text prefix [] tail cut h a =
     let T : ℕ → Type 0 = λ z. IsCut text prefix z in
     let C : List Placed → Type 0 = λ z. IsCut text z tail in
-    let whole = subst T (omega (arith, h, tail_inside text 0 (prefix ++ []) tail cut.apart))
-    (subst C (append-nil prefix) cut) in
-    spelling g prefix whole a
+    spelling g prefix (subst T h (subst C (append-nil prefix) cut)) a
   where
     spelling : (g : Grammar) (ts : List Placed) → IsCut text ts (length text) → IsAccepted g (lexemes ts)
         → SpellsSomething g text
     spelling Values ts whole a = (a.0, (ts, whole, a.1))
     spelling Expressions ts whole a = (a.0, (ts, whole, a.1))
 
-at_next : (g : Grammar) (text : List ℕ) (ts prefix after : List Placed) (tail : ℕ) (next : Next) (accepted : Bool)
-    → IsCut text ts tail → IsFaultPrefix g ts prefix after → Follows text after tail next
+at_next : (g : Grammar) (text : List ℕ) (ts prefix after : List Placed) (tail : ℕ) (next : Item) (accepted : Bool)
+    → IsCut text ts tail → IsFaultPrefix g ts prefix after → IsNext text after tail next
     → (IsTrue accepted ↔ IsAccepted g (lexemes prefix)) → SpellsOrIsRefused g text
 at_next g text ts prefix after tail next accepted cut is follows told =
-    elim (fault_of g accepted (last_or None (lexemes prefix)) next) as
-    (λ z. fault_of g accepted (last_or None (lexemes prefix)) next ≡ z → SpellsOrIsRefused g text) [
+    let C : List Placed → Type 0 = λ z. IsCut text z tail in
+    let comes = comes_behind text prefix after tail next (subst C is.parts cut) follows in
+    elim (fault_of g text accepted (last_or None (lexemes prefix)) next) as
+    (λ z. fault_of g text accepted (last_or None (lexemes prefix)) next ≡ z → SpellsOrIsRefused g text) [
       | Some fault ↦ λ table. inr (
         fault,
         record {
@@ -126,28 +122,27 @@ at_next g text ts prefix after tail next accepted cut is follows told =
           after = after;
           is_prefix = is;
           next = next;
-          follows =
-              follows;
+          place = comes.0;
+          follows = comes.1;
           accepted = accepted;
           is_accepted = told;
           is_fault = table;
         },
       )
       | None ↦ λ table.
-          let C : List Placed → Type 0 = λ z. IsCut text z tail in
           let end = faultless g accepted (last_or None (lexemes prefix)) next table in
-          let F : Next → Type 0 = λ z. Follows text after tail z in
+          let F : Item → Type 0 = λ z. IsNext text after tail z in
           inl (whole_text g text prefix after tail (subst C is.parts cut) (subst F end.1 follows) (told.0 end.0))
     ] refl
   where
-    faultless : (g : Grammar) (accepted : Bool) (last : Option Lexeme) (next : Next)
-        → fault_of g accepted last next ≡ None → (accepted ≡ true) × (next ≡ End)
-    faultless g true last End h = (refl, refl)
-    faultless g true last (Unfit t rest) h = absurd cc
-    faultless g true last (Broken fault rest) h = absurd cc
-    faultless g false last (Unfit t rest) h = absurd cc
-    faultless g false last (Broken fault rest) h = absurd cc
-    faultless g false last End h = absurd cc
+    faultless : (g : Grammar) (accepted : Bool) (last : Option Lexeme) (next : Item)
+        → fault_of g text accepted last next ≡ None → (accepted ≡ true) × (next ≡ Nothing)
+    faultless g true last Nothing h = (refl, refl)
+    faultless g true last (Token t) h = absurd cc
+    faultless g true last (Lexical fault at) h = absurd cc
+    faultless g false last (Token t) h = absurd cc
+    faultless g false last (Lexical fault at) h = absurd cc
+    faultless g false last Nothing h = absurd cc
 
 -- a text of characters spells something of the grammar, or is refused
 pub spells_or_is_refused : (g : Grammar) (text : List ℕ) → IsUtf8 text → SpellsOrIsRefused g text

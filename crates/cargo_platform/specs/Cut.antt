@@ -1,6 +1,6 @@
 -- How a text is cut into tokens, and what is left that no token begins.
-use Rattle.std.specs.Prelude.{◌≡◌, ◌⊎◌, ℕ, ◌≤◌, List, [], ◌∷◌, ◌++◌, map, length, drop, slice_range, codes, IsTrue}
-use Rattle.std.specs.Prelude.{IsFalse, not, ◌&&◌, bytes_eq}
+use Rattle.std.specs.Prelude.{◌≡◌, ◌⊎◌, ℕ, ◌≤◌, Bool, true, false, List, [], ◌∷◌, ◌++◌, map, length, drop, codes}
+use Rattle.std.specs.Prelude.{slice_range, IsTrue, IsFalse, not, ◌&&◌, bytes_eq}
 use Rattle.std.specs.List.{list_all, AllByRecursion}
 use Rattle.cargo_platform.specs.declared.tokens.TokenFaultKind.{TokenFaultKind}
 use Rattle.cargo_platform.specs.declared.tokens.TokenFaultKind.TheVariants.{UnterminatedString, UnexpectedChar}
@@ -72,3 +72,31 @@ IsCut text ts tail = IsCutFrom text 0 ts tail
 
 abbrev pub lexemes : List Placed → List Lexeme
 lexemes ts = map (λ t. t.token) ts
+
+-- ---- one item after another
+
+-- what comes next: a token, or a lexical fault and its place, or nothing
+pub data Item : Type 0 where
+  Token : (t : Placed) → Item
+  Lexical : (fault : TokenFaultKind) (at : ℕ) → Item
+  Nothing : Item
+
+-- from a place on this item comes next, and the text goes on behind it from another place
+abbrev pub Comes : List ℕ → ℕ → Item → ℕ → Type 0
+Comes text from (Token t) to = AreSpaces text from t.start × IsWrittenAt text t × IsWhole text t × (to ≡ t.end)
+Comes text from (Lexical fault at) to = AreSpaces text from at × BeginsFault (drop at text) fault × (to ≡ at)
+Comes text from Nothing to = AreSpaces text from (length text) × (to ≡ length text)
+
+-- these tokens come one after another, from the one place to the other
+abbrev pub ComeInTurn : List ℕ → ℕ → List Placed → ℕ → Type 0
+ComeInTurn text from [] to = to ≡ from
+ComeInTurn text from (t ∷ ts) to = (behind : ℕ) × Comes text from (Token t) behind × ComeInTurn text behind ts to
+
+-- from the start of the text these tokens come, and then this item
+abbrev pub ComesBehind : List ℕ → List Placed → Item → ℕ → Type 0
+ComesBehind text ts next to = (from : ℕ) × ComeInTurn text 0 ts from × Comes text from next to
+
+abbrev pub is_token : Item → Bool
+is_token (Token t) = true
+is_token (Lexical fault at) = false
+is_token Nothing = false

@@ -1,11 +1,10 @@
 -- Laws of the cut of a text, and of how a tokenizer goes through it.
-use Rattle.std.specs.Prelude.{◌≡◌, ◌↔◌, ℕ, List, Option, None, Result}
+use Rattle.std.specs.Prelude.{◌≡◌, ◌↔◌, ℕ, List, Option, Some, None, Result, Err}
 use Rattle.cargo_platform.specs.declared.tokens.Spanned.{Spanned}
 use Rattle.cargo_platform.specs.declared.tokens.TokenFault.{TokenFault}
-use Rattle.cargo_platform.specs.declared.tokens.TokenFaultKind.{TokenFaultKind}
 use Rattle.cargo_platform.specs.Tokens.{Placed}
 use Rattle.cargo_platform.specs.Cut.{IsCut}
-use Rattle.cargo_platform.specs.Reading.{Progress, GoesThrough, NextGives, GivesNothing, GivesFault}
+use Rattle.cargo_platform.specs.Reading.{Progress, GoesThrough, NextGives}
 
 -- a text has a cut, and no other
 abbrev pub HasOneCut : List ℕ → Type 0
@@ -28,8 +27,8 @@ GivesNoMore p = (r : Option (Result Spanned TokenFault)) (new : Progress) → Ne
 
 -- once a call gave nothing, no call gives more
 abbrev pub EndsForGood : Progress → Progress → Type 0
-EndsForGood old new = GivesNothing old new → GivesNoMore new
+EndsForGood old new = NextGives old None new → GivesNoMore new
 
 -- after the fault of a tail no call gives more
 abbrev pub FailsOnce : Progress → Progress → Type 0
-FailsOnce old new = (fault : TokenFaultKind) (at : ℕ) → GivesFault old new fault at → GivesNoMore new
+FailsOnce old new = (fault : TokenFault) → NextGives old (Some (Err fault)) new → GivesNoMore new

@@ -4,9 +4,9 @@ use Rattle.std.specs.Prelude.{length}
 use Rattle.std.specs.List.{AllByRecursion, count_by, last_or}
 use Rattle.cargo_platform.specs.Tokens.{Lexeme, LeftParen, RightParen, Ident, Comma, Equals, String, Placed}
 use Rattle.cargo_platform.specs.Tokens.{IsWellWritten}
-use Rattle.cargo_platform.specs.Cut.{lexemes}
+use Rattle.cargo_platform.specs.Cut.{lexemes, Nothing}
 use Rattle.cargo_platform.specs.Spelling.{Grammar, Expressions, IsAccepted}
-use Rattle.cargo_platform.specs.Faults.{IsCompletable, IsFaultPrefix, End, Fault, UnexpectedToken, IncompleteExpr}
+use Rattle.cargo_platform.specs.Faults.{IsCompletable, IsFaultPrefix, Fault, UnexpectedToken, IncompleteExpr}
 use Rattle.cargo_platform.specs.Faults.{expected_token, expected_end, IsRefused}
 use Rattle.cargo_platform.specs.Walk.{State, after, walk}
 
@@ -66,7 +66,7 @@ IsExpectedToFollow g ts prefix after =
 -- the fault names the class as expected, at a token or at the end
 abbrev pub Names : {g : Grammar} {text : List ℕ} {fault : Fault} → IsRefused g text fault → List ℕ → Type 0
 Names {fault = fault} r class =
-    ((found : List ℕ) × (fault ≡ UnexpectedToken class found)) ⊎ ((fault ≡ IncompleteExpr class) × (r.next ≡ End))
+    ((found : List ℕ) × (fault ≡ UnexpectedToken class found)) ⊎ ((fault ≡ IncompleteExpr class) × (r.next ≡ Nothing))
 
 -- what the fault of a refused text names as expected can follow its fault prefix
 abbrev pub NamesWhatCanFollow : Grammar → List ℕ → Fault → Type 0

@@ -1,13 +1,12 @@
 -- How a tokenizer goes through the cut of its text, one call of `next` after another.
-use Rattle.std.specs.Prelude.{◌≡◌, ◌⊎◌, ℕ, ◌+◌, ◌-◌, ◌≤◌, Bool, true, false, List, [], ◌∷◌, length, drop, Option, Some}
+use Rattle.std.specs.Prelude.{◌≡◌, ◌⊎◌, ℕ, ◌+◌, ◌-◌, ◌≤◌, Bool, true, false, List, ◌∷◌, length, drop, Option, Some}
 use Rattle.std.specs.Prelude.{None, Result, Ok, Err, IsFalse, if◌then◌else◌}
 use Rattle.std.specs.Str.{IsCharBoundary, chars}
 use Rattle.cargo_platform.specs.declared.tokens.Spanned.{Spanned}
 use Rattle.cargo_platform.specs.declared.tokens.TokenFault.{TokenFault}
-use Rattle.cargo_platform.specs.declared.tokens.TokenFaultKind.{TokenFaultKind}
 use Rattle.cargo_platform.specs.Chars.{is_space}
 use Rattle.cargo_platform.specs.Tokens.{Placed, placed}
-use Rattle.cargo_platform.specs.Cut.{AreSpaces, IsWrittenAt, IsWhole, BeginsFault}
+use Rattle.cargo_platform.specs.Cut.{AreSpaces, Item, Token, Lexical, Nothing, Comes, ComesBehind, is_token}
 
 -- how far a tokenizer came in its text, whether it has given the fault of the tail, and its looks so far
 pub record Progress : Type 0 where
@@ -16,42 +15,28 @@ pub record Progress : Type 0 where
   pub failed : Bool
   pub looks : ℕ
 
--- the same text is read on from another place
-pub record MovesTo (old new : Progress) (place : ℕ) (failed : Bool) : Type 0 where
+-- what a call of `next` gave
+abbrev pub given : Option (Result Spanned TokenFault) → Item
+given None = Nothing
+given (Some (Ok s)) = Token (placed s)
+given (Some (Err f)) = Lexical f.kind f.at
+
+abbrev pub is_lexical : Item → Bool
+is_lexical (Token t) = false
+is_lexical (Lexical fault at) = true
+is_lexical Nothing = false
+
+-- the item that comes next is given, and the text goes on behind it
+pub record Gives (old new : Progress) (item : Item) : Type 0 where
+  pub going : old.failed ≡ false
   pub same_text : new.text ≡ old.text
-  pub place_is : new.place ≡ place
-  pub failed_is : new.failed ≡ failed
+  pub comes : Comes old.text old.place item new.place
+  pub failed_is : new.failed ≡ is_lexical item
 
--- the token that comes next, up to the place that is reached then
-pub record GivesToken (old new : Progress) (t : Placed) : Type 0 where
-  pub going : old.failed ≡ false
-  pub apart : AreSpaces old.text old.place t.start
-  pub written : IsWrittenAt old.text t
-  pub whole : IsWhole old.text t
-  pub moves : MovesTo old new t.end false
-
--- the fault of the tail, which begins at a place
-pub record GivesFault (old new : Progress) (fault : TokenFaultKind) (at : ℕ) : Type 0 where
-  pub going : old.failed ≡ false
-  pub apart : AreSpaces old.text old.place at
-  pub begins : BeginsFault (drop at old.text) fault
-  pub moves : MovesTo old new at true
-
--- only spaces are left
-pub record GivesEnd (old new : Progress) : Type 0 where
-  pub going : old.failed ≡ false
-  pub apart : AreSpaces old.text old.place (length old.text)
-  pub moves : MovesTo old new (length old.text) false
-
--- nothing more: the fault was given before, or only spaces are left
-abbrev pub GivesNothing : Progress → Progress → Type 0
-GivesNothing old new = ((old.failed ≡ true) × (new ≡ old)) ⊎ GivesEnd old new
-
--- a call of `next`: the progress before it, what it gave, and the progress after it
+-- A call of `next`: the progress before it, what it gave, and the progress after it. What comes next is given, and
+-- after a fault nothing more.
 abbrev pub NextGives : Progress → Option (Result Spanned TokenFault) → Progress → Type 0
-NextGives old None new = GivesNothing old new
-NextGives old (Some (Ok s)) new = GivesToken old new (placed s)
-NextGives old (Some (Err f)) new = GivesFault old new f.kind f.at
+NextGives old r new = Gives old new (given r) ⊎ ((old.failed ≡ true) × (r ≡ None) × (new ≡ old))
 
 -- where a token or a fault begins, a character begins
 abbrev pub BeginsCharacter : List ℕ → Option (Result Spanned TokenFault) → Type 0
@@ -84,23 +69,6 @@ pub record IsRestFrom (text : List ℕ) (from : ℕ) (rest : List ℕ) : Type 0 
   pub bytes : rest ≡ drop start text
   pub begins : (b : ℕ) × (after : List ℕ) × (rest ≡ b ∷ after) × IsFalse (is_space b)
 
--- ---- one call after another
-
--- calls of `next` lead from the one progress to the other, and give these tokens one after another
-abbrev pub ReadsTo : Progress → List Placed → Progress → Type 0
-ReadsTo old [] new = new ≡ old
-ReadsTo old (t ∷ ts) new = (behind : Progress) × GivesToken old behind t × ReadsTo behind ts new
-
--- what a call gives next is the fault of the tail, at this place, or that only spaces are left, up to this place
-abbrev pub EndsAt : Progress → ℕ → Type 0
-EndsAt p tail =
-    ((fault : TokenFaultKind) × (new : Progress) × GivesFault p new fault tail)
-    ⊎ ((tail ≡ length p.text) × (new : Progress) × GivesEnd p new)
-
--- calls from the start of a text give these tokens, and then come to a tail that begins at this place
-pub record GoesThrough (text : List ℕ) (ts : List Placed) (tail : ℕ) : Type 0 where
-  pub first : Progress
-  pub last : Progress
-  pub starts : MovesTo (record { text = text; place = 0; failed = false; looks = 0 }) first 0 false
-  pub tokens : ReadsTo first ts last
-  pub ends : EndsAt last tail
+-- from the start of a text these tokens come, and then a fault at this place, or nothing where the text ends
+abbrev pub GoesThrough : List ℕ → List Placed → ℕ → Type 0
+GoesThrough text ts tail = (last : Item) × IsFalse (is_token last) × ComesBehind text ts last tail

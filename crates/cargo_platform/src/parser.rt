@@ -4,7 +4,7 @@ ghost use Rattle.std.specs.Prelude.{◌≡◌, ◌≤◌, ◌<◌, false, true, 
 ghost use Rattle.std.specs.Prelude.{IfSome, IfNone, MatchOption, IsTrue, IsFalse, Some};
 ghost use Rattle.cargo_platform.specs.Tokens.{Ident as ident_token, Comma};
 ghost use Rattle.cargo_platform.specs.Inside.Ahead.{items_left};
-ghost use Rattle.cargo_platform.specs.Inside.Ahead as ahead;
+ghost use Rattle.cargo_platform.specs.Cut as cut;
 ghost use Rattle.cargo_platform.specs.Trees.{Tree, name_of, value_of, tree_of, Not};
 ghost use Rattle.cargo_platform.specs.Spelling.{Grammar, Values, Expressions, is_group_word, is_literal_word, Spells};
 ghost use Rattle.cargo_platform.specs.Spelling.{value_spelling};
@@ -432,7 +432,7 @@ pub(crate) fn read_expression<'a>(
 ) -> Result<CfgExpr, Refusal<'a>>
     ensures same_text { reader.new.text ≡ reader.old.text }
     ensures tree { IfOk result (λ e. Reads reader.old reader.new (λ ts. ts ≡ []) (Has [] (tree_of e) reader.new.item)) }
-    ensures ended { OnOk result (reader.new.item ≡ ahead.Nothing) }
+    ensures ended { OnOk result (reader.new.item ≡ cut.Nothing) }
     ensures refused { IfErr result (Stops Expressions reader.old (λ ts. ts ≡ [])) }
 {
     let mut groups = OpenGroups::new(alloc);
@@ -462,7 +462,7 @@ pub(crate) fn read_expression<'a>(
 pub(crate) fn read_cfg<'a>(alloc: Global, reader: &mut Reader<'a>) -> Result<Cfg, Refusal<'a>>
     ensures same_text { reader.new.text ≡ reader.old.text }
     ensures value { IfOk result (λ c. HasRead reader.old reader.new (value_spelling (value_of c))) }
-    ensures ended { OnOk result (reader.new.item ≡ ahead.Nothing) }
+    ensures ended { OnOk result (reader.new.item ≡ cut.Nothing) }
     ensures refused { IfErr result (Stops Values reader.old (λ ts. ts ≡ [])) }
 {
     let Some((raw, name)) = reader.eat_name() else {

@@ -4,8 +4,8 @@ ghost use Rattle.std.specs.Prelude.{◌≡◌, ◌≤◌, ◌+◌, [], ◌∷◌
 ghost use Rattle.cargo_platform.specs.declared.source.Look.TheVariants.{Ascii};
 ghost use Rattle.cargo_platform.specs.Tokens.{Ident as ident_token, String as string_token, Placed, lexeme, written};
 ghost use Rattle.cargo_platform.specs.Reading.{characters_from};
-ghost use Rattle.cargo_platform.specs.Inside.Ahead.{Comes};
-ghost use Rattle.cargo_platform.specs.Inside.Ahead as ahead;
+ghost use Rattle.cargo_platform.specs.Cut.{Comes};
+ghost use Rattle.cargo_platform.specs.Cut as cut;
 ghost use Rattle.cargo_platform.specs.Inside.Parsing.{IsIdentifier, SeesRest, Takes, TakesToken, LacksPunctuation};
 ghost use Rattle.cargo_platform.specs.Inside.Parsing.{LacksName, LacksString, lexeme_of, RefusesNext, RefusesMore};
 
@@ -101,7 +101,7 @@ impl<'a> Reader<'a> {
 
     /// The same where an `r` is next, which may begin a raw mark.
     fn eat_name_with_r(&mut self) -> Option<(bool, &'a str)>
-        requires { (t : Placed) → self.old.item ≡ ahead.Token t → IsIdentifier t.token }
+        requires { (t : Placed) → self.old.item ≡ cut.Token t → IsIdentifier t.token }
         ensures same_text { self.new.text ≡ self.old.text }
         ensures taken { IfSome result (λ r. TakesToken self.old self.new (ident_token r.0 r.1.now)) }
         ensures not_taken { IfNone result ((self.new ≡ self.old) × LacksName self.old) }
@@ -178,7 +178,7 @@ impl<'a> Reader<'a> {
     #[inline(always)]
     pub fn spend(self) -> Looks
         ensures at_most { result ≤ characters_from self.entry.text 0 + 1 }
-        ensures whole { self.entry.item ≡ ahead.Nothing → result ≡ characters_from self.entry.text 0 + 1 }
+        ensures whole { self.entry.item ≡ cut.Nothing → result ≡ characters_from self.entry.text 0 + 1 }
     {
         let Reader {
             source,
@@ -318,7 +318,7 @@ pub(crate) fn refuse<'a>(
 /// Refuses what is left behind a whole value or expression.
 #[inline(always)]
 pub(crate) fn expect_end<'a>(reader: &Reader<'a>) -> Result<(), Refusal<'a>>
-    ensures end { OnOk result (reader.now.item ≡ ahead.Nothing) }
+    ensures end { OnOk result (reader.now.item ≡ cut.Nothing) }
     ensures more { IfErr result (RefusesMore reader.now) }
 {
     match reader.rest() {

@@ -1,5 +1,5 @@
 -- The cuts of some texts, and what is none.
-use Rattle.std.proofs.Common.{refl, sym, ap, ◌∙◌, ℕ, true, false, true≢false, List, [], ◌∷◌, ◌++◌, codes, inl, inr}
+use Rattle.std.proofs.Common.{refl, sym, ap, ◌∙◌, ℕ, true, true≢false, List, [], ◌∷◌, ◌++◌, codes, inl, inr}
 use Rattle.std.proofs.Common.{arith, length, drop}
 use Rattle.std.specs.Prelude.{not, ◌==◌}
 use Rattle.std.specs.List.{list_all}
@@ -9,8 +9,8 @@ use Rattle.cargo_platform.specs.declared.tokens.TokenFaultKind.TheVariants.{Miss
 use Rattle.cargo_platform.specs.Chars.{is_space, is_quote, starts}
 use Rattle.cargo_platform.specs.Tokens.{Lexeme, LeftParen, RightParen, Ident, Comma, Equals, String, Placed, plain}
 use Rattle.cargo_platform.specs.Cut.{IsPiece, IsWrittenAt, AreSpaces, AreApart, EndsBefore, IsWhole, BeginsFault}
-use Rattle.cargo_platform.specs.Cut.{IsTail, IsCut}
-use Rattle.cargo_platform.specs.Reading.{Progress, GivesToken, GivesFault, GivesNothing, IsRestFrom}
+use Rattle.cargo_platform.specs.Cut.{IsTail, IsCut, Token, Lexical, Nothing, Comes}
+use Rattle.cargo_platform.specs.Reading.{IsRestFrom}
 use Rattle.cargo_platform.proofs.OneCut.{tail_no_space, one_cut_from}
 use Rattle.cargo_platform.proofs.CutTests.{spaces, written_at, cut_by}
 
@@ -157,55 +157,22 @@ space_is_no_tail t = true≢false (tail_no_space (codes " a") t)
 
 -- ---- the steps of a tokenizer
 
-abbrev going : List ℕ → ℕ → Progress
-going text place = record { text = text; place = place; failed = false; looks = 0 }
+second_comes : Comes (codes "a b") 1 (Token (word (codes "b") 2 3)) 3
+second_comes = (spaces _ _ _ refl, written_at _ (word (codes "b") 2 3) refl, (refl, refl), refl)
 
-abbrev over : List ℕ → ℕ → Progress
-over text place = record { text = text; place = place; failed = true; looks = 0 }
+-- no token comes where a part of one stands behind it
+no_part_comes : (to : ℕ) → Comes (codes "ab") 0 (Token (word (codes "a") 0 1)) to → ⊥
+no_part_comes to p = true≢false p.2.0
 
-gives_second : GivesToken (going (codes "a b") 1) (going (codes "a b") 3) (word (codes "b") 2 3)
-gives_second =
-    record {
-      going = refl;
-      apart = spaces _ _ _ refl;
-      written = written_at _ (word (codes "b") 2 3) refl;
-      whole =
-          (refl, refl);
-      moves = record { same_text = refl; place_is = refl; failed_is = refl };
-    }
-
-gives_no_token_after_fault : (new : Progress) (t : Placed) → GivesToken (over (codes "# a") 0) new t → ⊥
-gives_no_token_after_fault new t p = true≢false p.going
-
-gives_fault : GivesFault (going (codes "a #") 1) (over (codes "a #") 2) (UnexpectedChar 0x23) 2
+pub number_sign_comes : Comes (codes "a #") 1 (Lexical (UnexpectedChar 0x23) 2) 2
 unfolding encode_utf8
-gives_fault =
-    record {
-      going = refl;
-      apart = spaces _ _ _ refl;
-      begins = inr (
-        [],
-        record { scalar = refl; parts = refl },
-        refl,
-      );
-      moves = record { same_text = refl; place_is = refl; failed_is = refl };
-    }
+number_sign_comes = (spaces _ _ _ refl, inr ([], record { scalar = refl; parts = refl }, refl), refl)
 
-gives_fault_once : (new : Progress) (at : ℕ) → GivesFault (over (codes "#") 0) new (UnexpectedChar 0x23) at → ⊥
-gives_fault_once new at p = true≢false p.going
+pub nothing_comes : Comes (codes "a  ") 1 Nothing 3
+nothing_comes = (spaces _ _ _ refl, refl)
 
-gives_nothing : GivesNothing (going (codes "a  ") 1) (going (codes "a  ") 3)
-gives_nothing =
-    inr (record {
-      going = refl;
-      apart = spaces _ _ _ refl;
-      moves =
-          record { same_text = refl; place_is = refl; failed_is = refl };
-    })
-
-gives_something : (new : Progress) → GivesNothing (going (codes "a") 0) new → ⊥
-gives_something new (inl e) = true≢false (sym e.0)
-gives_something new (inr e) = true≢false (sym e.apart.2 ∙ sym (ap (list_all is_space) e.apart.1.bytes))
+pub something_comes : (to : ℕ) → Comes (codes "a") 0 Nothing to → ⊥
+something_comes to p = true≢false (sym p.0.2 ∙ sym (ap (list_all is_space) p.0.1.bytes))
 
 rest_is : IsRestFrom (codes "a  b ") 1 (codes "b ")
 rest_is = record { start = 3; apart = spaces _ _ _ refl; bytes = refl; begins = (0x62, codes " ", refl, refl) }

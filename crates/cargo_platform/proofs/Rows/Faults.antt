@@ -1,14 +1,15 @@
 -- What can be completed, what is expected, and the faults of some texts read as expressions.
-use Rattle.std.proofs.Common.{◌≡◌, refl, sym, ◌∙◌, ℕ, lit≤, true, false, List, [], ◌∷◌, ◌++◌, Some, None}
+use Rattle.std.proofs.Common.{◌≡◌, refl, sym, subst, ◌∙◌, ℕ, true, false, List, [], ◌∷◌, ◌++◌, Some, None}
 use Rattle.std.proofs.Common.{codes, inl, inr, arith, drop}
 use Rattle.std.specs.Char.{encode_utf8}
 use Rattle.std.specs.List.{last_or}
 use Rattle.cargo_platform.specs.declared.tokens.TokenFaultKind.TheVariants as lexical
 use Rattle.cargo_platform.specs.Tokens.{Lexeme, LeftParen, RightParen, Ident, Comma, Equals, String, Placed, plain}
 use Rattle.cargo_platform.specs.Cut.{BeginsFault, IsTail, lexemes}
+use Rattle.cargo_platform.specs.Cut.{Item, Token, Lexical, Nothing, Comes, ComesBehind}
 use Rattle.cargo_platform.specs.Trees.{Alone, Value}
 use Rattle.cargo_platform.specs.Spelling.{Grammar, Values, Expressions}
-use Rattle.cargo_platform.specs.Faults.{IsCompletable, IsFaultPrefix, Next, Broken, End, Follows, Fault}
+use Rattle.cargo_platform.specs.Faults.{IsCompletable, IsFaultPrefix, Fault}
 use Rattle.cargo_platform.specs.Faults.{UnterminatedString, UnexpectedChar, UnexpectedToken, IncompleteExpr}
 use Rattle.cargo_platform.specs.Faults.{UnterminatedExpression, expected_token, expected_end, lexical_fault, fault_of}
 use Rattle.cargo_platform.specs.Faults.{IsRefused}
@@ -16,11 +17,12 @@ use Rattle.cargo_platform.specs.Walk.{Several, State, Named, Keyed, walk, is_who
 use Rattle.cargo_platform.proofs.Walk.{none_some}
 use Rattle.cargo_platform.proofs.Building.{completable_walks}
 use Rattle.cargo_platform.proofs.Completing.{walked_completes}
+use Rattle.cargo_platform.proofs.Paths.{IsNext}
 use Rattle.cargo_platform.proofs.Prefixes.{goes_on, refused_walked}
 use Rattle.cargo_platform.proofs.Refused.{refused_spells_none}
 use Rattle.cargo_platform.proofs.OneFault.{one_fault}
-use Rattle.cargo_platform.proofs.CutTests.{is_cut_from, cut_by}
-use Rattle.cargo_platform.proofs.Rows.Cut.{at, word, lone_a}
+use Rattle.cargo_platform.proofs.CutTests.{is_cut_from, cut_by, spaces, written_at}
+use Rattle.cargo_platform.proofs.Rows.Cut.{at, word, lone_a, something_comes}
 
 -- ---- what can be completed
 
@@ -73,17 +75,18 @@ short_prefix after p =
 long_prefix : (after : List Placed) → IsFaultPrefix Expressions all_a_b all_a_b after → ⊥
 long_prefix after p = unwalked Expressions (lexemes all_a_b) refl p.completable
 
--- the end is not what follows where a token is left, or a tail
-token_before_end : (ts : List Placed) (tail : ℕ) → Follows (codes "a") (word (codes "a") 0 1 ∷ ts) tail End → ⊥
-token_before_end ts tail h = absurd cc
+-- what comes behind a prefix: a token, before the tail or the end
+token_behind : ComesBehind (codes "a b \"") (word (codes "a") 0 1 ∷ []) (Token (word (codes "b") 2 3)) 3
+token_behind =
+    let a = written_at (codes "a b \"") (word (codes "a") 0 1) refl in
+    let b = written_at (codes "a b \"") (word (codes "b") 2 3) refl in
+    (1, (1, (spaces _ _ _ refl, a, (refl, refl), refl), refl), (spaces _ _ _ refl, b, (refl, refl), refl))
 
-tail_before_end : Follows (codes "a #") [] 2 End → ⊥
-tail_before_end h = absurd (omega arith)
-
--- a lexical fault does not follow where a token is left
-token_before_tail : (ts : List Placed) (rest : List ℕ)
-    → Follows (codes "a \"") (word (codes "a") 0 1 ∷ ts) 2 (Broken lexical.UnterminatedString rest) → ⊥
-token_before_tail ts rest h = absurd cc
+token_before_end : (to : ℕ) → ComesBehind (codes "a") [] Nothing to → ⊥
+token_before_end to h = absurd (something_comes to (subst C h.1 h.2))
+  where
+    C : ℕ → Type 0
+    C z = Comes (codes "a") z Nothing to
 
 -- ---- what is expected
 
@@ -119,38 +122,38 @@ lexical_faults : (lexical_fault lexical.UnterminatedString ≡ UnterminatedStrin
     × (lexical_fault lexical.MissingIdentifier ≡ IncompleteExpr (codes "identifier"))
 lexical_faults = (refl, refl, refl)
 
-accepted_at_end : fault_of Expressions true (Some word_a) End ≡ None
+accepted_at_end : fault_of Expressions (codes "a") true (Some word_a) Nothing ≡ None
 accepted_at_end = refl
 
 -- ---- refused texts
 
 -- a text, by its fault prefix and the tokens behind it
-row : (text : List ℕ) (prefix behind : List Placed) (tail : ℕ) (s : State) (next : Next) (fault : Fault)
+row : (text : List ℕ) (prefix behind : List Placed) (tail : ℕ) (s : State) (next : Item) (fault : Fault)
     → is_cut_from text 0 (prefix ++ behind) tail ≡ true → IsTail (drop tail text)
-    → walk Expressions (lexemes prefix) ≡ Some s → goes_on Expressions s behind ≡ None → Follows text behind tail next
-    → fault_of Expressions (is_whole s) (last_or None (lexemes prefix)) next ≡ Some fault
+    → walk Expressions (lexemes prefix) ≡ Some s → goes_on Expressions s behind ≡ None → IsNext text behind tail next
+    → fault_of Expressions text (is_whole s) (last_or None (lexemes prefix)) next ≡ Some fault
     → IsRefused Expressions text fault
 row text prefix behind tail s next fault cut rest walked stops follows table =
     refused_walked Expressions text (prefix ++ behind) prefix behind tail s next fault
     (cut_by text (prefix ++ behind) tail cut rest) refl walked stops follows table
 
 one_space : IsRefused Expressions (codes " ") (IncompleteExpr (codes "start of a cfg expression"))
-one_space = row _ [] [] 1 _ End _ refl (inl refl) refl refl (lit≤ tt) refl
+one_space = row _ [] [] 1 _ Nothing _ refl (inl refl) refl refl refl refl
 
 word_alone : IsRefused Expressions (codes " all") (IncompleteExpr (codes "`(`"))
-word_alone = row _ (word (codes "all") 1 4 ∷ []) [] 4 _ End _ refl (inl refl) refl refl (lit≤ tt) refl
+word_alone = row _ (word (codes "all") 1 4 ∷ []) [] 4 _ Nothing _ refl (inl refl) refl refl refl refl
 
 group_not_closed : IsRefused Expressions (codes "not(a") (IncompleteExpr (codes "`)`"))
 group_not_closed =
-    row _ (word (codes "not") 0 3 ∷ at LeftParen 3 4 ∷ word (codes "a") 4 5 ∷ []) [] 5 _ End _ refl
-    (inl refl) refl refl (lit≤ tt) refl
+    row _ (word (codes "not") 0 3 ∷ at LeftParen 3 4 ∷ word (codes "a") 4 5 ∷ []) [] 5 _ Nothing _ refl
+    (inl refl) refl refl refl refl
 
 group_just_open : IsRefused Expressions (codes "all(") (IncompleteExpr (codes "start of a cfg expression"))
 group_just_open =
-    row _ (word (codes "all") 0 3 ∷ at LeftParen 3 4 ∷ []) [] 4 _ End _ refl (inl refl) refl refl (lit≤ tt) refl
+    row _ (word (codes "all") 0 3 ∷ at LeftParen 3 4 ∷ []) [] 4 _ Nothing _ refl (inl refl) refl refl refl refl
 
 value_missing : IsRefused Expressions (codes "a = ") (IncompleteExpr (codes "a string"))
-value_missing = row _ (word (codes "a") 0 1 ∷ at Equals 2 3 ∷ []) [] 4 _ End _ refl (inl refl) refl refl (lit≤ tt) refl
+value_missing = row _ (word (codes "a") 0 1 ∷ at Equals 2 3 ∷ []) [] 4 _ Nothing _ refl (inl refl) refl refl refl refl
 
 -- one pair, and no comma, stands in `not(..)`
 comma_behind_pair : IsRefused Expressions (codes "not(a = \"1\",") (UnexpectedToken (codes "`)`") (codes "`,`"))
@@ -161,8 +164,8 @@ comma_behind_pair =
 -- behind a comma a member may come
 member_missing : IsRefused Expressions (codes "any(a,") (IncompleteExpr (codes "start of a cfg expression"))
 member_missing =
-    row _ (word (codes "any") 0 3 ∷ at LeftParen 3 4 ∷ word (codes "a") 4 5 ∷ at Comma 5 6 ∷ []) [] 6 _ End _ refl
-    (inl refl) refl refl (lit≤ tt) refl
+    row _ (word (codes "any") 0 3 ∷ at LeftParen 3 4 ∷ word (codes "a") 4 5 ∷ at Comma 5 6 ∷ []) [] 6 _ Nothing _ refl
+    (inl refl) refl refl refl refl
 
 -- nothing is read before the `)`
 pub lone_parenthesis : IsRefused Expressions (codes ")") (UnexpectedToken (codes "identifier") (codes "`)`"))
@@ -223,7 +226,7 @@ literal_as_key_in_group : IsRefused Expressions (codes "all(true =") (Unexpected
 literal_as_key_in_group = row _ true_in_all (at Equals 9 10 ∷ []) 10 _ _ _ refl (inl refl) refl refl refl refl
 
 literal_in_open_group : IsRefused Expressions (codes "all(true") (IncompleteExpr (codes "`)`"))
-literal_in_open_group = row _ true_in_all [] 8 _ End _ refl (inl refl) refl refl (lit≤ tt) refl
+literal_in_open_group = row _ true_in_all [] 8 _ Nothing _ refl (inl refl) refl refl refl refl
 
 literal_as_key_in_negation : IsRefused Expressions (codes "not(true = \"x\")")
     (UnexpectedToken (codes "`)`") (codes "`=`"))
@@ -250,7 +253,7 @@ string_in_group =
     let begins : BeginsFault (codes "\"") lexical.UnterminatedString =
     ([], record { scalar = refl; parts = refl }, refl) in
     row _ (word (codes "all") 0 3 ∷ at LeftParen 3 4 ∷ word (codes "a") 4 5 ∷ []) [] 6 _
-    (Broken lexical.UnterminatedString (codes "\"")) _ refl (inr (lexical.UnterminatedString, begins)) refl refl
+    (Lexical lexical.UnterminatedString 6) _ refl (inr (lexical.UnterminatedString, begins)) refl refl
     (refl, begins) refl
 
 string_behind : IsRefused Expressions (codes "a \"") (UnterminatedExpression (codes "\""))
@@ -258,18 +261,18 @@ unfolding encode_utf8
 string_behind =
     let begins : BeginsFault (codes "\"") lexical.UnterminatedString =
     ([], record { scalar = refl; parts = refl }, refl) in
-    row _ (word (codes "a") 0 1 ∷ []) [] 2 _ (Broken lexical.UnterminatedString (codes "\"")) _ refl
+    row _ (word (codes "a") 0 1 ∷ []) [] 2 _ (Lexical lexical.UnterminatedString 2) _ refl
     (inr (lexical.UnterminatedString, begins)) refl refl (refl, begins) refl
 
 -- a mark with no name is called a missing identifier, also where none may come
 mark_behind_word : IsRefused Expressions (codes "all r#") (IncompleteExpr (codes "identifier"))
 mark_behind_word =
-    row _ (word (codes "all") 0 3 ∷ []) [] 4 _ (Broken lexical.MissingIdentifier (codes "r#")) _ refl
+    row _ (word (codes "all") 0 3 ∷ []) [] 4 _ (Lexical lexical.MissingIdentifier 4) _ refl
     (inr (lexical.MissingIdentifier, refl)) refl refl (refl, refl) refl
 
 mark_behind_name : IsRefused Expressions (codes "a r#") (UnterminatedExpression (codes "r#"))
 mark_behind_name =
-    row _ (word (codes "a") 0 1 ∷ []) [] 2 _ (Broken lexical.MissingIdentifier (codes "r#")) _ refl
+    row _ (word (codes "a") 0 1 ∷ []) [] 2 _ (Lexical lexical.MissingIdentifier 2) _ refl
     (inr (lexical.MissingIdentifier, refl)) refl refl (refl, refl) refl
 
 -- a text has no second fault

@@ -1,21 +1,20 @@
 -- Some calls of a tokenizer one after another, what they cost, and what no calls give.
-use Rattle.std.proofs.Common.{◌≡◌, refl, sym, ap, ◌∙◌, ℕ, lit≤, lit<, true, false, true≢false, List, [], ◌∷◌, codes}
+use Rattle.std.proofs.Common.{◌≡◌, refl, sym, ap, ℕ, lit≤, lit<, true, false, true≢false, List, [], ◌∷◌, codes}
 use Rattle.std.proofs.Common.{inl, inr, arith, length, Option, Result, None, Some, Err}
 use Rattle.std.specs.Char.{encode_utf8}
-use Rattle.std.specs.List.{list_all}
 use Rattle.std.specs.Str.{chars}
 use Rattle.cargo_platform.specs.declared.tokens.Spanned.{Spanned}
 use Rattle.cargo_platform.specs.declared.tokens.TokenFault.{TokenFault}
 use Rattle.cargo_platform.specs.declared.tokens.TokenFaultKind.{TokenFaultKind}
 use Rattle.cargo_platform.specs.declared.tokens.TokenFaultKind.TheVariants.{UnexpectedChar}
-use Rattle.cargo_platform.specs.Chars.{is_space}
 use Rattle.cargo_platform.specs.Tokens.{LeftParen, IsStringValue}
-use Rattle.cargo_platform.specs.Reading.{Progress, MovesTo, GivesToken, GivesEnd, NextGives, BeginsCharacter, NextCall}
-use Rattle.cargo_platform.specs.Reading.{characters_from, results_left, ReadsTo, EndsAt, GoesThrough}
+use Rattle.cargo_platform.specs.Cut.{Item, Token, Lexical, Nothing, Comes, ComeInTurn, ComesBehind}
+use Rattle.cargo_platform.specs.Reading.{Progress, Gives, NextGives, BeginsCharacter, NextCall, characters_from}
+use Rattle.cargo_platform.specs.Reading.{results_left, GoesThrough}
 use Rattle.cargo_platform.proofs.OneCut.{tail_no_space, one_cut_from}
 use Rattle.cargo_platform.proofs.Runs.{cuts_are_read}
 use Rattle.cargo_platform.proofs.CutTests.{spaces, written_at, cut_by}
-use Rattle.cargo_platform.proofs.Rows.Cut.{at, word, lone_a}
+use Rattle.cargo_platform.proofs.Rows.Cut.{at, word, lone_a, number_sign_comes, nothing_comes}
 
 -- a tokenizer that came to a place, with its looks so far
 abbrev reached : List ℕ → ℕ → ℕ → Progress
@@ -27,37 +26,25 @@ stopped text place looks = record { text = text; place = place; failed = true; l
 
 -- ---- where a call leads
 
-moves : MovesTo (reached (codes "a") 0 0) (stopped (codes "a") 1 7) 1 true
-moves = record { same_text = refl; place_is = refl; failed_is = refl }
+gives_end : NextGives (reached (codes "a  ") 1 0) None (reached (codes "a  ") 3 0)
+gives_end = inl (record { going = refl; same_text = refl; comes = nothing_comes; failed_is = refl })
 
-other_text : (place : ℕ) → MovesTo (reached (codes "a") 0 0) (reached (codes "a ") 1 0) place false → ⊥
+other_text : (place : ℕ) → Gives (reached (codes "a") 0 0) (reached (codes "a ") place 0) Nothing → ⊥
 other_text place p = absurd (omega (arith, ap length p.same_text))
 
-other_place : (looks : ℕ) → MovesTo (reached (codes "a") 0 0) (reached (codes "a") 0 looks) 1 false → ⊥
-other_place looks p = absurd (omega (arith, p.place_is))
-
-gives_end : GivesEnd (reached (codes "a  ") 1 0) (reached (codes "a  ") 3 0)
-gives_end =
-    record {
-      going = refl;
-      apart = spaces _ _ _ refl;
-      moves =
-          record { same_text = refl; place_is = refl; failed_is = refl };
-    }
-
-no_end_before_token : (new : Progress) → GivesEnd (reached (codes " a") 0 0) new → ⊥
-no_end_before_token new p = true≢false (sym p.apart.2 ∙ sym (ap (list_all is_space) p.apart.1.bytes))
-
-no_end_after_fault : (new : Progress) → GivesEnd (stopped (codes "a") 1 0) new → ⊥
-no_end_after_fault new p = true≢false p.going
+no_place_behind_end : (looks : ℕ) → Gives (reached (codes "a") 1 0) (reached (codes "a") 0 looks) Nothing → ⊥
+no_place_behind_end looks p = absurd (omega (arith, p.comes.1))
 
 -- after a fault a call gives nothing, and changes nothing
+no_item_after_fault : (new : Progress) (item : Item) → Gives (stopped (codes "a") 1 0) new item → ⊥
+no_item_after_fault new item p = true≢false p.going
+
 nothing_after_fault : NextGives (stopped (codes "#") 0 4) None (stopped (codes "#") 0 4)
-nothing_after_fault = inl (refl, refl)
+nothing_after_fault = inr (refl, refl, refl)
 
 other_looks_after_fault : NextGives (stopped (codes "#") 0 4) None (stopped (codes "#") 0 5) → ⊥
-other_looks_after_fault (inl p) = absurd (omega (arith, ap (λ z. z.looks) p.1))
-other_looks_after_fault (inr p) = true≢false p.going
+other_looks_after_fault (inr p) = absurd (omega (arith, ap (λ z. z.looks) p.2))
+other_looks_after_fault (inl p) = true≢false p.going
 
 -- inside `é` no character begins
 begins_inside : (kind : TokenFaultKind)
@@ -68,68 +55,43 @@ begins_at_end : (kind : TokenFaultKind)
     → BeginsCharacter (0xC3 ∷ 0xA9 ∷ []) (Some (Err (record { kind = kind; at = 2 })))
 begins_at_end kind = (lit≤ tt, λ below high. absurd (omega (arith, below)))
 
--- ---- calls one after another
+-- ---- items one after another
 
-gives_a : (looks new : ℕ) → GivesToken (reached (codes "a") 0 looks) (reached (codes "a") 1 new) (word (codes "a") 0 1)
-gives_a looks new =
-    record {
-      going = refl;
-      apart = spaces _ _ _ refl;
-      written = written_at _ (word (codes "a") 0 1) refl;
-      whole =
-          (refl, refl);
-      moves = record { same_text = refl; place_is = refl; failed_is = refl };
-    }
+a_comes : Comes (codes "a") 0 (Token (word (codes "a") 0 1)) 1
+a_comes = (spaces _ _ _ refl, written_at _ (word (codes "a") 0 1) refl, (refl, refl), refl)
 
-reads_a : ReadsTo (reached (codes "a") 0 0) (word (codes "a") 0 1 ∷ []) (reached (codes "a") 1 2)
-reads_a = (reached (codes "a") 1 2, gives_a 0 2, refl)
+gives_a : (looks new : ℕ)
+    → Gives (reached (codes "a") 0 looks) (reached (codes "a") 1 new) (Token (word (codes "a") 0 1))
+gives_a looks new = record { going = refl; same_text = refl; comes = a_comes; failed_is = refl }
 
-reads_nothing : ReadsTo (reached (codes "a") 0 0) [] (reached (codes "a") 0 0)
-reads_nothing = refl
+a_in_turn : ComeInTurn (codes "a") 0 (word (codes "a") 0 1 ∷ []) 1
+a_in_turn = (1, a_comes, refl)
 
--- no call, no step
-no_step : ReadsTo (reached (codes "a") 0 0) [] (reached (codes "a") 1 0) → ⊥
-no_step p = absurd (omega (arith, ap (λ z. z.place) p))
+-- no token, no step
+no_step : ComeInTurn (codes "a") 0 [] 1 → ⊥
+no_step p = absurd (omega (arith, p))
 
-not_read_twice : (last : Progress)
-    → ReadsTo (reached (codes "a") 0 0) (word (codes "a") 0 1 ∷ word (codes "a") 0 1 ∷ []) last → ⊥
-not_read_twice last p = absurd (omega (arith, p.1.moves.place_is, p.2.1.apart.1.ordered))
+not_twice : (to : ℕ) → ComeInTurn (codes "a") 0 (word (codes "a") 0 1 ∷ word (codes "a") 0 1 ∷ []) to → ⊥
+not_twice to p = absurd (omega (arith, p.1.3, p.2.1.0.1.ordered))
 
-ends_behind_spaces : EndsAt (reached (codes "a ") 1 2) 2
-ends_behind_spaces =
-    inr (
-      refl,
-      reached (codes "a ") 2 4,
-      record {
-        going = refl;
-        apart = spaces _ _ _ refl;
-        moves =
-            record { same_text = refl; place_is = refl; failed_is = refl };
-      },
-    )
+end_behind_space : Comes (codes "a ") 1 Nothing 2
+end_behind_space = (spaces _ _ _ refl, refl)
 
-ends_at_fault : EndsAt (reached (codes "a #") 1 2) 2
-unfolding encode_utf8
-ends_at_fault =
-    inl (
-      UnexpectedChar 0x23,
-      stopped (codes "a #") 2 5,
-      record {
-        going = refl;
-        apart = spaces _ _ _ refl;
-        begins = inr (
-          [],
-          record { scalar = refl; parts = refl },
-          refl,
-        );
-        moves = record { same_text = refl; place_is = refl; failed_is = refl };
-      },
-    )
+-- it is given once
+gives_fault : (looks new : ℕ)
+    → Gives (reached (codes "a #") 1 looks) (stopped (codes "a #") 2 new) (Lexical (UnexpectedChar 0x23) 2)
+gives_fault looks new = record { going = refl; same_text = refl; comes = number_sign_comes; failed_is = refl }
 
 -- neither before a space nor before a token
-no_end_at_space : EndsAt (reached (codes " (") 0 0) 0 → ⊥
-no_end_at_space (inl p) = true≢false (tail_no_space (codes " (") (inr (p.0, p.2.begins)))
-no_end_at_space (inr p) = absurd (omega (arith, p.0))
+no_fault_at_space : (kind : TokenFaultKind) (to : ℕ) → Comes (codes " (") 0 (Lexical kind 0) to → ⊥
+no_fault_at_space kind to p = true≢false (tail_no_space (codes " (") (inr (kind, p.1)))
+
+no_end_at_space : (to : ℕ) → Comes (codes " (") 0 Nothing 0 → ⊥
+no_end_at_space to p = absurd (omega (arith, p.1))
+
+-- `a`, and then the end
+a_behind : ComesBehind (codes "a") (word (codes "a") 0 1 ∷ []) Nothing 1
+a_behind = (1, a_in_turn, (spaces _ _ _ refl, refl))
 
 -- ---- a whole text
 
@@ -145,7 +107,8 @@ no_token_left_out tail r =
 
 no_other_tail : GoesThrough (codes "a") (word (codes "a") 0 1 ∷ []) 0 → ⊥
 no_other_tail r =
-    absurd (omega (arith, (one_cut_from (codes "a") _ _ 0 0 1 ((cuts_are_read (codes "a") _ 0).0 r) lone_a).1))
+    let cut = (cuts_are_read (codes "a") (word (codes "a") 0 1 ∷ []) 0).0 r in
+    absurd (omega (arith, (one_cut_from (codes "a") _ _ 0 0 1 cut lone_a).1))
 
 -- ---- what calls cost
 
@@ -163,7 +126,7 @@ results_are_few = (refl, refl, refl)
 next_after_fault : NextCall (stopped (codes "#") 0 1) None (stopped (codes "#") 0 1)
 unfolding chars
 next_after_fault = record {
-  gives = inl (refl, refl);
+  gives = inr (refl, refl, refl);
   begins = tt;
   reached = (lit≤ tt, λ below high. absurd (omega (arith, high)));
   each = λ going. absurd (true≢false going);

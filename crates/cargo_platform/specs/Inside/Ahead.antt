@@ -1,27 +1,13 @@
 -- For proofs: what a reader has ahead of it, and how it goes on from one token to the next.
 use Rattle.std.specs.Prelude.{◌≡◌, ℕ, ◌+◌, ◌-◌, List, [], ◌∷◌, length, drop}
-use Rattle.cargo_platform.specs.declared.tokens.TokenFaultKind.{TokenFaultKind}
 use Rattle.cargo_platform.specs.Tokens.{Placed}
-use Rattle.cargo_platform.specs.Cut.{AreSpaces, IsWrittenAt, IsWhole, BeginsFault, IsCutFrom}
-use Rattle.cargo_platform.specs.Faults.{Next, Unfit, Broken, End}
-
--- what a tokenizer gives: a token, the fault of the tail, or nothing more
-pub data Item : Type 0 where
-  Token : (t : Placed) → Item
-  Lexical : (kind : TokenFaultKind) (at : ℕ) → Item
-  Nothing : Item
+use Rattle.cargo_platform.specs.Cut.{BeginsFault, IsCutFrom, Item, Token, Lexical, Nothing, Comes}
 
 -- the item ahead, and the place from which the text goes on behind it
 pub record Ahead : Type 0 where
   pub text : List ℕ
   pub place : ℕ
   pub item : Item
-
--- from a place on the item comes next, and the text goes on behind it from another place
-abbrev pub Comes : List ℕ → ℕ → Item → ℕ → Type 0
-Comes text from (Token t) to = AreSpaces text from t.start × IsWrittenAt text t × IsWhole text t × (to ≡ t.end)
-Comes text from (Lexical kind at) to = AreSpaces text from at × BeginsFault (drop at text) kind × (to ≡ at)
-Comes text from Nothing to = AreSpaces text from (length text) × (to ≡ length text)
 
 -- the next item is ahead
 pub record GoesOn (old new : Ahead) : Type 0 where
@@ -32,12 +18,6 @@ pub record GoesOn (old new : Ahead) : Type 0 where
 abbrev pub Path : Ahead → List Placed → Ahead → Type 0
 Path old [] new = new ≡ old
 Path old (t ∷ ts) new = (mid : Ahead) × (old.item ≡ Token t) × GoesOn old mid × Path mid ts new
-
--- what comes next, with the text from there on
-abbrev pub next_of : List ℕ → Item → Next
-next_of text (Token t) = Unfit t.token (drop t.start text)
-next_of text (Lexical kind at) = Broken kind (drop at text)
-next_of text Nothing = End
 
 -- these tokens are left, up to the tail
 abbrev pub ItemIsLeft : List ℕ → ℕ → Item → List Placed → ℕ → Type 0

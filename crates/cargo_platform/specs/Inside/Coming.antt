@@ -11,8 +11,9 @@ use Rattle.cargo_platform.specs.Chars.{is_identifier_start, is_identifier_rest, 
 use Rattle.cargo_platform.specs.Tokens.{Lexeme, LeftParen, RightParen, Ident, Comma, Equals, String, written}
 use Rattle.cargo_platform.specs.Cut.{BeginsFault}
 use Rattle.cargo_platform.specs.Reading.{characters_from}
-use Rattle.cargo_platform.specs.Inside.Ahead.{Item, Nothing, Ahead}
-use Rattle.cargo_platform.specs.Inside.Ahead as ahead
+use Rattle.cargo_platform.specs.Cut.{Item, Nothing}
+use Rattle.cargo_platform.specs.Inside.Ahead.{Ahead}
+use Rattle.cargo_platform.specs.Cut as cut
 use Rattle.cargo_platform.specs.Inside.Looking.{Shows}
 
 -- the longest prefix whose bytes pass a test, and what is behind it
@@ -68,8 +69,8 @@ abbrev pub ahead_of : List ℕ → ℕ → First → Ahead
 ahead_of text at AtEnd = record { text = text; place = length text; item = Nothing }
 ahead_of text at (Whole t) =
     let end = at + length (written t) in
-    record { text = text; place = end; item = ahead.Token (record { token = t; start = at; end = end }) }
-ahead_of text at (Faulty kind) = record { text = text; place = at; item = ahead.Lexical kind at }
+    record { text = text; place = end; item = cut.Token (record { token = t; start = at; end = end }) }
+ahead_of text at (Faulty kind) = record { text = text; place = at; item = cut.Lexical kind at }
 
 -- what comes at a place, where no space stands
 unfoldable pub comes_at : List ℕ → ℕ → First

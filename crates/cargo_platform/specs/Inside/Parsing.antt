@@ -19,24 +19,25 @@ use Rattle.cargo_platform.specs.declared.parser.Group.TheVariants as groups
 use Rattle.cargo_platform.specs.Tokens.{Lexeme, LeftParen, RightParen, Ident, Comma, Equals, String, Placed, plain}
 use Rattle.cargo_platform.specs.Tokens.{lexeme}
 use Rattle.cargo_platform.specs.Cut.{lexemes}
-use Rattle.cargo_platform.specs.Inside.Ahead.{Item, Nothing, Ahead, GoesOn, Path, next_of}
-use Rattle.cargo_platform.specs.Inside.Ahead as ahead
+use Rattle.cargo_platform.specs.Cut.{Item, Nothing}
+use Rattle.cargo_platform.specs.Inside.Ahead.{Ahead, GoesOn, Path}
+use Rattle.cargo_platform.specs.Cut as cut
 use Rattle.cargo_platform.specs.Trees.{CfgValue, Alone, KeyPair, Tree, All, Any, Value, trees_of, tree_of}
 use Rattle.cargo_platform.specs.Spelling.{Grammar, Spells, SpellEach}
-use Rattle.cargo_platform.specs.Faults.{Next, Unfit, Broken, End, Fault, UnterminatedExpression, expected_token}
+use Rattle.cargo_platform.specs.Faults.{Fault, UnterminatedExpression, expected_token}
 use Rattle.cargo_platform.specs.Faults.{expected_end, fault_of}
 use Rattle.cargo_platform.specs.Walk.{Word, Several, Negation, State, after, walk, is_whole}
 use Rattle.cargo_platform.specs.Inside.Refusals.{refused_fault}
 
 -- behind tokens that are accepted this text is the surplus
-abbrev pub IsSurplus : Next → List ℕ → Type 0
-IsSurplus next rest =
-    (g : Grammar) (last : Option Lexeme) → fault_of g true last next ≡ Some (UnterminatedExpression rest)
+abbrev pub IsSurplus : List ℕ → Item → List ℕ → Type 0
+IsSurplus text next rest =
+    (g : Grammar) (last : Option Lexeme) → fault_of g text true last next ≡ Some (UnterminatedExpression rest)
 
 -- the text from the item ahead on, which is the surplus behind what is accepted, or nothing at the end
 abbrev pub SeesRest : Ahead → Option (Bor (List ℕ)) → Type 0
 SeesRest l None = l.item ≡ Nothing
-SeesRest l (Some rest) = IsSurplus (next_of l.text l.item) rest.now
+SeesRest l (Some rest) = IsSurplus l.text l.item rest.now
 
 abbrev pub lexeme_of : Punctuation → Lexeme
 lexeme_of punctuation.LeftParen = LeftParen
@@ -46,13 +47,13 @@ lexeme_of punctuation.Equals = Equals
 
 -- the token ahead, which this is, is taken
 abbrev pub TakesToken : Ahead → Ahead → Lexeme → Type 0
-TakesToken old new t = (first : Placed) × (old.item ≡ ahead.Token first) × (first.token ≡ t) × GoesOn old new
+TakesToken old new t = (first : Placed) × (old.item ≡ cut.Token first) × (first.token ≡ t) × GoesOn old new
 
 -- what is ahead is taken, if it is a token
 abbrev pub Takes : Ahead → Ahead → Option (Result Token TokenFaultKind) → Type 0
 Takes old new None = (new ≡ old) × (old.item ≡ Nothing)
 Takes old new (Some (Ok t)) = TakesToken old new (lexeme t)
-Takes old new (Some (Err kind)) = (new ≡ old) × (at : ℕ) × (old.item ≡ ahead.Lexical kind at)
+Takes old new (Some (Err kind)) = (new ≡ old) × (at : ℕ) × (old.item ≡ cut.Lexical kind at)
 
 -- the token is an identifier
 abbrev pub IsIdentifier : Lexeme → Type 0
@@ -64,7 +65,7 @@ IsString t = (value : List ℕ) × (t ≡ String value)
 
 -- no token is ahead that is so
 abbrev pub Lacks : (Lexeme → Type 0) → Ahead → Type 0
-Lacks P l = (first : Placed) → l.item ≡ ahead.Token first → P first.token → ⊥
+Lacks P l = (first : Placed) → l.item ≡ cut.Token first → P first.token → ⊥
 
 abbrev pub LacksPunctuation : Ahead → Punctuation → Type 0
 LacksPunctuation l p = Lacks (λ t. t ≡ lexeme_of p) l
@@ -161,8 +162,8 @@ EndsWith gs e ts = (before : List Lexeme) × (s : List Lexeme) × Wants gs befor
 
 -- `=` comes next
 abbrev pub is_equals_next : Item → Bool
-is_equals_next (ahead.Token t) = is_equals t.token
-is_equals_next (ahead.Lexical kind at) = false
+is_equals_next (cut.Token t) = is_equals t.token
+is_equals_next (cut.Lexical kind at) = false
 is_equals_next Nothing = false
 
 -- the expression is a name alone, which `=` would go on with
@@ -202,17 +203,17 @@ pub record Reads (old new : Ahead) (P Q : List Lexeme → Type 0) : Type 0 where
 -- ---- refusals
 
 -- a next token does not fit
-abbrev pub IsStop : Grammar → State → Next → Type 0
-IsStop g s (Unfit t rest) = after g s t ≡ None
-IsStop g s (Broken k rest) = Unit {0}
-IsStop g s End = Unit {0}
+abbrev pub IsStop : Grammar → State → Item → Type 0
+IsStop g s (cut.Token t) = after g s t.token ≡ None
+IsStop g s (cut.Lexical kind at) = Unit {0}
+IsStop g s Nothing = Unit {0}
 
 -- The tokens read cannot go on with the item ahead.
 pub record IsStuck (g : Grammar) (text : List ℕ) (ts : List Lexeme) (left : Item) (fault : Fault) : Type 0 where
   pub s : State
   pub walked : walk g ts ≡ Some s
-  pub stops : IsStop g s (next_of text left)
-  pub is : fault_of g (is_whole s) (last_or None ts) (next_of text left) ≡ Some fault
+  pub stops : IsStop g s left
+  pub is : fault_of g text (is_whole s) (last_or None ts) left ≡ Some fault
 
 -- what is said of the fault that a refusal stands for, where it is no want of memory
 abbrev pub IfFault : Refusal → (Fault → Type 0) → Type 0
@@ -233,13 +234,13 @@ Stops g l P r = IfFault r (StopsAt g l P)
 abbrev pub RefusesNext : Ahead → List ℕ → List ℕ → Refusal → Type 0
 RefusesNext l expected at_end r =
     (g : Grammar) (last : Option Lexeme) → expected_token g last ≡ expected → expected_end g last ≡ at_end
-    → IfFault r (λ fault. fault_of g false last (next_of l.text l.item) ≡ Some fault)
+    → IfFault r (λ fault. fault_of g l.text false last l.item ≡ Some fault)
 
 -- the item ahead is refused, behind tokens that are accepted
 abbrev pub RefusesMore : Ahead → Refusal → Type 0
 RefusesMore l r =
     (g : Grammar) (last : Option Lexeme)
-    → IfFault r (λ fault. fault_of g true last (next_of l.text l.item) ≡ Some fault)
+    → IfFault r (λ fault. fault_of g l.text true last l.item ≡ Some fault)
 
 -- ---- names and pairs
 

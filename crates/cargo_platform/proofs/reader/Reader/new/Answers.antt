@@ -2,7 +2,7 @@ use Rattle.std.proofs.Common.{sym, ap, subst, ◌∙◌, ◌<◌, ◌^◌, List,
 use Rattle.std.specs.Str.{IsCharBoundary}
 use Rattle.std.proofs.lemmas.Str.{IsCharBoundary-start}
 use Rattle.cargo_platform.specs.Reading.{characters_from}
-use Rattle.cargo_platform.specs.Inside.Ahead.{Comes}
+use Rattle.cargo_platform.specs.Cut.{Comes}
 use Rattle.cargo_platform.specs.Inside.Coming.{ahead_at, IsReadingAt}
 use Rattle.cargo_platform.proofs.Looking.{chars_fit}
 use Rattle.cargo_platform.proofs.Coming.{comes_from, comes_here}

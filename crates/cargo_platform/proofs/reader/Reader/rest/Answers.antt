@@ -1,6 +1,6 @@
 use Rattle.std.proofs.Common.{ap, sym, subst, ◌∙◌}
 use Rattle.cargo_platform.specs.Inside.Parsing.{IsSurplus}
-use Rattle.cargo_platform.specs.Inside.Ahead.{Ahead, next_of}
+use Rattle.cargo_platform.specs.Inside.Ahead.{Ahead}
 use Rattle.cargo_platform.proofs.Coming.{end_ahead, rest_ahead, nothing_seen, something_seen}
 use Rattle.cargo_platform.proofs.reader.Reader.rest.Goals as goal
 
@@ -16,6 +16,6 @@ returns-in-Some c =
     let r = c.self.inside in
     let i = c.self.invariant in
     let within = something_seen r.source.text.now r.place _ r.seen i.sees (sym c.character_of.ensures ∙ c.in-Some.is) in
-    let S : Ahead → Type 0 = λ z. IsSurplus (next_of z.text z.item) c.text_from.result.now in
+    let S : Ahead → Type 0 = λ z. IsSurplus z.text z.item c.text_from.result.now in
     subst S c.self.view_is
     (rw c.text_from.ensures (rest_ahead r.source.text.now r.place i.utf8 i.reached i.past within))
