@@ -144,5 +144,6 @@ module _ (test : ℕ → Bool) (f : ℕ → ℕ) (agrees : agree_below (is_set f
       (arith, counted run few, count_by-le-length test (chunk at run bytes), length-chunk at run bytes (omega arith))
 
   pub passing : (run : ℕ) → run ≤ 16 → count_by test (drop at bytes)
-      ≡ count_ones (mask_l (map (top 7) lanes) % 2 ^ 64 % (1 * 2 ^ run % 2 ^ 64)) + count_by test (drop (at + run) bytes)
+      ≡ count_ones (mask_l (map (top 7) lanes) % 2 ^ 64 % (1 * 2 ^ run % 2 ^ 64))
+      + count_by test (drop (at + run) bytes)
   passing run few = behind run _ (counted run few)

@@ -4,7 +4,8 @@
 //! "Specifying dependencies" of Cargo's reference, and "Configuration predicates" in the Rust reference's chapter on
 //! conditional compilation.
 
-ghost use Rattle.std.specs.Prelude.{◌≡◌, ◌↔◌, ℕ, List, false, IsTrue, IfOk, MatchOption, map, string_bytes};
+ghost use Rattle.std.specs.Prelude.{◌≡◌, ◌↔◌, ◌≤◌, ◌<◌, ◌+◌, ℕ, List, true, false, IsTrue, IfOk, MatchOption, map, length};
+ghost use Rattle.std.specs.Prelude.{string_bytes, slice_index};
 ghost use Rattle.unicode.specs.GeneralCategory.{general_category};
 ghost use Rattle.cargo_platform.specs.Trees.{Tree, Condition, Expression, value_of, condition_of};
 ghost use Rattle.cargo_platform.specs.Facts.{fact_set, truth, IsTrueCondition};
@@ -16,9 +17,10 @@ ghost use Rattle.cargo_platform.specs.Platforms.{IsRefusedCondition};
 ghost use Rattle.cargo_platform.specs.WellFormed.{IsWellFormedCondition};
 ghost use Rattle.cargo_platform.specs.Print.{print_condition};
 
-use crate::classes::continues_identifier;
+use crate::classes::{LANES, continues_identifier};
 use crate::{Cfg, CfgExpr, ParseError, ParseErrorKind, Platform, ReadError};
 use std::alloc::{AllocError, Global};
+use std::simd::prelude::*;
 use unicode::properties::{GeneralCategory, is_alphabetic};
 
 impl Platform {
@@ -42,21 +44,23 @@ impl Platform {
         ensures reads_back { (c : Condition) → IsWellFormedCondition c → s.now ≡ print_condition c
             → IfOk result (λ p. condition_of p ≡ c) × IfParse result (λ _. ⊥) }
     {
-        if let Some(inner) = inside_cfg(s) {
-            return match CfgExpr::from_str(alloc, inner) {
-                Ok(expression) => Ok(Platform::Cfg(expression)),
-                Err(error) => Err(error),
-            };
+        if !is_plain(s) {
+            if let Some(inner) = inside_cfg(s) {
+                return match CfgExpr::from_str(alloc, inner) {
+                    Ok(expression) => Ok(Platform::Cfg(expression)),
+                    Err(error) => Err(error),
+                };
+            }
+            if let Some(refused) = first_refused(s) {
+                return match target_error(alloc, s, refused) {
+                    Ok(error) => Err(ReadError::Parse(error)),
+                    Err(error) => Err(ReadError::Memory(error)),
+                };
+            }
         }
-        match first_refused(s) {
-            None => match String::from_str(alloc, s) {
-                Ok(name) => Ok(Platform::Name(name)),
-                Err(error) => Err(ReadError::Memory(error)),
-            },
-            Some(refused) => match target_error(alloc, s, refused) {
-                Ok(error) => Err(ReadError::Parse(error)),
-                Err(error) => Err(ReadError::Memory(error)),
-            },
+        match String::from_str(alloc, s) {
+            Ok(name) => Ok(Platform::Name(name)),
+            Err(error) => Err(ReadError::Memory(error)),
         }
     }
 
@@ -111,22 +115,46 @@ fn inside_cfg(text: &str) -> Option<&str>
 fn first_refused(name: &str) -> Option<char>
     ensures { MatchOption result (IsTargetName name.now) (λ c. IsFirstRefused name.now c) }
 {
-    if is_plain(name) {
-        return None;
-    }
     name.chars().find(|c| !is_target_char(*c))
 }
 
-/// Whether all bytes of the name are plain, as those of each target's name today are: then no character is looked up.
+/// Whether all bytes of the name are plain, as those of each target's name today are: then it is no `cfg(..)`, and no
+/// character is looked up.
 fn is_plain(name: &str) -> bool
     ensures { IsTrue result → IsTargetName name.now }
 {
-    for byte in name.as_bytes() {
-        if !is_plain_byte(*byte) {
+    let bytes = name.as_bytes();
+    let mut at = 0;
+    'by_block: while LANES <= bytes.len() - at {
+        if !are_plain(bytes, at) {
             return false;
         }
+        at += LANES;
+    }
+    'rest: while at < bytes.len() {
+        if !is_plain_byte(bytes[at]) {
+            return false;
+        }
+        at += 1;
     }
     true
+}
+
+/// Whether the next `LANES` bytes are plain.
+#[inline(always)]
+fn are_plain(bytes: &[u8], at: usize) -> bool
+    requires { at + LANES ≤ length bytes.now }
+    ensures { IsTrue result → (i : ℕ) → at ≤ i → i < at + LANES → is_plain_byte (slice_index bytes.now i) ≡ true }
+{
+    let lanes = u8x16::from_slice(&bytes[at..]);
+    let letters = (lanes | u8x16::splat(0x20)) - u8x16::splat(b'a');
+    let digits = lanes - u8x16::splat(b'0');
+    let dash_or_point = lanes - u8x16::splat(b'-');
+    let others = letters.simd_ge(u8x16::splat(26))
+        & digits.simd_ge(u8x16::splat(10))
+        & dash_or_point.simd_ge(u8x16::splat(2))
+        & lanes.simd_ne(u8x16::splat(b'_'));
+    others.to_bitmask() == 0
 }
 
 /// Whether the byte is `_`, `-`, `.`, an ASCII letter or an ASCII digit.

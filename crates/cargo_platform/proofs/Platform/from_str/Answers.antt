@@ -1,13 +1,16 @@
-use Rattle.std.proofs.Common.{inr, Result, Ok, Err}
+use Rattle.std.proofs.Common.{inr, Result, Ok, Err, sym, subst}
 use Rattle.cargo_platform.specs.declared.Platform.{Platform}
 use Rattle.cargo_platform.specs.declared.Platform.TheVariants as platform
 use Rattle.cargo_platform.specs.declared.error.ReadError.{ReadError}
 use Rattle.cargo_platform.specs.declared.error.ReadError.TheVariants as errors
 use Rattle.cargo_platform.specs.Trees.{condition_of}
-use Rattle.cargo_platform.specs.Platforms.{IsConditionText, IsRefusedCondition}
+use Rattle.cargo_platform.specs.Platforms.{IsConditionText, IsRefusedCondition, IsTargetName}
 use Rattle.cargo_platform.specs.Errors.{orig_of, fault_in}
 use Rattle.cargo_platform.proofs.ConditionAnswers.{expression_fault}
 use Rattle.cargo_platform.proofs.TextLaws.{condition_laws, refused_answer, answer_back}
+use Rattle.cargo_platform.proofs.TargetNames.{name_is_bare}
+use Rattle.cargo_platform.proofs.Platform.from_str.Goals.{then-not-is_plain+in_default+in_default-first_refused}
+use Rattle.cargo_platform.proofs.Platform.from_str.Goals.{else-not-is_plain}
 use Rattle.cargo_platform.proofs.Platform.from_str.Goals as goal
 
 pub returns-in-Ok : goal.returns-in-Ok
@@ -50,4 +53,21 @@ returns-in-Ok-target_error c =
       well_formed = tt;
       refused = none;
       reads_back = answer_back condition_laws condition_of c.args.s.now answer tt none;
+    }
+
+pub returns-in-Ok-from_str : goal.returns-in-Ok-from_str
+returns-in-Ok-from_str c =
+    let answer : Result Platform ReadError = Ok (platform.Name c.in-Ok-from_str.name) in
+    let name : IsTargetName c.args.s.now = elim c.if-not-is_plain.branch [
+      | then-not-is_plain+in_default+in_default-first_refused w ↦ w.in_default-first_refused.ensures
+      | else-not-is_plain w ↦ c.is_plain.ensures w.if-not-is_plain.false
+    ] in
+    let read : IsConditionText c.args.s.now (condition_of (platform.Name c.in-Ok-from_str.name)) =
+    (c.in-Ok-from_str.ensures.ok, name_is_bare c.args.s.now name, name) in
+    record {
+      condition = read;
+      fault = tt;
+      well_formed = subst IsTargetName (sym c.in-Ok-from_str.ensures.ok) name;
+      refused = tt;
+      reads_back = answer_back condition_laws condition_of c.args.s.now answer read tt;
     }

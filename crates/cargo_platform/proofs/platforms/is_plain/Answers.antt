@@ -7,5 +7,6 @@ use Rattle.cargo_platform.proofs.platforms.is_plain.Goals as goal
 pub returns : goal.returns
 returns c = λ done.
     let name = c.args.name.now in
-    let size = ap length c.as_bytes-byte-items.ensures.value in
-    plain_name name (all_each is_plain_byte name (λ i below. c.loop-byte.invariant i (omega (arith, size))))
+    let size = ap length c.as_bytes-bytes.ensures.value in
+    plain_name name (all_each is_plain_byte name (λ i below.
+    c.rest.invariant.plain i (omega arith) (omega (arith, size, c.rest-test.false))))
