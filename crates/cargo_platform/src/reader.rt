@@ -4,8 +4,9 @@ ghost use Rattle.std.specs.Prelude.{◌≡◌, ◌≤◌, ◌+◌, [], ◌∷◌
 ghost use Rattle.cargo_platform.specs.declared.source.Look.TheVariants.{Ascii};
 ghost use Rattle.cargo_platform.specs.Tokens.{Ident as ident_token, String as string_token, Placed, lexeme, written};
 ghost use Rattle.cargo_platform.specs.Reading.{characters_from};
-ghost use Rattle.cargo_platform.specs.Cut.{Comes};
+ghost use Rattle.cargo_platform.specs.Cut.{AreSpaces, Nothing};
 ghost use Rattle.cargo_platform.specs.Cut as cut;
+ghost use Rattle.cargo_platform.specs.Inside.Ahead.{NextIs};
 ghost use Rattle.cargo_platform.specs.Inside.Parsing.{IsIdentifier, SeesRest, Takes, TakesToken, LacksPunctuation};
 ghost use Rattle.cargo_platform.specs.Inside.Parsing.{LacksName, LacksString, lexeme_of, RefusesNext, RefusesMore};
 
@@ -30,11 +31,11 @@ pub(crate) struct Reader<'a> {
 
 impl<'a> Model for Reader<'a> {
     ghost use Rattle.cargo_platform.specs.Inside.Ahead.{Ahead};
-    ghost use Rattle.cargo_platform.specs.Inside.Coming.{ahead_at, IsReadingAt};
+    ghost use Rattle.cargo_platform.specs.Inside.Looking.{IsReadingAt};
 
     ghost Value = { Ahead };
 
-    ghost view = { λ r. ahead_at r.source.text.now r.place };
+    ghost view = { λ r. record { text = r.source.text.now; place = r.place } };
 
     ghost invariant = { λ r. IsReadingAt r.source.text.now r.place r.seen r.fault r.source.looks };
 }
@@ -44,7 +45,7 @@ impl<'a> Reader<'a> {
     #[inline(always)]
     pub fn new(text: &'a str) -> Reader<'a>
         ensures text { result.text ≡ text.now }
-        ensures first { Comes text.now 0 result.item result.place }
+        ensures first { AreSpaces text.now 0 result.place }
     {
         let mut source = Source::new(text);
         let first = source.look(0);
@@ -101,14 +102,14 @@ impl<'a> Reader<'a> {
 
     /// The same where an `r` is next, which may begin a raw mark.
     fn eat_name_with_r(&mut self) -> Option<(bool, &'a str)>
-        requires { (t : Placed) → self.old.item ≡ cut.Token t → IsIdentifier t.token }
+        requires { (t : Placed) → NextIs self.old (cut.Token t) → IsIdentifier t.token }
         ensures same_text { self.new.text ≡ self.old.text }
         ensures taken { IfSome result (λ r. TakesToken self.old self.new (ident_token r.0 r.1.now)) }
         ensures not_taken { IfNone result ((self.new ≡ self.old) × LacksName self.old) }
     {
-        match self.take() {
-            Some(Ok(token)) => name_of(token),
-            Some(Err(_)) | None => None,
+        match self.take()? {
+            Ok(token) => name_of(token),
+            Err(_kind) => None,
         }
     }
 
@@ -178,7 +179,7 @@ impl<'a> Reader<'a> {
     #[inline(always)]
     pub fn spend(self) -> Looks
         ensures at_most { result ≤ characters_from self.entry.text 0 + 1 }
-        ensures whole { self.entry.item ≡ cut.Nothing → result ≡ characters_from self.entry.text 0 + 1 }
+        ensures whole { NextIs self.entry Nothing → result ≡ characters_from self.entry.text 0 + 1 }
     {
         let Reader {
             source,
@@ -318,7 +319,7 @@ pub(crate) fn refuse<'a>(
 /// Refuses what is left behind a whole value or expression.
 #[inline(always)]
 pub(crate) fn expect_end<'a>(reader: &Reader<'a>) -> Result<(), Refusal<'a>>
-    ensures end { OnOk result (reader.now.item ≡ cut.Nothing) }
+    ensures end { OnOk result (NextIs reader.now Nothing) }
     ensures more { IfErr result (RefusesMore reader.now) }
 {
     match reader.rest() {

@@ -1,11 +1,11 @@
 use Rattle.std.proofs.Common.{◌≡◌, refl, sym, ap, subst, ◌∙◌, ◌+◌, ℕ, List, ◌++◌, arith}
 use Rattle.cargo_platform.specs.Tokens.{Lexeme, written}
 use Rattle.cargo_platform.specs.Inside.Ahead.{Ahead}
-use Rattle.cargo_platform.specs.Inside.Coming.{ahead_at, IsReadingAt}
+use Rattle.cargo_platform.specs.Inside.Looking.{IsReadingAt}
 use Rattle.cargo_platform.specs.Inside.Parsing.{TakesToken, Lacks, lexeme_of}
 use Rattle.cargo_platform.proofs.OneCut.{head_of}
 use Rattle.cargo_platform.proofs.Looking.{ascii_step}
-use Rattle.cargo_platform.proofs.Coming.{lacks, punctuation_stands, token_no_fault, reads_on, takes}
+use Rattle.cargo_platform.proofs.Coming.{ahead_at, lacks, punctuation_stands, token_no_fault, reads_on, takes}
 use Rattle.cargo_platform.proofs.reader.Reader.eat.Goals as goal
 
 pub returns-then-not-is_byte-clause-not_taken : goal.returns-then-not-is_byte-clause-not_taken
@@ -16,7 +16,7 @@ returns-then-not-is_byte-clause-not_taken c = λ _.
     let L : Ahead → Type 0 = λ z. Lacks P z in (
       refl,
       subst L c.self.view_is
-          (lacks P r.source.text.now r.place r.seen i.utf8 i.reached i.past i.sees (λ t b bs rest p w e s.
+          (lacks P r.source.text.now r.place r.seen i.past i.sees (λ t b bs rest p w e s.
           let first : c.byte_of.result ≡ b = head_of
           (sym (ap (λ (z : Lexeme). written z ++ rest) p ∙ ap (λ (z : List ℕ). z ++ rest) c.byte_of.ensures) ∙ e) in
           c.is_byte.ensures.no c.if-not-is_byte.true (rw first s))),
@@ -55,4 +55,4 @@ returns-clause-taken c = λ _.
     subst T c.self.view_is
     (subst
     (λ z. TakesToken (ahead_at text r.place) (ahead_at z.now to) t) (sym found.same)
-    (takes text r.place (r.place + 1) to t i.utf8 stands found.spaces found.boundary found.past))
+    (takes text r.place (r.place + 1) to t i.reached.0 stands found.spaces))
