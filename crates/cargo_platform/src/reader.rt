@@ -69,9 +69,7 @@ impl<'a> Reader<'a> {
             return false;
         }
         let behind = self.source.look(self.place + 1);
-        let (place, seen) = self.source.past_spaces(self.place + 1, behind);
-        self.place = place;
-        self.seen = seen;
+        (self.place, self.seen) = self.source.past_spaces(self.place + 1, behind);
         true
     }
 
@@ -94,9 +92,7 @@ impl<'a> Reader<'a> {
         let second = self.source.look(self.place + 1);
         let (end, behind) = self.source.past_identifier(self.place + 1, second);
         let name = self.source.slice(self.place, end);
-        let (place, seen) = self.source.past_spaces(end, behind);
-        self.place = place;
-        self.seen = seen;
+        (self.place, self.seen) = self.source.past_spaces(end, behind);
         Some((false, name))
     }
 
@@ -132,9 +128,7 @@ impl<'a> Reader<'a> {
         };
         let value = self.source.slice(self.place + 1, quote);
         let behind = self.source.look(quote + 1);
-        let (place, seen) = self.source.past_spaces(quote + 1, behind);
-        self.place = place;
-        self.seen = seen;
+        (self.place, self.seen) = self.source.past_spaces(quote + 1, behind);
         Some(value)
     }
 
@@ -152,9 +146,7 @@ impl<'a> Reader<'a> {
         };
         match token_at(&mut self.source, self.place, first) {
             Ok(cut) => {
-                let (place, seen) = self.source.past_spaces(cut.end, cut.seen);
-                self.place = place;
-                self.seen = seen;
+                (self.place, self.seen) = self.source.past_spaces(cut.end, cut.seen);
                 Some(Ok(cut.token))
             }
             Err(kind) => {

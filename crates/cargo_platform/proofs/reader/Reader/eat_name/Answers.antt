@@ -61,7 +61,7 @@ invariant_of-self c =
     let text = r.source.text.now in
     let next = r.place + 1 in
     let end = c.past_identifier-end.result.0 in
-    let to = c.past_spaces-place.result.0 in
+    let to = c.past_spaces.result.0 in
     let name = c.slice-name.result.now in
     let here = rw c.in-Ascii.is at i.sees in
     let byte = here.1.ascii here.0 in
@@ -73,11 +73,11 @@ invariant_of-self c =
     (λ is. absurd (c.if-first-eq114.false (sym byte ∙ is))) in
     let none = token_no_fault text r.place end (Ident false name) r.seen r.fault r.source.looks i stands in
     let step = ascii_step text r.place i.utf8 here.1.within (omega (arith, byte, here.0)) i.reached in
-    let found = rw named.same at c.past_spaces-place.ensures in
-    let looks = c.past_spaces-place.new.self.looks in
+    let found = rw named.same at c.past_spaces.ensures in
+    let looks = c.past_spaces.new.self.looks in
     subst
-    (λ t. IsReadingAt t.now to c.past_spaces-place.result.1 r.fault looks) (sym found.same)
-    (reads_on text r.place next end to r.seen c.past_spaces-place.result.1 r.fault r.source.looks
+    (λ t. IsReadingAt t.now to c.past_spaces.result.1 r.fault looks) (sym found.same)
+    (reads_on text r.place next end to r.seen c.past_spaces.result.1 r.fault r.source.looks
     c.past_identifier-end.new.self.looks looks i none step.1
     (costs_then text next next end 1 0 r.source.looks c.look-second.new.self.looks c.past_identifier-end.new.self.looks
     c.look-second.ensures.cost named.cost)
@@ -89,7 +89,7 @@ returns-clause-taken c =
     let i = c.self.invariant in
     let text = r.source.text.now in
     let end = c.past_identifier-end.result.0 in
-    let to = c.past_spaces-place.result.0 in
+    let to = c.past_spaces.result.0 in
     let name = c.slice-name.result.now in
     let here = rw c.in-Ascii.is at i.sees in
     let byte = here.1.ascii here.0 in
@@ -99,8 +99,8 @@ returns-clause-taken c =
     let stands : IsTokenAt text (Ident false name) r.place end = plain_stands text name r.place end class named.order
     named.boundary.0 (c.slice-name.ensures ∙ ap (λ t. between r.place end t.now) named.same) named.rest named.end
     (λ is. absurd (c.if-first-eq114.false (sym byte ∙ is))) in
-    let found = rw named.same at c.past_spaces-place.ensures in
-    let T : Ahead → Type 0 = λ z. TakesToken z (ahead_at c.past_spaces-place.new.self.text.now to) (Ident false name) in
+    let found = rw named.same at c.past_spaces.ensures in
+    let T : Ahead → Type 0 = λ z. TakesToken z (ahead_at c.past_spaces.new.self.text.now to) (Ident false name) in
     subst T c.self.view_is
     (subst
     (λ z. TakesToken (ahead_at text r.place) (ahead_at z.now to) (Ident false name)) (sym found.same)

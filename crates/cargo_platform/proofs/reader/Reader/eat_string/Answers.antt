@@ -66,7 +66,7 @@ returns-clause-taken c =
     let r = c.self.inside in
     let i = c.self.invariant in
     let text = r.source.text.now in
-    let to = c.past_spaces-place.result.0 in
+    let to = c.past_spaces.result.0 in
     let end = c.in-Some-closing_quote.quote in
     let value = c.slice-value.result.now in
     let here = rw (c.is_byte.ensures.yes c.if-not-is_byte.false) at i.sees in
@@ -75,8 +75,8 @@ returns-clause-taken c =
     let stands = string_stands text value r.place end (here.1.ascii here.0) (quote.ascii (omega arith)) ends.order
     quote.within (c.slice-value.ensures ∙ ap (λ t. between (r.place + 1) end t.now) ends.same) c.slice-value.utf8
     ends.value in
-    let found = rw (c.look-behind.ensures.same ∙ ends.same) at c.past_spaces-place.ensures in
-    let T : Ahead → Type 0 = λ z. TakesToken z (ahead_at c.past_spaces-place.new.self.text.now to) (String value) in
+    let found = rw (c.look-behind.ensures.same ∙ ends.same) at c.past_spaces.ensures in
+    let T : Ahead → Type 0 = λ z. TakesToken z (ahead_at c.past_spaces.new.self.text.now to) (String value) in
     subst T c.self.view_is
     (subst
     (λ z. TakesToken (ahead_at text r.place) (ahead_at z.now to) (String value)) (sym found.same)

@@ -27,11 +27,11 @@ returns-in-Ok-clause-taken c =
     let r = c.self.inside in
     let i = c.self.invariant in
     let text = r.source.text.now in
-    let to = c.past_spaces-place.result.0 in
+    let to = c.past_spaces.result.0 in
     let t = lexeme c.in-Ok.cut.token in
     let cut = c.in-Ok.ensures.token in
-    let found = rw c.in-Ok.ensures.same at c.past_spaces-place.ensures in
-    let T : Ahead → Type 0 = λ z. TakesToken z (ahead_at c.past_spaces-place.new.self.text.now to) t in
+    let found = rw c.in-Ok.ensures.same at c.past_spaces.ensures in
+    let T : Ahead → Type 0 = λ z. TakesToken z (ahead_at c.past_spaces.new.self.text.now to) t in
     subst T c.self.view_is
     (subst
     (λ z. TakesToken (ahead_at text r.place) (ahead_at z.now to) t) (sym found.same)
