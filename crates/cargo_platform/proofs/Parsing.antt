@@ -1,12 +1,11 @@
 -- A reader of names, pairs and expressions, step by step.
-use Rattle.std.proofs.Common.{◌≡◌, refl, sym, ap, subst, ◌∙◌, ℕ, ◌+◌, ◌-◌, ◌≤◌, ◌<◌, Bool, true, false, ◌&&◌, List, []}
-use Rattle.std.proofs.Common.{◌∷◌, ◌++◌, Option, Some, None, Ok, Err, codes, length, slice_range, append_assoc}
+use Rattle.std.proofs.Common.{◌≡◌, refl, sym, ap, subst, ◌∙◌, ℕ, ◌≤◌, ◌<◌, Bool, true, false, ◌&&◌, List, []}
+use Rattle.std.proofs.Common.{◌∷◌, ◌++◌, Option, Some, None, Ok, Err, codes, length, append_assoc}
 use Rattle.std.proofs.Common.{append-nil}
 use Rattle.std.proofs.Common.{true≢false, arith}
 use Rattle.std.specs.Prelude.{IsFalse, Result, IfOk, IfErr, IfSome}
 use Rattle.std.specs.List.{last_or}
 use Rattle.std.proofs.lemmas.Option.{IfSome_then}
-use Rattle.std.proofs.lemmas.List.Edits.{length-between}
 use Rattle.cargo_platform.specs.declared.reader.Refusal.{Refusal}
 use Rattle.cargo_platform.specs.declared.reader.Punctuation.TheVariants as punctuation
 use Rattle.cargo_platform.specs.Tokens.{Lexeme, LeftParen, RightParen, Ident, Comma, Equals, String, Placed}
@@ -19,29 +18,30 @@ use Rattle.cargo_platform.specs.Faults.{Fault, expected_token, expected_end, fau
 use Rattle.cargo_platform.specs.Walk.{Word, Several, Negation, State, Behind, Named, Keyed, after, after_expression}
 use Rattle.cargo_platform.specs.Walk.{walk, is_whole}
 use Rattle.cargo_platform.specs.Cut.{Item, Nothing, Comes}
-use Rattle.cargo_platform.specs.Inside.Ahead.{Ahead, Path, items_left, item_count}
+use Rattle.cargo_platform.specs.Inside.Ahead.{Ahead, NextIs, GoesPast, Path, bytes_left}
 use Rattle.cargo_platform.specs.Cut as cut
 use Rattle.cargo_platform.specs.Inside.Refusals.{refused_fault}
 use Rattle.cargo_platform.specs.Inside.Parsing.{Opening, Negated, Listed, list_tree, kind, kinds}
-use Rattle.cargo_platform.specs.Inside.Parsing.{is_list, is_lone, Wants, Has, HasName, HasWord, is_equals}
-use Rattle.cargo_platform.specs.Inside.Parsing.{is_equals_next, Reads, TakesToken, LacksPunctuation, LacksName}
+use Rattle.cargo_platform.specs.Inside.Parsing.{is_list, is_lone, Wants, Has, HasName, HasWord}
+use Rattle.cargo_platform.specs.Inside.Parsing.{Reads, TakesToken, LacksPunctuation, LacksName}
 use Rattle.cargo_platform.specs.Inside.Parsing.{LacksString}
 use Rattle.cargo_platform.specs.Inside.Parsing.{IsStop, IsStuck, IfFault, StopsAt, Stops, RefusesNext, RefusesMore}
-use Rattle.cargo_platform.specs.Inside.Parsing.{ClearBehind, with_last}
-use Rattle.cargo_platform.proofs.Walk.{begins, ends, walk_next, after_end}
+use Rattle.cargo_platform.specs.Inside.Parsing.{ClearBehind, with_last, opening_word, IsFresh}
+use Rattle.cargo_platform.proofs.Walk.{begins, ends, walk_next, after_end, is_equals}
 use Rattle.cargo_platform.proofs.Building.{list_not_lone}
 use Rattle.cargo_platform.proofs.Positions.{members_close, negation_close, list_close, member_comma}
 use Rattle.cargo_platform.proofs.Positions.{wants_walk, word_walk, ends_walk}
 use Rattle.cargo_platform.proofs.Completing.{tree_accepted, ends_whole}
 use Rattle.cargo_platform.proofs.Expecting.{like, walk_matches}
 use Rattle.cargo_platform.proofs.Prefixes.{lexemes-append}
+use Rattle.cargo_platform.proofs.OneCut.{piece_end}
 use Rattle.cargo_platform.proofs.SomeCut.{written_length}
 
 -- ---- reading
 
 path_join : (l m n : Ahead) (us vs : List Placed) → Path l us m → Path m vs n → Path l (us ++ vs) n
 path_join l m n [] vs p q = let P : Ahead → Type 0 = λ z. Path z vs n in subst P p q
-path_join l m n (t ∷ us) vs p q = (p.0, p.1, p.2, path_join p.0 m n us vs p.3 q)
+path_join l m n (t ∷ us) vs p q = (p.0, p.1, path_join p.0 m n us vs p.2 q)
 
 -- the same tokens, joined otherwise
 regroup : (P : List Lexeme → Type 0) (ts : List Lexeme) (us vs : List Placed)
@@ -61,8 +61,8 @@ pub reads_taken : (l m : Ahead) (t : Lexeme) (P Q : List Lexeme → Type 0) → 
     → ((ts : List Lexeme) → P ts → Q (ts ++ t ∷ [])) → Reads l m P Q
 reads_taken l m t P Q h f = record {
   us = h.0 ∷ [];
-  path = (m, h.1, h.3, refl);
-  leads = λ ts p. let R : Lexeme → Type 0 = λ z. Q (ts ++ z ∷ []) in subst R (sym h.2) (f ts p);
+  path = (m, h.2, refl);
+  leads = λ ts p. let R : Lexeme → Type 0 = λ z. Q (ts ++ z ∷ []) in subst R (sym h.1) (f ts p);
 }
 
 pub reads_then : (l m n : Ahead) (P Q R : List Lexeme → Type 0) → Reads l m P Q → Reads m n Q R → Reads l n P R
@@ -72,36 +72,28 @@ reads_then l m n P Q R a b = record {
   leads = λ ts p. regroup R ts a.us b.us (b.leads (ts ++ lexemes a.us) (a.leads ts p));
 }
 
--- ---- fewer items are left
+-- ---- fewer bytes are left
 
-comes_behind : (text : List ℕ) (from to : ℕ) (i : Item) → Comes text from i to
-    → item_count i + (length text - to) ≤ length text - from
-comes_behind text from to (cut.Token t) c =
-    let some = written_length t.token c.1.0 in
-    let size : length (slice_range text t.start t.end) ≡ length (written t.token) = ap length c.1.1.bytes in
+past_shorter : (l m : Ahead) (t : Placed) → GoesPast l m t → bytes_left m < bytes_left l
+past_shorter l m t h =
     omega (
       arith,
-      c.0.1.ordered,
-      c.1.1.ordered,
-      c.1.1.inside,
-      size,
-      length-between text t.start t.end c.1.1.inside,
-      some,
-      c.3,
+      ap length h.same_text,
+      h.comes.0.1.ordered,
+      piece_end l.text t.start t.end (written t.token) h.comes.1.1,
+      written_length t.token h.comes.1.0,
+      h.comes.1.1.inside,
+      h.spaces.1.ordered,
     )
-comes_behind text from to (cut.Lexical kind at) c = omega (arith, c.0.1.ordered, c.2)
-comes_behind text from to Nothing c = omega (arith, c.1)
 
-pub taken_shorter : (l m : Ahead) (t : Lexeme) → TakesToken l m t → items_left m < items_left l
-taken_shorter l m t h =
-    let c = comes_behind l.text l.place m.place m.item h.3.comes in
-    omega (arith, ap length h.3.same_text, c, ap item_count h.1)
+pub taken_shorter : (l m : Ahead) (t : Lexeme) → TakesToken l m t → bytes_left m < bytes_left l
+taken_shorter l m t h = past_shorter l m h.0 h.2
 
-path_shorter : (l m : Ahead) (us : List Placed) → Path l us m → items_left m ≤ items_left l
-path_shorter l m [] p = omega (arith, ap items_left p)
-path_shorter l m (t ∷ us) p = omega (arith, taken_shorter l p.0 t.token (t, p.1, refl, p.2), path_shorter p.0 m us p.3)
+path_shorter : (l m : Ahead) (us : List Placed) → Path l us m → bytes_left m ≤ bytes_left l
+path_shorter l m [] p = omega (arith, ap bytes_left p)
+path_shorter l m (t ∷ us) p = omega (arith, past_shorter l p.0 t p.1, path_shorter p.0 m us p.2)
 
-pub reads_shorter : (l m : Ahead) (P Q : List Lexeme → Type 0) → Reads l m P Q → items_left m ≤ items_left l
+pub reads_shorter : (l m : Ahead) (P Q : List Lexeme → Type 0) → Reads l m P Q → bytes_left m ≤ bytes_left l
 reads_shorter l m P Q a = path_shorter l m a.us a.path
 
 -- ---- refusing
@@ -127,7 +119,7 @@ stops_then g l m P Q r a s = if_fault r (StopsAt g m Q) (StopsAt g l P) (λ f b.
       stop = b.stop;
       path = path_join l m b.stop a.us b.us a.path b.path;
       stuck =
-          λ ts p. regroup (λ z. IsStuck g b.stop.text z b.stop.item f) ts a.us b.us
+          λ ts p. regroup (λ z. IsStuck g b.stop z f) ts a.us b.us
           (b.stuck (ts ++ lexemes a.us) (a.leads ts p));
     }
 
@@ -137,33 +129,35 @@ stops_from g l P Q r f s =
     if_fault r (StopsAt g l Q) (StopsAt g l P)
     (λ _ b. record { us = b.us; stop = b.stop; path = b.path; stuck = λ ts p. b.stuck ts (f ts p) }) s
 
-stop_is : (g : Grammar) (i : Item) (s : State)
-    → ((t : Placed) → i ≡ cut.Token t → after g s t.token ≡ None) → IsStop g s i
-stop_is g (cut.Token t) s u = u t refl
-stop_is g (cut.Lexical kind at) s u = tt
-stop_is g Nothing s u = tt
+stop_is : (g : Grammar) (l : Ahead) (i : Item) (s : State) → NextIs l i
+    → ((t : Placed) → NextIs l (cut.Token t) → after g s t.token ≡ None) → IsStop g s i
+stop_is g l (cut.Token t) s is unfit = unfit t is
+stop_is g l (cut.Lexical kind at) s is unfit = tt
+stop_is g l Nothing s is unfit = tt
 
--- The tokens read are in a state that the next token does not fit, and what is ahead is refused there.
-record Refused (g : Grammar) (l : Ahead) (r : Refusal) (ts : List Lexeme) : Type 0 where
+-- The tokens read are in a state that the next token does not fit, and what comes next is refused there.
+record Refused (g : Grammar) (l : Ahead) (next : Item) (r : Refusal) (ts : List Lexeme) : Type 0 where
   s : State
   walked : walk g ts ≡ Some s
-  unfit : (t : Placed) → l.item ≡ cut.Token t → after g s t.token ≡ None
-  refused : IfFault r (λ f. fault_of g l.text (is_whole s) (last_or None ts) l.item ≡ Some f)
+  unfit : (t : Placed) → NextIs l (cut.Token t) → after g s t.token ≡ None
+  refused : IfFault r (λ f. fault_of g l.text (is_whole s) (last_or None ts) next ≡ Some f)
 
-refused_here : (g : Grammar) (l : Ahead) (P : List Lexeme → Type 0) (r : Refusal)
-    → ((ts : List Lexeme) → P ts → Refused g l r ts) → Stops g l P r
-refused_here g l P r h =
+refused_here : (g : Grammar) (l : Ahead) (next : Item) (P : List Lexeme → Type 0) (r : Refusal) → NextIs l next
+    → ((ts : List Lexeme) → P ts → Refused g l next r ts) → Stops g l P r
+refused_here g l next P r comes h =
     each_fault (refused_fault r) (StopsAt g l P) (λ f is. record {
       us = [];
       stop = l;
       path = refl;
       stuck = λ ts p.
           let a = h ts p in
-          let S : List Lexeme → Type 0 = λ z. IsStuck g l.text z l.item f in
+          let S : List Lexeme → Type 0 = λ z. IsStuck g l z f in
           subst S (sym (append-nil ts)) (record {
+            next = next;
+            comes = comes;
             s = a.s;
             walked = a.walked;
-            stops = stop_is g l.item a.s a.unfit;
+            stops = stop_is g l next a.s comes a.unfit;
             is = fault_is r f _ is a.refused;
           });
     })
@@ -175,19 +169,19 @@ pub record Refusing (g : Grammar) (l : Ahead) (expected at_end : List ℕ) (ts :
   pub unfinished : is_whole s ≡ false
   pub wants : expected_token g (like s) ≡ expected
   pub wants_end : expected_end g (like s) ≡ at_end
-  pub unfit : (t : Placed) → l.item ≡ cut.Token t → after g s t.token ≡ None
+  pub unfit : (t : Placed) → NextIs l (cut.Token t) → after g s t.token ≡ None
 
 stops_here : {g : Grammar} (l : Ahead) (P : List Lexeme → Type 0) (r : Refusal) (expected at_end : List ℕ)
     → RefusesNext l expected at_end r → ((ts : List Lexeme) → P ts → Refusing g l expected at_end ts) → Stops g l P r
-stops_here {g} l P r expected at_end h f = refused_here g l P r (λ ts p.
+stops_here {g} l P r expected at_end h f = refused_here g l h.0 P r h.1 (λ ts p.
     let a = f ts p in
     let m = walk_matches g ts a.s a.walked in
-    let F : Bool → Type 0 = λ b. IfFault r (λ z. fault_of g l.text b (last_or None ts) l.item ≡ Some z) in
+    let F : Bool → Type 0 = λ b. IfFault r (λ z. fault_of g l.text b (last_or None ts) h.0 ≡ Some z) in
     record {
       s = a.s;
       walked = a.walked;
       unfit = a.unfit;
-      refused = subst F (sym a.unfinished) (h g (last_or None ts) (m.0 ∙ a.wants) (m.1 ∙ a.wants_end));
+      refused = subst F (sym a.unfinished) (h.2 g (last_or None ts) (m.0 ∙ a.wants) (m.1 ∙ a.wants_end));
     })
 
 pub stops_untaken : {g : Grammar} (l m : Ahead) (P : List Lexeme → Type 0) (r : Refusal) (expected at_end : List ℕ)
@@ -197,43 +191,30 @@ stops_untaken l m P r expected at_end e h f = let R : Ahead
     → Type 0 = λ z. RefusesNext z expected at_end r in stops_here l P r expected at_end (subst R e h) f
 
 -- no `=` goes on with a name that stands last
-clear_first : (n : Bool) (left : Item) (t : Placed) → IsFalse (n && is_equals_next left) → left ≡ cut.Token t
-    → IsFalse (n && is_equals t.token)
-clear_first n left t c h = ap (λ (z : Item). n && is_equals_next z) (sym h) ∙ c
+clear_first : (n : Bool) (t : Lexeme) → (n ≡ true → t ≡ Equals → ⊥) → IsFalse (n && is_equals t)
+clear_first false t h = refl
+clear_first true Equals h = absurd (h refl refl)
+clear_first true t h = refl
 
 -- a whole value or expression was read
 pub record Whole (g : Grammar) (l : Ahead) (ts : List Lexeme) : Type 0 where
   pub lone : Bool
   pub walked : walk g ts ≡ Some (ends lone [])
-  pub clear : IsFalse (lone && is_equals_next l.item)
+  pub clear : lone ≡ true → LacksPunctuation l punctuation.Equals
 
 pub stops_behind : {g : Grammar} (l : Ahead) (P : List Lexeme → Type 0) (r : Refusal) → RefusesMore l r
     → ((ts : List Lexeme) → P ts → Whole g l ts) → Stops g l P r
-stops_behind {g} l P r h f = refused_here g l P r (λ ts p.
+stops_behind {g} l P r h f = refused_here g l h.0 P r h.1 (λ ts p.
     let a = f ts p in
-    let F : Bool → Type 0 = λ b. IfFault r (λ z. fault_of g l.text b (last_or None ts) l.item ≡ Some z) in
+    let F : Bool → Type 0 = λ b. IfFault r (λ z. fault_of g l.text b (last_or None ts) h.0 ≡ Some z) in
     record {
       s = ends a.lone [];
       walked = a.walked;
-      unfit = λ t x. after_end g a.lone [] t.token (clear_first a.lone l.item t a.clear x);
-      refused = subst F (sym (ends_whole a.lone)) (h g (last_or None ts));
+      unfit = λ t x. after_end g a.lone [] t.token (clear_first a.lone t.token (λ n. a.clear n t x));
+      refused = subst F (sym (ends_whole a.lone)) (h.2 g (last_or None ts));
     })
 
 -- ---- names and pairs
-
--- no `=` comes next
-pub lacks_equals : (l : Ahead) → LacksPunctuation l punctuation.Equals → IsFalse (is_equals_next l.item)
-lacks_equals l h = go l.item h
-  where
-    is : (t : Lexeme) → (t ≡ Equals → ⊥) → is_equals t ≡ false
-    is Equals h = absurd (h refl)
-    is t h = refl
-
-    go : (left : Item) → ((first : Placed) → left ≡ cut.Token first → first.token ≡ Equals → ⊥)
-        → is_equals_next left ≡ false
-    go (cut.Token t) h = is t.token (h t refl)
-    go (cut.Lexical kind at) h = refl
-    go Nothing h = refl
 
 after_keyed : (g : Grammar) (ws : List Word) (t : Lexeme) → ((v : List ℕ) → t ≡ String v → ⊥)
     → after g (Keyed ws) t ≡ None
@@ -264,13 +245,17 @@ key_is n (KeyPair k v) ts h =
     let names : n.name ≡ k.name = cc in
     λ i. record { raw = raws i; name = names i }
 
-clear_behind : (c : CfgValue) (l : Ahead) → ClearBehind c l → IsFalse (is_lone (Value c) && is_equals_next l.item)
-clear_behind (Alone n) l h = lacks_equals l h
-clear_behind (KeyPair k v) l h = refl
+lone_not : {A : Type 0} {b : Bool} → b ≡ false → b ≡ true → A
+lone_not f t = absurd (true≢false (sym t ∙ f))
+
+clear_behind : (c : CfgValue) (l : Ahead) → ClearBehind c l → is_lone (Value c) ≡ true
+    → LacksPunctuation l punctuation.Equals
+clear_behind (Alone n) l h = λ _. h
+clear_behind (KeyPair k v) l h = lone_not refl
 
 pub value_stands : (l m : Ahead) (gs : List Opening) (n : Name) (c : CfgValue) → MayStand (Alone n)
     → Reads l m (λ ts. ts ≡ identifier n ∷ []) (λ ts. ts ≡ value_spelling c) → ClearBehind c m
-    → Reads l m (HasName gs n.raw n.name) (Has gs (Value c) m.item)
+    → Reads l m (HasName gs n.raw n.name) (Has gs (Value c) m)
 value_stands l m gs n c may a clear = record {
   us = a.us;
   path = a.path;
@@ -298,8 +283,8 @@ name_walk gs n ts may h = ends_walk gs (Value (Alone n)) ts (h.before, identifie
 
 pub value_whole : (l : Ahead) (c : CfgValue) (ts : List Lexeme) → ClearBehind c l → ts ≡ value_spelling c
     → Whole Values l ts
-value_whole l (Alone n) ts clear h = record { lone = true; walked = ap (walk Values) h; clear = lacks_equals l clear }
-value_whole l (KeyPair k v) ts clear h = record { lone = false; walked = ap (walk Values) h; clear = refl }
+value_whole l (Alone n) ts clear h = record { lone = true; walked = ap (walk Values) h; clear = λ _. clear }
+value_whole l (KeyPair k v) ts clear h = record { lone = false; walked = ap (walk Values) h; clear = lone_not refl }
 
 after_start : (t : Lexeme) → ((raw : Bool) (name : List ℕ) → t ≡ Ident raw name → ⊥)
     → after Values (begins []) t ≡ None
@@ -324,37 +309,47 @@ pub wants_name : (gs : List Opening) (raw : Bool) (name : List ℕ) (ts : List L
     → HasName gs raw name (ts ++ Ident raw name ∷ [])
 wants_name gs raw name ts w = record { before = ts; wanted = w; is = refl }
 
-pub literal_lone : (gs : List Opening) (raw : Bool) (name : List ℕ) (e : Tree) (left : Item) (ts : List Lexeme)
-    → is_lone e ≡ false → Spells e (Ident raw name ∷ []) → HasName gs raw name ts → Has gs e left ts
-literal_lone gs raw name e left ts l s h = record {
+-- a name that is a group's word
+pub word_read : (gs : List Opening) (o : Opening) (raw : Bool) (name : List ℕ) (ts : List Lexeme) → raw ≡ false
+    → name ≡ opening_word o → IsFresh o → HasName gs raw name ts → HasWord gs o ts
+word_read gs o raw name ts plain word fresh h = record {
+  before = h.before;
+  wanted = h.wanted;
+  fresh = fresh;
+  is = h.is ∙ (λ i. h.before ++ (Ident (plain i) (word i) ∷ []));
+}
+
+pub literal_lone : (gs : List Opening) (raw : Bool) (name : List ℕ) (e : Tree) (l : Ahead) (ts : List Lexeme)
+    → is_lone e ≡ false → Spells e (Ident raw name ∷ []) → HasName gs raw name ts → Has gs e l ts
+literal_lone gs raw name e l ts other s h = record {
   ends = (h.before, Ident raw name ∷ [], h.wanted, s, h.is);
-  clear = ap (λ b. b && is_equals_next left) l;
+  clear = lone_not other;
 }
 
-pub wants_close : (gs : List Opening) (all : Bool) (es : List Tree) (left : Item) (ts : List Lexeme)
-    → Wants (Listed all es ∷ gs) ts → Has gs (list_tree all es) left (ts ++ RightParen ∷ [])
-wants_close gs all es left ts w = record {
+pub wants_close : (gs : List Opening) (all : Bool) (es : List Tree) (l : Ahead) (ts : List Lexeme)
+    → Wants (Listed all es ∷ gs) ts → Has gs (list_tree all es) l (ts ++ RightParen ∷ [])
+wants_close gs all es l ts w = record {
   ends = members_close gs all es ts w;
-  clear = ap (λ b. b && is_equals_next left) (list_not_lone all es);
+  clear = lone_not (list_not_lone all es);
 }
 
-pub close_negated : (gs : List Opening) (e : Tree) (old left : Item) (ts : List Lexeme) → Has (Negated ∷ gs) e old ts
-    → Has gs (Not e) left (ts ++ RightParen ∷ [])
-close_negated gs e old left ts h = record { ends = negation_close gs e ts h.ends; clear = refl }
+pub close_negated : (gs : List Opening) (e : Tree) (l m : Ahead) (ts : List Lexeme) → Has (Negated ∷ gs) e l ts
+    → Has gs (Not e) m (ts ++ RightParen ∷ [])
+close_negated gs e l m ts h = record { ends = negation_close gs e ts h.ends; clear = lone_not refl }
 
-pub close_listed : (gs : List Opening) (all : Bool) (es : List Tree) (e : Tree) (old left : Item) (ts : List Lexeme)
-    → Has (Listed all es ∷ gs) e old ts → Has gs (list_tree all (es ++ e ∷ [])) left (ts ++ RightParen ∷ [])
-close_listed gs all es e old left ts h = record {
+pub close_listed : (gs : List Opening) (all : Bool) (es : List Tree) (e : Tree) (l m : Ahead) (ts : List Lexeme)
+    → Has (Listed all es ∷ gs) e l ts → Has gs (list_tree all (es ++ e ∷ [])) m (ts ++ RightParen ∷ [])
+close_listed gs all es e l m ts h = record {
   ends = list_close gs all es e ts h.ends;
-  clear = ap (λ b. b && is_equals_next left) (list_not_lone all (es ++ e ∷ []));
+  clear = lone_not (list_not_lone all (es ++ e ∷ []));
 }
 
 -- a comma behind a member of the innermost group, which is a list
-pub comma_taken : (gs : List Opening) (e : Tree) (old : Item) (ts : List Lexeme) → is_list (kinds gs) ≡ true
-    → Has gs e old ts → Wants (with_last gs e) (ts ++ Comma ∷ [])
-comma_taken [] e old ts l h = absurd (true≢false (sym l))
-comma_taken (Negated ∷ gs) e old ts l h = absurd (true≢false (sym l))
-comma_taken (Listed all es ∷ gs) e old ts l h = member_comma gs all es e ts h.ends
+pub comma_taken : (gs : List Opening) (e : Tree) (l : Ahead) (ts : List Lexeme) → is_list (kinds gs) ≡ true
+    → Has gs e l ts → Wants (with_last gs e) (ts ++ Comma ∷ [])
+comma_taken [] e l ts is h = absurd (true≢false (sym is))
+comma_taken (Negated ∷ gs) e l ts is h = absurd (true≢false (sym is))
+comma_taken (Listed all es ∷ gs) e l ts is h = member_comma gs all es e ts h.ends
 
 -- ---- where an expression cannot go on
 
@@ -422,7 +417,7 @@ none_behind Negated ws t h k = refl
 pub group_refusing : (l : Ahead) (o : Opening) (gs : List Opening) (e : Tree) (ts : List Lexeme)
     → LacksPunctuation l punctuation.RightParen
     → (is_list (kinds (o ∷ [])) ≡ true → LacksPunctuation l punctuation.Comma)
-    → Has (o ∷ gs) e l.item ts → Refusing Expressions l (codes "`)`") (codes "`)`") ts
+    → Has (o ∷ gs) e l ts → Refusing Expressions l (codes "`)`") (codes "`)`") ts
 group_refusing l o gs e ts n m h =
     let u = unclosed (is_lone e) (kind o) (kinds gs) in
     record {
@@ -432,15 +427,16 @@ group_refusing l o gs e ts n m h =
       wants = u.1;
       wants_end = u.2;
       unfit = λ t x. after_end Expressions (is_lone e) (kind o ∷ kinds gs) t.token
-          (clear_first (is_lone e) l.item t h.clear x) ∙ none_behind o (kinds gs) t.token (n t x) (λ y. m y t x);
+          (clear_first (is_lone e) t.token (λ y. h.clear y t x))
+          ∙ none_behind o (kinds gs) t.token (n t x) (λ y. m y t x);
     }
 
 -- ---- the whole
 
-pub tree_whole : (l : Ahead) (e : Tree) (ts : List Lexeme) → Has [] e l.item ts → Whole Expressions l ts
+pub tree_whole : (l : Ahead) (e : Tree) (ts : List Lexeme) → Has [] e l ts → Whole Expressions l ts
 tree_whole l e ts h = record { lone = is_lone e; walked = ends_walk [] e ts h.ends; clear = h.clear }
 
-pub spelled : (l m : Ahead) (e : Tree) → (a : Reads l m (λ ts. ts ≡ []) (Has [] e m.item)) → Spells e (lexemes a.us)
+pub spelled : (l m : Ahead) (e : Tree) → (a : Reads l m (λ ts. ts ≡ []) (Has [] e m)) → Spells e (lexemes a.us)
 spelled l m e a = tree_accepted e (lexemes a.us) (a.leads [] refl).ends
 
 pub if_ok : {A E : Type 0} → (r : Result A E) (P Q : A → Type 0) → ((a : A) → P a → Q a) → IfOk r P → IfOk r Q

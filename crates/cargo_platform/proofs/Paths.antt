@@ -1,15 +1,35 @@
 -- What comes ahead of a reader is what the cut has next.
 use Rattle.std.proofs.Common.{◌≡◌, refl, sym, ap, subst, ◌∙◌, ℕ, List, [], ◌∷◌, ◌++◌, inl, inr, arith, length, drop}
-use Rattle.std.proofs.Common.{drop_of_length-le}
+use Rattle.std.proofs.Common.{◌+◌, append_assoc, drop_of_length-le, length-append}
+use Rattle.std.proofs.lemmas.List.Folds.{list_all-append}
 use Rattle.cargo_platform.specs.Chars.{is_space, starts}
 use Rattle.cargo_platform.specs.Tokens.{Placed}
-use Rattle.cargo_platform.specs.Cut.{AreSpaces, BeginsFault, IsCut, IsCutFrom, ComeInTurn, ComesBehind}
+use Rattle.cargo_platform.specs.Cut.{IsPiece, AreSpaces, BeginsFault, IsCut, IsCutFrom, ComeInTurn, ComesBehind}
 use Rattle.cargo_platform.specs.Cut.{Item, Nothing, Comes}
-use Rattle.cargo_platform.specs.Inside.Ahead.{Ahead, Path, IsLeft, ItemIsLeft}
+use Rattle.cargo_platform.specs.Inside.Ahead.{Ahead, Path}
 use Rattle.cargo_platform.specs.Cut as cut
-use Rattle.cargo_platform.proofs.OneCut.{same_start, same_token, not_both, tail_no_space}
+use Rattle.cargo_platform.proofs.OneCut.{both_true, piece_end, piece_rest, same_start, same_token, not_both}
+use Rattle.cargo_platform.proofs.OneCut.{tail_no_space}
+use Rattle.cargo_platform.proofs.SomeCut.{piece_at}
 
 -- ---- what comes next, and the cut
+
+-- spaces and spaces behind them
+join : (text : List ℕ) (from mid to : ℕ) → AreSpaces text from mid → AreSpaces text mid to → AreSpaces text from to
+join text from mid to s t =
+    let whole : drop from text ≡ (s.0 ++ t.0) ++ drop to text = piece_rest text from mid s.0 s.1
+    ∙ ap (λ (z : List ℕ). s.0 ++ z) (piece_rest text mid to t.0 t.1) ∙ sym (append_assoc s.0 t.0 (drop to text)) in
+    let piece = piece_at text from (s.0 ++ t.0) (drop to text) (omega (arith, s.1.ordered, s.1.inside)) whole in
+    let end : from + length (s.0 ++ t.0) ≡ to = omega
+    (arith, piece_end text from mid s.0 s.1, piece_end text mid to t.0 t.1, length-append s.0 t.0) in
+    let P : ℕ → Type 0 = λ z. IsPiece text from z (s.0 ++ t.0) in
+    (s.0 ++ t.0, subst P end piece, list_all-append is_space s.0 t.0 ∙ both_true _ _ s.2 t.2)
+
+pub comes_from : (text : List ℕ) (from at to : ℕ) (i : Item) → AreSpaces text from at → Comes text at i to
+    → Comes text from i to
+comes_from text from at to (cut.Token t) s h = (join text from at t.start s h.0, h.1, h.2, h.3)
+comes_from text from at to (cut.Lexical k place) s h = (join text from at place s h.0, h.1, h.2)
+comes_from text from at to Nothing s h = (join text from at (length text) s h.0, h.1)
 
 -- what comes next in a text that is cut so
 abbrev pub IsNext : List ℕ → List Placed → ℕ → Item → Type 0
@@ -88,75 +108,45 @@ comes_behind text prefix after tail i c is =
     let n = next_comes text p.0 tail after i p.2 is in
     (n.0, (p.0, p.1, n.1))
 
+-- the tokens that come are the first of those that are left
+pub turn_left : (text : List ℕ) (from to tail : ℕ) (us ts : List Placed) → IsCutFrom text from ts tail
+    → ComeInTurn text from us to → (rest : List Placed) × (ts ≡ us ++ rest) × IsCutFrom text to rest tail
+turn_left text from to tail [] ts c p =
+    let L : ℕ → Type 0 = λ z. IsCutFrom text z ts tail in
+    (ts, refl, subst L (sym p) c)
+turn_left text from to tail (t ∷ us) [] c p = absurd (next_is text from p.0 tail (cut.Token t) [] c p.1)
+turn_left text from to tail (t ∷ us) (u ∷ ts) c p =
+    let same = same_token text from u t c.apart.0 p.1.0 c.written.0 p.1.1 c.whole.0 p.1.2 in
+    let L : ℕ → Type 0 = λ z. IsCutFrom text z ts tail in
+    let left = turn_left text p.0 to tail us ts (subst L (ap (λ (z : Placed). z.end) same ∙ sym p.1.3)
+    (record { written = c.written.1; apart = c.apart.1; whole = c.whole.1; rest = c.rest })) p.2 in
+    (left.0, λ i. same i ∷ left.1 i, left.2)
+
 -- ---- what is ahead of a reader
 
--- the item that comes is the first that is left
-pub comes_left : (text : List ℕ) (from to : ℕ) (i : Item) (ts : List Placed) (tail : ℕ) → IsCutFrom text from ts tail
-    → Comes text from i to → ItemIsLeft text to i ts tail
-comes_left text from to (cut.Token t) [] tail cut g =
-    absurd (not_both text from tail t cut.apart cut.rest g.0 g.1 g.2)
-comes_left text from to (cut.Token t) (u ∷ us) tail cut g =
-    let same = same_token text from u t cut.apart.0 g.0 cut.written.0 g.1 cut.whole.0 g.2 in
-    let A : ℕ → Type 0 = λ z. IsCutFrom text z us tail in (
-      us,
-      λ i. same i ∷ us,
-      subst A (ap (λ (z : Placed). z.end) same ∙ sym g.3)
-          (record { written = cut.written.1; apart = cut.apart.1; whole = cut.whole.1; rest = cut.rest }),
-    )
-comes_left text from to (cut.Lexical k at) [] tail cut g = (
-  refl,
-  same_start text from tail at cut.apart g.0 (tail_no_space (drop tail text) cut.rest)
-      (tail_no_space (drop at text) (inr (k, g.1))),
-  g.1,
-)
-comes_left text from to (cut.Lexical k at) (u ∷ us) tail cut g =
-    absurd (not_both text from at u g.0 (inr (k, g.1)) cut.apart.0 cut.written.0 cut.whole.0)
-comes_left text from to Nothing ts tail cut g = go ts cut
-  where
-    none : drop (length text) text ≡ []
-    none = drop_of_length-le text (omega arith)
+-- what comes behind spaces and tokens comes behind the tokens
+pub turn_from : (text : List ℕ) (from at to end : ℕ) (us : List Placed) (i : Item) → AreSpaces text from at
+    → ComeInTurn text at us to → Comes text to i end
+    → (behind : ℕ) × ComeInTurn text from us behind × Comes text behind i end
+turn_from text from at to end [] i s p c =
+    let C : ℕ → Type 0 = λ z. Comes text z i end in
+    (from, refl, comes_from text from at end i s (subst C p c))
+turn_from text from at to end (t ∷ us) i s p c =
+    (to, (p.0, comes_from text from at p.0 (cut.Token t) s p.1, p.2), c)
 
-    go : (ts : List Placed) → IsCutFrom text from ts tail → (ts ≡ []) × (tail ≡ length text)
-    go [] cut = (
-      refl,
-      same_start text from tail (length text) cut.apart g.0 (tail_no_space (drop tail text) cut.rest)
-          (ap (starts is_space) none),
-    )
-    go (u ∷ us) cut = absurd (not_both text from (length text) u g.0 (inl none) cut.apart.0 cut.written.0 cut.whole.0)
-
--- behind a token the next item is the first of the others
-left_behind : (l m : Ahead) (t : Placed) (ts : List Placed) (tail : ℕ) → IsLeft l ts tail → Path l (t ∷ []) m
-    → (us : List Placed) × (ts ≡ t ∷ us) × IsLeft m us tail
-left_behind l m t ts tail h p =
-    let I : Item → Type 0 = λ z. ItemIsLeft l.text l.place z ts tail in
-    let k = subst I p.1 h in
-    let M : Ahead → Type 0 = λ z. IsLeft z k.0 tail in
-    let C : List ℕ → Type 0 = λ z. ItemIsLeft z p.0.place p.0.item k.0 tail in (
-      k.0,
-      k.1,
-      subst M (sym p.3)
-          (subst C (sym p.2.same_text) (comes_left l.text l.place p.0.place p.0.item k.0 tail k.2 p.2.comes)),
-    )
-
--- the tokens on the way are the first of those that were left
-pub path_left : (l m : Ahead) (us ts : List Placed) (tail : ℕ) → IsLeft l ts tail → Path l us m
-    → (rest : List Placed) × (ts ≡ us ++ rest) × IsLeft m rest tail
-path_left l m [] ts tail h p = let M : Ahead → Type 0 = λ z. IsLeft z ts tail in (ts, refl, subst M (sym p) h)
-path_left l m (t ∷ us) ts tail h p =
-    let a = left_behind l p.0 t ts tail h (p.0, p.1, p.2, refl) in
-    let b = path_left p.0 m us a.0 tail a.2 p.3 in
-    (b.0, a.1 ∙ ap (λ (z : List Placed). t ∷ z) b.1, b.2)
+-- what comes next at the end of a way comes behind its tokens
+pub path_comes : (l m : Ahead) (us : List Placed) (i : Item) (end : ℕ) → Path l us m → Comes m.text m.place i end
+    → (behind : ℕ) × ComeInTurn l.text l.place us behind × Comes l.text behind i end
+path_comes l m [] i end p c =
+    let C : Ahead → Type 0 = λ z. Comes z.text z.place i end in
+    (l.place, refl, subst C p c)
+path_comes l m (t ∷ us) i end p c =
+    let k = p.0 in
+    let P : List ℕ → Type 0 = λ z. (behind : ℕ) × ComeInTurn z k.place us behind × Comes z behind i end in
+    let b = subst P p.1.same_text (path_comes k m us i end p.2 c) in
+    let d = turn_from l.text t.end k.place b.0 end us i p.1.spaces b.1 b.2 in
+    (d.0, (t.end, p.1.comes, d.1), d.2)
 
 pub path_text : (l m : Ahead) (us : List Placed) → Path l us m → m.text ≡ l.text
 path_text l m [] p = ap (λ (z : Ahead). z.text) p
-path_text l m (t ∷ us) p = path_text p.0 m us p.3 ∙ p.2.same_text
-
--- what is left says what comes next
-pub left_next : (text : List ℕ) (place : ℕ) (i : Item) (ts : List Placed) (tail : ℕ) → ItemIsLeft text place i ts tail
-    → IsNext text ts tail i
-left_next text place (cut.Token t) [] tail h = absurd (let e = h.1 in cc)
-left_next text place (cut.Token t) (u ∷ us) tail h = ap cut.Token (let e = h.1 in cc)
-left_next text place (cut.Lexical k at) [] tail h = (sym h.1, h.2)
-left_next text place (cut.Lexical k at) (u ∷ us) tail h = absurd (let e = h.0 in cc)
-left_next text place Nothing [] tail h = h.1
-left_next text place Nothing (u ∷ us) tail h = absurd (let e = h.0 in cc)
+path_text l m (t ∷ us) p = path_text p.0 m us p.2 ∙ p.1.same_text

@@ -1,6 +1,5 @@
 -- What a reader answers, from what it read or where it stopped.
 use Rattle.std.proofs.Common.{◌≡◌, refl, ℕ, List, [], Some, Err}
-use Rattle.std.specs.Prelude.{IsUtf8}
 use Rattle.cargo_platform.specs.declared.error.ParseError.{ParseError}
 use Rattle.cargo_platform.specs.declared.error.ReadError.{ReadError}
 use Rattle.cargo_platform.specs.declared.error.ReadError.TheVariants as errors
@@ -9,22 +8,22 @@ use Rattle.cargo_platform.specs.Trees.{CfgValue, Tree}
 use Rattle.cargo_platform.specs.Spelling.{value_spelling, IsValueText, IsTreeText}
 use Rattle.cargo_platform.specs.Errors.{IfParse, orig_of, fault_in}
 use Rattle.cargo_platform.specs.Inside.Refusals.{refused_fault, Becomes}
-use Rattle.cargo_platform.specs.Cut.{Nothing, Comes}
-use Rattle.cargo_platform.specs.Inside.Ahead.{Ahead}
+use Rattle.cargo_platform.specs.Cut.{AreSpaces, Nothing}
+use Rattle.cargo_platform.specs.Inside.Ahead.{Ahead, NextIs}
 use Rattle.cargo_platform.specs.Inside.Parsing.{Has, Reads, HasRead}
 use Rattle.cargo_platform.proofs.Parsing.{spelled}
 use Rattle.cargo_platform.proofs.Refusing.{path_cut}
 
 -- a value that was read up to the end is what the text spells
-pub value_read : (text : List ℕ) (l m : Ahead) (c : CfgValue) → IsUtf8 text → l.text ≡ text
-    → Comes text 0 l.item l.place → HasRead l m (value_spelling c) → m.item ≡ Nothing → IsValueText text c
-value_read text l m c utf8 same comes a done =
-    (a.us, path_cut text l m a.us utf8 same comes a.path done, a.leads [] refl)
+pub value_read : (text : List ℕ) (l m : Ahead) (c : CfgValue) → l.text ≡ text
+    → AreSpaces text 0 l.place → HasRead l m (value_spelling c) → NextIs m Nothing → IsValueText text c
+value_read text l m c same spaces a done =
+    (a.us, path_cut text l m a.us same spaces a.path done, a.leads [] refl)
 
-pub expression_read : (text : List ℕ) (l m : Ahead) (e : Tree) → IsUtf8 text → l.text ≡ text
-    → Comes text 0 l.item l.place → Reads l m (λ ts. ts ≡ []) (Has [] e m.item) → m.item ≡ Nothing → IsTreeText text e
-expression_read text l m e utf8 same comes a done =
-    (a.us, path_cut text l m a.us utf8 same comes a.path done, spelled l m e a)
+pub expression_read : (text : List ℕ) (l m : Ahead) (e : Tree) → l.text ≡ text
+    → AreSpaces text 0 l.place → Reads l m (λ ts. ts ≡ []) (Has [] e m) → NextIs m Nothing → IsTreeText text e
+expression_read text l m e same spaces a done =
+    (a.us, path_cut text l m a.us same spaces a.path done, spelled l m e a)
 
 -- what is said of the fault that a refusal stands for is said of its error
 pub parse_is : (A : Type 0) (r : Refusal) (orig : List ℕ) (x : ReadError) (P : ParseError → Type 0) → Becomes r orig x

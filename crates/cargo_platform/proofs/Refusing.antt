@@ -1,18 +1,19 @@
 -- Where a reader stops is the first fault.
-use Rattle.std.proofs.Common.{◌≡◌, refl, sym, ap, subst, ◌∙◌, ℕ, List, [], ◌∷◌, ◌++◌, None, length, append-nil}
+use Rattle.std.proofs.Common.{◌≡◌, refl, subst, ◌∙◌, ℕ, List, [], ◌∷◌, Some, None, length}
+use Rattle.std.specs.List.{last_or}
 use Rattle.std.specs.Prelude.{IsUtf8}
 use Rattle.cargo_platform.specs.declared.reader.Refusal.{Refusal}
 use Rattle.cargo_platform.specs.Tokens.{Placed}
-use Rattle.cargo_platform.specs.Cut.{IsCut, lexemes}
+use Rattle.cargo_platform.specs.Cut.{AreSpaces, IsCut, lexemes, Item, Nothing, Comes, ComeInTurn, ComesBehind}
 use Rattle.cargo_platform.specs.Spelling.{Grammar}
-use Rattle.cargo_platform.specs.Faults.{Fault, IsRefused}
-use Rattle.cargo_platform.specs.Walk.{State}
-use Rattle.cargo_platform.specs.Cut.{Item, Nothing, Comes}
-use Rattle.cargo_platform.specs.Inside.Ahead.{Ahead, Path, ItemIsLeft}
-use Rattle.cargo_platform.specs.Inside.Parsing.{IsStop, IsStuck, IfFault, StopsAt, Stops}
+use Rattle.cargo_platform.specs.Faults.{Fault, fault_of, IsRefused}
+use Rattle.cargo_platform.specs.Walk.{State, is_whole}
+use Rattle.cargo_platform.specs.Inside.Ahead.{Ahead, NextIs, Path}
+use Rattle.cargo_platform.specs.Inside.Parsing.{IsStop, IfFault, StopsAt, Stops}
 use Rattle.cargo_platform.proofs.Prefixes.{goes_on, refused_walked}
 use Rattle.cargo_platform.proofs.SomeCut.{some_cut}
-use Rattle.cargo_platform.proofs.Paths.{comes_left, path_left, path_text, left_next, IsNext}
+use Rattle.cargo_platform.proofs.Paths.{IsNext, next_is, turn_left, turn_from, path_comes, path_text}
+use Rattle.cargo_platform.proofs.Runs.{cuts_are_read}
 use Rattle.cargo_platform.proofs.Parsing.{if_fault}
 
 goes_not_on : (g : Grammar) (text : List ℕ) (left : List Placed) (tail : ℕ) (s : State) (next : Item)
@@ -20,37 +21,36 @@ goes_not_on : (g : Grammar) (text : List ℕ) (left : List Placed) (tail : ℕ) 
 goes_not_on g text [] tail s next f h = refl
 goes_not_on g text (t ∷ us) tail s next f h = let S : Item → Type 0 = λ z. IsStop g s z in subst S f h
 
+-- what comes next at the end of a way through a text from its start on, where spaces stand
+way_comes : (text : List ℕ) (l m : Ahead) (us : List Placed) (i : Item) (to : ℕ) → l.text ≡ text
+    → AreSpaces text 0 l.place → Path l us m → Comes m.text m.place i to → ComesBehind text us i to
+way_comes text l m us i to same spaces path c =
+    let P : List ℕ → Type 0 = λ z. (behind : ℕ) × ComeInTurn z l.place us behind × Comes z behind i to in
+    let b = subst P same (path_comes l m us i to path c) in
+    turn_from text 0 l.place b.0 to us i spaces b.1 b.2
+
 -- where a reader of the whole text stops is the first fault
 pub stops_refused : (g : Grammar) (text : List ℕ) (l : Ahead) (r : Refusal) → IsUtf8 text → l.text ≡ text
-    → Comes text 0 l.item l.place → Stops g l (λ ts. ts ≡ []) r → IfFault r (IsRefused g text)
-stops_refused g text l r utf8 same comes h =
+    → AreSpaces text 0 l.place → Stops g l (λ ts. ts ≡ []) r → IfFault r (IsRefused g text)
+stops_refused g text l r utf8 same spaces h =
     if_fault r (StopsAt g l (λ ts. ts ≡ [])) (IsRefused g text) (λ f a. at f a) h
   where
     at : (f : Fault) → StopsAt g l (λ ts. ts ≡ []) f → IsRefused g text f
     at f a =
+        let s = a.stuck [] refl in
+        let w = way_comes text l a.stop a.us s.next s.comes.to same spaces a.path s.comes.comes in
         let c = some_cut text utf8 in
-        let L : List ℕ → Type 0 = λ z. ItemIsLeft z l.place l.item c.0 c.1 in
-        let p = path_left l a.stop a.us c.0 c.1
-        (subst L (sym same) (comes_left text 0 l.place l.item c.0 c.1 c.2 comes)) a.path in
-        let T : List ℕ → Type 0 = λ z. IsNext z p.0 c.1 a.stop.item in
-        let S : List ℕ → Type 0 = λ z. IsStuck g z (lexemes a.us) a.stop.item f in
-        let is = path_text l a.stop a.us a.path ∙ same in
-        let s = subst S is (a.stuck [] refl) in
-        let next = subst T is (left_next a.stop.text a.stop.place a.stop.item p.0 c.1 p.2) in
-        refused_walked g text c.0 a.us p.0 c.1 s.s a.stop.item f c.2 p.1 s.walked
-        (goes_not_on g text p.0 c.1 s.s a.stop.item next s.stops) next s.is
+        let left = turn_left text 0 w.0 c.1 a.us c.0 c.2 w.1 in
+        let next = next_is text w.0 s.comes.to c.1 s.next left.0 left.2 w.2 in
+        let F : List ℕ → Type 0 = λ z. fault_of g z (is_whole s.s) (last_or None (lexemes a.us)) s.next ≡ Some f in
+        refused_walked g text c.0 a.us left.0 c.1 s.s s.next f c.2 left.1 s.walked
+        (goes_not_on g text left.0 c.1 s.s s.next next s.stops) next
+        (subst F (path_text l a.stop a.us a.path ∙ same) s.is)
 
--- tokens that were ahead from the start up to the end are those of the cut
-pub path_cut : (text : List ℕ) (l m : Ahead) (us : List Placed) → IsUtf8 text → l.text ≡ text
-    → Comes text 0 l.item l.place → Path l us m → m.item ≡ Nothing → IsCut text us (length text)
-path_cut text l m us utf8 same comes path done =
-    let c = some_cut text utf8 in
-    let L : List ℕ → Type 0 = λ z. ItemIsLeft z l.place l.item c.0 c.1 in
-    let p = path_left l m us c.0 c.1 (subst L (sym same) (comes_left text 0 l.place l.item c.0 c.1 c.2 comes)) path in
-    let I : Item → Type 0 = λ z. ItemIsLeft m.text m.place z p.0 c.1 in
-    let e = subst I done p.2 in
-    let ts_is : c.0 ≡ us = p.1 ∙ ap (λ (z : List Placed). us ++ z) e.0 ∙ append-nil us in
-    let tail_is : c.1 ≡ length text = e.1 ∙ ap length (path_text l m us path ∙ same) in
-    let P : List Placed → Type 0 = λ z. IsCut text z (length text) in
-    let Q : ℕ → Type 0 = λ z. IsCut text c.0 z in
-    subst P ts_is (subst Q tail_is c.2)
+-- tokens that were taken from the start up to the end are those of the cut
+pub path_cut : (text : List ℕ) (l m : Ahead) (us : List Placed) → l.text ≡ text → AreSpaces text 0 l.place
+    → Path l us m → NextIs m Nothing → IsCut text us (length text)
+path_cut text l m us same spaces path done =
+    let C : ℕ → Type 0 = λ z. IsCut text us z in
+    let w = way_comes text l m us Nothing done.to same spaces path done.comes in
+    subst C w.2.1 ((cuts_are_read text us done.to).0 (Nothing, refl, w))

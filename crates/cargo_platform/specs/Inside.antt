@@ -9,4 +9,3 @@ pub mod Asking
 pub mod Copying
 pub mod Values
 pub mod Printing
-pub mod Coming

@@ -3,8 +3,8 @@
 ghost use Rattle.std.specs.Prelude.{◌≡◌, ◌≤◌, ◌<◌, false, true, List, [], ◌∷◌, ◌++◌, length, map, IfOk, IfErr, OnOk};
 ghost use Rattle.std.specs.Prelude.{IfSome, IfNone, MatchOption, IsTrue, IsFalse, Some};
 ghost use Rattle.cargo_platform.specs.Tokens.{Ident as ident_token, Comma};
-ghost use Rattle.cargo_platform.specs.Inside.Ahead.{items_left};
-ghost use Rattle.cargo_platform.specs.Cut as cut;
+ghost use Rattle.cargo_platform.specs.Cut.{Nothing};
+ghost use Rattle.cargo_platform.specs.Inside.Ahead.{NextIs, bytes_left};
 ghost use Rattle.cargo_platform.specs.Trees.{Tree, name_of, value_of, tree_of, Not};
 ghost use Rattle.cargo_platform.specs.Spelling.{Grammar, Values, Expressions, is_group_word, is_literal_word, Spells};
 ghost use Rattle.cargo_platform.specs.Spelling.{value_spelling};
@@ -272,7 +272,7 @@ fn behind_name<'a>(
     ensures same_text { reader.new.text ≡ reader.old.text }
     ensures begun { IfOk result
         (λ done. Reads reader.old reader.new (HasName (stack groups.old) raw name.now)
-        (Stands (stack groups.new) done reader.new.item)) }
+        (Stands (stack groups.new) done reader.new)) }
     ensures refused { IfErr result (Stops Expressions reader.old (HasName (stack groups.old) raw name.now)) }
 {
     if let Some(group) = group_named(alloc, raw, name) {
@@ -291,8 +291,8 @@ fn end_list(reader: &mut Reader<'_>, groups: &mut OpenGroups) -> Option<CfgExpr>
     ensures same_text { reader.new.text ≡ reader.old.text }
     ensures closed { IfSome result
         (λ e. Reads reader.old reader.new (Wants (stack groups.old))
-        (Has (stack groups.new) (tree_of e) reader.new.item)) }
-    ensures shorter { IfSome result (λ e. items_left reader.new < items_left reader.old) }
+        (Has (stack groups.new) (tree_of e) reader.new)) }
+    ensures shorter { IfSome result (λ e. bytes_left reader.new < bytes_left reader.old) }
     ensures not_closed { IfNone result
         ((reader.new ≡ reader.old)
         × (is_list (kinds (stack groups.old)) ≡ true → LacksPunctuation reader.old Punctuation.RightParen)) }
@@ -320,9 +320,9 @@ fn begin<'a>(
     ensures same_text { reader.new.text ≡ reader.old.text }
     ensures begun { IfOk result
         (λ done. Reads reader.old reader.new (Wants (stack groups.old))
-        (Stands (stack groups.new) done reader.new.item)) }
+        (Stands (stack groups.new) done reader.new)) }
     ensures refused { IfErr result (Stops Expressions reader.old (Wants (stack groups.old))) }
-    ensures shorter { OnOk result (items_left reader.new < items_left reader.old) }
+    ensures shorter { OnOk result (bytes_left reader.new < bytes_left reader.old) }
 {
     if let Some((raw, name)) = reader.eat_name() {
         return behind_name(alloc, reader, groups, raw, name);
@@ -407,12 +407,12 @@ fn close_group<'a>(
     ensures same_text { reader.new.text ≡ reader.old.text }
     ensures closed { IfOk result
         (λ e. (gs : List Opening)
-        → Reads reader.old reader.new (Has (opening group ∷ gs) (tree_of last) reader.old.item)
-        (Has gs (tree_of e) reader.new.item)) }
+        → Reads reader.old reader.new (Has (opening group ∷ gs) (tree_of last) reader.old)
+        (Has gs (tree_of e) reader.new)) }
     ensures refused { IfErr result
         (λ r. (gs : List Opening)
-        → Stops Expressions reader.old (Has (opening group ∷ gs) (tree_of last) reader.old.item) r) }
-    ensures shorter { OnOk result (items_left reader.new < items_left reader.old) }
+        → Stops Expressions reader.old (Has (opening group ∷ gs) (tree_of last) reader.old) r) }
+    ensures shorter { OnOk result (bytes_left reader.new < bytes_left reader.old) }
 {
     if !reader.eat(Punctuation::RightParen) {
         last.drop_iteratively(alloc);
@@ -431,8 +431,8 @@ pub(crate) fn read_expression<'a>(
     reader: &mut Reader<'a>,
 ) -> Result<CfgExpr, Refusal<'a>>
     ensures same_text { reader.new.text ≡ reader.old.text }
-    ensures tree { IfOk result (λ e. Reads reader.old reader.new (λ ts. ts ≡ []) (Has [] (tree_of e) reader.new.item)) }
-    ensures ended { OnOk result (reader.new.item ≡ cut.Nothing) }
+    ensures tree { IfOk result (λ e. Reads reader.old reader.new (λ ts. ts ≡ []) (Has [] (tree_of e) reader.new)) }
+    ensures ended { OnOk result (NextIs reader.new Nothing) }
     ensures refused { IfErr result (Stops Expressions reader.old (λ ts. ts ≡ [])) }
 {
     let mut groups = OpenGroups::new(alloc);
@@ -462,7 +462,7 @@ pub(crate) fn read_expression<'a>(
 pub(crate) fn read_cfg<'a>(alloc: Global, reader: &mut Reader<'a>) -> Result<Cfg, Refusal<'a>>
     ensures same_text { reader.new.text ≡ reader.old.text }
     ensures value { IfOk result (λ c. HasRead reader.old reader.new (value_spelling (value_of c))) }
-    ensures ended { OnOk result (reader.new.item ≡ cut.Nothing) }
+    ensures ended { OnOk result (NextIs reader.new Nothing) }
     ensures refused { IfErr result (Stops Values reader.old (λ ts. ts ≡ [])) }
 {
     let Some((raw, name)) = reader.eat_name() else {

@@ -4,8 +4,9 @@ ghost use Rattle.std.specs.Prelude.{◌≡◌, ◌≤◌, ◌+◌, [], ◌∷◌
 ghost use Rattle.cargo_platform.specs.declared.source.Look.TheVariants.{Ascii};
 ghost use Rattle.cargo_platform.specs.Tokens.{Ident as ident_token, String as string_token, Placed, lexeme, written};
 ghost use Rattle.cargo_platform.specs.Reading.{characters_from};
-ghost use Rattle.cargo_platform.specs.Cut.{Comes};
+ghost use Rattle.cargo_platform.specs.Cut.{AreSpaces, Nothing};
 ghost use Rattle.cargo_platform.specs.Cut as cut;
+ghost use Rattle.cargo_platform.specs.Inside.Ahead.{NextIs};
 ghost use Rattle.cargo_platform.specs.Inside.Parsing.{IsIdentifier, SeesRest, Takes, TakesToken, LacksPunctuation};
 ghost use Rattle.cargo_platform.specs.Inside.Parsing.{LacksName, LacksString, lexeme_of, RefusesNext, RefusesMore};
 
@@ -30,11 +31,11 @@ pub(crate) struct Reader<'a> {
 
 impl<'a> Model for Reader<'a> {
     ghost use Rattle.cargo_platform.specs.Inside.Ahead.{Ahead};
-    ghost use Rattle.cargo_platform.specs.Inside.Coming.{ahead_at, IsReadingAt};
+    ghost use Rattle.cargo_platform.specs.Inside.Looking.{IsReadingAt};
 
     ghost Value = { Ahead };
 
-    ghost view = { λ r. ahead_at r.source.text.now r.place };
+    ghost view = { λ r. record { text = r.source.text.now; place = r.place } };
 
     ghost invariant = { λ r. IsReadingAt r.source.text.now r.place r.seen r.fault r.source.looks };
 }
@@ -44,7 +45,7 @@ impl<'a> Reader<'a> {
     #[inline(always)]
     pub fn new(text: &'a str) -> Reader<'a>
         ensures text { result.text ≡ text.now }
-        ensures first { Comes text.now 0 result.item result.place }
+        ensures first { AreSpaces text.now 0 result.place }
     {
         let mut source = Source::new(text);
         let first = source.look(0);
@@ -68,9 +69,7 @@ impl<'a> Reader<'a> {
             return false;
         }
         let behind = self.source.look(self.place + 1);
-        let (place, seen) = self.source.past_spaces(self.place + 1, behind);
-        self.place = place;
-        self.seen = seen;
+        (self.place, self.seen) = self.source.past_spaces(self.place + 1, behind);
         true
     }
 
@@ -93,22 +92,20 @@ impl<'a> Reader<'a> {
         let second = self.source.look(self.place + 1);
         let (end, behind) = self.source.past_identifier(self.place + 1, second);
         let name = self.source.slice(self.place, end);
-        let (place, seen) = self.source.past_spaces(end, behind);
-        self.place = place;
-        self.seen = seen;
+        (self.place, self.seen) = self.source.past_spaces(end, behind);
         Some((false, name))
     }
 
     /// The same where an `r` is next, which may begin a raw mark.
     fn eat_name_with_r(&mut self) -> Option<(bool, &'a str)>
-        requires { (t : Placed) → self.old.item ≡ cut.Token t → IsIdentifier t.token }
+        requires { (t : Placed) → NextIs self.old (cut.Token t) → IsIdentifier t.token }
         ensures same_text { self.new.text ≡ self.old.text }
         ensures taken { IfSome result (λ r. TakesToken self.old self.new (ident_token r.0 r.1.now)) }
         ensures not_taken { IfNone result ((self.new ≡ self.old) × LacksName self.old) }
     {
-        match self.take() {
-            Some(Ok(token)) => name_of(token),
-            Some(Err(_)) | None => None,
+        match self.take()? {
+            Ok(token) => name_of(token),
+            Err(_kind) => None,
         }
     }
 
@@ -131,9 +128,7 @@ impl<'a> Reader<'a> {
         };
         let value = self.source.slice(self.place + 1, quote);
         let behind = self.source.look(quote + 1);
-        let (place, seen) = self.source.past_spaces(quote + 1, behind);
-        self.place = place;
-        self.seen = seen;
+        (self.place, self.seen) = self.source.past_spaces(quote + 1, behind);
         Some(value)
     }
 
@@ -151,9 +146,7 @@ impl<'a> Reader<'a> {
         };
         match token_at(&mut self.source, self.place, first) {
             Ok(cut) => {
-                let (place, seen) = self.source.past_spaces(cut.end, cut.seen);
-                self.place = place;
-                self.seen = seen;
+                (self.place, self.seen) = self.source.past_spaces(cut.end, cut.seen);
                 Some(Ok(cut.token))
             }
             Err(kind) => {
@@ -178,7 +171,7 @@ impl<'a> Reader<'a> {
     #[inline(always)]
     pub fn spend(self) -> Looks
         ensures at_most { result ≤ characters_from self.entry.text 0 + 1 }
-        ensures whole { self.entry.item ≡ cut.Nothing → result ≡ characters_from self.entry.text 0 + 1 }
+        ensures whole { NextIs self.entry Nothing → result ≡ characters_from self.entry.text 0 + 1 }
     {
         let Reader {
             source,
@@ -318,7 +311,7 @@ pub(crate) fn refuse<'a>(
 /// Refuses what is left behind a whole value or expression.
 #[inline(always)]
 pub(crate) fn expect_end<'a>(reader: &Reader<'a>) -> Result<(), Refusal<'a>>
-    ensures end { OnOk result (reader.now.item ≡ cut.Nothing) }
+    ensures end { OnOk result (NextIs reader.now Nothing) }
     ensures more { IfErr result (RefusesMore reader.now) }
 {
     match reader.rest() {

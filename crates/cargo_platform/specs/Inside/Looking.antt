@@ -3,11 +3,13 @@ use Rattle.std.specs.Prelude.{◌≡◌, ◌≢◌, ℕ, ◌+◌, ◌-◌, ◌<�
 use Rattle.std.specs.Prelude.{slice_index, not}
 use Rattle.std.specs.Prelude.{encode_utf8, Option, Some, None}
 use Rattle.std.specs.Char.{IsScalar, len_utf8}
-use Rattle.std.specs.Str.{IsCharBoundary, chars}
+use Rattle.std.specs.Str.{IsUtf8, IsCharBoundary, chars}
 use Rattle.std.specs.List.{count_by}
 use Rattle.cargo_platform.specs.Chars.{is_character_start, is_quote}
 use Rattle.cargo_platform.specs.declared.source.Look.{Look}
+use Rattle.cargo_platform.specs.declared.tokens.TokenFaultKind.{TokenFaultKind}
 use Rattle.cargo_platform.specs.declared.source.Look.TheVariants.{End, Ascii, Wide}
+use Rattle.cargo_platform.specs.Cut.{BeginsFault}
 use Rattle.cargo_platform.specs.Reading.{characters_from}
 
 -- the character c begins at the place
@@ -61,6 +63,24 @@ pub record IsStanding (text : List ℕ) (place : ℕ) (seen : Option Look) (fail
   pub reached : IsCharBoundary text place
   pub sees : ShowedBefore text place seen
   pub each : failed ≡ false → looks + characters_from text place + unseen seen ≡ characters_from text 0 + 1
+  pub at_most : looks ≤ characters_from text 0 + 1
+
+-- the fault that a text begins with, if it was found
+abbrev pub IsFound : List ℕ → Option TokenFaultKind → Type 0
+IsFound text None = Unit {0}
+IsFound text (Some kind) = BeginsFault text kind
+
+-- Where a reader stands: at no space, with what is there seen. Until a fault is found each character before the place
+-- was looked at once, and what is at the place too.
+pub record IsReadingAt (text : List ℕ) (place : ℕ) (seen : Look) (fault : Option TokenFaultKind) (looks : ℕ)
+    : Type 0 where
+  pub utf8 : IsUtf8 text
+  pub short : characters_from text 0 < 2 ^ 64
+  pub reached : IsCharBoundary text place
+  pub sees : Shows text place seen
+  pub past : slice_index text place ≢ 0x20
+  pub found : IsFound (drop place text) fault
+  pub each : fault ≡ None → looks + characters_from text place ≡ characters_from text 0 + 1
   pub at_most : looks ≤ characters_from text 0 + 1
 
 -- the first quote from a place on stands at another, or none does and that is the end; and so many bytes between them

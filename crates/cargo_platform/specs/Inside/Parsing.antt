@@ -1,7 +1,7 @@
 -- What a reader of expressions has read: the groups that are open with their members so far, and the expression that
 -- stands behind them, if one does.
 use Rattle.std.specs.Prelude.{◌≡◌, ℕ, Bool, true, false, List, [], ◌∷◌, ◌++◌, map, reverse, codes, Option, Some, None}
-use Rattle.std.specs.Prelude.{Result, Ok, Err, IsFalse, ◌&&◌, IfSome}
+use Rattle.std.specs.Prelude.{Result, Ok, Err, IfSome}
 use Rattle.std.specs.List.{last_or}
 use Rattle.cargo_platform.specs.declared.tokens.Token.{Token}
 use denote.Ref.{Bor}
@@ -20,7 +20,7 @@ use Rattle.cargo_platform.specs.Tokens.{Lexeme, LeftParen, RightParen, Ident, Co
 use Rattle.cargo_platform.specs.Tokens.{lexeme}
 use Rattle.cargo_platform.specs.Cut.{lexemes}
 use Rattle.cargo_platform.specs.Cut.{Item, Nothing}
-use Rattle.cargo_platform.specs.Inside.Ahead.{Ahead, GoesOn, Path}
+use Rattle.cargo_platform.specs.Inside.Ahead.{Ahead, NextIs, GoesPast, Path}
 use Rattle.cargo_platform.specs.Cut as cut
 use Rattle.cargo_platform.specs.Trees.{CfgValue, Alone, KeyPair, Tree, All, Any, Value, trees_of, tree_of}
 use Rattle.cargo_platform.specs.Spelling.{Grammar, Spells, SpellEach}
@@ -34,10 +34,10 @@ abbrev pub IsSurplus : List ℕ → Item → List ℕ → Type 0
 IsSurplus text next rest =
     (g : Grammar) (last : Option Lexeme) → fault_of g text true last next ≡ Some (UnterminatedExpression rest)
 
--- the text from the item ahead on, which is the surplus behind what is accepted, or nothing at the end
+-- the text from the next item on, which is the surplus behind what is accepted, or nothing at the end
 abbrev pub SeesRest : Ahead → Option (Bor (List ℕ)) → Type 0
-SeesRest l None = l.item ≡ Nothing
-SeesRest l (Some rest) = IsSurplus l.text l.item rest.now
+SeesRest l None = NextIs l Nothing
+SeesRest l (Some rest) = (next : Item) × NextIs l next × IsSurplus l.text next rest.now
 
 abbrev pub lexeme_of : Punctuation → Lexeme
 lexeme_of punctuation.LeftParen = LeftParen
@@ -45,15 +45,15 @@ lexeme_of punctuation.RightParen = RightParen
 lexeme_of punctuation.Comma = Comma
 lexeme_of punctuation.Equals = Equals
 
--- the token ahead, which this is, is taken
+-- the next token, which this is, is taken
 abbrev pub TakesToken : Ahead → Ahead → Lexeme → Type 0
-TakesToken old new t = (first : Placed) × (old.item ≡ cut.Token first) × (first.token ≡ t) × GoesOn old new
+TakesToken old new t = (first : Placed) × (first.token ≡ t) × GoesPast old new first
 
--- what is ahead is taken, if it is a token
+-- what comes next is taken, if it is a token
 abbrev pub Takes : Ahead → Ahead → Option (Result Token TokenFaultKind) → Type 0
-Takes old new None = (new ≡ old) × (old.item ≡ Nothing)
+Takes old new None = (new ≡ old) × NextIs old Nothing
 Takes old new (Some (Ok t)) = TakesToken old new (lexeme t)
-Takes old new (Some (Err kind)) = (new ≡ old) × (at : ℕ) × (old.item ≡ cut.Lexical kind at)
+Takes old new (Some (Err kind)) = (new ≡ old) × (at : ℕ) × NextIs old (cut.Lexical kind at)
 
 -- the token is an identifier
 abbrev pub IsIdentifier : Lexeme → Type 0
@@ -63,9 +63,9 @@ IsIdentifier t = (raw : Bool) × (name : List ℕ) × (t ≡ Ident raw name)
 abbrev pub IsString : Lexeme → Type 0
 IsString t = (value : List ℕ) × (t ≡ String value)
 
--- no token is ahead that is so
+-- no token comes next that is so
 abbrev pub Lacks : (Lexeme → Type 0) → Ahead → Type 0
-Lacks P l = (first : Placed) → l.item ≡ cut.Token first → P first.token → ⊥
+Lacks P l = (first : Placed) → NextIs l (cut.Token first) → P first.token → ⊥
 
 abbrev pub LacksPunctuation : Ahead → Punctuation → Type 0
 LacksPunctuation l p = Lacks (λ t. t ≡ lexeme_of p) l
@@ -75,10 +75,6 @@ LacksName l = Lacks IsIdentifier l
 
 abbrev pub LacksString : Ahead → Type 0
 LacksString l = Lacks IsString l
-
-abbrev pub is_equals : Lexeme → Bool
-is_equals Equals = true
-is_equals t = false
 
 -- ---- open groups
 
@@ -160,25 +156,19 @@ Wants (Listed all es ∷ gs) ts =
 abbrev pub EndsWith : List Opening → Tree → List Lexeme → Type 0
 EndsWith gs e ts = (before : List Lexeme) × (s : List Lexeme) × Wants gs before × Spells e s × (ts ≡ before ++ s)
 
--- `=` comes next
-abbrev pub is_equals_next : Item → Bool
-is_equals_next (cut.Token t) = is_equals t.token
-is_equals_next (cut.Lexical kind at) = false
-is_equals_next Nothing = false
-
 -- the expression is a name alone, which `=` would go on with
 abbrev pub is_lone : Tree → Bool
 is_lone (Value (Alone n)) = true
 is_lone e = false
 
--- The tokens that were read: an expression stands at their end, which the item ahead does not go on with.
-pub record Has (gs : List Opening) (e : Tree) (left : Item) (ts : List Lexeme) : Type 0 where
+-- The tokens that were read: an expression stands at their end, which the next item does not go on with.
+pub record Has (gs : List Opening) (e : Tree) (l : Ahead) (ts : List Lexeme) : Type 0 where
   pub ends : EndsWith gs e ts
-  pub clear : IsFalse (is_lone e && is_equals_next left)
+  pub clear : is_lone e ≡ true → LacksPunctuation l punctuation.Equals
 
-abbrev pub Stands : List Opening → Option CfgExpr → Item → List Lexeme → Type 0
-Stands gs None left ts = Wants gs ts
-Stands gs (Some e) left ts = Has gs (tree_of e) left ts
+abbrev pub Stands : List Opening → Option CfgExpr → Ahead → List Lexeme → Type 0
+Stands gs None l ts = Wants gs ts
+Stands gs (Some e) l ts = Has gs (tree_of e) l ts
 
 -- a name was read last, where an expression is wanted
 pub record HasName (gs : List Opening) (raw : Bool) (name : List ℕ) (ts : List Lexeme) : Type 0 where
@@ -193,7 +183,7 @@ pub record HasWord (gs : List Opening) (o : Opening) (ts : List Lexeme) : Type 0
   pub fresh : IsFresh o
   pub is : ts ≡ before ++ (plain (opening_word o) ∷ [])
 
--- From one item ahead to another some tokens were read. Where P holds of all tokens before them, Q holds of all tokens
+-- From one place to another some tokens were read. Where P holds of all tokens before them, Q holds of all tokens
 -- with them.
 pub record Reads (old new : Ahead) (P Q : List Lexeme → Type 0) : Type 0 where
   pub us : List Placed
@@ -208,12 +198,14 @@ IsStop g s (cut.Token t) = after g s t.token ≡ None
 IsStop g s (cut.Lexical kind at) = Unit {0}
 IsStop g s Nothing = Unit {0}
 
--- The tokens read cannot go on with the item ahead.
-pub record IsStuck (g : Grammar) (text : List ℕ) (ts : List Lexeme) (left : Item) (fault : Fault) : Type 0 where
+-- The tokens read cannot go on with the next item.
+pub record IsStuck (g : Grammar) (l : Ahead) (ts : List Lexeme) (fault : Fault) : Type 0 where
+  pub next : Item
+  pub comes : NextIs l next
   pub s : State
   pub walked : walk g ts ≡ Some s
-  pub stops : IsStop g s left
-  pub is : fault_of g text (is_whole s) (last_or None ts) left ≡ Some fault
+  pub stops : IsStop g s next
+  pub is : fault_of g l.text (is_whole s) (last_or None ts) next ≡ Some fault
 
 -- what is said of the fault that a refusal stands for, where it is no want of memory
 abbrev pub IfFault : Refusal → (Fault → Type 0) → Type 0
@@ -224,31 +216,32 @@ pub record StopsAt (g : Grammar) (l : Ahead) (P : List Lexeme → Type 0) (fault
   pub us : List Placed
   pub stop : Ahead
   pub path : Path l us stop
-  pub stuck : (ts : List Lexeme) → P ts → IsStuck g stop.text (ts ++ lexemes us) stop.item fault
+  pub stuck : (ts : List Lexeme) → P ts → IsStuck g stop (ts ++ lexemes us) fault
 
 abbrev pub Stops : Grammar → Ahead → (List Lexeme → Type 0) → Refusal → Type 0
 Stops g l P r = IfFault r (StopsAt g l P)
 
--- the item ahead is refused, behind tokens that are not accepted and behind which these are the words for what is
+-- the next item is refused, behind tokens that are not accepted and behind which these are the words for what is
 -- expected
 abbrev pub RefusesNext : Ahead → List ℕ → List ℕ → Refusal → Type 0
 RefusesNext l expected at_end r =
-    (g : Grammar) (last : Option Lexeme) → expected_token g last ≡ expected → expected_end g last ≡ at_end
-    → IfFault r (λ fault. fault_of g l.text false last l.item ≡ Some fault)
+    (next : Item) × NextIs l next
+    × ((g : Grammar) (last : Option Lexeme) → expected_token g last ≡ expected → expected_end g last ≡ at_end
+    → IfFault r (λ fault. fault_of g l.text false last next ≡ Some fault))
 
--- the item ahead is refused, behind tokens that are accepted
+-- the next item is refused, behind tokens that are accepted
 abbrev pub RefusesMore : Ahead → Refusal → Type 0
 RefusesMore l r =
-    (g : Grammar) (last : Option Lexeme)
-    → IfFault r (λ fault. fault_of g l.text true last l.item ≡ Some fault)
+    (next : Item) × NextIs l next
+    × ((g : Grammar) (last : Option Lexeme) → IfFault r (λ fault. fault_of g l.text true last next ≡ Some fault))
 
 -- ---- names and pairs
 
--- from one item ahead to another just these tokens were read
+-- from one place to another just these tokens were read
 abbrev pub HasRead : Ahead → Ahead → List Lexeme → Type 0
 HasRead old new read = Reads old new (λ ts. ts ≡ []) (λ ts. ts ≡ read)
 
--- no `=` is ahead behind a name alone
+-- no `=` comes behind a name alone
 abbrev pub ClearBehind : CfgValue → Ahead → Type 0
 ClearBehind (Alone n) l = LacksPunctuation l punctuation.Equals
 ClearBehind (KeyPair k v) l = Unit {0}

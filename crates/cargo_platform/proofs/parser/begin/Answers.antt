@@ -1,5 +1,5 @@
 use Rattle.std.proofs.Common.{subst, ◌∙◌, ◌<◌, arith}
-use Rattle.cargo_platform.specs.Inside.Ahead.{items_left}
+use Rattle.cargo_platform.specs.Inside.Ahead.{bytes_left}
 use Rattle.cargo_platform.specs.Tokens.{Ident}
 use Rattle.cargo_platform.specs.declared.reader.Punctuation.TheVariants as punctuation
 use Rattle.cargo_platform.specs.Inside.Ahead.{Ahead}
@@ -18,7 +18,7 @@ returns-in-Some-clause-begun c =
     let raw = c.in-Some.raw in
     let name = c.in-Some.name.now in
     if_ok c.behind_name.result _ _ (λ done a.
-    reads_then l m n (Wants gs) (HasName gs raw name) (Stands (stack c.behind_name.new.groups) done n.item)
+    reads_then l m n (Wants gs) (HasName gs raw name) (Stands (stack c.behind_name.new.groups) done n)
     (reads_taken l m (Ident raw name) (Wants gs) (HasName gs raw name) c.in-Some.ensures.taken
     (λ ts p. wants_name gs raw name ts p)) a)
     c.behind_name.ensures.begun
@@ -51,7 +51,7 @@ returns-in-Some-clause-shorter c =
     let l = c.args.reader.now in
     let m = c.eat_name.new.self in
     let n = c.behind_name.new.reader in
-    if_ok c.behind_name.result _ (λ _. items_left n < items_left l) (λ done a.
+    if_ok c.behind_name.result _ (λ _. bytes_left n < bytes_left l) (λ done a.
     omega (
       arith,
       taken_shorter l m (Ident c.in-Some.raw c.in-Some.name.now) c.in-Some.ensures.taken,

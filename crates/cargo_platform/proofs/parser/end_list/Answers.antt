@@ -14,9 +14,12 @@ returns-else-not-eat-clause-closed c =
     let es = map tree_of c.in-Some-List.members.items in
     let was : stack c.args.groups.now ≡ Listed all es ∷ gs = c.in-Some-List.ensures
     ∙ ap (λ z. opening z ∷ gs) c.in-Some-List.field-0-is in
-    let W : List Opening → Type 0 = λ z. Reads l m (Wants z) (Has gs (list_tree all es) m.item) in
-    let R : Tree → Type 0 = λ z. Reads l m (Wants (stack c.args.groups.now)) (Has gs z m.item) in
+    let W : List Opening → Type 0 = λ z. Reads l m (Wants z) (Has gs (list_tree all es) m) in
+    let R : Tree → Type 0 = λ z. Reads l m (Wants (stack c.args.groups.now)) (Has gs z m) in
     subst R (sym c.close_list.ensures)
     (subst W (sym was)
-    (reads_taken l m RightParen (Wants (Listed all es ∷ gs)) (Has gs (list_tree all es) m.item)
-    (c.eat.ensures.taken c.if-not-eat.false) (λ ts p. wants_close gs all es m.item ts p)))
+    (reads_taken l m RightParen (Wants (Listed all es ∷ gs)) (Has gs (list_tree all es) m)
+    (c.eat.ensures.taken c.if-not-eat.false) (λ ts p. wants_close gs all es m ts p)))
+
+pub returns-then-not-eat-clause-not_closed : goal.returns-then-not-eat-clause-not_closed
+returns-then-not-eat-clause-not_closed c = let n = c.eat.ensures.not_taken c.if-not-eat.true in (n.0, λ _. n.1)

@@ -1,5 +1,5 @@
 use Rattle.std.proofs.Common.{◌≡◌, []}
-use Rattle.cargo_platform.specs.Inside.Ahead.{items_left}
+use Rattle.cargo_platform.specs.Inside.Ahead.{bytes_left}
 use Rattle.cargo_platform.specs.Inside.Parsing.{stack, Stands, Reads}
 use Rattle.cargo_platform.proofs.parser.read_expression.Given as goal
 
@@ -7,8 +7,8 @@ use Rattle.cargo_platform.proofs.parser.read_expression.Given as goal
 abbrev pub invariant-groups : goal.invariant-groups
 invariant-groups l = record {
   same_text : l.reader.text ≡ l.fn.reader.text;
-  reads : Reads l.fn.reader l.reader (λ ts. ts ≡ []) (Stands (stack l.groups) l.done l.reader.item);
+  reads : Reads l.fn.reader l.reader (λ ts. ts ≡ []) (Stands (stack l.groups) l.done l.reader);
 }
 
 abbrev pub decreases-groups : goal.decreases-groups
-decreases-groups l = items_left l.reader
+decreases-groups l = bytes_left l.reader

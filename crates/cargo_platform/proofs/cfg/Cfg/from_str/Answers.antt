@@ -13,7 +13,7 @@ pub returns-in-Ok : goal.returns-in-Ok
 returns-in-Ok c =
     let s = c.args.s.now in
     let v = c.in-Ok.cfg in
-    let read = value_read s c.new-reader.result c.read_cfg.new.reader (value_of v) c.utf8.s c.new-reader.ensures.text
+    let read = value_read s c.new-reader.result c.read_cfg.new.reader (value_of v) c.new-reader.ensures.text
     c.new-reader.ensures.first c.in-Ok.ensures.value c.in-Ok.ensures.ended in
     record {
       value = read;

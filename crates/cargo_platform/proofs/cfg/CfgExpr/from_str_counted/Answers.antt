@@ -19,7 +19,7 @@ returns-clause-tree c =
     let P : Result CfgExpr ReadError → Type 0 = λ z. IfOk z (λ e. IsTreeText s (tree_of e)) in
     elim c.match-read_expression.branch [
       | in-Ok w ↦ subst P (sym w.read-is)
-          (expression_read s c.new-reader.result c.read_expression.new.reader (tree_of w.in-Ok.expression) c.utf8.s
+          (expression_read s c.new-reader.result c.read_expression.new.reader (tree_of w.in-Ok.expression)
           c.new-reader.ensures.text c.new-reader.ensures.first w.in-Ok.ensures.tree w.in-Ok.ensures.ended)
       | in-Err w ↦ subst P (sym w.read-is) tt
     ]

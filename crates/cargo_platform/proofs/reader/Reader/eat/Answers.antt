@@ -1,11 +1,11 @@
 use Rattle.std.proofs.Common.{◌≡◌, refl, sym, ap, subst, ◌∙◌, ◌+◌, ℕ, List, ◌++◌, arith}
 use Rattle.cargo_platform.specs.Tokens.{Lexeme, written}
 use Rattle.cargo_platform.specs.Inside.Ahead.{Ahead}
-use Rattle.cargo_platform.specs.Inside.Coming.{ahead_at, IsReadingAt}
+use Rattle.cargo_platform.specs.Inside.Looking.{IsReadingAt}
 use Rattle.cargo_platform.specs.Inside.Parsing.{TakesToken, Lacks, lexeme_of}
 use Rattle.cargo_platform.proofs.OneCut.{head_of}
 use Rattle.cargo_platform.proofs.Looking.{ascii_step}
-use Rattle.cargo_platform.proofs.Coming.{lacks, punctuation_stands, token_no_fault, reads_on, takes}
+use Rattle.cargo_platform.proofs.Coming.{ahead_at, lacks, punctuation_stands, token_no_fault, reads_on, takes}
 use Rattle.cargo_platform.proofs.reader.Reader.eat.Goals as goal
 
 pub returns-then-not-is_byte-clause-not_taken : goal.returns-then-not-is_byte-clause-not_taken
@@ -16,7 +16,7 @@ returns-then-not-is_byte-clause-not_taken c = λ _.
     let L : Ahead → Type 0 = λ z. Lacks P z in (
       refl,
       subst L c.self.view_is
-          (lacks P r.source.text.now r.place r.seen i.utf8 i.reached i.past i.sees (λ t b bs rest p w e s.
+          (lacks P r.source.text.now r.place r.seen i.past i.sees (λ t b bs rest p w e s.
           let first : c.byte_of.result ≡ b = head_of
           (sym (ap (λ (z : Lexeme). written z ++ rest) p ∙ ap (λ (z : List ℕ). z ++ rest) c.byte_of.ensures) ∙ e) in
           c.is_byte.ensures.no c.if-not-is_byte.true (rw first s))),
@@ -32,13 +32,13 @@ invariant_of-self c =
     let stands = punctuation_stands text r.place c.byte_of.result c.args.wanted c.byte_of.ensures here.1 here.0 in
     let none = token_no_fault text r.place end (lexeme_of c.args.wanted) r.seen r.fault r.source.looks i stands in
     let step = ascii_step text r.place i.utf8 here.1.within (omega (arith, here.1.ascii here.0, here.0)) i.reached in
-    let found = rw c.look-behind.ensures.same at c.past_spaces-place.ensures in
+    let found = rw c.look-behind.ensures.same at c.past_spaces.ensures in
     subst
-    (λ t. IsReadingAt t.now c.past_spaces-place.result.0 c.past_spaces-place.result.1
-    r.fault c.past_spaces-place.new.self.looks)
+    (λ t. IsReadingAt t.now c.past_spaces.result.0 c.past_spaces.result.1
+    r.fault c.past_spaces.new.self.looks)
     (sym found.same)
-    (reads_on text r.place end end c.past_spaces-place.result.0 r.seen c.past_spaces-place.result.1 r.fault
-    r.source.looks c.look-behind.new.self.looks c.past_spaces-place.new.self.looks i none step.1
+    (reads_on text r.place end end c.past_spaces.result.0 r.seen c.past_spaces.result.1 r.fault
+    r.source.looks c.look-behind.new.self.looks c.past_spaces.new.self.looks i none step.1
     c.look-behind.ensures.cost found.cost found.boundary found.sees found.past)
 
 pub returns-clause-taken : goal.returns-clause-taken
@@ -46,13 +46,13 @@ returns-clause-taken c = λ _.
     let r = c.self.inside in
     let i = c.self.invariant in
     let text = r.source.text.now in
-    let to = c.past_spaces-place.result.0 in
+    let to = c.past_spaces.result.0 in
     let t = lexeme_of c.args.wanted in
     let here = rw (c.is_byte.ensures.yes c.if-not-is_byte.false) at i.sees in
     let stands = punctuation_stands text r.place c.byte_of.result c.args.wanted c.byte_of.ensures here.1 here.0 in
-    let found = rw c.look-behind.ensures.same at c.past_spaces-place.ensures in
-    let T : Ahead → Type 0 = λ z. TakesToken z (ahead_at c.past_spaces-place.new.self.text.now to) t in
+    let found = rw c.look-behind.ensures.same at c.past_spaces.ensures in
+    let T : Ahead → Type 0 = λ z. TakesToken z (ahead_at c.past_spaces.new.self.text.now to) t in
     subst T c.self.view_is
     (subst
     (λ z. TakesToken (ahead_at text r.place) (ahead_at z.now to) t) (sym found.same)
-    (takes text r.place (r.place + 1) to t i.utf8 stands found.spaces found.boundary found.past))
+    (takes text r.place (r.place + 1) to t i.reached.0 stands found.spaces))

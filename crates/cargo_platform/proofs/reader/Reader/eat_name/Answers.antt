@@ -3,15 +3,16 @@ use Rattle.std.specs.Prelude.{slice_index}
 use Rattle.std.specs.List.{between}
 use Rattle.cargo_platform.specs.declared.source.Look.TheVariants.{Ascii}
 use Rattle.cargo_platform.specs.Chars.{is_identifier_start}
+use Rattle.cargo_platform.specs.Cut.{Token}
 use Rattle.cargo_platform.specs.Tokens.{Ident}
-use Rattle.cargo_platform.specs.Inside.Ahead.{Ahead}
-use Rattle.cargo_platform.specs.Inside.Coming.{ahead_at, IsReadingAt}
+use Rattle.cargo_platform.specs.Inside.Ahead.{Ahead, NextIs}
+use Rattle.cargo_platform.specs.Inside.Looking.{IsReadingAt}
 use Rattle.cargo_platform.specs.Inside.Parsing.{IsIdentifier}
 use Rattle.cargo_platform.specs.Inside.Parsing.{TakesToken, Lacks}
 use Rattle.cargo_platform.specs.Inside.Scanning.{IsTokenAt}
 use Rattle.cargo_platform.proofs.Looking.{ascii_step}
 use Rattle.cargo_platform.proofs.Scanning.{plain_stands}
-use Rattle.cargo_platform.proofs.Coming.{lacks_name, name_ahead, token_no_fault, costs_then, reads_on, takes}
+use Rattle.cargo_platform.proofs.Coming.{ahead_at, lacks_name, name_ahead, token_no_fault, costs_then, reads_on, takes}
 use Rattle.cargo_platform.proofs.reader.Reader.eat_name.Goals as goal
 
 pub returns-in_default : goal.returns-in_default
@@ -25,7 +26,7 @@ returns-in_default c =
       not_taken = (
         refl,
         subst L c.self.view_is
-            (lacks_name r.source.text.now r.place r.seen i.utf8 i.reached i.past i.sees
+            (lacks_name r.source.text.now r.place r.seen i.past i.sees
             (λ b s h. c.in_default.not-Ascii b s)),
       );
     }
@@ -34,8 +35,9 @@ pub eat_name_with_r-requires : goal.eat_name_with_r-requires
 eat_name_with_r-requires c = λ t is.
     let r = c.self.inside in
     let i = c.self.invariant in
-    name_ahead r.source.text.now r.place r.seen 0x72 i.utf8 i.reached i.past i.sees
-    (c.in-Ascii.is ∙ ap Ascii c.if-first-eq114.true) refl t (ap (λ (z : Ahead). z.item) c.self.view_is ∙ is)
+    let N : Ahead → Type 0 = λ z. NextIs z (Token t) in
+    name_ahead r.source.text.now r.place r.seen 0x72 i.past i.sees
+    (c.in-Ascii.is ∙ ap Ascii c.if-first-eq114.true) refl t (subst N (sym c.self.view_is) is)
 
 pub returns-then-not-begins_identifier-clause-not_taken : goal.returns-then-not-begins_identifier-clause-not_taken
 returns-then-not-begins_identifier-clause-not_taken c =
@@ -44,7 +46,7 @@ returns-then-not-begins_identifier-clause-not_taken c =
     let L : Ahead → Type 0 = λ z. Lacks IsIdentifier z in (
       refl,
       subst L c.self.view_is
-          (lacks_name r.source.text.now r.place r.seen i.utf8 i.reached i.past i.sees (λ b s h.
+          (lacks_name r.source.text.now r.place r.seen i.past i.sees (λ b s h.
           let same : Ascii c.in-Ascii.first ≡ Ascii b = sym c.in-Ascii.is ∙ s in
           let byte : c.in-Ascii.first ≡ b = cc in
           true≢false
@@ -59,7 +61,7 @@ invariant_of-self c =
     let text = r.source.text.now in
     let next = r.place + 1 in
     let end = c.past_identifier-end.result.0 in
-    let to = c.past_spaces-place.result.0 in
+    let to = c.past_spaces.result.0 in
     let name = c.slice-name.result.now in
     let here = rw c.in-Ascii.is at i.sees in
     let byte = here.1.ascii here.0 in
@@ -71,11 +73,11 @@ invariant_of-self c =
     (λ is. absurd (c.if-first-eq114.false (sym byte ∙ is))) in
     let none = token_no_fault text r.place end (Ident false name) r.seen r.fault r.source.looks i stands in
     let step = ascii_step text r.place i.utf8 here.1.within (omega (arith, byte, here.0)) i.reached in
-    let found = rw named.same at c.past_spaces-place.ensures in
-    let looks = c.past_spaces-place.new.self.looks in
+    let found = rw named.same at c.past_spaces.ensures in
+    let looks = c.past_spaces.new.self.looks in
     subst
-    (λ t. IsReadingAt t.now to c.past_spaces-place.result.1 r.fault looks) (sym found.same)
-    (reads_on text r.place next end to r.seen c.past_spaces-place.result.1 r.fault r.source.looks
+    (λ t. IsReadingAt t.now to c.past_spaces.result.1 r.fault looks) (sym found.same)
+    (reads_on text r.place next end to r.seen c.past_spaces.result.1 r.fault r.source.looks
     c.past_identifier-end.new.self.looks looks i none step.1
     (costs_then text next next end 1 0 r.source.looks c.look-second.new.self.looks c.past_identifier-end.new.self.looks
     c.look-second.ensures.cost named.cost)
@@ -87,7 +89,7 @@ returns-clause-taken c =
     let i = c.self.invariant in
     let text = r.source.text.now in
     let end = c.past_identifier-end.result.0 in
-    let to = c.past_spaces-place.result.0 in
+    let to = c.past_spaces.result.0 in
     let name = c.slice-name.result.now in
     let here = rw c.in-Ascii.is at i.sees in
     let byte = here.1.ascii here.0 in
@@ -97,9 +99,9 @@ returns-clause-taken c =
     let stands : IsTokenAt text (Ident false name) r.place end = plain_stands text name r.place end class named.order
     named.boundary.0 (c.slice-name.ensures ∙ ap (λ t. between r.place end t.now) named.same) named.rest named.end
     (λ is. absurd (c.if-first-eq114.false (sym byte ∙ is))) in
-    let found = rw named.same at c.past_spaces-place.ensures in
-    let T : Ahead → Type 0 = λ z. TakesToken z (ahead_at c.past_spaces-place.new.self.text.now to) (Ident false name) in
+    let found = rw named.same at c.past_spaces.ensures in
+    let T : Ahead → Type 0 = λ z. TakesToken z (ahead_at c.past_spaces.new.self.text.now to) (Ident false name) in
     subst T c.self.view_is
     (subst
     (λ z. TakesToken (ahead_at text r.place) (ahead_at z.now to) (Ident false name)) (sym found.same)
-    (takes text r.place end to (Ident false name) i.utf8 stands found.spaces found.boundary found.past))
+    (takes text r.place end to (Ident false name) i.reached.0 stands found.spaces))

@@ -3,13 +3,13 @@ use Rattle.std.specs.List.{between}
 use Rattle.cargo_platform.specs.declared.tokens.TokenFaultKind.TheVariants.{UnterminatedString}
 use Rattle.cargo_platform.specs.Tokens.{Lexeme, String, written}
 use Rattle.cargo_platform.specs.Inside.Ahead.{Ahead}
-use Rattle.cargo_platform.specs.Inside.Coming.{ahead_at, IsReadingAt}
+use Rattle.cargo_platform.specs.Inside.Looking.{IsReadingAt}
 use Rattle.cargo_platform.specs.Inside.Parsing.{IsString}
 use Rattle.cargo_platform.specs.Inside.Parsing.{TakesToken, Lacks}
 use Rattle.cargo_platform.proofs.OneCut.{head_of}
 use Rattle.cargo_platform.proofs.Looking.{ascii_step}
 use Rattle.cargo_platform.proofs.Scanning.{string_stands, unterminated}
-use Rattle.cargo_platform.proofs.Coming.{lacks, fault_lacks, finds, takes}
+use Rattle.cargo_platform.proofs.Coming.{ahead_at, lacks, fault_lacks, finds, takes}
 use Rattle.cargo_platform.proofs.reader.Reader.eat_string.Goals as goal
 
 pub returns-then-not-is_byte-clause-not_taken : goal.returns-then-not-is_byte-clause-not_taken
@@ -19,7 +19,7 @@ returns-then-not-is_byte-clause-not_taken c =
     let L : Ahead → Type 0 = λ z. Lacks IsString z in (
       refl,
       subst L c.self.view_is
-          (lacks IsString r.source.text.now r.place r.seen i.utf8 i.reached i.past i.sees (λ t b bs rest p w e s.
+          (lacks IsString r.source.text.now r.place r.seen i.past i.sees (λ t b bs rest p w e s.
           let first : 0x22 ≡ b = head_of (sym (ap (λ (z : Lexeme). written z ++ rest) p.1) ∙ e) in
           c.is_byte.ensures.no c.if-not-is_byte.true (rw first s))),
     )
@@ -30,7 +30,7 @@ returns-in-Some-clause-not_taken c =
     let i = c.self.invariant in
     let L : Ahead → Type 0 = λ z. Lacks IsString z in
     let found = rw c.in-Some.is at i.found in
-    let lacks_it = fault_lacks IsString r.source.text.now r.place c.in-Some._kind i.utf8 i.reached found in
+    let lacks_it = fault_lacks IsString r.source.text.now r.place c.in-Some._kind i.reached.0 found in
     (refl, subst L c.self.view_is lacks_it)
 
 pub invariant_of-self : goal.invariant_of-self
@@ -57,7 +57,7 @@ returns-in_default-closing_quote-clause-not_taken c =
     let L : Ahead → Type 0 = λ z. Lacks IsString z in (
       subst V c.self.view_is (ap (λ z. ahead_at z.now r.place) ends.same),
       subst L c.self.view_is
-          (fault_lacks IsString text r.place UnterminatedString i.utf8 i.reached
+          (fault_lacks IsString text r.place UnterminatedString i.reached.0
           (unterminated text r.place here.1 ends.none)),
     )
 
@@ -66,7 +66,7 @@ returns-clause-taken c =
     let r = c.self.inside in
     let i = c.self.invariant in
     let text = r.source.text.now in
-    let to = c.past_spaces-place.result.0 in
+    let to = c.past_spaces.result.0 in
     let end = c.in-Some-closing_quote.quote in
     let value = c.slice-value.result.now in
     let here = rw (c.is_byte.ensures.yes c.if-not-is_byte.false) at i.sees in
@@ -75,9 +75,9 @@ returns-clause-taken c =
     let stands = string_stands text value r.place end (here.1.ascii here.0) (quote.ascii (omega arith)) ends.order
     quote.within (c.slice-value.ensures ∙ ap (λ t. between (r.place + 1) end t.now) ends.same) c.slice-value.utf8
     ends.value in
-    let found = rw (c.look-behind.ensures.same ∙ ends.same) at c.past_spaces-place.ensures in
-    let T : Ahead → Type 0 = λ z. TakesToken z (ahead_at c.past_spaces-place.new.self.text.now to) (String value) in
+    let found = rw (c.look-behind.ensures.same ∙ ends.same) at c.past_spaces.ensures in
+    let T : Ahead → Type 0 = λ z. TakesToken z (ahead_at c.past_spaces.new.self.text.now to) (String value) in
     subst T c.self.view_is
     (subst
     (λ z. TakesToken (ahead_at text r.place) (ahead_at z.now to) (String value)) (sym found.same)
-    (takes text r.place (end + 1) to (String value) i.utf8 stands found.spaces found.boundary found.past))
+    (takes text r.place (end + 1) to (String value) i.reached.0 stands found.spaces))

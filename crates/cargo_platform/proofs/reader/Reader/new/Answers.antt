@@ -2,10 +2,8 @@ use Rattle.std.proofs.Common.{sym, ap, subst, ◌∙◌, ◌<◌, ◌^◌, List,
 use Rattle.std.specs.Str.{IsCharBoundary}
 use Rattle.std.proofs.lemmas.Str.{IsCharBoundary-start}
 use Rattle.cargo_platform.specs.Reading.{characters_from}
-use Rattle.cargo_platform.specs.Cut.{Comes}
-use Rattle.cargo_platform.specs.Inside.Coming.{ahead_at, IsReadingAt}
+use Rattle.cargo_platform.specs.Inside.Looking.{IsReadingAt}
 use Rattle.cargo_platform.proofs.Looking.{chars_fit}
-use Rattle.cargo_platform.proofs.Coming.{comes_from, comes_here}
 use Rattle.cargo_platform.proofs.reader.Reader.new.Goals as goal
 
 pub look-first-requires : goal.look-first-requires
@@ -50,9 +48,4 @@ pub returns-clause-first : goal.returns-clause-first
 returns-clause-first c =
     let first = ap (λ t. t.now) c.look-first.ensures.same ∙ c.new-source.ensures.text in
     let found = rw first at c.past_spaces-place.ensures in
-    let to = c.past_spaces-place.result.0 in
-    let l = ahead_at c.args.text.now to in
-    let C : List ℕ → Type 0 = λ z. Comes c.args.text.now 0 (ahead_at z to).item (ahead_at z to).place in
-    subst C (sym (ap (λ t. t.now) c.past_spaces-place.ensures.same ∙ first))
-    (comes_from c.args.text.now 0 to l.place l.item found.spaces
-    (comes_here c.args.text.now to c.utf8.text found.boundary found.past))
+    found.spaces
