@@ -1,21 +1,133 @@
 -- The warnings on values grow by those on the next one, and a cut takes all of them back.
-use Rattle.std.proofs.Common.{◌≡◌, sym, ap, ◌∙◌, ℕ, List, [], ◌∷◌, ◌++◌, length, take, map, String, Vec, Global}
-use Rattle.std.proofs.Common.{string_bytes, vec_len, append_assoc, flat_map, arith}
-use Rattle.std.proofs.lemmas.List.{length-map, map-append, take-map, take_all, take-append-le}
-use Rattle.cargo_platform.specs.Trees.{CfgValue}
+use Rattle.std.proofs.Common.{◌≡◌, refl, sym, ap, ◌∙◌, ◌⊎◌, inl, inr, ℕ, ◌+◌, ◌≤◌, ◌==◌, true, false, true≢false}
+use Rattle.std.proofs.Common.{List, [], ◌∷◌, ◌++◌, length, take, map, flat_map, reverse, sum, append-nil, append_assoc}
+use Rattle.std.proofs.Common.{String, Vec, Box, Global, string_bytes, box_value, vec_len, arith, rules}
+use Rattle.std.proofs.lemmas.Bool.{eqb-true}
+use Rattle.std.proofs.lemmas.List.{length-map, map-append, take-map, take_all, take-append-le, reverse-append}
+use Rattle.std.proofs.lemmas.List.{nil_from_length}
+use Rattle.std.proofs.lemmas.List.Sums.{sum_by-append, sum_by-cons}
+use Rattle.std.proofs.lemmas.Grind.{flat_map-append}
+use Rattle.cargo_platform.specs.declared.cfg.CfgExpr.{CfgExpr, the_lemmas}
+use Rattle.cargo_platform.specs.declared.cfg.CfgExpr.TheVariants as expr
+use Rattle.cargo_platform.specs.ExpressionSizes.{node_count, node_counts}
+use Rattle.cargo_platform.specs.Trees.{CfgValue, tree_of, trees_of}
 use Rattle.cargo_platform.specs.Errors.{texts}
-use Rattle.cargo_platform.specs.Warnings.{IsLonger}
+use Rattle.cargo_platform.specs.Warnings.{IsLonger, values, members_values}
+use Rattle.cargo_platform.proofs.TreeViews.{tree_of-Not, tree_of-All, tree_of-Any}
 
--- the warnings so far, and those of a value that comes next
-pub warned_on : (f : CfgValue → List (List ℕ)) (old now new more all : List (List ℕ)) (c : CfgValue)
-    (left come : List CfgValue)
-    → now ≡ old ++ more → more ++ flat_map f left ≡ all → left ≡ c ∷ come → new ≡ now ++ f c
-    → (m : List (List ℕ)) × (new ≡ old ++ m) × (m ++ flat_map f come ≡ all)
-warned_on f old now new more all c left come so_far whole is next = (
-  more ++ f c,
-  next ∙ ap (λ ws. ws ++ f c) so_far ∙ append_assoc old more (f c),
-  append_assoc more (f c) (flat_map f come) ∙ ap (λ vs. more ++ flat_map f vs) (sym is) ∙ whole,
+abbrev pub values_of : List CfgExpr → List CfgValue
+values_of es = members_values (trees_of (map tree_of es))
+
+-- 1 for a list that is not empty
+abbrev pub count_if_any : List CfgExpr → ℕ
+count_if_any [] = 0
+count_if_any (e ∷ es) = 1
+
+pub at_most_one : (es : List CfgExpr) → count_if_any es ≤ 1
+at_most_one [] = omega arith
+at_most_one (e ∷ es) = omega arith
+
+pub one_if_any : (es : List CfgExpr) → (length es == 0) ≡ false → count_if_any es ≡ 1
+one_if_any [] some = absurd (true≢false some)
+one_if_any (e ∷ es) some = refl
+
+size_of-Not : (b : Box CfgExpr Global) → node_count (expr.Not b) ≡ node_count (box_value b) + 1
+size_of-Not b = search (rules, the_lemmas)
+
+size_of-All : (v : Vec CfgExpr Global) → node_count (expr.All v) ≡ node_counts v.items + 1
+size_of-All v = search (rules, the_lemmas)
+
+size_of-Any : (v : Vec CfgExpr Global) → node_count (expr.Any v) ≡ node_counts v.items + 1
+size_of-Any v = search (rules, the_lemmas)
+
+pub nodes_of_first : (ms os : List CfgExpr) (e : CfgExpr) → ms ≡ e ∷ os
+    → node_counts ms ≡ node_count e + node_counts os
+nodes_of_first ms os e is = ap (λ z. node_counts z) is ∙ sum_by-cons (λ n. n) (node_count e) (map node_count os)
+
+-- the expression is a group of these members
+abbrev pub IsGroup : CfgExpr → List CfgExpr → Type 0
+IsGroup e es = (values (tree_of e) ≡ values_of es) × (node_count e ≡ node_counts es + 1)
+
+pub list_group : (e : CfgExpr) (v : Vec CfgExpr Global) (es : List CfgExpr) → (e ≡ expr.All v) ⊎ (e ≡ expr.Any v)
+    → es ≡ v.items → IsGroup e es
+list_group e v es is members = (
+  elim is [
+    | inl p ↦ ap (λ z. values (tree_of z)) p ∙ ap values (tree_of-All v) ∙ ap values_of (sym members)
+    | inr p ↦ ap (λ z. values (tree_of z)) p ∙ ap values (tree_of-Any v) ∙ ap values_of (sym members)
+  ],
+  elim is [
+    | inl p ↦ ap node_count p ∙ size_of-All v ∙ ap (λ z. node_counts z + 1) (sym members)
+    | inr p ↦ ap node_count p ∙ size_of-Any v ∙ ap (λ z. node_counts z + 1) (sym members)
+  ],
 )
+
+pub negated_group : (e : CfgExpr) (b : Box CfgExpr Global) (inner : CfgExpr) (es : List CfgExpr) → e ≡ expr.Not b
+    → inner ≡ box_value b → es ≡ inner ∷ [] → IsGroup e es
+negated_group e b inner es is same members =
+    let only : es ≡ box_value b ∷ [] = members ∙ ap (λ z. z ∷ []) same in (
+      ap (λ z. values (tree_of z)) is
+          ∙ ap values (tree_of-Not b)
+          ∙ sym (append-nil (values (tree_of (box_value b))))
+          ∙ ap values_of (sym only),
+      omega (arith, ap node_count is, size_of-Not b, nodes_of_first es [] (box_value b) only),
+    )
+
+-- the values of the first member, and then those of the others
+pub first_values : (ms os : List CfgExpr) (e : CfgExpr) (vs rest : List CfgValue) → ms ≡ e ∷ os
+    → values (tree_of e) ≡ vs → values_of ms ++ rest ≡ vs ++ (values_of os ++ rest)
+first_values ms os e vs rest is first =
+    ap (λ z. values_of z ++ rest) is
+    ∙ append_assoc (values (tree_of e)) (values_of os) rest
+    ∙ ap (λ z. z ++ (values_of os ++ rest)) first
+
+module _ (over all : List CfgValue) (ms os es : List CfgExpr) (e : CfgExpr) (is : ms ≡ e ∷ os)
+    (group : values (tree_of e) ≡ values_of es) where
+  opened : (rest : List CfgValue) → over ++ (values_of ms ++ rest) ≡ all
+      → over ++ (values_of es ++ (values_of os ++ rest)) ≡ all
+  opened rest h = ap (λ z. over ++ z) (sym (first_values ms os e (values_of es) rest is group)) ∙ h
+
+  -- a group that no others follow
+  pub opened_last : (rest : List CfgValue) → (length os == 0) ≡ true → over ++ (values_of ms ++ rest) ≡ all
+      → over ++ (values_of es ++ rest) ≡ all
+  opened_last rest none h =
+      ap (λ z. over ++ (values_of es ++ (values_of z ++ rest))) (sym (nil_from_length os (eqb-true (length os) 0 none)))
+      ∙ opened rest h
+
+  -- one that others follow, where none is open around it
+  pub opened_first : (around : List CfgExpr) (rest : List CfgValue) → (length around == 0) ≡ true
+      → over ++ (values_of ms ++ (values_of around ++ rest)) ≡ all
+      → over ++ (values_of es ++ (values_of os ++ rest)) ≡ all
+  opened_first around rest none h =
+      opened rest (ap (λ z. over ++ (values_of ms ++ (values_of z ++ rest)))
+      (sym (nil_from_length around (eqb-true (length around) 0 none))) ∙ h)
+
+  -- and where the one around it is kept
+  pub opened_within : {X : Type 0} (f : X → List CfgValue) (kept now : List X) (around : X)
+      → now ≡ kept ++ around ∷ [] → over ++ (values_of ms ++ (f around ++ flat_map f (reverse kept))) ≡ all
+      → over ++ (values_of es ++ (values_of os ++ flat_map f (reverse now))) ≡ all
+  opened_within f kept now around grown h =
+      opened (flat_map f (reverse now))
+      (ap (λ z. over ++ (values_of ms ++ flat_map f (reverse z))) grown
+      ∙ ap (λ z. over ++ (values_of ms ++ flat_map f z)) (reverse-append kept (around ∷ []))
+      ∙ h)
+
+pub nodes_kept : {X : Type 0} (f : X → ℕ) (kept now : List X) (last : X) → now ≡ kept ++ last ∷ []
+    → sum (map f now) ≡ sum (map f kept) + f last
+nodes_kept f kept now last grown =
+    ap (λ z. sum (map f z)) grown
+    ∙ ap (λ z. sum z) (map-append f kept (last ∷ []))
+    ∙ sum_by-append (λ n. n) (map f kept) (f last ∷ [])
+    ∙ ap (λ n. sum (map f kept) + n) (omega (arith, sum_by-cons (λ n. n) (f last) []))
+
+-- the warnings on the values so far, and those on the next one
+pub warned_on : (f : CfgValue → List (List ℕ)) (old now new : List (List ℕ)) (over : List CfgValue) (v : CfgValue)
+    → now ≡ old ++ flat_map f over → new ≡ now ++ f v → new ≡ old ++ flat_map f (over ++ v ∷ [])
+warned_on f old now new over v so_far next =
+    next
+    ∙ ap (λ ws. ws ++ f v) so_far
+    ∙ append_assoc old (flat_map f over) (f v)
+    ∙ ap (λ ws. old ++ (flat_map f over ++ ws)) (sym (append-nil (f v)))
+    ∙ ap (λ ws. old ++ ws) (sym (flat_map-append f over (v ∷ [])))
 
 pub pushed_warning : (now new : Vec (String Global) Global) (s : String Global) (ws : List (List ℕ))
     → new.items ≡ now.items ++ s ∷ [] → ws ≡ string_bytes s ∷ [] → texts new ≡ texts now ++ ws

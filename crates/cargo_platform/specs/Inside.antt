@@ -7,5 +7,4 @@ pub mod Parsing
 pub mod Pending
 pub mod Asking
 pub mod Copying
-pub mod Values
 pub mod Printing

@@ -22,7 +22,6 @@ mod platforms;
 mod reader;
 mod source;
 pub mod tokens;
-mod values;
 mod warnings;
 
 pub use cfg::{Cfg, CfgExpr, FactIndex, Facts, Ident, Listed};

@@ -1,7 +1,6 @@
 //! Warnings on conditions that are read without a fault, but do not select dependencies as their writer may expect.
 
-ghost use Rattle.std.specs.Prelude.{◌≡◌, ◌++◌, List, [], ◌∷◌, ℕ, IfOk, OnOk, OnErr, MatchOption, flat_map};
-ghost use Rattle.std.specs.Prelude.{string_bytes};
+ghost use Rattle.std.specs.Prelude.{◌≡◌, ◌++◌, List, ℕ, IfOk, OnOk, OnErr, flat_map, string_bytes};
 ghost use Rattle.cargo_platform.specs.Trees.{CfgValue, name_of, value_of, tree_of, condition_of};
 ghost use Rattle.cargo_platform.specs.Spelling.{is_literal_word};
 ghost use Rattle.cargo_platform.specs.Errors.{texts};
@@ -9,9 +8,9 @@ ghost use Rattle.cargo_platform.specs.Warnings.{values, attribute_warning, attri
 ghost use Rattle.cargo_platform.specs.Warnings.{keyword_warning_of, keyword_warnings, condition_values};
 ghost use Rattle.cargo_platform.specs.Warnings.{is_unsupported_name, unsupported_name, unsupported_feature, IsLonger};
 
-use crate::values::ValueWalk;
 use crate::{Cfg, CfgExpr, Ident, Platform};
 use std::alloc::{AllocError, Global};
+use std::slice;
 
 impl Platform {
     /// Appends a warning for each name or pair of the expression that is not supported for selecting dependencies, in
@@ -54,14 +53,14 @@ impl Platform {
 
 /// A kind of warning on single values.
 trait Lint {
-    // The texts of the warnings on a value, none or one.
-    ghost warnings: { Self → CfgValue → List (List ℕ) };
+    // The text of the warning on a value, none or one.
+    ghost warning: { Self → CfgValue → List (List ℕ) };
 
-    /// The text of the warning on a value, if it gets one.
-    fn warning(&self, alloc: Global, c: &Cfg) -> Result<Option<String>, AllocError>
-        ensures { IfOk result
-            (λ w. MatchOption w (warnings self.now (value_of c.now) ≡ [])
-            (λ s. warnings self.now (value_of c.now) ≡ string_bytes s ∷ [])) };
+    /// Appends the warning on a value, if it gets one.
+    fn check(&self, alloc: Global, c: &Cfg, warnings: &mut Vec<String>) -> Result<(), AllocError>
+        ensures ok { OnOk result
+            (texts warnings.new ≡ texts warnings.old ++ warning self.now (value_of c.now)) }
+        ensures err { OnErr result (texts warnings.new ≡ texts warnings.old) };
 }
 
 /// Names and keys that are not supported for selecting dependencies.
@@ -69,14 +68,19 @@ trait Lint {
 struct Attributes;
 
 impl Lint for Attributes {
-    ghost warnings = { λ _ c. attribute_warning c };
+    ghost warning = { λ _ c. attribute_warning c };
 
-    fn warning(&self, alloc: Global, c: &Cfg) -> Result<Option<String>, AllocError> {
+    fn check(&self, alloc: Global, c: &Cfg, warnings: &mut Vec<String>) -> Result<(), AllocError> {
         match c {
-            Cfg::Name(name) if is_unsupported(name) => Ok(Some(name_text(alloc, name)?)),
-            Cfg::KeyPair(key, _) if key.as_str() == "feature" => Ok(Some(feature_text(alloc)?)),
-            _ => Ok(None),
+            Cfg::Name(name) if is_unsupported(name) => {
+                warnings.push(name_text(alloc, name)?)?;
+            }
+            Cfg::KeyPair(key, _) if key.as_str() == "feature" => {
+                warnings.push(feature_text(alloc)?)?;
+            }
+            _ => {}
         }
+        Ok(())
     }
 }
 
@@ -115,15 +119,16 @@ fn feature_text(alloc: Global) -> Result<String, AllocError>
 struct Keywords<'a>(&'a str);
 
 impl<'a> Lint for Keywords<'a> {
-    ghost warnings = { λ k c. keyword_warning_of k.0.now c };
+    ghost warning = { λ k c. keyword_warning_of k.0.now c };
 
-    fn warning(&self, alloc: Global, c: &Cfg) -> Result<Option<String>, AllocError> {
+    fn check(&self, alloc: Global, c: &Cfg, warnings: &mut Vec<String>) -> Result<(), AllocError> {
         match c {
             Cfg::Name(name) | Cfg::KeyPair(name, _) if is_keyword(name) => {
-                Ok(Some(keyword_text(alloc, self.0, c, name.as_str())?))
+                warnings.push(keyword_text(alloc, self.0, c, name.as_str())?)?;
             }
-            _ => Ok(None),
+            _ => {}
         }
+        Ok(())
     }
 }
 
@@ -155,7 +160,7 @@ fn warn<L: Lint>(
     warnings: &mut Vec<String>,
 ) -> Result<(), AllocError>
     ensures ok { OnOk result
-        (texts warnings.new ≡ texts warnings.old ++ flat_map (L.warnings lint.now)
+        (texts warnings.new ≡ texts warnings.old ++ flat_map (L.warning lint.now)
         (condition_values (condition_of platform.now))) }
     ensures err { OnErr result (texts warnings.new ≡ texts warnings.old) }
 {
@@ -178,14 +183,46 @@ fn walk<L: Lint>(
     warnings: &mut Vec<String>,
 ) -> Result<(), AllocError>
     ensures ok { OnOk result
-        (texts warnings.new ≡ texts warnings.old ++ flat_map (L.warnings lint.now) (values (tree_of e.now))) }
+        (texts warnings.new ≡ texts warnings.old ++ flat_map (L.warning lint.now) (values (tree_of e.now))) }
     ensures err { OnErr result (IsLonger (texts warnings.new) (texts warnings.old)) }
 {
-    let mut values = ValueWalk::new(alloc, e);
-    'values: while let Some(c) = values.next()? {
-        if let Some(text) = lint.warning(alloc, c)? {
-            warnings.push(text)?;
+    // What is left of the group that was opened last, of one around it, and of those around these. Most conditions
+    // have no more than two, and so take no memory here.
+    let mut members = slice::from_ref(e);
+    let mut around: &[CfgExpr] = &[];
+    let mut outer: Vec<&[CfgExpr]> = Vec::new(alloc);
+    'members: loop {
+        let Some((first, others)) = members.split_first() else {
+            if !around.is_empty() {
+                members = around;
+                around = &[];
+                continue;
+            }
+            let Some(left) = outer.pop() else {
+                return Ok(());
+            };
+            members = left;
+            continue;
+        };
+        members = others;
+        let group = match first {
+            CfgExpr::Value(c) => {
+                lint.check(alloc, c, warnings)?;
+                continue;
+            }
+            CfgExpr::True | CfgExpr::False => continue,
+            CfgExpr::Not(inner) => {
+                let negated: &CfgExpr = inner;
+                slice::from_ref(negated)
+            }
+            CfgExpr::All(members) | CfgExpr::Any(members) => members.as_slice(),
+        };
+        if !members.is_empty() {
+            if !around.is_empty() {
+                outer.push(around)?;
+            }
+            around = members;
         }
+        members = group;
     }
-    Ok(())
 }
