@@ -55,17 +55,18 @@ members-smaller-in-True-2 g c =
 
 pub members-preserved-in-Value : goal.members-preserved-in-Value
 members-preserved-in-Value g c =
+    let over = c.members.invariant.0 in
     let f = g.L.Lint.warning c.args.lint.now in
     let v = value_of c.in-Value.c in
     let rest = values_of c.members.around.now
-    ++ flat_map (λ es. values_of es.now) (reverse c.members.outer.items) in (
-      c.members.invariant.0 ++ v ∷ [],
-      warned_on f (texts c.args.warnings.now) (texts c.members.warnings) (texts c.check.new.warnings)
-          c.members.invariant.0 v c.members.invariant.1 c.in_ok-check-in-Value.ensures.ok,
-      append_assoc c.members.invariant.0 (v ∷ []) (values_of c.in-Some.others.now ++ rest)
-          ∙ sym (ap (λ vs. c.members.invariant.0 ++ vs)
-          (first_values c.members.members.now c.in-Some.others.now c.in-Some.first.now (v ∷ []) rest
-          c.in-Some.ensures.cases.0 (ap (λ e. values (tree_of e)) c.in-Value.is ∙ ap values (tree_of-Value c.in-Value.c))))
+    ++ flat_map (λ es. values_of es.now) (reverse c.members.outer.items) in
+    let first = first_values c.members.members.now c.in-Some.others.now c.in-Some.first.now (v ∷ []) rest
+    c.in-Some.ensures.cases.0 (ap (λ e. values (tree_of e)) c.in-Value.is ∙ ap values (tree_of-Value c.in-Value.c)) in (
+      over ++ v ∷ [],
+      warned_on f (texts c.args.warnings.now) (texts c.members.warnings) (texts c.check.new.warnings) over v
+          c.members.invariant.1 c.in_ok-check-in-Value.ensures.ok,
+      append_assoc over (v ∷ []) (values_of c.in-Some.others.now ++ rest)
+          ∙ sym (ap (λ vs. over ++ vs) first)
           ∙ c.members.invariant.2,
     )
 
