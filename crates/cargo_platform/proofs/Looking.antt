@@ -1,6 +1,7 @@
 -- The character at a place, from what the text has there.
 use Rattle.std.proofs.Common.{◌≡◌, ℕ, zero, suc, ◌+◌, ◌-◌, ◌<◌, ◌≤◌, List, [], ◌∷◌, ◌++◌, length, get_or, drop, refl}
-use Rattle.std.proofs.Common.{sym, ap, subst, ◌∙◌, arith, add-zero, add-one, true, false, ◌&&◌, Bool, cond, ltb, ◌/◌, ◌%◌}
+use Rattle.std.proofs.Common.{sym, ap, subst, ◌∙◌, arith, add-zero, add-one, true, false, ◌&&◌, Bool, cond, ltb}
+use Rattle.std.proofs.Common.{◌/◌, ◌%◌}
 use Rattle.std.proofs.lemmas.List.{get_or-drop, length-append, length-drop}
 use Rattle.std.proofs.Math.Seq.{drop-cons}
 use Rattle.std.specs.Char.{len_utf8}

@@ -4,8 +4,8 @@
 //! "Specifying dependencies" of Cargo's reference, and "Configuration predicates" in the Rust reference's chapter on
 //! conditional compilation.
 
-ghost use Rattle.std.specs.Prelude.{◌≡◌, ◌↔◌, ◌≤◌, ◌<◌, ◌+◌, ℕ, List, true, false, IsTrue, IfOk, MatchOption, map, length};
-ghost use Rattle.std.specs.Prelude.{string_bytes, slice_index};
+ghost use Rattle.std.specs.Prelude.{◌≡◌, ◌↔◌, ◌≤◌, ◌<◌, ◌+◌, ℕ, List, true, false, IsTrue, IfOk, MatchOption, map};
+ghost use Rattle.std.specs.Prelude.{length, string_bytes, slice_index};
 ghost use Rattle.unicode.specs.GeneralCategory.{general_category};
 ghost use Rattle.cargo_platform.specs.Trees.{Tree, Condition, Expression, value_of, condition_of};
 ghost use Rattle.cargo_platform.specs.Facts.{fact_set, truth, IsTrueCondition};
