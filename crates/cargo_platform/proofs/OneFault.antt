@@ -119,10 +119,10 @@ one_fault g text e f p q =
     same_truth p.accepted q.accepted (λ h. q.is_accepted.1 (subst A same.0 (p.is_accepted.0 h)))
     (λ h. p.is_accepted.1 (subst A (sym same.0) (q.is_accepted.0 h))) in
     let C : List Placed → Type 0 = λ z. IsCut text z q.tail in
-    let B : List Placed → Type 0 = λ z. ComesBehind text z p.next p.place in
+    let B : List Placed → Type 0 = λ z. ComesBehind text 0 z p.next p.place in
     let c = subst C q.is_prefix.parts q.cut in
     let next = one_next text q.after q.tail p.next q.next
-    (behind_is text q.prefix q.after q.tail p.place p.next c (subst B same.0 p.follows))
-    (behind_is text q.prefix q.after q.tail q.place q.next c q.follows) in
+    (behind_is text 0 p.place q.tail q.prefix q.after p.next c (subst B same.0 p.follows))
+    (behind_is text 0 q.place q.tail q.prefix q.after q.next c q.follows) in
     same_Some _ _
     (sym p.is_fault ∙ (λ i. fault_of g text (accepted i) (last_or None (lexemes (same.0 i))) (next i)) ∙ q.is_fault)

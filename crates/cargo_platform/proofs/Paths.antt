@@ -4,7 +4,7 @@ use Rattle.std.proofs.Common.{◌+◌, append_assoc, drop_of_length-le, length-a
 use Rattle.std.proofs.lemmas.List.Folds.{list_all-append}
 use Rattle.cargo_platform.specs.Chars.{is_space, starts}
 use Rattle.cargo_platform.specs.Tokens.{Placed}
-use Rattle.cargo_platform.specs.Cut.{IsPiece, AreSpaces, BeginsFault, IsCut, IsCutFrom, ComeInTurn, ComesBehind}
+use Rattle.cargo_platform.specs.Cut.{IsPiece, AreSpaces, BeginsFault, IsCutFrom, ComesBehind}
 use Rattle.cargo_platform.specs.Cut.{Item, Nothing, Comes}
 use Rattle.cargo_platform.specs.Inside.Ahead.{Ahead, Path}
 use Rattle.cargo_platform.specs.Cut as cut
@@ -75,77 +75,58 @@ next_comes text from tail [] Nothing c is =
     let S : ℕ → Type 0 = λ z. AreSpaces text from z in
     (length text, (subst S is c.apart, refl))
 
--- the first tokens of a cut come one after another, and the others are left behind them
-pub cut_parts : (text : List ℕ) (from tail : ℕ) (ts us : List Placed) → IsCutFrom text from (ts ++ us) tail
-    → (to : ℕ) × ComeInTurn text from ts to × IsCutFrom text to us tail
-cut_parts text from tail [] us c = (from, refl, c)
-cut_parts text from tail (t ∷ ts) us c =
-    let left = cut_parts text t.end tail ts us
-    (record { written = c.written.1; apart = c.apart.1; whole = c.whole.1; rest = c.rest }) in
-    (left.0, (t.end, (c.apart.0, c.written.0, c.whole.0, refl), left.1), left.2)
+-- what is left behind a token
+pub cut_behind : (text : List ℕ) (from tail : ℕ) (t : Placed) (ts : List Placed) → IsCutFrom text from (t ∷ ts) tail
+    → IsCutFrom text t.end ts tail
+cut_behind text from tail t ts c =
+    record { written = c.written.1; apart = c.apart.1; whole = c.whole.1; rest = c.rest }
 
--- tokens lead to one place
-turn_ends : (text : List ℕ) (from i j : ℕ) (ts : List Placed) → ComeInTurn text from ts i → ComeInTurn text from ts j
-    → i ≡ j
-turn_ends text from i j [] p q = p ∙ sym q
-turn_ends text from i j (t ∷ ts) p q =
-    let T : ℕ → Type 0 = λ z. ComeInTurn text z ts j in
-    turn_ends text p.0 i j ts p.2 (subst T (q.1.3 ∙ sym p.1.3) q.2)
+-- what comes behind the first tokens of a cut is what the cut has there
+pub behind_is : (text : List ℕ) (from to tail : ℕ) (prefix after : List Placed) (i : Item)
+    → IsCutFrom text from (prefix ++ after) tail → ComesBehind text from prefix i to → IsNext text after tail i
+behind_is text from to tail [] after i c h = next_is text from to tail i after c h
+behind_is text from to tail (t ∷ ts) after i c h =
+    behind_is text t.end to tail ts after i (cut_behind text from tail t (ts ++ after) c) h.1
 
--- what comes behind the first tokens of a text is what the cut has behind them
-pub behind_is : (text : List ℕ) (prefix after : List Placed) (tail to : ℕ) (i : Item)
-    → IsCut text (prefix ++ after) tail → ComesBehind text prefix i to → IsNext text after tail i
-behind_is text prefix after tail to i c h =
-    let p = cut_parts text 0 tail prefix after c in
-    let L : ℕ → Type 0 = λ z. IsCutFrom text z after tail in
-    next_is text h.0 to tail i after (subst L (turn_ends text 0 p.0 h.0 prefix p.1 h.1) p.2) h.2
+-- what the cut has there comes behind them
+pub comes_behind : (text : List ℕ) (from tail : ℕ) (prefix after : List Placed) (i : Item)
+    → IsCutFrom text from (prefix ++ after) tail → IsNext text after tail i
+    → (to : ℕ) × ComesBehind text from prefix i to
+comes_behind text from tail [] after i c is = next_comes text from tail after i c is
+comes_behind text from tail (t ∷ ts) after i c is =
+    let others = comes_behind text t.end tail ts after i (cut_behind text from tail t (ts ++ after) c) is in
+    (others.0, ((c.apart.0, c.written.0, c.whole.0, refl), others.1))
 
--- and the other way round
-pub comes_behind : (text : List ℕ) (prefix after : List Placed) (tail : ℕ) (i : Item)
-    → IsCut text (prefix ++ after) tail → IsNext text after tail i → (to : ℕ) × ComesBehind text prefix i to
-comes_behind text prefix after tail i c is =
-    let p = cut_parts text 0 tail prefix after c in
-    let n = next_comes text p.0 tail after i p.2 is in
-    (n.0, (p.0, p.1, n.1))
-
--- the tokens that come are the first of those that are left
-pub turn_left : (text : List ℕ) (from to tail : ℕ) (us ts : List Placed) → IsCutFrom text from ts tail
-    → ComeInTurn text from us to → (rest : List Placed) × (ts ≡ us ++ rest) × IsCutFrom text to rest tail
-turn_left text from to tail [] ts c p =
+-- tokens that come one after another are the first of the cut
+pub first_left : (text : List ℕ) (from to tail : ℕ) (us ts : List Placed) (i : Item) → IsCutFrom text from ts tail
+    → ComesBehind text from us i to → (rest : List Placed) × (ts ≡ us ++ rest) × IsNext text rest tail i
+first_left text from to tail [] ts i c h = (ts, refl, next_is text from to tail i ts c h)
+first_left text from to tail (t ∷ us) [] i c h = absurd (next_is text from t.end tail (cut.Token t) [] c h.0)
+first_left text from to tail (t ∷ us) (u ∷ ts) i c h =
+    let same = same_token text from u t c.apart.0 h.0.0 c.written.0 h.0.1 c.whole.0 h.0.2 in
     let L : ℕ → Type 0 = λ z. IsCutFrom text z ts tail in
-    (ts, refl, subst L (sym p) c)
-turn_left text from to tail (t ∷ us) [] c p = absurd (next_is text from p.0 tail (cut.Token t) [] c p.1)
-turn_left text from to tail (t ∷ us) (u ∷ ts) c p =
-    let same = same_token text from u t c.apart.0 p.1.0 c.written.0 p.1.1 c.whole.0 p.1.2 in
-    let L : ℕ → Type 0 = λ z. IsCutFrom text z ts tail in
-    let left = turn_left text p.0 to tail us ts (subst L (ap (λ (z : Placed). z.end) same ∙ sym p.1.3)
-    (record { written = c.written.1; apart = c.apart.1; whole = c.whole.1; rest = c.rest })) p.2 in
+    let left = first_left text t.end to tail us ts i
+    (subst L (ap (λ (z : Placed). z.end) same) (cut_behind text from tail u ts c)) h.1 in
     (left.0, λ i. same i ∷ left.1 i, left.2)
 
 -- ---- what is ahead of a reader
 
 -- what comes behind spaces and tokens comes behind the tokens
-pub turn_from : (text : List ℕ) (from at to end : ℕ) (us : List Placed) (i : Item) → AreSpaces text from at
-    → ComeInTurn text at us to → Comes text to i end
-    → (behind : ℕ) × ComeInTurn text from us behind × Comes text behind i end
-turn_from text from at to end [] i s p c =
-    let C : ℕ → Type 0 = λ z. Comes text z i end in
-    (from, refl, comes_from text from at end i s (subst C p c))
-turn_from text from at to end (t ∷ us) i s p c =
-    (to, (p.0, comes_from text from at p.0 (cut.Token t) s p.1, p.2), c)
+pub behind_spaces : (text : List ℕ) (from at to : ℕ) (us : List Placed) (i : Item) → AreSpaces text from at
+    → ComesBehind text at us i to → ComesBehind text from us i to
+behind_spaces text from at to [] i s h = comes_from text from at to i s h
+behind_spaces text from at to (t ∷ us) i s h = (comes_from text from at t.end (cut.Token t) s h.0, h.1)
 
 -- what comes next at the end of a way comes behind its tokens
-pub path_comes : (l m : Ahead) (us : List Placed) (i : Item) (end : ℕ) → Path l us m → Comes m.text m.place i end
-    → (behind : ℕ) × ComeInTurn l.text l.place us behind × Comes l.text behind i end
-path_comes l m [] i end p c =
-    let C : Ahead → Type 0 = λ z. Comes z.text z.place i end in
-    (l.place, refl, subst C p c)
-path_comes l m (t ∷ us) i end p c =
-    let k = p.0 in
-    let P : List ℕ → Type 0 = λ z. (behind : ℕ) × ComeInTurn z k.place us behind × Comes z behind i end in
-    let b = subst P p.1.same_text (path_comes k m us i end p.2 c) in
-    let d = turn_from l.text t.end k.place b.0 end us i p.1.spaces b.1 b.2 in
-    (d.0, (t.end, p.1.comes, d.1), d.2)
+pub path_comes : (l m : Ahead) (us : List Placed) (i : Item) (to : ℕ) → Path l us m → Comes m.text m.place i to
+    → ComesBehind l.text l.place us i to
+path_comes l m [] i to p c =
+    let C : Ahead → Type 0 = λ z. Comes z.text z.place i to in
+    subst C p c
+path_comes l m (t ∷ us) i to p c =
+    let B : List ℕ → Type 0 = λ z. ComesBehind z p.0.place us i to in
+    let others = subst B p.1.same_text (path_comes p.0 m us i to p.2 c) in
+    (p.1.comes, behind_spaces l.text t.end p.0.place to us i p.1.spaces others)
 
 pub path_text : (l m : Ahead) (us : List Placed) → Path l us m → m.text ≡ l.text
 path_text l m [] p = ap (λ (z : Ahead). z.text) p

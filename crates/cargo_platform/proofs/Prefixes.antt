@@ -89,8 +89,8 @@ refused_walked g text ts prefix behind tail s next fault cut parts walked stops 
     C : List Placed → Type 0
     C z = IsCut text z tail
 
-    comes : (to : ℕ) × ComesBehind text prefix next to
-    comes = comes_behind text prefix behind tail next (subst C parts cut) follows
+    comes : (to : ℕ) × ComesBehind text 0 prefix next to
+    comes = comes_behind text 0 tail prefix behind next (subst C parts cut) follows
 
     no_longer : (prefix behind : List Placed) (s : State) → walk g (lexemes prefix) ≡ Some s → goes_on g s behind ≡ None
         → (longer others : List Placed) → prefix ++ behind ≡ longer ++ others → IsCompletable g (lexemes longer)

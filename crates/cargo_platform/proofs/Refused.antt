@@ -67,7 +67,7 @@ refused_accepts_none g text f ts r cut p =
     let N : List Placed → Type 0 = λ z. IsNext text z r.tail r.next in
     let M : ℕ → Type 0 = λ z. IsNext text [] z r.next in
     let F : Bool → Type 0 = λ z. fault_of g text z (last_or None (lexemes r.prefix)) r.next ≡ Some f in
-    let next = behind_is text r.prefix r.after r.tail r.place r.next (subst C r.is_prefix.parts r.cut) r.follows in
+    let next = behind_is text 0 r.place r.tail r.prefix r.after r.next (subst C r.is_prefix.parts r.cut) r.follows in
     at_end g text (last_or None (lexemes r.prefix)) r.next f (subst M same.1 (subst N none next))
     (subst F yes r.is_fault)
 

@@ -1,76 +1,65 @@
 -- One call of `next` after another gives the cut.
 use Rattle.std.proofs.Common.{◌≡◌, refl, sym, ap, subst, ◌∙◌, ℕ, true, List, [], ◌∷◌, inl, inr, arith}
-use Rattle.std.proofs.Common.{length, drop, drop_of_length-le, length-drop, append-nil, true≢false, Option, Some}
+use Rattle.std.proofs.Common.{length, drop, drop_of_length-le, length-drop, true≢false, Option, Some}
 use Rattle.std.proofs.Common.{None, Result, Ok, Err}
 use Rattle.std.specs.Prelude.{IsFalse}
 use Rattle.cargo_platform.specs.declared.tokens.Spanned.{Spanned}
 use Rattle.cargo_platform.specs.declared.tokens.TokenFault.{TokenFault}
 use Rattle.cargo_platform.specs.Tokens.{Placed, placed}
 use Rattle.cargo_platform.specs.Cut.{AreSpaces, BeginsFault, IsCutFrom, Item, Token, Lexical, Nothing, Comes}
-use Rattle.cargo_platform.specs.Cut.{ComeInTurn, is_token}
+use Rattle.cargo_platform.specs.Cut.{ComesBehind, is_token}
 use Rattle.cargo_platform.specs.Reading.{Progress, given}
 use Rattle.cargo_platform.specs.CutLaws.{CutsAreRead, IsReadAlike, GivesNoMore, EndsForGood, FailsOnce}
 use Rattle.cargo_platform.proofs.OneCut.{one_cut_from}
 use Rattle.cargo_platform.proofs.Scanning.{no_spaces}
-use Rattle.cargo_platform.proofs.Paths.{next_is, cut_parts}
+use Rattle.cargo_platform.proofs.Paths.{next_is, cut_behind}
 use Rattle.cargo_platform.proofs.Refused.{no_fault}
 
 -- ---- what is read is the cut
 
-read_cut : (text : List ℕ) (from to tail : ℕ) (ts : List Placed) (last : Item) → ComeInTurn text from ts to
-    → IsFalse (is_token last) → Comes text to last tail → IsCutFrom text from ts tail
-read_cut text from to tail [] (Token t) same none c = absurd (true≢false none)
-read_cut text from to tail [] (Lexical k at) same none c =
-    let A : ℕ → Type 0 = λ z. AreSpaces text z tail in
-    let E : ℕ → Type 0 = λ z. AreSpaces text to z in
+read_cut : (text : List ℕ) (from tail : ℕ) (ts : List Placed) (last : Item) → IsFalse (is_token last)
+    → ComesBehind text from ts last tail → IsCutFrom text from ts tail
+read_cut text from tail [] (Token t) none h = absurd (true≢false none)
+read_cut text from tail [] (Lexical k at) none h =
     let B : ℕ → Type 0 = λ z. BeginsFault (drop z text) k in
     record {
       written = tt;
-      apart = subst A same (subst E (sym c.2) c.0);
+      apart = subst (AreSpaces text from) (sym h.2) h.0;
       whole = tt;
-      rest = inr (k, subst B (sym c.2) c.1);
+      rest = inr (k, subst B (sym h.2) h.1);
     }
-read_cut text from to tail [] Nothing same none c =
-    let A : ℕ → Type 0 = λ z. AreSpaces text z tail in
-    let E : ℕ → Type 0 = λ z. AreSpaces text to z in
+read_cut text from tail [] Nothing none h = record {
+  written = tt;
+  apart = subst (AreSpaces text from) (sym h.1) h.0;
+  whole = tt;
+  rest = inl (drop_of_length-le text (omega (arith, h.1)));
+}
+read_cut text from tail (t ∷ ts) last none h =
+    let others = read_cut text t.end tail ts last none h.1 in
     record {
-      written = tt;
-      apart = subst A same (subst E (sym c.1) c.0);
-      whole = tt;
-      rest = inl (drop_of_length-le text (omega (arith, c.1)));
-    }
-read_cut text from to tail (t ∷ ts) last (behind, c, more) none ends =
-    let C : ℕ → Type 0 = λ z. IsCutFrom text z ts tail in
-    let others = subst C c.3 (read_cut text behind to tail ts last more none ends) in
-    record {
-      written = (c.1, others.written);
-      apart = (c.0, others.apart);
-      whole = (c.2, others.whole);
+      written = (h.0.1, others.written);
+      apart = (h.0.0, others.apart);
+      whole = (h.0.2, others.whole);
       rest = others.rest;
     }
 
 -- ---- the cut is read
 
--- behind the last token comes the fault of the tail, or nothing
-tail_comes : (text : List ℕ) (from tail : ℕ) → IsCutFrom text from [] tail
-    → (last : Item) × IsFalse (is_token last) × Comes text from last tail
-tail_comes text from tail cut =
+cut_read : (text : List ℕ) (from tail : ℕ) (ts : List Placed) → IsCutFrom text from ts tail
+    → (last : Item) × IsFalse (is_token last) × ComesBehind text from ts last tail
+cut_read text from tail [] cut =
     elim cut.rest [
       | inr f ↦ (Lexical f.0 tail, refl, (cut.apart, f.1, refl))
       | inl none ↦
           let end : tail ≡ length text = omega (arith, cut.apart.1.inside, ap length none, length-drop tail text) in
           (Nothing, refl, (subst (AreSpaces text from) end cut.apart, end))
     ]
+cut_read text from tail (t ∷ ts) cut =
+    let others = cut_read text t.end tail ts (cut_behind text from tail t ts cut) in
+    (others.0, others.1, ((cut.apart.0, cut.written.0, cut.whole.0, refl), others.2))
 
 pub cuts_are_read : (text : List ℕ) → CutsAreRead text
-cuts_are_read text = λ ts tail. (
-  λ r. read_cut text 0 r.2.0 tail ts r.0 r.2.1 r.1 r.2.2,
-  λ cut.
-      let C : List Placed → Type 0 = λ z. IsCutFrom text 0 z tail in
-      let p = cut_parts text 0 tail ts [] (subst C (sym (append-nil ts)) cut) in
-      let e = tail_comes text p.0 tail p.2 in
-      (e.0, e.1, (p.0, p.1, e.2)),
-)
+cuts_are_read text = λ ts tail. (λ r. read_cut text 0 tail ts r.0 r.1 r.2, cut_read text 0 tail ts)
 
 pub read_alike : (text : List ℕ) → IsReadAlike text
 read_alike text = λ ts us tail end cut r. one_cut_from text us ts 0 end tail ((cuts_are_read text us end).0 r) cut

@@ -5,7 +5,7 @@ use Rattle.std.proofs.Common.{arith}
 use Rattle.std.specs.Prelude.{◌↔◌, IsTrue, IsUtf8}
 use Rattle.std.specs.List.{last_or}
 use Rattle.cargo_platform.specs.Tokens.{Lexeme, Placed}
-use Rattle.cargo_platform.specs.Cut.{IsCut, lexemes, Item, Token, Lexical, Nothing}
+use Rattle.cargo_platform.specs.Cut.{IsCut, IsCutFrom, lexemes, Item, Token, Lexical, Nothing}
 use Rattle.cargo_platform.specs.Spelling.{Grammar, Values, Expressions, IsAccepted, IsValueText, IsTreeText}
 use Rattle.cargo_platform.specs.Faults.{IsCompletable, IsFaultPrefix, Fault, fault_of, IsRefused}
 use Rattle.cargo_platform.specs.Trees.{CfgValue, Tree}
@@ -13,7 +13,7 @@ use Rattle.cargo_platform.specs.Walk.{walk, is_whole}
 use Rattle.cargo_platform.proofs.Building.{stopped, completable_walks}
 use Rattle.cargo_platform.proofs.Completing.{walked_completes, whole_accepted, accepted_whole}
 use Rattle.cargo_platform.proofs.Prefixes.{lexemes-append, none_longer, longest_before}
-use Rattle.cargo_platform.proofs.Paths.{IsNext, cut_parts, comes_behind}
+use Rattle.cargo_platform.proofs.Paths.{IsNext, cut_behind, comes_behind}
 use Rattle.cargo_platform.proofs.SomeCut.{some_cut}
 use Rattle.cargo_platform.proofs.Completable.{none_completable}
 
@@ -79,14 +79,14 @@ prefix_from g prefix (t ∷ ts) p =
     ]
 
 -- something follows the prefix of a cut
-some_next : (text : List ℕ) (prefix after : List Placed) (tail : ℕ) → IsCut text (prefix ++ after) tail
-    → (next : Item) × IsNext text after tail next
-some_next text prefix (t ∷ after) tail cut = (Token t, refl)
-some_next text prefix [] tail cut =
+some_next : (text : List ℕ) (from : ℕ) (prefix after : List Placed) (tail : ℕ)
+    → IsCutFrom text from (prefix ++ after) tail → (next : Item) × IsNext text after tail next
+some_next text from (t ∷ prefix) after tail cut =
+    some_next text t.end prefix after tail (cut_behind text from tail t (prefix ++ after) cut)
+some_next text from [] (t ∷ after) tail cut = (Token t, refl)
+some_next text from [] [] tail cut =
     elim cut.rest [
-      | inl none ↦
-          let inside = (cut_parts text 0 tail prefix [] cut).2.apart.1.inside in
-          (Nothing, omega (arith, inside, ap length none, length-drop tail text))
+      | inl none ↦ (Nothing, omega (arith, cut.apart.1.inside, ap length none, length-drop tail text))
       | inr f ↦ (Lexical f.0 tail, (refl, f.1))
     ]
 
@@ -109,7 +109,7 @@ at_next : (g : Grammar) (text : List ℕ) (ts prefix after : List Placed) (tail 
     → (IsTrue accepted ↔ IsAccepted g (lexemes prefix)) → SpellsOrIsRefused g text
 at_next g text ts prefix after tail next accepted cut is follows told =
     let C : List Placed → Type 0 = λ z. IsCut text z tail in
-    let comes = comes_behind text prefix after tail next (subst C is.parts cut) follows in
+    let comes = comes_behind text 0 tail prefix after next (subst C is.parts cut) follows in
     elim (fault_of g text accepted (last_or None (lexemes prefix)) next) as
     (λ z. fault_of g text accepted (last_or None (lexemes prefix)) next ≡ z → SpellsOrIsRefused g text) [
       | Some fault ↦ λ table. inr (
@@ -150,6 +150,6 @@ spells_or_is_refused g text utf8 =
     let c = some_cut text utf8 in
     let f = prefix_from g [] c.0 (none_completable g) in
     let C : List Placed → Type 0 = λ z. IsCut text z c.1 in
-    let n = some_next text f.prefix f.after c.1 (subst C f.is.parts c.2) in
+    let n = some_next text 0 f.prefix f.after c.1 (subst C f.is.parts c.2) in
     let a = accepted_or g (lexemes f.prefix) f.is.completable in
     at_next g text c.0 f.prefix f.after c.1 n.0 a.0 c.2 f.is n.1 a.1

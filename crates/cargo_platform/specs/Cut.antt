@@ -87,14 +87,10 @@ Comes text from (Token t) to = AreSpaces text from t.start × IsWrittenAt text t
 Comes text from (Lexical fault at) to = AreSpaces text from at × BeginsFault (drop at text) fault × (to ≡ at)
 Comes text from Nothing to = AreSpaces text from (length text) × (to ≡ length text)
 
--- these tokens come one after another, from the one place to the other
-abbrev pub ComeInTurn : List ℕ → ℕ → List Placed → ℕ → Type 0
-ComeInTurn text from [] to = to ≡ from
-ComeInTurn text from (t ∷ ts) to = (behind : ℕ) × Comes text from (Token t) behind × ComeInTurn text behind ts to
-
--- from the start of the text these tokens come, and then this item
-abbrev pub ComesBehind : List ℕ → List Placed → Item → ℕ → Type 0
-ComesBehind text ts next to = (from : ℕ) × ComeInTurn text 0 ts from × Comes text from next to
+-- these tokens come one after another, and then this item
+abbrev pub ComesBehind : List ℕ → ℕ → List Placed → Item → ℕ → Type 0
+ComesBehind text from [] next to = Comes text from next to
+ComesBehind text from (t ∷ ts) next to = Comes text from (Token t) t.end × ComesBehind text t.end ts next to
 
 abbrev pub is_token : Item → Bool
 is_token (Token t) = true

@@ -71,4 +71,4 @@ pub record IsRestFrom (text : List ℕ) (from : ℕ) (rest : List ℕ) : Type 0 
 
 -- from the start of a text these tokens come, and then a fault at this place, or nothing where the text ends
 abbrev pub GoesThrough : List ℕ → List Placed → ℕ → Type 0
-GoesThrough text ts tail = (last : Item) × IsFalse (is_token last) × ComesBehind text ts last tail
+GoesThrough text ts tail = (last : Item) × IsFalse (is_token last) × ComesBehind text 0 ts last tail

@@ -1,12 +1,12 @@
 -- What can be completed, what is expected, and the faults of some texts read as expressions.
-use Rattle.std.proofs.Common.{◌≡◌, refl, sym, subst, ◌∙◌, ℕ, true, false, List, [], ◌∷◌, ◌++◌, Some, None}
+use Rattle.std.proofs.Common.{◌≡◌, refl, sym, ◌∙◌, ℕ, true, false, List, [], ◌∷◌, ◌++◌, Some, None}
 use Rattle.std.proofs.Common.{codes, inl, inr, arith, drop}
 use Rattle.std.specs.Char.{encode_utf8}
 use Rattle.std.specs.List.{last_or}
 use Rattle.cargo_platform.specs.declared.tokens.TokenFaultKind.TheVariants as lexical
 use Rattle.cargo_platform.specs.Tokens.{Lexeme, LeftParen, RightParen, Ident, Comma, Equals, String, Placed, plain}
 use Rattle.cargo_platform.specs.Cut.{BeginsFault, IsTail, lexemes}
-use Rattle.cargo_platform.specs.Cut.{Item, Token, Lexical, Nothing, Comes, ComesBehind}
+use Rattle.cargo_platform.specs.Cut.{Item, Token, Lexical, Nothing, ComesBehind}
 use Rattle.cargo_platform.specs.Trees.{Alone, Value}
 use Rattle.cargo_platform.specs.Spelling.{Grammar, Values, Expressions}
 use Rattle.cargo_platform.specs.Faults.{IsCompletable, IsFaultPrefix, Fault}
@@ -76,17 +76,14 @@ long_prefix : (after : List Placed) → IsFaultPrefix Expressions all_a_b all_a_
 long_prefix after p = unwalked Expressions (lexemes all_a_b) refl p.completable
 
 -- what comes behind a prefix: a token, before the tail or the end
-token_behind : ComesBehind (codes "a b \"") (word (codes "a") 0 1 ∷ []) (Token (word (codes "b") 2 3)) 3
+token_behind : ComesBehind (codes "a b \"") 0 (word (codes "a") 0 1 ∷ []) (Token (word (codes "b") 2 3)) 3
 token_behind =
     let a = written_at (codes "a b \"") (word (codes "a") 0 1) refl in
     let b = written_at (codes "a b \"") (word (codes "b") 2 3) refl in
-    (1, (1, (spaces _ _ _ refl, a, (refl, refl), refl), refl), (spaces _ _ _ refl, b, (refl, refl), refl))
+    ((spaces _ _ _ refl, a, (refl, refl), refl), (spaces _ _ _ refl, b, (refl, refl), refl))
 
-token_before_end : (to : ℕ) → ComesBehind (codes "a") [] Nothing to → ⊥
-token_before_end to h = absurd (something_comes to (subst C h.1 h.2))
-  where
-    C : ℕ → Type 0
-    C z = Comes (codes "a") z Nothing to
+token_before_end : (to : ℕ) → ComesBehind (codes "a") 0 [] Nothing to → ⊥
+token_before_end to h = something_comes to h
 
 -- ---- what is expected
 

@@ -8,13 +8,14 @@ use Rattle.cargo_platform.specs.declared.tokens.TokenFault.{TokenFault}
 use Rattle.cargo_platform.specs.declared.tokens.TokenFaultKind.{TokenFaultKind}
 use Rattle.cargo_platform.specs.declared.tokens.TokenFaultKind.TheVariants.{UnexpectedChar}
 use Rattle.cargo_platform.specs.Tokens.{LeftParen, IsStringValue}
-use Rattle.cargo_platform.specs.Cut.{Item, Token, Lexical, Nothing, Comes, ComeInTurn, ComesBehind}
+use Rattle.cargo_platform.specs.Cut.{Item, Token, Lexical, Nothing, Comes, ComesBehind}
 use Rattle.cargo_platform.specs.Reading.{Progress, Gives, NextGives, BeginsCharacter, NextCall, characters_from}
 use Rattle.cargo_platform.specs.Reading.{results_left, GoesThrough}
 use Rattle.cargo_platform.proofs.OneCut.{tail_no_space, one_cut_from}
 use Rattle.cargo_platform.proofs.Runs.{cuts_are_read}
 use Rattle.cargo_platform.proofs.CutTests.{spaces, written_at, cut_by}
 use Rattle.cargo_platform.proofs.Rows.Cut.{at, word, lone_a, number_sign_comes, nothing_comes}
+use Rattle.cargo_platform.proofs.Rows.Cut.{something_comes}
 
 -- a tokenizer that came to a place, with its looks so far
 abbrev reached : List ℕ → ℕ → ℕ → Progress
@@ -64,15 +65,17 @@ gives_a : (looks new : ℕ)
     → Gives (reached (codes "a") 0 looks) (reached (codes "a") 1 new) (Token (word (codes "a") 0 1))
 gives_a looks new = record { going = refl; same_text = refl; comes = a_comes; failed_is = refl }
 
-a_in_turn : ComeInTurn (codes "a") 0 (word (codes "a") 0 1 ∷ []) 1
-a_in_turn = (1, a_comes, refl)
+-- `a`, and then the end
+a_behind : ComesBehind (codes "a") 0 (word (codes "a") 0 1 ∷ []) Nothing 1
+a_behind = (a_comes, (spaces _ _ _ refl, refl))
 
--- no token, no step
-no_step : ComeInTurn (codes "a") 0 [] 1 → ⊥
-no_step p = absurd (omega (arith, p))
+-- no token is passed over
+no_step : (to : ℕ) → ComesBehind (codes "a") 0 [] Nothing to → ⊥
+no_step to p = something_comes to p
 
-not_twice : (to : ℕ) → ComeInTurn (codes "a") 0 (word (codes "a") 0 1 ∷ word (codes "a") 0 1 ∷ []) to → ⊥
-not_twice to p = absurd (omega (arith, p.1.3, p.2.1.0.1.ordered))
+not_twice : (next : Item) (to : ℕ)
+    → ComesBehind (codes "a") 0 (word (codes "a") 0 1 ∷ word (codes "a") 0 1 ∷ []) next to → ⊥
+not_twice next to p = absurd (omega (arith, p.1.0.0.1.ordered))
 
 end_behind_space : Comes (codes "a ") 1 Nothing 2
 end_behind_space = (spaces _ _ _ refl, refl)
@@ -88,10 +91,6 @@ no_fault_at_space kind to p = true≢false (tail_no_space (codes " (") (inr (kin
 
 no_end_at_space : (to : ℕ) → Comes (codes " (") 0 Nothing 0 → ⊥
 no_end_at_space to p = absurd (omega (arith, p.1))
-
--- `a`, and then the end
-a_behind : ComesBehind (codes "a") (word (codes "a") 0 1 ∷ []) Nothing 1
-a_behind = (1, a_in_turn, (spaces _ _ _ refl, refl))
 
 -- ---- a whole text
 
