@@ -61,6 +61,8 @@ fn compare_forms<'a>(a: &'a CfgExpr, b: &'a CfgExpr) -> Result<(&'a CfgExpr, &'a
         (CfgExpr::All(ds), CfgExpr::All(es)) | (CfgExpr::Any(ds), CfgExpr::Any(es)) => {
             compare_all_but_last(ds, es)
         }
+        // Telling that texts are equal takes less than putting them in order.
+        (CfgExpr::Value(c), CfgExpr::Value(d)) if c == d => Err(Ordering::Equal),
         (CfgExpr::Value(c), CfgExpr::Value(d)) => Err(c.cmp(d)),
         _ => Err(rank(a).cmp(&rank(b))),
     }
