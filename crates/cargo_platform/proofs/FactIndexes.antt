@@ -1,59 +1,141 @@
 -- The facts of an index mean what its list meant, and a search finds what they have.
-use Rattle.std.proofs.Common.{◌≡◌, refl, sym, ap, ◌∙◌, ℕ, ◌<◌, true, false, List, [], ◌∷◌, map, length, get_or}
-use Rattle.std.proofs.Common.{Ok, Err, arith}
+use Rattle.std.proofs.Common.{◌≡◌, refl, sym, ap, ◌∙◌, ℕ, ◌+◌, ◌<◌, true, false, ◌||◌, List, [], ◌∷◌, ◌++◌, map}
+use Rattle.std.proofs.Common.{length, take, get_or, append_assoc, Ok, Err, arith}
 use Rattle.std.specs.Prelude.{Result, is_ok}
+use Rattle.std.specs.List.{list_any}
 use Rattle.std.specs.Ordering.{is_eq, eq_by_cmp, on}
 use Rattle.std.specs.List.Sorted.{IsPermutation, IsSorted, IsSearchInRange, IsBinarySearchResult}
-use Rattle.std.specs.FinSet.{contains, insert, contains-from_list, same_set, from_list}
+use Rattle.std.specs.FinSet.{contains, from_list, contains-from_list, same_set}
+use Rattle.std.proofs.Math.Bool.{or-false}
 use Rattle.std.proofs.Math.Logic.{⊎_elim}
 use Rattle.std.proofs.lemmas.Bool.{cases_lt}
+use Rattle.std.proofs.lemmas.List.{map-append, map_more, map_push}
 use Rattle.std.proofs.lemmas.List.Elements.{All-from_get_or}
-use Rattle.std.proofs.lemmas.List.Folds.{list_any_at, list_any_none}
-use Rattle.std.proofs.lemmas.List.Sorted.{list_any-IsPermutation, IsPermutation-map, searchable_from_sorted}
+use Rattle.std.proofs.lemmas.List.Folds.{list_any_at, list_any_none, list_any-append}
+use Rattle.std.proofs.lemmas.List.Sorted.{list_any-IsPermutation, searchable_from_sorted}
+use Rattle.std.proofs.lemmas.List.Sorted.{IsPermutation-map, IsPermutation-append, IsPermutation-append_left}
+use Rattle.std.proofs.lemmas.List.Sorted.{IsPermutation-trans, IsPermutation-sym, IsPermutation-middle}
+use Rattle.std.proofs.lemmas.List.Sorted.{IsPermutation-push_more}
+use Rattle.cargo_platform.specs.declared.cfg.Ident.{Ident}
 use Rattle.cargo_platform.specs.declared.cfg.Cfg.{Cfg}
-use Rattle.cargo_platform.specs.Trees.{value_of}
+use Rattle.cargo_platform.specs.declared.facts.KeyValue.{KeyValue}
+use Rattle.cargo_platform.specs.Trees.{CfgValue, value_of}
 use Rattle.cargo_platform.specs.Key.{value_cmp}
-use Rattle.cargo_platform.specs.LengthOrder.{length_cmp}
+use Rattle.cargo_platform.specs.LengthOrder.{length_cmp, alone, key_value}
 use Rattle.cargo_platform.specs.Facts.{Pair, pair_of, pair_cmp, fact_set}
 use Rattle.cargo_platform.proofs.FactSets.{pairs_total, is_listed}
 use Rattle.cargo_platform.proofs.FactTruths.{pair_tie}
 use Rattle.cargo_platform.proofs.LengthOrder.{length_total, length_ties}
 
-abbrev pair : Cfg → Pair
-pair f = pair_of (value_of f)
+-- the names and pairs that an index keeps of the first facts of a list
+abbrev pub AreKept : List Cfg → List Ident → List KeyValue → Type 0
+AreKept facts names pairs = IsPermutation (map value_of facts) (map alone names ++ map key_value pairs)
 
--- the fact set of a list, by one `map`
-by_pairs : (ks : List Cfg) → fact_set (map value_of ks) ≡ from_list (map pair ks)
-by_pairs [] = refl
-by_pairs (k ∷ ks) = ap (λ s. insert s (pair k)) (by_pairs ks)
+-- the next fact is kept behind those of its kind
+module _ (facts : List Cfg) (i : ℕ) (fact : Cfg) (within : i < length facts) (is : fact ≡ get_or facts i fact) where
+  next : (c : CfgValue) → value_of fact ≡ c
+      → map value_of (take (i + 1) facts) ≡ map value_of (take i facts) ++ c ∷ []
+  next c same =
+      map_more value_of facts i fact within
+      ∙ ap (λ d. map value_of (take i facts) ++ d ∷ []) (sym (ap value_of is) ∙ same)
+
+  pub name_kept : (names : List Ident) (pairs : List KeyValue) (n : Ident) → value_of fact ≡ alone n
+      → AreKept (take i facts) names pairs → AreKept (take (i + 1) facts) (names ++ n ∷ []) pairs
+  name_kept names pairs n same kept =
+      let ns = map alone names in
+      let ps = map key_value pairs in
+      let c = alone n in
+      rw (next c same, map_push alone names n, append_assoc ns (c ∷ []) ps)
+      (IsPermutation-push_more (map value_of (take i facts)) (ns ++ ps) (ns ++ c ∷ ps) c kept
+      (IsPermutation-sym (ns ++ c ∷ ps) (c ∷ (ns ++ ps)) (IsPermutation-middle ns c ps)))
+
+  pub pair_kept : (names : List Ident) (pairs : List KeyValue) (p : KeyValue) → value_of fact ≡ key_value p
+      → AreKept (take i facts) names pairs → AreKept (take (i + 1) facts) names (pairs ++ p ∷ [])
+  pair_kept names pairs p same kept =
+      let ns = map alone names in
+      let ps = map key_value pairs in
+      let c = key_value p in
+      rw (next c same, map_push key_value pairs p, ← append_assoc ns ps (c ∷ []))
+      (IsPermutation-append_left (c ∷ []) (map value_of (take i facts)) (ns ++ ps) kept)
 
 -- facts in another order mean the same set
-pub permuted : (ks ls : List Cfg) → IsPermutation ks ls → fact_set (map value_of ls) ≡ fact_set (map value_of ks)
-permuted ks ls moved =
-    by_pairs ls
-    ∙ same_set pairs_total pair_tie (from_list (map pair ls)) (from_list (map pair ks))
-    (λ q. contains-from_list pairs_total (map pair ls) q
+permuted : (cs ds : List CfgValue) → IsPermutation cs ds → fact_set ds ≡ fact_set cs
+permuted cs ds moved =
+    same_set pairs_total pair_tie (fact_set ds) (fact_set cs)
+    (λ q. contains-from_list pairs_total (map pair_of ds) q
     ∙ sym
-    (list_any-IsPermutation (eq_by_cmp pair_cmp q) (map pair ks) (map pair ls) (IsPermutation-map pair ks ls moved))
-    ∙ sym (contains-from_list pairs_total (map pair ks) q))
-    ∙ sym (by_pairs ks)
+    (list_any-IsPermutation (eq_by_cmp pair_cmp q) (map pair_of cs) (map pair_of ds)
+    (IsPermutation-map pair_of cs ds moved))
+    ∙ sym (contains-from_list pairs_total (map pair_of cs) q))
+
+-- so do names and pairs that are each put in order
+pub put_in_order : (facts : List Cfg) (ms ns : List Ident) (ps qs : List KeyValue) → AreKept facts ms ps
+    → IsPermutation ms ns → IsPermutation ps qs
+    → fact_set (map alone ns ++ map key_value qs) ≡ fact_set (map value_of facts)
+put_in_order facts ms ns ps qs kept first second =
+    permuted (map value_of facts) (map alone ns ++ map key_value qs)
+    (IsPermutation-trans (map value_of facts) (map alone ms ++ map key_value ps) (map alone ns ++ map key_value qs) kept
+    (IsPermutation-append (map alone ms) (map alone ns) (map key_value ps) (map key_value qs)
+    (IsPermutation-map alone ms ns first) (IsPermutation-map key_value ps qs second)))
 
 -- what a binary search by lengths answers is whether the pair is in the fact set
-pub is_found : (facts : List Cfg) (c : Cfg) (r : Result ℕ ℕ) → IsSorted (on value_of length_cmp) facts
-    → IsSearchInRange r (length facts) → IsBinarySearchResult (λ f. length_cmp (value_of f) (value_of c)) facts r
-    → is_ok r ≡ contains (fact_set (map value_of facts)) (pair_of (value_of c))
-is_found facts c (Ok i) sorted bound at =
-    is_listed (value_of c) facts true
-    (sym
-    (list_any_at (λ f. eq_by_cmp value_cmp (value_of f) (value_of c)) facts i c bound
-    (sym (length_ties (value_of (get_or facts i c)) (value_of c)) ∙ ap is_eq (at c))))
-is_found facts c (Err i) sorted bound parts =
-    let parted = parts (searchable_from_sorted length_total value_of facts (value_of c) sorted) in
-    let test = λ (f : Cfg). eq_by_cmp value_cmp (value_of f) (value_of c) in
-    let by_length = λ (k : ℕ). length_ties (value_of (get_or facts k c)) (value_of c) in
-    let apart : (k : ℕ) → k < length facts → test (get_or facts k c) ≡ false = λ k within.
-    sym (by_length k)
-    ∙ ⊎_elim (λ below. ap is_eq (parted.0 k c (omega arith) below)) (λ above. ap is_eq (parted.1 k c above within))
-    (cases_lt k i) in
-    is_listed (value_of c) facts false
-    (sym (list_any_none test facts (All-from_get_or (λ f. test f ≡ false) facts c apart)))
+module _ {A : Type 0} (f : A → CfgValue) (c : CfgValue) where
+  pub is_found : (facts : List A) (a : A) (r : Result ℕ ℕ) → IsSorted (on f length_cmp) facts
+      → IsSearchInRange r (length facts) → IsBinarySearchResult (λ b. length_cmp (f b) c) facts r
+      → is_ok r ≡ contains (fact_set (map f facts)) (pair_of c)
+  is_found facts a (Ok i) sorted bound at =
+      is_listed c f facts true
+      (sym
+      (list_any_at (λ b. eq_by_cmp value_cmp (f b) c) facts i a bound
+      (sym (length_ties (f (get_or facts i a)) c) ∙ ap is_eq (at a))))
+  is_found facts a (Err i) sorted bound parts =
+      let parted = parts (searchable_from_sorted length_total f facts c sorted) in
+      let test = λ (b : A). eq_by_cmp value_cmp (f b) c in
+      let apart : (k : ℕ) → k < length facts → test (get_or facts k a) ≡ false = λ k within.
+      sym (length_ties (f (get_or facts k a)) c)
+      ∙ ⊎_elim (λ below. ap is_eq (parted.0 k a (omega arith) below)) (λ above. ap is_eq (parted.1 k a above within))
+      (cases_lt k i) in
+      is_listed c f facts false (sym (list_any_none test facts (All-from_get_or (λ b. test b ≡ false) facts a apart)))
+
+-- a pair is in the set of two lists where it is in that of the first or in that of the second
+in_either : (cs ds : List CfgValue) (p : Pair)
+    → contains (fact_set (cs ++ ds)) p ≡ (contains (fact_set cs) p || contains (fact_set ds) p)
+in_either cs ds p =
+    ap (λ ps. contains (from_list {R = pair_cmp} ps) p) (map-append pair_of cs ds)
+    ∙ contains-from_list pairs_total (map pair_of cs ++ map pair_of ds) p
+    ∙ list_any-append (eq_by_cmp pair_cmp p) (map pair_of cs) (map pair_of ds)
+    ∙ sym
+    (λ i. contains-from_list pairs_total (map pair_of cs) p i || contains-from_list pairs_total (map pair_of ds) p i)
+
+-- no pair equals a name, so that a name is looked for among the names alone
+no_pair : (pairs : List KeyValue) (n : Ident)
+    → list_any (λ p. eq_by_cmp value_cmp (key_value p) (alone n)) pairs ≡ false
+no_pair [] n = refl
+no_pair (p ∷ pairs) n = no_pair pairs n
+
+pub name_held : (names : List Ident) (pairs : List KeyValue) (n : Ident)
+    → contains (fact_set (map alone names)) (pair_of (alone n))
+    ≡ contains (fact_set (map alone names ++ map key_value pairs)) (pair_of (alone n))
+name_held names pairs n =
+    let it = pair_of (alone n) in
+    sym
+    (in_either (map alone names) (map key_value pairs) it
+    ∙ ap (λ b. contains (fact_set (map alone names)) it || b)
+    (sym (is_listed (alone n) key_value pairs false (sym (no_pair pairs n))))
+    ∙ or-false (contains (fact_set (map alone names)) it))
+
+-- and a pair among the pairs
+no_name : (names : List Ident) (p : KeyValue)
+    → list_any (λ n. eq_by_cmp value_cmp (alone n) (key_value p)) names ≡ false
+no_name [] p = refl
+no_name (n ∷ names) p = no_name names p
+
+pub pair_held : (names : List Ident) (pairs : List KeyValue) (p : KeyValue)
+    → contains (fact_set (map key_value pairs)) (pair_of (key_value p))
+    ≡ contains (fact_set (map alone names ++ map key_value pairs)) (pair_of (key_value p))
+pair_held names pairs p =
+    let it = pair_of (key_value p) in
+    sym
+    (in_either (map alone names) (map key_value pairs) it
+    ∙ ap (λ b. b || contains (fact_set (map key_value pairs)) it)
+    (sym (is_listed (key_value p) alone names false (sym (no_name names p)))))

@@ -1,17 +1,17 @@
 //! Facts, and the truth of an expression over them.
 
-ghost use Rattle.std.specs.Prelude.{◌≡◌, ◌≤◌, map, length, IfOk, MatchResult};
+ghost use Rattle.std.specs.Prelude.{◌≡◌, ◌≤◌, map, length, string_bytes, IfOk, MatchResult};
 ghost use Rattle.std.proofs.Props.{props};
 ghost use Rattle.std.specs.List.Sorted.{IsSorted};
 ghost use Rattle.std.specs.Ordering.{eq_by_cmp, on};
 ghost use Rattle.std.specs.FinSet.{contains};
 ghost use Rattle.cargo_platform.specs.Key.{value_cmp};
-ghost use Rattle.cargo_platform.specs.LengthOrder.{asked_length, length_cmp};
-ghost use Rattle.cargo_platform.specs.Trees.{value_of, tree_of, trees_of};
+ghost use Rattle.cargo_platform.specs.LengthOrder.{length_cmp, alone, key_value};
+ghost use Rattle.cargo_platform.specs.Trees.{KeyPair, name_of, value_of, tree_of, trees_of};
 ghost use Rattle.cargo_platform.specs.Facts.{FactSet, pair_of, fact_set, truth, all_true, any_true};
 ghost use Rattle.cargo_platform.specs.ExpressionSizes.{node_count, node_counts};
 
-use crate::cfg::{Cfg, CfgExpr};
+use crate::cfg::{Cfg, CfgExpr, Ident};
 use std::alloc::{AllocError, Global};
 use std::cmp::Ordering;
 
@@ -66,40 +66,66 @@ fn are_equal(fact: &Cfg, c: &Cfg) -> bool
     fact == c
 }
 
-/// The length of a name alone, or of a value.
+/// An order of names: by their lengths, which mostly differ, and then by their bytes.
 #[inline(always)]
-fn length_of(c: &Cfg) -> usize
-    ensures { result ≡ asked_length (value_of c.now) }
+fn by_length(a: &Ident, b: &Ident) -> Ordering
+    ensures { result ≡ length_cmp (alone a.now) (alone b.now) }
 {
-    match c {
-        Cfg::Name(name) => name.name.len(),
-        Cfg::KeyPair(_, value) => value.len(),
-    }
-}
-
-/// An order by lengths, which mostly differ, and then by names, keys and values.
-#[inline(always)]
-fn by_length(a: &Cfg, b: &Cfg) -> Ordering
-    ensures { result ≡ length_cmp (value_of a.now) (value_of b.now) }
-{
-    let length = length_of(a);
-    let other = length_of(b);
+    let length = a.name.len();
+    let other = b.name.len();
     if length == other {
         return a.cmp(b);
     }
-    if length < other {
-        Ordering::Less
-    } else {
-        Ordering::Greater
+    length.cmp(&other)
+}
+
+/// A fact that is a key and its value.
+#[derive(Drop)]
+struct KeyValue {
+    key: Ident,
+    value: String,
+}
+
+impl KeyValue {
+    /// A copy of a key and its value. It refuses only where memory is refused.
+    #[inline(always)]
+    fn new(alloc: Global, key: &Ident, value: &str) -> Result<KeyValue, AllocError>
+        ensures { IfOk result (λ pair. key_value pair ≡ KeyPair (name_of key.now) value.now) }
+    {
+        Ok(KeyValue {
+            key: key.clone(alloc)?,
+            value: String::from_str(alloc, value)?,
+        })
+    }
+
+    /// The order of the pair and another one, of which the key and the value are given: by the lengths of the values,
+    /// which mostly differ, and then by keys and values.
+    #[inline(always)]
+    fn by_length(&self, key: &Ident, value: &str) -> Ordering
+        ensures { result ≡ length_cmp (key_value self.now) (KeyPair (name_of key.now) value.now) }
+    {
+        let length = self.value.len();
+        let other = value.len();
+        if length == other {
+            // Telling that texts are equal takes less than putting them in order.
+            if self.key == *key {
+                return self.value.as_str().cmp(value);
+            }
+            return self.key.cmp(key);
+        }
+        length.cmp(&other)
     }
 }
 
 /// Facts kept in order, so that asking for one goes over few of them. It means the set of the pairs of the values that
 /// it was made of.
+// Names and pairs lie in lists of their own, each of which asks for less memory at once than one list of both.
 #[derive(Drop)]
 pub struct FactIndex {
-    facts: Vec<Cfg>,
-    ghost sorted: { IsSorted (on value_of length_cmp) facts.items } by { Prim.hlevel props },
+    names: Vec<Ident>,
+    pairs: Vec<KeyValue>,
+    ghost names_sorted: { IsSorted (on alone length_cmp) names.items } by { Prim.hlevel props },
+    ghost pairs_sorted: { IsSorted (on key_value length_cmp) pairs.items } by { Prim.hlevel props },
 }
 
 impl FactIndex {
@@ -107,12 +133,21 @@ impl FactIndex {
     pub fn new(alloc: Global, cfg: &[Cfg]) -> Result<FactIndex, AllocError>
         ensures { IfOk result (λ index. ⟦<FactIndex as Facts>⟧.meant index ≡ fact_set (map value_of cfg.now)) }
     {
-        let mut facts = Vec::with_capacity(alloc, cfg.len())?;
-        for c in cfg {
-            facts.push(c.clone(alloc)?)?;
+        let name_count = cfg
+            .iter()
+            .filter(|fact| matches!(fact, Cfg::Name(_)))
+            .count();
+        let mut names = Vec::with_capacity(alloc, name_count)?;
+        let mut pairs = Vec::with_capacity(alloc, cfg.len() - name_count)?;
+        for fact in cfg {
+            match fact {
+                Cfg::Name(name) => names.push(name.clone(alloc)?)?,
+                Cfg::KeyPair(key, value) => pairs.push(KeyValue::new(alloc, key, value)?)?,
+            }
         }
-        facts.sort_unstable_by(by_length);
-        Ok(FactIndex { facts })
+        names.sort_unstable_by(by_length);
+        pairs.sort_unstable_by(|a: &KeyValue, b: &KeyValue| a.by_length(&b.key, &b.value));
+        Ok(FactIndex { names, pairs })
     }
 }
 
@@ -122,9 +157,16 @@ impl Facts for FactIndex {
     ghost meant = { λ index. fact_set (indexed index) };
 
     fn holds(&self, c: &Cfg) -> bool {
-        self.facts
-            .binary_search_by(|fact| by_length(fact, c))
-            .is_ok()
+        match c {
+            Cfg::Name(name) => self
+                .names
+                .binary_search_by(|fact| by_length(fact, name))
+                .is_ok(),
+            Cfg::KeyPair(key, value) => self
+                .pairs
+                .binary_search_by(|fact| fact.by_length(key, value))
+                .is_ok(),
+        }
     }
 }
 

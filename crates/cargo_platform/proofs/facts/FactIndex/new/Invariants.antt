@@ -1,7 +1,7 @@
-use Rattle.std.proofs.Common.{◌≡◌, map, take}
-use Rattle.cargo_platform.specs.Trees.{value_of}
+use Rattle.std.proofs.Common.{take}
+use Rattle.cargo_platform.proofs.FactIndexes.{AreKept}
 use Rattle.cargo_platform.proofs.facts.FactIndex.new.Given as goal
 
 -- the copies so far
-abbrev pub invariant-loop-c : goal.invariant-loop-c
-invariant-loop-c l = map value_of l.facts.items ≡ map value_of (take l.c-index l.cfg)
+abbrev pub invariant-loop-fact : goal.invariant-loop-fact
+invariant-loop-fact l = AreKept (take l.fact-index l.cfg) l.names.items l.pairs.items

@@ -10,6 +10,6 @@ use Rattle.cargo_platform.proofs.facts.ListedFacts.holds.Goals as goal
 pub returns : goal.returns
 returns c =
     let asked = value_of c.args.c.now in
-    is_listed asked c.args.self.now.0.now _
+    is_listed asked value_of c.args.self.now.0.now _
     (any_from_yields_List (λ f. eq_by_cmp value_cmp (value_of f) asked) _ _ _ c.any.ensures.ran
     (YieldsList-from_slice c.args.self.now.0.now cc) (λ x b q k. search (rules, tests)))
