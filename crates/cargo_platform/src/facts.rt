@@ -1,6 +1,6 @@
 //! Facts, and the truth of an expression over them.
 
-ghost use Rattle.std.specs.Prelude.{◌≡◌, ◌≤◌, map, length, string_bytes, IfOk, MatchResult};
+ghost use Rattle.std.specs.Prelude.{◌≡◌, ◌≤◌, map, length, IfOk, MatchResult};
 ghost use Rattle.std.proofs.Props.{props};
 ghost use Rattle.std.specs.List.Sorted.{IsSorted};
 ghost use Rattle.std.specs.Ordering.{eq_by_cmp, on};
