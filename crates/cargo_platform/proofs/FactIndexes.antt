@@ -1,17 +1,16 @@
 -- The facts of an index mean what its list meant, and a search finds what they have.
-use Rattle.std.proofs.Common.{◌≡◌, refl, sym, ap, ◌∙◌, ℕ, ◌+◌, ◌<◌, true, false, ◌||◌, List, [], ◌∷◌, ◌++◌, map}
+use Rattle.std.proofs.Common.{◌≡◌, refl, sym, ap, ◌∙◌, ℕ, ◌+◌, ◌<◌, false, ◌||◌, List, [], ◌∷◌, ◌++◌, map}
 use Rattle.std.proofs.Common.{length, take, get_or, append_assoc, Ok, Err, arith}
 use Rattle.std.specs.Prelude.{Result, is_ok}
 use Rattle.std.specs.List.{list_any}
 use Rattle.std.specs.Ordering.{is_eq, eq_by_cmp, on}
 use Rattle.std.specs.List.Sorted.{IsPermutation, IsSorted, IsSearchInRange, IsBinarySearchResult}
-use Rattle.std.specs.FinSet.{contains, from_list, contains-from_list, same_set}
-use Rattle.std.proofs.Math.Bool.{or-false}
+use Rattle.std.specs.FinSet.{contains-from_list, same_set}
 use Rattle.std.proofs.Math.Logic.{⊎_elim}
 use Rattle.std.proofs.lemmas.Bool.{cases_lt}
-use Rattle.std.proofs.lemmas.List.{map-append, map_more, map_push}
+use Rattle.std.proofs.lemmas.List.{map_more, map_push}
 use Rattle.std.proofs.lemmas.List.Elements.{All-from_get_or}
-use Rattle.std.proofs.lemmas.List.Folds.{list_any_at, list_any_none, list_any-append}
+use Rattle.std.proofs.lemmas.List.Folds.{list_any_at, list_any_none}
 use Rattle.std.proofs.lemmas.List.Sorted.{list_any-IsPermutation, searchable_from_sorted}
 use Rattle.std.proofs.lemmas.List.Sorted.{IsPermutation-map, IsPermutation-append, IsPermutation-append_left}
 use Rattle.std.proofs.lemmas.List.Sorted.{IsPermutation-trans, IsPermutation-sym, IsPermutation-middle}
@@ -22,8 +21,8 @@ use Rattle.cargo_platform.specs.declared.facts.KeyValue.{KeyValue}
 use Rattle.cargo_platform.specs.Trees.{CfgValue, value_of}
 use Rattle.cargo_platform.specs.Key.{value_cmp}
 use Rattle.cargo_platform.specs.LengthOrder.{length_cmp, alone, key_value}
-use Rattle.cargo_platform.specs.Facts.{Pair, pair_of, pair_cmp, fact_set}
-use Rattle.cargo_platform.proofs.FactSets.{pairs_total, is_listed}
+use Rattle.cargo_platform.specs.Facts.{pair_of, pair_cmp, fact_set}
+use Rattle.cargo_platform.proofs.FactSets.{pairs_total}
 use Rattle.cargo_platform.proofs.FactTruths.{pair_tie}
 use Rattle.cargo_platform.proofs.LengthOrder.{length_total, length_ties}
 
@@ -78,16 +77,15 @@ put_in_order facts ms ns ps qs kept first second =
     (IsPermutation-append (map alone ms) (map alone ns) (map key_value ps) (map key_value qs)
     (IsPermutation-map alone ms ns first) (IsPermutation-map key_value ps qs second)))
 
--- what a binary search by lengths answers is whether the pair is in the fact set
+-- what a binary search by lengths answers is whether some fact equals the value
 module _ {A : Type 0} (f : A → CfgValue) (c : CfgValue) where
   pub is_found : (facts : List A) (a : A) (r : Result ℕ ℕ) → IsSorted (on f length_cmp) facts
       → IsSearchInRange r (length facts) → IsBinarySearchResult (λ b. length_cmp (f b) c) facts r
-      → is_ok r ≡ contains (fact_set (map f facts)) (pair_of c)
+      → is_ok r ≡ list_any (λ b. eq_by_cmp value_cmp (f b) c) facts
   is_found facts a (Ok i) sorted bound at =
-      is_listed c f facts true
-      (sym
+      sym
       (list_any_at (λ b. eq_by_cmp value_cmp (f b) c) facts i a bound
-      (sym (length_ties (f (get_or facts i a)) c) ∙ ap is_eq (at a))))
+      (sym (length_ties (f (get_or facts i a)) c) ∙ ap is_eq (at a)))
   is_found facts a (Err i) sorted bound parts =
       let parted = parts (searchable_from_sorted length_total f facts c sorted) in
       let test = λ (b : A). eq_by_cmp value_cmp (f b) c in
@@ -95,47 +93,21 @@ module _ {A : Type 0} (f : A → CfgValue) (c : CfgValue) where
       sym (length_ties (f (get_or facts k a)) c)
       ∙ ⊎_elim (λ below. ap is_eq (parted.0 k a (omega arith) below)) (λ above. ap is_eq (parted.1 k a above within))
       (cases_lt k i) in
-      is_listed c f facts false (sym (list_any_none test facts (All-from_get_or (λ b. test b ≡ false) facts a apart)))
+      sym (list_any_none test facts (All-from_get_or (λ b. test b ≡ false) facts a apart))
 
--- a pair is in the set of two lists where it is in that of the first or in that of the second
-in_either : (cs ds : List CfgValue) (p : Pair)
-    → contains (fact_set (cs ++ ds)) p ≡ (contains (fact_set cs) p || contains (fact_set ds) p)
-in_either cs ds p =
-    ap (λ ps. contains (from_list {R = pair_cmp} ps) p) (map-append pair_of cs ds)
-    ∙ contains-from_list pairs_total (map pair_of cs ++ map pair_of ds) p
-    ∙ list_any-append (eq_by_cmp pair_cmp p) (map pair_of cs) (map pair_of ds)
-    ∙ sym
-    (λ i. contains-from_list pairs_total (map pair_of cs) p i || contains-from_list pairs_total (map pair_of ds) p i)
+-- no pair equals a name, and no name a pair: whether a fact is kept is whether it is among those of its kind
+pub is_name_kept : (names : List Ident) (pairs : List KeyValue) (n : Ident)
+    → list_any (λ m. eq_by_cmp value_cmp (alone m) (alone n)) names
+    ≡ list_any (λ c. eq_by_cmp value_cmp c (alone n)) (map alone names ++ map key_value pairs)
+is_name_kept [] [] n = refl
+is_name_kept [] (p ∷ pairs) n = is_name_kept [] pairs n
+is_name_kept (m ∷ names) pairs n =
+    ap (λ b. eq_by_cmp value_cmp (alone m) (alone n) || b) (is_name_kept names pairs n)
 
--- no pair equals a name, so that a name is looked for among the names alone
-no_pair : (pairs : List KeyValue) (n : Ident)
-    → list_any (λ p. eq_by_cmp value_cmp (key_value p) (alone n)) pairs ≡ false
-no_pair [] n = refl
-no_pair (p ∷ pairs) n = no_pair pairs n
-
-pub name_held : (names : List Ident) (pairs : List KeyValue) (n : Ident)
-    → contains (fact_set (map alone names)) (pair_of (alone n))
-    ≡ contains (fact_set (map alone names ++ map key_value pairs)) (pair_of (alone n))
-name_held names pairs n =
-    let it = pair_of (alone n) in
-    sym
-    (in_either (map alone names) (map key_value pairs) it
-    ∙ ap (λ b. contains (fact_set (map alone names)) it || b)
-    (sym (is_listed (alone n) key_value pairs false (sym (no_pair pairs n))))
-    ∙ or-false (contains (fact_set (map alone names)) it))
-
--- and a pair among the pairs
-no_name : (names : List Ident) (p : KeyValue)
-    → list_any (λ n. eq_by_cmp value_cmp (alone n) (key_value p)) names ≡ false
-no_name [] p = refl
-no_name (n ∷ names) p = no_name names p
-
-pub pair_held : (names : List Ident) (pairs : List KeyValue) (p : KeyValue)
-    → contains (fact_set (map key_value pairs)) (pair_of (key_value p))
-    ≡ contains (fact_set (map alone names ++ map key_value pairs)) (pair_of (key_value p))
-pair_held names pairs p =
-    let it = pair_of (key_value p) in
-    sym
-    (in_either (map alone names) (map key_value pairs) it
-    ∙ ap (λ b. b || contains (fact_set (map key_value pairs)) it)
-    (sym (is_listed (key_value p) alone names false (sym (no_name names p)))))
+pub is_pair_kept : (names : List Ident) (pairs : List KeyValue) (p : KeyValue)
+    → list_any (λ q. eq_by_cmp value_cmp (key_value q) (key_value p)) pairs
+    ≡ list_any (λ c. eq_by_cmp value_cmp c (key_value p)) (map alone names ++ map key_value pairs)
+is_pair_kept [] [] p = refl
+is_pair_kept [] (q ∷ pairs) p =
+    ap (λ b. eq_by_cmp value_cmp (key_value q) (key_value p) || b) (is_pair_kept [] pairs p)
+is_pair_kept (n ∷ names) pairs p = is_pair_kept names pairs p

@@ -1,5 +1,5 @@
 -- Membership in the fact set of a list.
-use Rattle.std.proofs.Common.{◌≡◌, Bool, refl, sym, ap, ◌∙◌, false, ◌||◌, List, [], ◌∷◌, map}
+use Rattle.std.proofs.Common.{◌≡◌, refl, sym, ap, ◌∙◌, false, ◌||◌, List, [], ◌∷◌, map}
 use Rattle.std.specs.declared.cmp.Ordering.{Ordering}
 use Rattle.std.specs.declared.cmp.Ordering.TheVariants.{Less, Equal, Greater}
 use Rattle.std.specs.Ordering.{ordering_then, is_eq, eq_by_cmp}
@@ -7,7 +7,8 @@ use Rattle.std.specs.List.{list_any}
 use Rattle.std.specs.FinSet.{contains, contains-from_list}
 use Rattle.std.specs.Cmp.{IsTotalOrder, eq_by_cmp_equiv, then_total, on_total}
 use Rattle.std.specs.Cmp.Lexicographic.{nat_list_cmp_total, options_total}
-use Rattle.cargo_platform.specs.Trees.{CfgValue, Alone, KeyPair}
+use Rattle.cargo_platform.specs.declared.cfg.Cfg.{Cfg}
+use Rattle.cargo_platform.specs.Trees.{CfgValue, Alone, KeyPair, value_of}
 use Rattle.cargo_platform.specs.Key.{value_cmp, name_cmp}
 use Rattle.cargo_platform.specs.Facts.{Pair, pair_of, pair_cmp, fact_set}
 use Rattle.cargo_platform.specs.OrderLaws.{value_total}
@@ -34,23 +35,28 @@ same_pair (Alone m) (KeyPair k v) = sym (untied_after (name_cmp m k) Less refl)
 same_pair (KeyPair j u) (Alone n) = sym (untied_after (name_cmp j n) Greater refl)
 same_pair (KeyPair j u) (KeyPair k v) = refl
 
-module _ {A : Type 0} (c : CfgValue) (f : A → CfgValue) where
-  searched : (facts : List A)
-      → list_any
-      (λ a. eq_by_cmp value_cmp c (f a)) facts ≡ list_any (eq_by_cmp pair_cmp (pair_of c)) (map pair_of (map f facts))
-  searched [] = refl
-  searched (a ∷ facts) = λ i. same_pair c (f a) i || searched facts i
+searched : (c : CfgValue) (facts : List CfgValue)
+    → list_any (eq_by_cmp value_cmp c) facts ≡ list_any (eq_by_cmp pair_cmp (pair_of c)) (map pair_of facts)
+searched c [] = refl
+searched c (f ∷ facts) = λ i. same_pair c f i || searched c facts i
 
-  found : (facts : List A)
-      → list_any (λ a. eq_by_cmp value_cmp c (f a)) facts ≡ contains (fact_set (map f facts)) (pair_of c)
-  found facts = searched facts ∙ sym (contains-from_list pairs_total (map pair_of (map f facts)) (pair_of c))
+turned : (c : CfgValue) (facts : List CfgValue)
+    → list_any (λ f. eq_by_cmp value_cmp f c) facts ≡ list_any (eq_by_cmp value_cmp c) facts
+turned c facts = ap (λ test. list_any test facts) (λ i f. (eq_by_cmp_equiv value_total).symm f c i)
 
-  turned : (facts : List A)
-      → list_any (λ a. eq_by_cmp value_cmp (f a) c) facts ≡ list_any (λ a. eq_by_cmp value_cmp c (f a)) facts
-  turned facts = ap (λ test. list_any test facts) (λ i a. (eq_by_cmp_equiv value_total).symm (f a) c i)
+-- whether some fact equals the value is whether the pair is in the fact set
+pub is_listed : (c : CfgValue) (facts : List CfgValue)
+    → list_any (λ f. eq_by_cmp value_cmp f c) facts ≡ contains (fact_set facts) (pair_of c)
+is_listed c facts =
+    turned c facts ∙ searched c facts ∙ sym (contains-from_list pairs_total (map pair_of facts) (pair_of c))
 
-  -- whether some fact equals the value is whether the pair is in the fact set
-  pub is_listed : (facts : List A) (answer : Bool)
-      → answer ≡ list_any (λ a. eq_by_cmp value_cmp (f a) c) facts
-      → answer ≡ contains (fact_set (map f facts)) (pair_of c)
-  is_listed facts answer is = is ∙ turned facts ∙ found facts
+-- the same of facts as they lie in memory
+same_test : (c : CfgValue) (facts : List Cfg)
+    → list_any (λ f. eq_by_cmp value_cmp (value_of f) c) facts
+    ≡ list_any (λ f. eq_by_cmp value_cmp f c) (map value_of facts)
+same_test c [] = refl
+same_test c (f ∷ facts) = ap (λ b. eq_by_cmp value_cmp (value_of f) c || b) (same_test c facts)
+
+pub is_in_list : (c : CfgValue) (facts : List Cfg)
+    → list_any (λ f. eq_by_cmp value_cmp (value_of f) c) facts ≡ contains (fact_set (map value_of facts)) (pair_of c)
+is_in_list c facts = same_test c facts ∙ is_listed c (map value_of facts)

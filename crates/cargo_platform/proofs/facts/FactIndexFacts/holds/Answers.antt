@@ -6,7 +6,8 @@ use Rattle.cargo_platform.specs.Trees.{value_of}
 use Rattle.cargo_platform.specs.Facts.{pair_of, fact_set}
 use Rattle.cargo_platform.specs.FactIndexes.{indexed}
 use Rattle.cargo_platform.specs.LengthOrder.{length_cmp, alone, key_value}
-use Rattle.cargo_platform.proofs.FactIndexes.{is_found, name_held, pair_held}
+use Rattle.cargo_platform.proofs.FactIndexes.{is_found, is_name_kept, is_pair_kept}
+use Rattle.cargo_platform.proofs.FactSets.{is_listed}
 use Rattle.cargo_platform.proofs.facts.FactIndexFacts.holds.Goals as goal
 
 pub returns-in-Name : goal.returns-in-Name
@@ -20,7 +21,8 @@ returns-in-Name c =
     (always_returns_same _ _ _ (λ a r g k. search (rules, tests)))) in
     c.is_ok.ensures.value
     ∙ is_found alone (alone asked) index.names.items asked found.result index.names_sorted bound position
-    ∙ name_held index.names.items index.pairs.items asked
+    ∙ is_name_kept index.names.items index.pairs.items asked
+    ∙ is_listed (alone asked) (indexed index)
     ∙ sym (ap (λ v. contains (fact_set (indexed index)) (pair_of (value_of v))) c.in-Name.is)
 
 pub returns-in-KeyPair : goal.returns-in-KeyPair
@@ -34,5 +36,6 @@ returns-in-KeyPair c =
     (always_returns_same _ _ _ (λ a r g k. search (rules, tests)))) in
     c.is_ok-in-KeyPair.ensures.value
     ∙ is_found key_value (key_value asked) index.pairs.items asked found.result index.pairs_sorted bound position
-    ∙ pair_held index.names.items index.pairs.items asked
+    ∙ is_pair_kept index.names.items index.pairs.items asked
+    ∙ is_listed (key_value asked) (indexed index)
     ∙ sym (ap (λ v. contains (fact_set (indexed index)) (pair_of (value_of v))) c.in-KeyPair.is)
