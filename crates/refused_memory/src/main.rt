@@ -6,8 +6,10 @@
 //! one growth refused, does for each growth of each call.
 #![tactic(auto)]
 
+mod calls;
 mod known_in_part;
 
+use calls::{CALLS, Call};
 use cargo_platform::{
     Cfg, CfgExpr, FactIndex, Facts, FactsError, Ident, JsonError, ParseError, ParseErrorKind,
     Platform, ReadError, read_facts,
@@ -20,7 +22,7 @@ use std::io::Read;
 use std::process::ExitCode;
 
 /// Why there are no answers to print.
-#[derive(Debug, Drop)]
+#[derive(Drop)]
 enum Fault {
     Memory,
     Changed,
@@ -33,44 +35,48 @@ impl From<AllocError> for Fault {
     }
 }
 
-const WARNED: &str = "cfg(any(not(feature = \"w\"), r#test, r#true = \"x\", true))";
+/// Of a text that is known to be read.
+impl From<ReadError> for Fault {
+    fn from(error: ReadError) -> Fault {
+        match error {
+            ReadError::Parse(_) => Fault::Unknown,
+            ReadError::Memory(_) => Fault::Memory,
+        }
+    }
+}
 
-/// A group with spaces and a trailing comma.
-const GROUP: &str = "any( a ,b = \"1\", )";
-
-/// More groups in one another, each with members left behind the next, than a list has room for at first.
-const DEEP: &str =
-    "cfg(all(a, all(a, all(a, all(a, all(a, all(a, feature = \"w\", b), b), b), b), b), b))";
+fn printed<T: Display>(alloc: Global, value: &T) -> Result<String, Fault> {
+    Ok(format!(in alloc; "{value}\n")?)
+}
 
 /// The printed value, or the printed error of a refused text.
 fn shown<T: Display + Drop>(alloc: Global, read: Result<T, ReadError>) -> Result<String, Fault> {
     match read {
-        Ok(value) => Ok(format!(in alloc; "{value}\n")?),
-        Err(ReadError::Parse(error)) => Ok(format!(in alloc; "{error}\n")?),
-        Err(ReadError::Memory(_)) => Err(Fault::Memory),
+        Ok(value) => printed(alloc, &value),
+        Err(error) => refusal(alloc, error),
     }
 }
 
-fn printed(alloc: Global, platform: &Platform) -> Result<String, Fault> {
-    Ok(format!(in alloc; "{platform}\n")?)
+fn refusal(alloc: Global, error: ReadError) -> Result<String, Fault> {
+    match error {
+        ReadError::Parse(error) => printed(alloc, &error),
+        ReadError::Memory(_) => Err(Fault::Memory),
+    }
 }
 
 /// The platform that a text spells, which is known to spell one.
 fn platform(alloc: Global, text: &str) -> Result<Platform, Fault> {
-    match Platform::from_str(alloc, text) {
-        Ok(platform) => Ok(platform),
-        Err(ReadError::Parse(_)) => Err(Fault::Unknown),
-        Err(ReadError::Memory(_)) => Err(Fault::Memory),
-    }
+    Ok(Platform::from_str(alloc, text)?)
+}
+
+/// The expression that a text spells, which is known to spell one.
+fn expression(alloc: Global, text: &str) -> Result<CfgExpr, Fault> {
+    Ok(CfgExpr::from_str(alloc, text)?)
 }
 
 /// The fact that a text spells, which is known to spell one.
 fn fact(alloc: Global, text: &str) -> Result<Cfg, Fault> {
-    match Cfg::from_str(alloc, text) {
-        Ok(fact) => Ok(fact),
-        Err(ReadError::Parse(_)) => Err(Fault::Unknown),
-        Err(ReadError::Memory(_)) => Err(Fault::Memory),
-    }
+    Ok(Cfg::from_str(alloc, text)?)
 }
 
 /// One fact, which is marked.
@@ -95,144 +101,101 @@ fn grown<'a>(alloc: Global, input: &'a [u8]) -> Result<&'a [u8], Fault> {
 
 fn read(alloc: Global, input: &[u8]) -> Result<String, Fault> {
     let name = grown(alloc, input)?;
-    match name {
-        b"pair" => shown(alloc, Cfg::from_str(alloc, "target_os = \"linux\"")),
-        b"refused_pair" => shown(alloc, Cfg::from_str(alloc, "r #foo")),
-        b"expression" => shown(alloc, CfgExpr::from_str(alloc, GROUP)),
-        b"negation" => shown(alloc, CfgExpr::from_str(alloc, "not(all(r#a))")),
-        b"refused_expression" => shown(alloc, CfgExpr::from_str(alloc, "all(a b)")),
-        b"surplus" => shown(alloc, CfgExpr::from_str(alloc, "a b")),
-        b"counted" => shown(alloc, CfgExpr::from_str_counted(alloc, "any(a, b)").0),
-        b"platform" => shown(alloc, Platform::from_str(alloc, WARNED)),
-        b"target" => shown(alloc, Platform::from_str(alloc, "x86_64-apple-darwin")),
-        b"refused_target" => shown(alloc, Platform::from_str(alloc, "a€b")),
-        b"refused_parenthesis" => shown(alloc, Platform::from_str(alloc, "cfg(")),
-        _ => read_more(alloc, name),
-    }
-}
-
-fn read_more(alloc: Global, name: &[u8]) -> Result<String, Fault> {
-    match name {
-        b"empty_pair" => shown(alloc, Cfg::from_str(alloc, "")),
-        b"empty_target" => shown(alloc, Platform::from_str(alloc, "")),
-        b"empty_condition" => shown(alloc, Platform::from_str(alloc, "cfg()")),
-        b"counted_group" => shown(alloc, CfgExpr::from_str_counted(alloc, GROUP).0),
-        b"refused_counted" => shown(alloc, CfgExpr::from_str_counted(alloc, "all(a b)").0),
-        b"counted_surplus" => shown(alloc, CfgExpr::from_str_counted(alloc, "a b").0),
-        b"group_clone" => group_clone(alloc),
-        b"surplus_pair" => shown(alloc, Cfg::from_str(alloc, "a b")),
-        b"group_condition" => {
-            shown(
-                alloc,
-                Platform::from_str(alloc, "cfg(any( a ,b = \"1\", ))"),
-            )
+    for (word, call, text) in CALLS {
+        if word.as_bytes() == name {
+            return make(alloc, *call, text);
         }
-        b"refused_condition" => shown(alloc, Platform::from_str(alloc, "cfg(all(a b))")),
-        b"index_of_two" => index_of_two(alloc),
-        _ => ask(alloc, name),
+    }
+    Err(Fault::Unknown)
+}
+
+fn make(alloc: Global, call: Call, text: &str) -> Result<String, Fault> {
+    match call {
+        Call::ReadFact => shown(alloc, Cfg::from_str(alloc, text)),
+        Call::ReadExpression => shown(alloc, CfgExpr::from_str(alloc, text)),
+        Call::ReadCounted => shown(alloc, CfgExpr::from_str_counted(alloc, text).0),
+        Call::ReadPlatform => shown(alloc, Platform::from_str(alloc, text)),
+        Call::MatchesKey => matches_key(alloc, text),
+        Call::Index => index(alloc, text),
+        Call::IndexOfTwo => index_of_two(alloc, text),
+        Call::ReadFacts => lines(alloc, text),
+        Call::Error => error(alloc, text),
+        Call::ErrorWithText => error_with_text(alloc, text),
+        Call::Attributes => warned(alloc, &platform(alloc, text)?, true),
+        Call::Keywords => warned(alloc, &platform(alloc, text)?, false),
+        Call::KeywordsOfFact => warned(alloc, &alone(alloc, text)?, false),
+        Call::CloneName => name_clone(alloc, text),
+        Call::CloneFact => fact_clone(alloc, text),
+        Call::CloneGroup => group_clone(alloc, text),
+        Call::CloneCondition => condition_clone(alloc, &platform(alloc, text)?),
+        Call::CloneTwice => clones(alloc, text),
+        Call::Json => read_json(alloc, &json(alloc, text)?),
+        Call::JsonText => json_text(alloc, &json(alloc, text)?),
+        Call::ReadJson => read_json(alloc, &Value::String(String::from_str(alloc, text)?)),
+        Call::Print => printed(alloc, &platform(alloc, text)?),
+        Call::DropIteratively => dropped(alloc, text),
+        Call::ExpressionLeft => known_in_part::expression_left(alloc, text),
+        Call::ConditionLeft => known_in_part::condition_left(alloc, text),
     }
 }
 
-fn ask(alloc: Global, name: &[u8]) -> Result<String, Fault> {
-    match name {
-        b"key" => key(alloc, "cfg(a)"),
-        b"refused_key" => key(alloc, "cfg(a b)"),
-        b"target_key" => key(alloc, "a"),
-        b"spaced_key" => key(alloc, "cfg(a) "),
-        b"empty_key" => key(alloc, ""),
-        b"empty_condition_key" => key(alloc, "cfg()"),
-        b"group_key" => key(alloc, "cfg(any( a ,b = \"1\", ))"),
-        b"index" => index(alloc),
-        b"facts" => lines(alloc, "unix\nr#k = \"1\"\n"),
-        b"refused_facts" => lines(alloc, "unix\na b"),
-        b"error" => error(alloc),
-        b"error_with_text" => error_with_text(alloc),
-        b"attributes" => warned(alloc, &platform(alloc, WARNED)?, true),
-        b"keywords" => warned(alloc, &keyed_by_a_literal(alloc)?, false),
-        b"no_keywords" => warned(alloc, &platform(alloc, WARNED)?, false),
-        _ => copy(alloc, name),
-    }
-}
-
-fn copy(alloc: Global, name: &[u8]) -> Result<String, Fault> {
-    match name {
-        b"clones" => clones(alloc),
-        b"ident_clone" => ident_clone(alloc),
-        b"name_clone" => fact_clone(alloc, "r#a"),
-        b"pair_clone" => fact_clone(alloc, "r#a = \"1\""),
-        b"target_clone" => condition_clone(alloc, "a"),
-        b"condition_clone" => condition_clone(alloc, WARNED),
-        b"json" => json(alloc, "cfg( a )"),
-        b"condition_json" => json(alloc, WARNED),
-        b"target_json" => target_json(alloc),
-        b"refused_json" => refused_json(alloc, "!foo"),
-        b"refused_condition_json" => refused_json(alloc, "cfg(a b)"),
-        _ => go_through(alloc, name),
-    }
-}
-
-/// The calls that keep a list of the groups that they are in.
-fn go_through(alloc: Global, name: &[u8]) -> Result<String, Fault> {
-    match name {
-        b"deep_clone" => condition_clone(alloc, DEEP),
-        b"deep_attributes" => warned(alloc, &platform(alloc, DEEP)?, true),
-        b"deep_kept" => printed(alloc, &platform(alloc, DEEP)?),
-        b"deep_dropped" => {
-            let deep = platform(alloc, DEEP)?;
-            let text = printed(alloc, &deep)?;
-            deep.drop_iteratively(alloc);
-            Ok(text)
-        }
-        _ => known_in_part::left(alloc, name),
-    }
-}
-
-fn key(alloc: Global, key: &str) -> Result<String, Fault> {
+fn matches_key(alloc: Global, key: &str) -> Result<String, Fault> {
     let facts = facts(alloc)?;
     let matches = CfgExpr::matches_key(alloc, key, &facts)?;
-    Ok(format!(in alloc; "{matches}\n")?)
+    printed(alloc, &matches)
 }
 
-fn index(alloc: Global) -> Result<String, Fault> {
+fn index(alloc: Global, text: &str) -> Result<String, Fault> {
     let index = FactIndex::new(alloc, &facts(alloc)?)?;
-    let matches = match CfgExpr::from_str(alloc, "a") {
-        Ok(expression) => expression.matches_in(&index),
-        Err(ReadError::Parse(_)) => return Err(Fault::Unknown),
-        Err(ReadError::Memory(_)) => return Err(Fault::Memory),
-    };
-    Ok(format!(in alloc; "{matches}\n")?)
+    let matches = expression(alloc, text)?.matches_in(&index);
+    printed(alloc, &matches)
+}
+
+/// Whether an index of a name and a pair holds the pair.
+fn index_of_two(alloc: Global, text: &str) -> Result<String, Fault> {
+    let pair = fact(alloc, text)?;
+    let holds = FactIndex::new(alloc, &facts_with(alloc, &pair)?)?.holds(&pair);
+    printed(alloc, &holds)
+}
+
+fn facts_with(alloc: Global, fact: &Cfg) -> Result<Vec<Cfg>, Fault> {
+    let mut facts = facts(alloc)?;
+    facts.push(fact.clone(alloc)?).map_err(AllocError::from)?;
+    Ok(facts)
 }
 
 /// The facts that a text holds line for line, or the error of its first refused line.
 fn lines(alloc: Global, text: &str) -> Result<String, Fault> {
     match read_facts(alloc, text) {
-        Ok(facts) => {
-            let mut printed = String::new(alloc);
-            for fact in &facts {
-                printed.push_str(&format!(in alloc; "{fact}\n")?)?;
-            }
-            Ok(printed)
-        }
+        Ok(facts) => listed(alloc, &facts),
         Err(FactsError::Line { number, error }) => Ok(format!(in alloc; "{number}: {error}\n")?),
         Err(FactsError::Memory(_)) => Err(Fault::Memory),
     }
 }
 
-fn error(alloc: Global) -> Result<String, Fault> {
-    let error = ParseError::new(alloc, "a = \"", ParseErrorKind::UnterminatedString)?;
-    Ok(format!(in alloc; "{error}\n")?)
+fn listed(alloc: Global, facts: &[Cfg]) -> Result<String, Fault> {
+    let mut text = String::new(alloc);
+    for fact in facts {
+        text.push_str(&printed(alloc, fact)?)?;
+    }
+    Ok(text)
+}
+
+fn error(alloc: Global, text: &str) -> Result<String, Fault> {
+    let error = ParseError::new(alloc, text, ParseErrorKind::UnterminatedString)?;
+    printed(alloc, &error)
 }
 
 /// An error whose kind holds a text of its own.
-fn error_with_text(alloc: Global) -> Result<String, Fault> {
+fn error_with_text(alloc: Global, text: &str) -> Result<String, Fault> {
     let kind = ParseErrorKind::UnterminatedExpression(String::from_str(alloc, "b")?);
-    let error = ParseError::new(alloc, "a b", kind)?;
-    Ok(format!(in alloc; "{error}\n")?)
+    let error = ParseError::new(alloc, text, kind)?;
+    printed(alloc, &error)
 }
 
-/// A condition that is read from no text: a literal is its key.
-fn keyed_by_a_literal(alloc: Global) -> Result<Platform, Fault> {
-    Ok(Platform::Cfg(CfgExpr::Value(fact(alloc, "true = \"x\"")?)))
+/// A condition of one fact, which is read from no text: a literal is its key.
+fn alone(alloc: Global, text: &str) -> Result<Platform, Fault> {
+    Ok(Platform::Cfg(CfgExpr::Value(fact(alloc, text)?)))
 }
 
 /// The warnings of a walk behind one that was there. Where memory is refused the list has to hold that one alone.
@@ -246,95 +209,89 @@ fn warned(alloc: Global, platform: &Platform, attributes: bool) -> Result<String
     } else {
         platform.check_cfg_keywords(alloc, &mut warnings, "-")
     };
-    if walked.is_err() {
-        let unchanged = match warnings.as_slice() {
-            [only] => only.as_str() == "w",
-            _ => false,
-        };
-        return Err(if unchanged {
-            Fault::Memory
-        } else {
-            Fault::Changed
-        });
+    match walked {
+        Ok(()) => joined(alloc, &warnings),
+        Err(_) => Err(fault_behind(&warnings)),
     }
+}
+
+/// What is wrong where a walk was refused memory and left these warnings.
+fn fault_behind(warnings: &[String]) -> Fault {
+    match warnings {
+        [only] if only.as_str() == "w" => Fault::Memory,
+        _ => Fault::Changed,
+    }
+}
+
+fn joined(alloc: Global, warnings: &[String]) -> Result<String, Fault> {
     let mut text = String::new(alloc);
-    for warning in &warnings {
+    for warning in warnings {
         text.push_str(warning)?;
         text.push('\n')?;
     }
     Ok(text)
 }
 
-fn clones(alloc: Global) -> Result<String, Fault> {
-    let Platform::Cfg(expression) = platform(alloc, "cfg(not(all(r#a = \"1\", r#b)))")? else {
-        return Err(Fault::Unknown);
-    };
-    let copy = Platform::Cfg(expression.clone(alloc)?);
-    let platform = copy.clone(alloc)?;
-    Ok(format!(in alloc; "{platform}\n")?)
-}
-
-fn ident_clone(alloc: Global) -> Result<String, Fault> {
+fn name_clone(alloc: Global, text: &str) -> Result<String, Fault> {
     let name = Ident {
-        name: String::from_str(alloc, "a")?,
+        name: String::from_str(alloc, text)?,
         raw: true,
     };
     let copy = name.clone(alloc)?;
-    Ok(format!(in alloc; "{copy}\n")?)
+    printed(alloc, &copy)
 }
 
 fn fact_clone(alloc: Global, text: &str) -> Result<String, Fault> {
     let copy = fact(alloc, text)?.clone(alloc)?;
-    Ok(format!(in alloc; "{copy}\n")?)
+    printed(alloc, &copy)
 }
 
-fn condition_clone(alloc: Global, text: &str) -> Result<String, Fault> {
-    let copy = platform(alloc, text)?.clone(alloc)?;
-    Ok(format!(in alloc; "{copy}\n")?)
+fn group_clone(alloc: Global, text: &str) -> Result<String, Fault> {
+    let copy = expression(alloc, text)?.clone(alloc)?;
+    printed(alloc, &copy)
 }
 
-fn group_clone(alloc: Global) -> Result<String, Fault> {
-    shown(
-        alloc,
-        match CfgExpr::from_str(alloc, GROUP) {
-            Ok(group) => group.clone(alloc).map_err(ReadError::Memory),
-            Err(refusal) => Err(refusal),
-        },
-    )
+fn condition_clone(alloc: Global, platform: &Platform) -> Result<String, Fault> {
+    let copy = platform.clone(alloc)?;
+    printed(alloc, &copy)
 }
 
-/// Whether an index of a name and a pair holds the pair.
-fn index_of_two(alloc: Global) -> Result<String, Fault> {
-    let pair = fact(alloc, "target_os=\"linux\"")?;
-    let mut facts = facts(alloc)?;
-    facts.push(pair.clone(alloc)?).map_err(AllocError::from)?;
-    let holds = FactIndex::new(alloc, &facts)?.holds(&pair);
-    Ok(format!(in alloc; "{holds}\n")?)
-}
-
-fn json(alloc: Global, text: &str) -> Result<String, Fault> {
-    let value = platform(alloc, text)?.to_json(alloc)?;
-    match Platform::from_json(alloc, &value) {
-        Ok(platform) => Ok(format!(in alloc; "{platform}\n")?),
-        Err(JsonError::Memory(_)) => Err(Fault::Memory),
-        Err(JsonError::NotText | JsonError::Parse(_)) => Err(Fault::Unknown),
+/// The copy of a condition whose expression is a copy.
+fn clones(alloc: Global, text: &str) -> Result<String, Fault> {
+    match platform(alloc, text)? {
+        Platform::Cfg(expression) => {
+            condition_clone(alloc, &Platform::Cfg(expression.clone(alloc)?))
+        }
+        Platform::Name(_) => Err(Fault::Unknown),
     }
 }
 
-fn target_json(alloc: Global) -> Result<String, Fault> {
-    match platform(alloc, "a")?.to_json(alloc)?.as_str() {
-        Some(text) => Ok(format!(in alloc; "{text}\n")?),
+fn json(alloc: Global, text: &str) -> Result<Value, Fault> {
+    Ok(platform(alloc, text)?.to_json(alloc)?)
+}
+
+fn json_text(alloc: Global, value: &Value) -> Result<String, Fault> {
+    match value.as_str() {
+        Some(text) => printed(alloc, &text),
         None => Err(Fault::Unknown),
     }
 }
 
-fn refused_json(alloc: Global, text: &str) -> Result<String, Fault> {
-    let value = Value::String(String::from_str(alloc, text)?);
-    match Platform::from_json(alloc, &value) {
-        Ok(_) | Err(JsonError::NotText) => Err(Fault::Unknown),
-        Err(JsonError::Parse(error)) => Ok(format!(in alloc; "{error}\n")?),
+/// The printed platform that a value stands for, or the printed error of a refused text.
+fn read_json(alloc: Global, value: &Value) -> Result<String, Fault> {
+    match Platform::from_json(alloc, value) {
+        Ok(platform) => printed(alloc, &platform),
+        Err(JsonError::Parse(error)) => printed(alloc, &error),
+        Err(JsonError::NotText) => Err(Fault::Unknown),
         Err(JsonError::Memory(_)) => Err(Fault::Memory),
     }
+}
+
+fn dropped(alloc: Global, text: &str) -> Result<String, Fault> {
+    let deep = platform(alloc, text)?;
+    let text = printed(alloc, &deep)?;
+    deep.drop_iteratively(alloc);
+    Ok(text)
 }
 
 fn main(rt: HostRuntime) -> io::Result<ExitCode> {

@@ -1,0 +1,133 @@
+//! The calls by their names.
+
+/// What is called with a text.
+#[derive(Clone, Copy)]
+pub enum Call {
+    ReadFact,
+    ReadExpression,
+    ReadCounted,
+    ReadPlatform,
+    MatchesKey,
+    Index,
+    IndexOfTwo,
+    ReadFacts,
+    Error,
+    ErrorWithText,
+    Attributes,
+    Keywords,
+    KeywordsOfFact,
+    CloneName,
+    CloneFact,
+    CloneGroup,
+    CloneCondition,
+    CloneTwice,
+    Json,
+    JsonText,
+    ReadJson,
+    Print,
+    DropIteratively,
+    ExpressionLeft,
+    ConditionLeft,
+}
+
+const WARNED: &str = "cfg(any(not(feature = \"w\"), r#test, r#true = \"x\", true))";
+
+/// A group with spaces and a trailing comma.
+const GROUP: &str = "any( a ,b = \"1\", )";
+
+const GROUP_CONDITION: &str = "cfg(any( a ,b = \"1\", ))";
+
+/// More groups in one another, each with members left behind the next, than a list has room for at first.
+const DEEP: &str =
+    "cfg(all(a, all(a, all(a, all(a, all(a, all(a, feature = \"w\", b), b), b), b), b), b))";
+
+/// Each name, and what it stands for.
+pub const CALLS: &[(&str, Call, &str)] = &[
+    ("pair", Call::ReadFact, "target_os = \"linux\""),
+    ("refused_pair", Call::ReadFact, "r #foo"),
+    ("empty_pair", Call::ReadFact, ""),
+    ("surplus_pair", Call::ReadFact, "a b"),
+    ("expression", Call::ReadExpression, GROUP),
+    ("negation", Call::ReadExpression, "not(all(r#a))"),
+    ("refused_expression", Call::ReadExpression, "all(a b)"),
+    ("surplus", Call::ReadExpression, "a b"),
+    ("counted", Call::ReadCounted, "any(a, b)"),
+    ("counted_group", Call::ReadCounted, GROUP),
+    ("refused_counted", Call::ReadCounted, "all(a b)"),
+    ("counted_surplus", Call::ReadCounted, "a b"),
+    ("platform", Call::ReadPlatform, WARNED),
+    ("target", Call::ReadPlatform, "x86_64-apple-darwin"),
+    ("refused_target", Call::ReadPlatform, "a€b"),
+    ("refused_parenthesis", Call::ReadPlatform, "cfg("),
+    ("empty_target", Call::ReadPlatform, ""),
+    ("empty_condition", Call::ReadPlatform, "cfg()"),
+    ("group_condition", Call::ReadPlatform, GROUP_CONDITION),
+    ("refused_condition", Call::ReadPlatform, "cfg(all(a b))"),
+    ("key", Call::MatchesKey, "cfg(a)"),
+    ("refused_key", Call::MatchesKey, "cfg(a b)"),
+    ("target_key", Call::MatchesKey, "a"),
+    ("spaced_key", Call::MatchesKey, "cfg(a) "),
+    ("empty_key", Call::MatchesKey, ""),
+    ("empty_condition_key", Call::MatchesKey, "cfg()"),
+    ("group_key", Call::MatchesKey, GROUP_CONDITION),
+    ("index", Call::Index, "a"),
+    ("index_of_two", Call::IndexOfTwo, "target_os=\"linux\""),
+    ("facts", Call::ReadFacts, "unix\nr#k = \"1\"\n"),
+    ("refused_facts", Call::ReadFacts, "unix\na b"),
+    ("error", Call::Error, "a = \""),
+    ("error_with_text", Call::ErrorWithText, "a b"),
+    ("attributes", Call::Attributes, WARNED),
+    ("deep_attributes", Call::Attributes, DEEP),
+    ("no_keywords", Call::Keywords, WARNED),
+    ("keywords", Call::KeywordsOfFact, "true = \"x\""),
+    ("ident_clone", Call::CloneName, "a"),
+    ("name_clone", Call::CloneFact, "r#a"),
+    ("pair_clone", Call::CloneFact, "r#a = \"1\""),
+    ("group_clone", Call::CloneGroup, GROUP),
+    ("target_clone", Call::CloneCondition, "a"),
+    ("condition_clone", Call::CloneCondition, WARNED),
+    ("deep_clone", Call::CloneCondition, DEEP),
+    (
+        "clones",
+        Call::CloneTwice,
+        "cfg(not(all(r#a = \"1\", r#b)))",
+    ),
+    ("json", Call::Json, "cfg( a )"),
+    ("condition_json", Call::Json, WARNED),
+    ("target_json", Call::JsonText, "a"),
+    ("refused_json", Call::ReadJson, "!foo"),
+    ("refused_condition_json", Call::ReadJson, "cfg(a b)"),
+    ("deep_kept", Call::Print, DEEP),
+    ("deep_dropped", Call::DropIteratively, DEEP),
+    ("residual_name", Call::ExpressionLeft, "r#a"),
+    ("residual_pair", Call::ExpressionLeft, "a = \"1\""),
+    (
+        "residual_all",
+        Call::ExpressionLeft,
+        "all(a, not(unix), b = \"1\", c)",
+    ),
+    ("residual_any", Call::ExpressionLeft, "any(unix, a, r#b)"),
+    ("residual_not", Call::ExpressionLeft, "not(a)"),
+    (
+        "residual_one",
+        Call::ExpressionLeft,
+        "all(any(unix, a), true)",
+    ),
+    (
+        "residual_nest",
+        Call::ExpressionLeft,
+        "any(all(a, b), not(any(c, unix, d)))",
+    ),
+    (
+        "residual_deep",
+        Call::ExpressionLeft,
+        "all(a, not(any(b, all(c, not(any(d, e))))))",
+    ),
+    ("residual_decided", Call::ExpressionLeft, "all(a, b, unix)"),
+    ("residual_platform", Call::ConditionLeft, "cfg(all(a, b))"),
+    (
+        "residual_target",
+        Call::ConditionLeft,
+        "x86_64-apple-darwin",
+    ),
+];
