@@ -1,7 +1,7 @@
 //! The calls, and whether they answer what is known of a condition without them.
 
 use crate::nests::{Form, condition, is_condition, name, open_text};
-use cargo_platform::{CfgExpr, FactIndex, Platform, ReadError};
+use cargo_platform::{Cfg, CfgExpr, FactIndex, Platform, ReadError};
 use partial_facts::{Partial, decide_platform, residual_platform};
 use std::alloc::{AllocError, Global};
 use std::cmp::Ordering;
@@ -90,53 +90,17 @@ impl Nest {
             Call::Read => self.reads(alloc, ")", true),
             Call::RefuseSurplus => self.reads(alloc, " b)", false),
             Call::RefuseOpen => self.reads(alloc, "", false),
-            Call::MatchesKey => {
-                let key = self.text(alloc, ")")?;
-                let facts = vec![in alloc; name(alloc, LEAF)?]?;
-                CfgExpr::matches_key(alloc, &key, &facts)
-            }
-            Call::Print => {
-                let platform = &self.platform;
-                let text = format!(in alloc; "{platform}")?;
-                Ok(text == self.text(alloc, ")")?)
-            }
-            Call::ToJson => {
-                let text = self.text(alloc, ")")?;
-                Ok(self.platform.to_json(alloc)?.as_str() == Some(text.as_str()))
-            }
-            Call::Clone => {
-                let copy = self.platform.clone(alloc)?;
-                let is_right = is_condition(&copy, self.form, self.levels, LEAF);
-                copy.drop_iteratively(alloc);
-                Ok(is_right)
-            }
-            Call::Attributes => {
-                let mut warnings = Vec::new(alloc);
-                self.platform.check_cfg_attributes(alloc, &mut warnings)?;
-                Ok(warnings.len() == 1)
-            }
-            Call::Keywords => {
-                let mut warnings = Vec::new(alloc);
-                let keyword = condition(alloc, self.form, self.levels, KEYWORD)?;
-                keyword.check_cfg_keywords(alloc, &mut warnings, "Cargo.toml")?;
-                keyword.drop_iteratively(alloc);
-                Ok(warnings.len() == 1)
-            }
-            Call::Matches | Call::MatchesIn => self.matches(alloc, call),
+            Call::MatchesKey => self.matches_key(alloc),
+            Call::Print => self.prints(alloc),
+            Call::ToJson => self.is_json(alloc),
+            Call::Clone => self.clones(alloc),
+            Call::Attributes => warns_of_attribute(alloc, &self.platform),
+            Call::Keywords => self.warns_of_keyword(alloc),
+            Call::Matches => self.matches(alloc),
+            Call::MatchesIn => self.matches_in(alloc),
             Call::Equal | Call::Order | Call::Hash => self.compares(alloc, call),
             Call::Decide => Ok(self.decides(&[], None) && self.decides(&[LEAF], Some(false))),
-            Call::Residual => {
-                // Negations are left, and members that are true are not.
-                let levels = match self.form {
-                    Form::Not => self.levels,
-                    Form::Last | Form::First => 0,
-                };
-                let left = self.left(alloc, &[])?;
-                let is_right = is_condition(&left, self.form, levels, LEAF);
-                left.drop_iteratively(alloc);
-                let decided = self.left(alloc, &[LEAF])?;
-                Ok(is_right && matches!(decided, Platform::Cfg(CfgExpr::False)))
-            }
+            Call::Residual => Ok(self.leaves_nest(alloc)? && self.leaves_false(alloc)?),
         }
     }
 
@@ -158,17 +122,48 @@ impl Nest {
         }
     }
 
+    fn matches_key(&self, alloc: Global) -> Result<bool, AllocError> {
+        let key = self.text(alloc, ")")?;
+        CfgExpr::matches_key(alloc, &key, &facts(alloc)?)
+    }
+
+    fn prints(&self, alloc: Global) -> Result<bool, AllocError> {
+        let platform = &self.platform;
+        let text = format!(in alloc; "{platform}")?;
+        Ok(text == self.text(alloc, ")")?)
+    }
+
+    fn is_json(&self, alloc: Global) -> Result<bool, AllocError> {
+        let text = self.text(alloc, ")")?;
+        Ok(self.platform.to_json(alloc)?.as_str() == Some(text.as_str()))
+    }
+
+    fn clones(&self, alloc: Global) -> Result<bool, AllocError> {
+        let copy = self.platform.clone(alloc)?;
+        Ok(is_dropped_condition(alloc, copy, self.form, self.levels))
+    }
+
+    fn warns_of_keyword(&self, alloc: Global) -> Result<bool, AllocError> {
+        let mut warnings = Vec::new(alloc);
+        let keyword = condition(alloc, self.form, self.levels, KEYWORD)?;
+        keyword.check_cfg_keywords(alloc, &mut warnings, "Cargo.toml")?;
+        keyword.drop_iteratively(alloc);
+        Ok(warnings.len() == 1)
+    }
+
     /// The nest is as true as the name in it.
-    fn matches(&self, alloc: Global, call: Call) -> Result<bool, AllocError> {
-        let facts = vec![in alloc; name(alloc, LEAF)?]?;
-        match (call, &self.platform) {
-            (Call::MatchesIn, Platform::Cfg(expression)) => {
-                let all = FactIndex::new(alloc, &facts)?;
-                let none = FactIndex::new(alloc, &[])?;
-                Ok(expression.matches_in(&all) && !expression.matches_in(&none))
-            }
-            (_, platform) => Ok(platform.matches("", &facts) && !platform.matches("", &[])),
-        }
+    fn matches(&self, alloc: Global) -> Result<bool, AllocError> {
+        let platform = &self.platform;
+        Ok(platform.matches("", &facts(alloc)?) && !platform.matches("", &[]))
+    }
+
+    fn matches_in(&self, alloc: Global) -> Result<bool, AllocError> {
+        let Platform::Cfg(expression) = &self.platform else {
+            return Ok(false);
+        };
+        let all = FactIndex::new(alloc, &facts(alloc)?)?;
+        let none = FactIndex::new(alloc, &[])?;
+        Ok(expression.matches_in(&all) && !expression.matches_in(&none))
     }
 
     /// Whether this is decided of the nest where no name is a fact of these that are complete.
@@ -189,6 +184,21 @@ impl Nest {
         residual_platform(alloc, &self.platform, None, &known)
     }
 
+    /// Negations are left, and members that are true are not.
+    fn leaves_nest(&self, alloc: Global) -> Result<bool, AllocError> {
+        let levels = match self.form {
+            Form::Not => self.levels,
+            Form::Last | Form::First => 0,
+        };
+        let left = self.left(alloc, &[])?;
+        Ok(is_dropped_condition(alloc, left, self.form, levels))
+    }
+
+    fn leaves_false(&self, alloc: Global) -> Result<bool, AllocError> {
+        let left = self.left(alloc, &[LEAF])?;
+        Ok(matches!(left, Platform::Cfg(CfgExpr::False)))
+    }
+
     /// The nest is compared with itself, and with one around a later name.
     fn compares(&self, alloc: Global, call: Call) -> Result<bool, AllocError> {
         let later = condition(alloc, self.form, self.levels, LATER)?;
@@ -203,6 +213,24 @@ impl Nest {
         later.drop_iteratively(alloc);
         Ok(is_right)
     }
+}
+
+/// The name inside, as a fact.
+fn facts(alloc: Global) -> Result<Vec<Cfg>, AllocError> {
+    vec![in alloc; name(alloc, LEAF)?].map_err(AllocError::from)
+}
+
+/// Whether the condition is so many levels around the name inside. It is dropped.
+fn is_dropped_condition(alloc: Global, platform: Platform, form: Form, levels: u32) -> bool {
+    let is_right = is_condition(&platform, form, levels, LEAF);
+    platform.drop_iteratively(alloc);
+    is_right
+}
+
+fn warns_of_attribute(alloc: Global, platform: &Platform) -> Result<bool, AllocError> {
+    let mut warnings = Vec::new(alloc);
+    platform.check_cfg_attributes(alloc, &mut warnings)?;
+    Ok(warnings.len() == 1)
 }
 
 fn hash_of(platform: &Platform) -> u64 {
