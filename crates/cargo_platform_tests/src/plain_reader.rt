@@ -124,17 +124,23 @@ fn pair_value<'a>(tokens: &mut Tokens<'a>) -> Result<Option<&'a str>, Stop<'a>> 
     Ok(None)
 }
 
-/// A name or a pair, and nothing behind it.
-pub fn read_cfg<'a>(alloc: Global, text: &'a str) -> Result<Cfg, Stop<'a>> {
-    let mut tokens = Tokens::new(text);
-    let (raw, name) = tokens.identifier("identifier")?;
-    let value = pair_value(&mut tokens)?;
-    tokens.end()?;
+/// The name or the pair that begins with an identifier.
+fn cfg<'a>(alloc: Global, tokens: &mut Tokens<'a>, raw: bool, name: &str) -> Result<Cfg, Stop<'a>> {
+    let value = pair_value(tokens)?;
     let ident = ident(alloc, raw, name)?;
     match value {
         Some(value) => Ok(Cfg::KeyPair(ident, String::from_str(alloc, value)?)),
         None => Ok(Cfg::Name(ident)),
     }
+}
+
+/// A name or a pair, and nothing behind it.
+pub fn read_cfg<'a>(alloc: Global, text: &'a str) -> Result<Cfg, Stop<'a>> {
+    let mut tokens = Tokens::new(text);
+    let (raw, name) = tokens.identifier("identifier")?;
+    let read = cfg(alloc, &mut tokens, raw, name)?;
+    tokens.end()?;
+    Ok(read)
 }
 
 /// An expression, and nothing behind it.
@@ -145,6 +151,31 @@ pub fn read_expression<'a>(alloc: Global, text: &'a str) -> Result<CfgExpr, Stop
     Ok(expression)
 }
 
+/// What an identifier is the start of.
+#[derive(Clone, Copy)]
+enum Start {
+    All,
+    Any,
+    Not,
+    True,
+    False,
+    Value,
+}
+
+fn start_of(raw: bool, name: &str) -> Start {
+    if raw {
+        return Start::Value;
+    }
+    match name {
+        "all" => Start::All,
+        "any" => Start::Any,
+        "not" => Start::Not,
+        "true" => Start::True,
+        "false" => Start::False,
+        _ => Start::Value,
+    }
+}
+
 #[cycle(descent)]
 fn expression<'a>(
     alloc: Global,
@@ -152,26 +183,13 @@ fn expression<'a>(
     depth: usize,
 ) -> Result<CfgExpr, Stop<'a>> {
     let (raw, name) = tokens.identifier("start of a cfg expression")?;
-    if !raw && name == "all" {
-        return Ok(CfgExpr::All(members(alloc, tokens, depth)?));
-    }
-    if !raw && name == "any" {
-        return Ok(CfgExpr::Any(members(alloc, tokens, depth)?));
-    }
-    if !raw && name == "not" {
-        return negation(alloc, tokens, depth);
-    }
-    if !raw && name == "true" {
-        return Ok(CfgExpr::True);
-    }
-    if !raw && name == "false" {
-        return Ok(CfgExpr::False);
-    }
-    let value = pair_value(tokens)?;
-    let ident = ident(alloc, raw, name)?;
-    match value {
-        Some(value) => Ok(CfgExpr::Value(Cfg::KeyPair(ident, String::from_str(alloc, value)?))),
-        None => Ok(CfgExpr::Value(Cfg::Name(ident))),
+    match start_of(raw, name) {
+        Start::All => Ok(CfgExpr::All(members(alloc, tokens, depth)?)),
+        Start::Any => Ok(CfgExpr::Any(members(alloc, tokens, depth)?)),
+        Start::Not => negation(alloc, tokens, depth),
+        Start::True => Ok(CfgExpr::True),
+        Start::False => Ok(CfgExpr::False),
+        Start::Value => Ok(CfgExpr::Value(cfg(alloc, tokens, raw, name)?)),
     }
 }
 

@@ -3,6 +3,7 @@
 use crate::support::{expression, value};
 use cargo_platform::{CfgExpr, Platform};
 use std::alloc::{AllocError, Global};
+use std::process::Abort;
 use std::test::Fail;
 
 /// The warning on a name, which is printed with its mark.
@@ -43,6 +44,29 @@ pub fn on_attributes(alloc: Global, words: &str) -> Result<Vec<String>, AllocErr
         texts.push(text)?;
     }
     Ok(texts)
+}
+
+/// The warnings on a condition's attributes.
+pub fn attributes_of(alloc: Global, condition: &Platform) -> Result<Vec<String>, AllocError> {
+    let mut found = Vec::new(alloc);
+    condition.check_cfg_attributes(alloc, &mut found)?;
+    Ok(found)
+}
+
+/// The warnings on a condition's keywords, in the manifest at a path.
+pub fn keywords_of(
+    alloc: Global,
+    condition: &Platform,
+    path: &str,
+) -> Result<Vec<String>, AllocError> {
+    let mut found = Vec::new(alloc);
+    condition.check_cfg_keywords(alloc, &mut found, path)?;
+    Ok(found)
+}
+
+/// Asserts which warnings were found on a condition.
+pub fn assert_warnings(rt: &impl Abort, found: &[String], wanted: &[String], condition: &str) {
+    assert_eq!(rt; found, wanted, "{condition}");
 }
 
 /// An expression, and what is warned about, in order.
@@ -93,9 +117,8 @@ fn attributes_that_select_nothing(rt: HostRuntime) -> Result<(), Fail> {
     let alloc = rt.alloc();
     for (text, words) in ATTRIBUTES {
         let condition = Platform::Cfg(CfgExpr::from_str(alloc, text)?);
-        let mut found = Vec::new(alloc);
-        condition.check_cfg_attributes(alloc, &mut found)?;
-        assert_eq!(rt; found, on_attributes(alloc, words)?, "{text}");
+        let found = attributes_of(alloc, &condition)?;
+        assert_warnings(&rt, &found, &on_attributes(alloc, words)?, text);
     }
     Ok(())
 }
@@ -119,19 +142,28 @@ const WORDS: &[(&str, Option<(&str, &str)>)] = &[
     ("test", None),
 ];
 
+/// The warning on a name or a pair, if it is warned about, for its printed form and the word.
+fn on_keyword(
+    alloc: Global,
+    path: &str,
+    warned: Option<(&str, &str)>,
+) -> Result<Vec<String>, AllocError> {
+    let mut texts = Vec::new(alloc);
+    if let Some((printed, word)) = warned {
+        texts.push(on_word(alloc, path, printed, word)?)?;
+    }
+    Ok(texts)
+}
+
 #[test]
 fn keywords_as_names_and_keys(rt: HostRuntime) -> Result<(), Fail> {
     let alloc = rt.alloc();
     for (text, warned) in WORDS {
         let negated = Box::new(alloc, CfgExpr::Value(value(alloc, text)?))?;
         let condition = Platform::Cfg(CfgExpr::Not(negated));
-        let mut found = Vec::new(alloc);
-        condition.check_cfg_keywords(alloc, &mut found, "a b/Cargo.toml")?;
-        let mut wanted = Vec::new(alloc);
-        if let Some((printed, word)) = warned {
-            wanted.push(on_word(alloc, "a b/Cargo.toml", printed, word)?)?;
-        }
-        assert_eq!(rt; found, wanted, "{text}");
+        let found = keywords_of(alloc, &condition, "a b/Cargo.toml")?;
+        let wanted = on_keyword(alloc, "a b/Cargo.toml", *warned)?;
+        assert_warnings(&rt, &found, &wanted, text);
     }
     Ok(())
 }
@@ -139,14 +171,12 @@ fn keywords_as_names_and_keys(rt: HostRuntime) -> Result<(), Fail> {
 #[test]
 fn keywords_from_left_to_right(rt: HostRuntime) -> Result<(), Fail> {
     let alloc = rt.alloc();
-    let tree = expression(alloc, "all2 any2 true=1 not false=2 all2 r#true=3 true")?;
-    let mut found = Vec::new(alloc);
-    Platform::Cfg(tree).check_cfg_keywords(alloc, &mut found, "")?;
-    let wanted = vec![in alloc;
-        on_word(alloc, "", "true = \"1\"", "true")?,
-        on_word(alloc, "", "false = \"2\"", "false")?,
-    ]?;
-    assert_eq!(rt; found, wanted);
+    let tree = "all2 any2 true=1 not false=2 all2 r#true=3 true";
+    let found = keywords_of(alloc, &Platform::Cfg(expression(alloc, tree)?), "")?;
+    let mut wanted = Vec::new(alloc);
+    wanted.push(on_word(alloc, "", "true = \"1\"", "true")?)?;
+    wanted.push(on_word(alloc, "", "false = \"2\"", "false")?)?;
+    assert_warnings(&rt, &found, &wanted, tree);
     Ok(())
 }
 
@@ -154,26 +184,38 @@ fn keywords_from_left_to_right(rt: HostRuntime) -> Result<(), Fail> {
 fn literals_are_no_keywords(rt: HostRuntime) -> Result<(), Fail> {
     let alloc = rt.alloc();
     let condition = Platform::Cfg(CfgExpr::from_str(alloc, LITERALS)?);
-    let mut found = Vec::new(alloc);
-    condition.check_cfg_keywords(alloc, &mut found, "-")?;
+    let found = keywords_of(alloc, &condition, "-")?;
     assert!(rt; found.is_empty());
+    Ok(())
+}
+
+/// Adds the warnings on a condition that is read from text, and asserts which there are: those on attributes alone.
+fn add_read(rt: &impl Abort, alloc: Global, found: &mut Vec<String>) -> Result<(), Fail> {
+    let condition = Platform::from_str(alloc, &format!(in alloc; "cfg({TWO_KINDS})")?)?;
+    let wanted = on_attributes(alloc, "w feature r#test")?;
+    condition.check_cfg_attributes(alloc, found)?;
+    assert_warnings(rt, found, &wanted, "attributes");
+    condition.check_cfg_keywords(alloc, found, "-")?;
+    assert_warnings(rt, found, &wanted, "keywords");
+    Ok(())
+}
+
+/// Adds the warning on a condition that is made by hand.
+fn add_made(alloc: Global, found: &mut Vec<String>) -> Result<(), Fail> {
+    let made = Platform::Cfg(expression(alloc, "true=x")?);
+    made.check_cfg_keywords(alloc, found, "-")?;
     Ok(())
 }
 
 #[test]
 fn warnings_go_behind_those_before(rt: HostRuntime) -> Result<(), Fail> {
     let alloc = rt.alloc();
-    let condition = Platform::from_str(alloc, &format!(in alloc; "cfg({TWO_KINDS})")?)?;
     let mut found = on_attributes(alloc, "w")?;
-    condition.check_cfg_attributes(alloc, &mut found)?;
+    add_read(&rt, alloc, &mut found)?;
+    add_made(alloc, &mut found)?;
     let mut wanted = on_attributes(alloc, "w feature r#test")?;
-    assert_eq!(rt; found, wanted);
-    condition.check_cfg_keywords(alloc, &mut found, "-")?;
-    assert_eq!(rt; found, wanted);
-    let made = Platform::Cfg(expression(alloc, "true=x")?);
-    made.check_cfg_keywords(alloc, &mut found, "-")?;
     wanted.push(on_word(alloc, "-", "true = \"x\"", "true")?)?;
-    assert_eq!(rt; found, wanted);
+    assert_warnings(&rt, &found, &wanted, "true=x");
     Ok(())
 }
 
@@ -182,10 +224,8 @@ fn names_of_targets_give_none(rt: HostRuntime) -> Result<(), Fail> {
     let alloc = rt.alloc();
     for name in ["test", "true"] {
         let target = Platform::Name(String::from_str(alloc, name)?);
-        let mut found = Vec::new(alloc);
-        target.check_cfg_attributes(alloc, &mut found)?;
-        target.check_cfg_keywords(alloc, &mut found, "-")?;
-        assert!(rt; found.is_empty(), "{name}");
+        assert_warnings(&rt, &attributes_of(alloc, &target)?, &[], name);
+        assert_warnings(&rt, &keywords_of(alloc, &target, "-")?, &[], name);
     }
     Ok(())
 }
