@@ -4,7 +4,6 @@ use crate::all_short_texts::{is_cfg, is_expression};
 use crate::platforms::is_condition;
 use crate::support::{Fault, assert_prints, assert_refused, expression, repeated, same};
 use cargo_platform::{Cfg, CfgExpr};
-use std::test::Fail;
 
 /// A text, the tree as `made::expression` takes it, and the printed form.
 pub type Read = (&'static str, &'static str, &'static str);
@@ -39,26 +38,24 @@ pub const READ: &[Read] = &[
 ];
 
 #[test]
-fn expressions_are_read(rt: HostRuntime) -> Result<(), Fail> {
+fn expressions_are_read(rt: HostRuntime) {
     let alloc = rt.alloc();
     for (text, tree, printed) in READ {
-        let read = CfgExpr::from_str(alloc, text)?;
-        let wanted = expression(alloc, tree)?;
+        let read = CfgExpr::from_str(alloc, text).expect(&rt, text);
+        let wanted = expression(&rt, alloc, tree);
         assert!(rt; same(&read, &wanted), "{text}: {read:?}");
-        assert_prints(&rt, alloc, &read, printed)?;
+        assert_prints(&rt, alloc, &read, printed);
     }
-    Ok(())
 }
 
 #[test]
-fn a_value_with_a_space(rt: HostRuntime) -> Result<(), Fail> {
-    let read = CfgExpr::from_str(rt.alloc(), "foo = \"3 e\"")?;
-    assert_prints(&rt, rt.alloc(), &read, "foo = \"3 e\"")?;
+fn a_value_with_a_space(rt: HostRuntime) {
+    let read = CfgExpr::from_str(rt.alloc(), "foo = \"3 e\"").expect(&rt, "foo = \"3 e\"");
+    assert_prints(&rt, rt.alloc(), &read, "foo = \"3 e\"");
     let CfgExpr::Value(Cfg::KeyPair(key, value)) = &read else {
-        return Err(Fail::new("a pair"));
+        panic!(rt; "a pair");
     };
     assert!(rt; !key.raw && key.as_str() == "foo" && value.as_str() == "3 e");
-    Ok(())
 }
 
 /// A text, its fault, and what the fault prints.
@@ -228,67 +225,65 @@ const REFUSED: &[Refused] = &[
 ];
 
 #[test]
-fn other_texts_are_refused(rt: HostRuntime) -> Result<(), Fail> {
+fn other_texts_are_refused(rt: HostRuntime) {
     for (text, fault, message) in REFUSED {
         let read = CfgExpr::from_str(rt.alloc(), text);
-        assert_refused(&rt, rt.alloc(), read.err(), text, *fault, message)?;
+        assert_refused(&rt, rt.alloc(), read.err(), text, *fault, message);
     }
-    Ok(())
 }
 
 #[test]
-fn a_long_list(rt: HostRuntime) -> Result<(), Fail> {
+fn a_long_list(rt: HostRuntime) {
     let alloc = rt.alloc();
-    let mut text = String::from_str(alloc, "all(")?;
-    text.push_str(&repeated(alloc, "a,", 100_000)?)?;
-    text.push(')')?;
-    assert!(rt; is_expression(&rt, alloc, &text)?);
-    assert!(rt; is_condition(&rt, alloc, &text)?);
-    assert!(rt; !is_cfg(&rt, alloc, &text)?);
+    let mut text = String::from_str(alloc, "all(").expect(&rt, "memory");
+    text.push_str(&repeated(&rt, alloc, "a,", 100_000))
+        .expect(&rt, "memory");
+    text.push(')').expect(&rt, "memory");
+    assert!(rt; is_expression(&rt, alloc, &text));
+    assert!(rt; is_condition(&rt, alloc, &text));
+    assert!(rt; !is_cfg(&rt, alloc, &text));
     let (read, looks) = CfgExpr::from_str_counted(alloc, &text);
-    let CfgExpr::All(members) = read? else {
-        return Err(Fail::new("a group"));
+    let CfgExpr::All(members) = read.expect(&rt, &text) else {
+        panic!(rt; "a group");
     };
     assert_eq!(rt; members.len(), 100_000);
     for member in &members {
-        assert!(rt; same(member, &expression(alloc, "a")?));
+        assert!(rt; same(member, &expression(&rt, alloc, "a")));
     }
     assert_eq!(rt; looks.count(), 200_006);
-    Ok(())
 }
 
 #[test]
-fn a_long_string_without_end(rt: HostRuntime) -> Result<(), Fail> {
+fn a_long_string_without_end(rt: HostRuntime) {
     let alloc = rt.alloc();
-    let mut text = String::from_str(alloc, "a = \"")?;
-    text.push_str(&repeated(alloc, " ", 100_000)?)?;
-    assert!(rt; !is_expression(&rt, alloc, &text)?);
-    assert!(rt; !is_condition(&rt, alloc, &text)?);
-    assert!(rt; !is_cfg(&rt, alloc, &text)?);
+    let mut text = String::from_str(alloc, "a = \"").expect(&rt, "memory");
+    text.push_str(&repeated(&rt, alloc, " ", 100_000))
+        .expect(&rt, "memory");
+    assert!(rt; !is_expression(&rt, alloc, &text));
+    assert!(rt; !is_condition(&rt, alloc, &text));
+    assert!(rt; !is_cfg(&rt, alloc, &text));
     let (read, looks) = CfgExpr::from_str_counted(alloc, &text);
     let fault = Fault::UnterminatedString;
-    assert_refused(&rt, alloc, read.err(), &text, fault, UNTERMINATED)?;
+    assert_refused(&rt, alloc, read.err(), &text, fault, UNTERMINATED);
     assert_eq!(rt; looks.count(), 100_006);
-    Ok(())
 }
 
 #[test]
-fn deep_texts_are_refused(rt: HostRuntime) -> Result<(), Fail> {
+fn deep_texts_are_refused(rt: HostRuntime) {
     let alloc = rt.alloc();
-    let open = repeated(alloc, "all(", 500)?;
-    assert!(rt; !is_expression(&rt, alloc, &open)?);
-    assert!(rt; !is_condition(&rt, alloc, &open)?);
-    assert!(rt; !is_cfg(&rt, alloc, &open)?);
+    let open = repeated(&rt, alloc, "all(", 500);
+    assert!(rt; !is_expression(&rt, alloc, &open));
+    assert!(rt; !is_condition(&rt, alloc, &open));
+    assert!(rt; !is_cfg(&rt, alloc, &open));
     let start = Fault::IncompleteExpr("start of a cfg expression");
     let read = CfgExpr::from_str(alloc, &open);
-    assert_refused(&rt, alloc, read.err(), &open, start, START)?;
-    let mut two = repeated(alloc, "not(", 500)?;
-    two.push_str("a b")?;
-    assert!(rt; !is_expression(&rt, alloc, &two)?);
-    assert!(rt; !is_condition(&rt, alloc, &two)?);
-    assert!(rt; !is_cfg(&rt, alloc, &two)?);
+    assert_refused(&rt, alloc, read.err(), &open, start, START);
+    let mut two = repeated(&rt, alloc, "not(", 500);
+    two.push_str("a b").expect(&rt, "memory");
+    assert!(rt; !is_expression(&rt, alloc, &two));
+    assert!(rt; !is_condition(&rt, alloc, &two));
+    assert!(rt; !is_cfg(&rt, alloc, &two));
     let second = Fault::UnexpectedToken("`)`", "an identifier");
     let read = CfgExpr::from_str(alloc, &two);
-    assert_refused(&rt, alloc, read.err(), &two, second, NAME)?;
-    Ok(())
+    assert_refused(&rt, alloc, read.err(), &two, second, NAME);
 }

@@ -3,7 +3,6 @@
 use crate::real_facts::LINUX;
 use crate::support::{Fault, assert_prints, is_fault, same_value, values};
 use cargo_platform::{FactsError, read_facts};
-use std::test::Fail;
 
 /// A text, and the facts that its lines spell, as `made::values` takes them.
 const READ: &[(&str, &str)] = &[
@@ -16,24 +15,23 @@ const READ: &[(&str, &str)] = &[
 ];
 
 #[test]
-fn lines_of_facts_are_read(rt: HostRuntime) -> Result<(), Fail> {
+fn lines_of_facts_are_read(rt: HostRuntime) {
     for (text, wanted) in READ {
-        let facts = read_facts(rt.alloc(), text)?;
-        let wanted = values(rt.alloc(), wanted)?;
+        let facts = read_facts(rt.alloc(), text).expect(&rt, text);
+        let wanted = values(&rt, rt.alloc(), wanted);
         assert_eq!(rt; facts.len(), wanted.len(), "{text}");
         for (fact, wanted) in facts.iter().zip(wanted.iter()) {
             assert!(rt; same_value(fact, wanted), "{text}");
         }
     }
-    Ok(())
 }
 
 #[test]
-fn facts_of_a_target_are_read(rt: HostRuntime) -> Result<(), Fail> {
-    let facts = read_facts(rt.alloc(), LINUX)?;
+fn facts_of_a_target_are_read(rt: HostRuntime) {
+    let facts = read_facts(rt.alloc(), LINUX).expect(&rt, LINUX);
     assert_eq!(rt; facts.len(), 19);
-    assert_prints(&rt, rt.alloc(), &facts[1], "panic = \"unwind\"")?;
-    assert_prints(&rt, rt.alloc(), &facts[18], "unix")
+    assert_prints(&rt, rt.alloc(), &facts[1], "panic = \"unwind\"");
+    assert_prints(&rt, rt.alloc(), &facts[18], "unix");
 }
 
 /// A text, the number and the text of the first line that spells no fact, its fault, and the fault's message.
@@ -98,18 +96,17 @@ const REFUSED: &[Refused] = &[
 ];
 
 #[test]
-fn the_first_line_that_is_no_fact_is_refused(rt: HostRuntime) -> Result<(), Fail> {
+fn the_first_line_that_is_no_fact_is_refused(rt: HostRuntime) {
     for (text, wanted, orig, fault, message) in REFUSED {
         let Some(FactsError::Line { number, error }) = read_facts(rt.alloc(), text).err() else {
-            return Err(Fail::new("a line was read that has to be refused"));
+            panic!(rt; "a line was read that has to be refused");
         };
         assert_eq!(rt; number, *wanted, "{text}");
         assert_eq!(rt; error.orig(), *orig);
         assert!(rt; is_fault(error.kind(), *fault), "{text}");
         let whole = format!(in rt.alloc();
             "line {wanted}: failed to parse `{orig}` as a cfg expression: {message}"
-        )?;
-        assert_prints(&rt, rt.alloc(), &FactsError::Line { number, error }, &whole)?;
+        ).expect(&rt, "memory");
+        assert_prints(&rt, rt.alloc(), &FactsError::Line { number, error }, &whole);
     }
-    Ok(())
 }

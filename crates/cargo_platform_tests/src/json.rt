@@ -3,16 +3,14 @@
 use crate::support::{Fault, assert_prints, assert_refused};
 use cargo_platform::{JsonError, Platform, ReadError};
 use serde_json::Value;
-use std::test::Fail;
 
 #[test]
-fn other_values_than_texts(rt: HostRuntime) -> Result<(), Fail> {
+fn other_values_than_texts(rt: HostRuntime) {
     for text in ["1", "1.5", "null", "true", "[]", "[\"unix\"]", "{}"] {
-        let value = Value::from_str(rt.alloc(), text)?;
+        let value = Value::from_str(rt.alloc(), text).expect(&rt, text);
         let read = Platform::from_json(rt.alloc(), &value);
         assert!(rt; matches!(&read, Err(JsonError::NotText)), "{text}");
     }
-    Ok(())
 }
 
 /// The refusal of a text; a value that is no text has none.
@@ -28,31 +26,30 @@ fn refusal_of(read: Result<Platform, JsonError>) -> Option<ReadError> {
 }
 
 #[test]
-fn a_text_that_is_no_condition(rt: HostRuntime) -> Result<(), Fail> {
+fn a_text_that_is_no_condition(rt: HostRuntime) {
     let alloc = rt.alloc();
-    let value = Value::String(String::from_str(alloc, "!foo")?);
+    let value = Value::String(String::from_str(alloc, "!foo").expect(&rt, "memory"));
     let refusal = refusal_of(Platform::from_json(alloc, &value));
     let fault = Fault::InvalidTarget("unexpected character ! in target name");
     let message = "invalid target specifier: unexpected character ! in target name";
-    assert_refused(&rt, alloc, refusal, "!foo", fault, message)
+    assert_refused(&rt, alloc, refusal, "!foo", fault, message);
 }
 
 #[test]
-fn conditions_as_texts(rt: HostRuntime) -> Result<(), Fail> {
+fn conditions_as_texts(rt: HostRuntime) {
     let alloc = rt.alloc();
     for (text, printed) in [
         ("cfg( a )", "cfg(a)"),
         ("cfg(r#a=\"é\")", "cfg(r#a = \"é\")"),
         ("x86_64-apple-darwin", "x86_64-apple-darwin"),
     ] {
-        let condition = Platform::from_str(alloc, text)?;
-        let value = condition.to_json(alloc)?;
+        let condition = Platform::from_str(alloc, text).expect(&rt, text);
+        let value = condition.to_json(alloc).expect(&rt, "memory");
         assert!(rt;
             matches!(&value, Value::String(s) if s.as_str() == printed),
             "{text}"
         );
-        let again = Platform::from_json(alloc, &value)?;
-        assert_prints(&rt, alloc, &again, printed)?;
+        let again = Platform::from_json(alloc, &value).expect(&rt, printed);
+        assert_prints(&rt, alloc, &again, printed);
     }
-    Ok(())
 }

@@ -10,9 +10,8 @@ use crate::real_facts::{LINUX, MACOS, WASM, WINDOWS};
 use crate::support::{value, values};
 use cargo_platform::cfg::{Cfg, CfgExpr, FactIndex, Facts, Listed};
 use cargo_platform::read_facts;
-use std::alloc::{AllocError, Global};
+use std::alloc::Global;
 use std::process::Abort;
-use std::test::Fail;
 
 /// Two lists of facts as one set, as those of a target and those of a build.
 #[derive(Drop)]
@@ -53,15 +52,9 @@ impl Facts for Flags {
 }
 
 /// Asserts what an expression is over facts, which each holder is asked for.
-fn assert_matches(
-    rt: &impl Abort,
-    alloc: Global,
-    text: &str,
-    facts: &[Cfg],
-    wanted: bool,
-) -> Result<(), Fail> {
-    let e = CfgExpr::from_str(alloc, text)?;
-    let index = FactIndex::new(alloc, facts)?;
+fn assert_matches(rt: &impl Abort, alloc: Global, text: &str, facts: &[Cfg], wanted: bool) {
+    let e = CfgExpr::from_str(alloc, text).expect(rt, text);
+    let index = FactIndex::new(alloc, facts).expect(rt, "memory");
     let half = facts.len() / 2;
     let joined = Joined {
         target: &facts[..half],
@@ -75,7 +68,6 @@ fn assert_matches(
     );
     assert_eq!(rt; e.matches_in(&index), wanted, "{text} over an index");
     assert_eq!(rt; e.matches_in(&joined), wanted, "{text} over two lists");
-    Ok(())
 }
 
 /// An expression, facts as `made::values` takes them, and whether it matches.
@@ -125,18 +117,17 @@ pub const CONDITIONS: &[(&str, &str, bool)] = &[
 ];
 
 #[test]
-fn conditions_over_facts(rt: HostRuntime) -> Result<(), Fail> {
+fn conditions_over_facts(rt: HostRuntime) {
     for (text, facts, wanted) in CONDITIONS {
-        let facts = values(rt.alloc(), facts)?;
-        assert_matches(&rt, rt.alloc(), text, &facts, *wanted)?;
+        let facts = values(&rt, rt.alloc(), facts);
+        assert_matches(&rt, rt.alloc(), text, &facts, *wanted);
     }
-    Ok(())
 }
 
 #[test]
-fn holders_answer_for_names_and_pairs(rt: HostRuntime) -> Result<(), Fail> {
-    let facts = values(rt.alloc(), "unix target_os=linux r#k=1")?;
-    let index = FactIndex::new(rt.alloc(), &facts)?;
+fn holders_answer_for_names_and_pairs(rt: HostRuntime) {
+    let facts = values(&rt, rt.alloc(), "unix target_os=linux r#k=1");
+    let index = FactIndex::new(rt.alloc(), &facts).expect(&rt, "memory");
     for (text, wanted) in [
         ("unix", true),
         ("r#unix", true),
@@ -146,11 +137,10 @@ fn holders_answer_for_names_and_pairs(rt: HostRuntime) -> Result<(), Fail> {
         ("target_os", false),
         ("k=1", true),
     ] {
-        let asked = value(rt.alloc(), text)?;
+        let asked = value(&rt, rt.alloc(), text);
         assert_eq!(rt; index.holds(&asked), wanted, "{text}");
         assert_eq!(rt; Listed(&facts).holds(&asked), wanted, "{text}");
     }
-    Ok(())
 }
 
 /// Asserts what an expression is over flags, and over the facts that they stand for.
@@ -161,11 +151,10 @@ fn assert_flagged(
     flags: &Flags,
     facts: &[Cfg],
     wanted: bool,
-) -> Result<(), Fail> {
-    assert_matches(rt, alloc, text, facts, wanted)?;
-    let e = CfgExpr::from_str(alloc, text)?;
+) {
+    assert_matches(rt, alloc, text, facts, wanted);
+    let e = CfgExpr::from_str(alloc, text).expect(rt, text);
     assert_eq!(rt; e.matches_in(flags), wanted, "{text} over flags");
-    Ok(())
 }
 
 /// An expression, and whether it is true with both flags, and with `unix` alone.
@@ -186,7 +175,7 @@ pub const FLAGGED: &[(&str, bool, bool)] = &[
 ];
 
 #[test]
-fn flags_match_as_the_facts_that_they_stand_for(rt: HostRuntime) -> Result<(), Fail> {
+fn flags_match_as_the_facts_that_they_stand_for(rt: HostRuntime) {
     let alloc = rt.alloc();
     let both = Flags {
         unix: true,
@@ -196,13 +185,12 @@ fn flags_match_as_the_facts_that_they_stand_for(rt: HostRuntime) -> Result<(), F
         unix: true,
         linux: false,
     };
-    let both_listed = values(alloc, "unix target_os=linux")?;
-    let unix_listed = values(alloc, "unix")?;
+    let both_listed = values(&rt, alloc, "unix target_os=linux");
+    let unix_listed = values(&rt, alloc, "unix");
     for (text, with_both, with_unix) in FLAGGED {
-        assert_flagged(&rt, alloc, text, &both, &both_listed, *with_both)?;
-        assert_flagged(&rt, alloc, text, &unix, &unix_listed, *with_unix)?;
+        assert_flagged(&rt, alloc, text, &both, &both_listed, *with_both);
+        assert_flagged(&rt, alloc, text, &unix, &unix_listed, *with_unix);
     }
-    Ok(())
 }
 
 /// A condition, and whether it holds for 64-bit Linux, Windows, macOS on ARM and WebAssembly without a system.
@@ -250,12 +238,11 @@ pub const TARGETS: &[Target] = &[
 ];
 
 #[test]
-fn conditions_of_real_crates(rt: HostRuntime) -> Result<(), Fail> {
+fn conditions_of_real_crates(rt: HostRuntime) {
     for (i, lines) in [LINUX, WINDOWS, MACOS, WASM].iter().enumerate() {
-        let facts = read_facts(rt.alloc(), lines)?;
+        let facts = read_facts(rt.alloc(), lines).expect(&rt, lines);
         for (text, wanted) in TARGETS {
-            assert_matches(&rt, rt.alloc(), text, &facts, wanted[i])?;
+            assert_matches(&rt, rt.alloc(), text, &facts, wanted[i]);
         }
     }
-    Ok(())
 }

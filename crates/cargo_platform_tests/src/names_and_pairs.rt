@@ -2,7 +2,6 @@
 
 use crate::support::{Fault, assert_prints, assert_refused};
 use cargo_platform::Cfg;
-use std::test::Fail;
 
 /// A text, whether its name is marked, the name, the value of a pair, and the printed form.
 pub type Read = (
@@ -65,24 +64,23 @@ fn is_read(read: &Cfg, raw: bool, name: &str, value: Option<&str>) -> bool {
 }
 
 #[test]
-fn names_and_pairs_are_read(rt: HostRuntime) -> Result<(), Fail> {
+fn names_and_pairs_are_read(rt: HostRuntime) {
     let alloc = rt.alloc();
     for (text, raw, name, value, printed) in READ {
-        let read = Cfg::from_str(alloc, text)?;
+        let read = Cfg::from_str(alloc, text).expect(&rt, text);
         assert!(rt; is_read(&read, *raw, name, *value), "{text}: {read:?}");
-        assert_prints(&rt, alloc, &read, printed)?;
+        assert_prints(&rt, alloc, &read, printed);
     }
-    Ok(())
 }
 
 #[test]
-fn bytes_of_a_value(rt: HostRuntime) -> Result<(), Fail> {
-    let Cfg::KeyPair(_, value) = Cfg::from_str(rt.alloc(), "k = \"é\n, )\"")? else {
-        return Err(Fail::new("a pair"));
+fn bytes_of_a_value(rt: HostRuntime) {
+    let text = "k = \"é\n, )\"";
+    let Cfg::KeyPair(_, value) = Cfg::from_str(rt.alloc(), text).expect(&rt, text) else {
+        panic!(rt; "a pair");
     };
     let bytes: &[u8] = &[0xc3, 0xa9, 0x0a, 0x2c, 0x20, 0x29];
     assert_eq!(rt; value.as_bytes(), bytes);
-    Ok(())
 }
 
 /// A text, its fault, and what the fault prints.
@@ -166,10 +164,9 @@ const REFUSED: &[Refused] = &[
 ];
 
 #[test]
-fn other_texts_are_refused(rt: HostRuntime) -> Result<(), Fail> {
+fn other_texts_are_refused(rt: HostRuntime) {
     for (text, fault, message) in REFUSED {
         let read = Cfg::from_str(rt.alloc(), text);
-        assert_refused(&rt, rt.alloc(), read.err(), text, *fault, message)?;
+        assert_refused(&rt, rt.alloc(), read.err(), text, *fault, message);
     }
-    Ok(())
 }

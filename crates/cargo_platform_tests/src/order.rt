@@ -4,12 +4,11 @@ use crate::support::{
     assert_prints, expression, ident, same, same_ident, same_value, value, values,
 };
 use cargo_platform::{Cfg, CfgExpr, FactIndex, Facts};
-use std::alloc::{AllocError, Global};
+use std::alloc::Global;
 use std::cmp::Ordering;
 use std::collections::{BTreeMap, HashMap};
 use std::hash::{DefaultHasher, Hash, Hasher};
 use std::process::Abort;
-use std::test::Fail;
 
 fn hash_of<T: Hash>(x: &T) -> u64 {
     let mut state = DefaultHasher::new();
@@ -57,14 +56,13 @@ pub const EXPRESSIONS: &[(&str, &str, Ordering)] = &[
 ];
 
 #[test]
-fn expressions_by_their_keys(rt: HostRuntime) -> Result<(), Fail> {
+fn expressions_by_their_keys(rt: HostRuntime) {
     for (first, second, order) in EXPRESSIONS {
-        let a = CfgExpr::from_str(rt.alloc(), first)?;
-        let b = CfgExpr::from_str(rt.alloc(), second)?;
-        let pair = format!(in rt.alloc(); "{first} with {second}")?;
+        let a = CfgExpr::from_str(rt.alloc(), first).expect(&rt, first);
+        let b = CfgExpr::from_str(rt.alloc(), second).expect(&rt, second);
+        let pair = format!(in rt.alloc(); "{first} with {second}").expect(&rt, "memory");
         assert_order(&rt, &a, &b, *order, &pair);
     }
-    Ok(())
 }
 
 /// Two names or pairs as `made::value` takes them, and how the first stands to the second.
@@ -78,29 +76,27 @@ pub const VALUES: &[(&str, &str, Ordering)] = &[
 ];
 
 #[test]
-fn values_by_their_keys(rt: HostRuntime) -> Result<(), Fail> {
+fn values_by_their_keys(rt: HostRuntime) {
     for (first, second, order) in VALUES {
-        let a = value(rt.alloc(), first)?;
-        let b = value(rt.alloc(), second)?;
-        let pair = format!(in rt.alloc(); "{first} with {second}")?;
+        let a = value(&rt, rt.alloc(), first);
+        let b = value(&rt, rt.alloc(), second);
+        let pair = format!(in rt.alloc(); "{first} with {second}").expect(&rt, "memory");
         assert_order(&rt, &a, &b, *order, &pair);
     }
-    Ok(())
 }
 
 #[test]
-fn names_without_their_marks(rt: HostRuntime) -> Result<(), Fail> {
-    let plain = ident(rt.alloc(), "foo")?;
-    let marked = ident(rt.alloc(), "r#foo")?;
-    let shorter = ident(rt.alloc(), "fo")?;
+fn names_without_their_marks(rt: HostRuntime) {
+    let plain = ident(&rt, rt.alloc(), "foo");
+    let marked = ident(&rt, rt.alloc(), "r#foo");
+    let shorter = ident(&rt, rt.alloc(), "fo");
     assert_order(&rt, &plain, &marked, Ordering::Equal, "foo with r#foo");
     assert_order(&rt, &marked, &shorter, Ordering::Greater, "r#foo with fo");
-    assert_prints(&rt, rt.alloc(), &plain, "foo")?;
-    assert_prints(&rt, rt.alloc(), &marked, "r#foo")?;
+    assert_prints(&rt, rt.alloc(), &plain, "foo");
+    assert_prints(&rt, rt.alloc(), &marked, "r#foo");
     assert_eq!(rt; marked.as_str(), "foo");
     assert!(rt; marked.eq_text("foo") && plain.eq_text("foo"));
     assert!(rt; !marked.eq_text("r#foo") && !shorter.eq_text("foo"));
-    Ok(())
 }
 
 /// Values as keys of both kinds of maps.
@@ -111,22 +107,23 @@ struct Maps {
 }
 
 impl Maps {
-    fn insert(&mut self, alloc: Global, text: &str, number: u32) -> Result<(), AllocError> {
-        self.sorted.insert(value(alloc, text)?, number)?;
-        self.hashed.insert(value(alloc, text)?, number)?;
-        Ok(())
+    fn insert(&mut self, rt: &impl Abort, alloc: Global, text: &str, number: u32) {
+        let sorted: Result<_, _> = self.sorted.insert(value(rt, alloc, text), number);
+        sorted.expect(rt, "memory");
+        let hashed: Result<_, _> = self.hashed.insert(value(rt, alloc, text), number);
+        hashed.expect(rt, "memory");
     }
 }
 
 #[test]
-fn keys_of_maps(rt: HostRuntime) -> Result<(), Fail> {
+fn keys_of_maps(rt: HostRuntime) {
     let alloc = rt.alloc();
     let mut maps = Maps {
         sorted: BTreeMap::new(alloc),
         hashed: HashMap::new(alloc),
     };
     for (text, number) in [("b=1", 1), ("foo", 2), ("r#a", 3), ("r#foo", 4)] {
-        maps.insert(alloc, text, number)?;
+        maps.insert(&rt, alloc, text, number);
     }
     assert_eq!(rt; maps.sorted.len(), 3);
     assert_eq!(rt; maps.hashed.len(), 3);
@@ -136,49 +133,49 @@ fn keys_of_maps(rt: HostRuntime) -> Result<(), Fail> {
         ("r#b=1", Some(1)),
         ("b", None),
     ] {
-        let key = value(alloc, text)?;
+        let key = value(&rt, alloc, text);
         assert_eq!(rt; maps.sorted.get(&key).copied(), number, "{text}");
         assert_eq!(rt; maps.hashed.get(&key).copied(), number, "{text}");
     }
-    Ok(())
 }
 
 #[test]
-fn names_come_before_pairs_in_a_map(rt: HostRuntime) -> Result<(), Fail> {
+fn names_come_before_pairs_in_a_map(rt: HostRuntime) {
     let alloc = rt.alloc();
     let mut sorted: BTreeMap<Cfg, u32> = BTreeMap::new(alloc);
     for text in ["b=1", "foo", "r#a", "b=0"] {
-        sorted.insert(value(alloc, text)?, 0)?;
+        let inserted: Result<_, _> = sorted.insert(value(&rt, alloc, text), 0);
+        inserted.expect(&rt, "memory");
     }
     let mut in_order = String::new(alloc);
     for key in sorted.keys() {
-        write!(in_order, "{key}; ")?;
+        write!(in_order, "{key}; ").expect(&rt, "memory");
     }
     assert_eq!(rt; in_order.as_str(), "r#a; foo; b = \"0\"; b = \"1\"; ");
-    Ok(())
 }
 
 #[test]
-fn expressions_as_keys(rt: HostRuntime) -> Result<(), Fail> {
+fn expressions_as_keys(rt: HostRuntime) {
     let alloc = rt.alloc();
     let mut sorted: BTreeMap<CfgExpr, u32> = BTreeMap::new(alloc);
     for (text, number) in [("any(a)", 1), ("not(r#foo)", 2), ("not(foo)", 3)] {
-        sorted.insert(CfgExpr::from_str(alloc, text)?, number)?;
+        let key = CfgExpr::from_str(alloc, text).expect(&rt, text);
+        let inserted: Result<_, _> = sorted.insert(key, number);
+        inserted.expect(&rt, "memory");
     }
     for (text, number) in [("not(foo)", Some(3)), ("any(r#a)", Some(1)), ("a", None)] {
-        let key = CfgExpr::from_str(alloc, text)?;
+        let key = CfgExpr::from_str(alloc, text).expect(&rt, text);
         assert_eq!(rt; sorted.get(&key).copied(), number, "{text}");
     }
-    Ok(())
 }
 
 #[test]
-fn copies_of_values_keep_marks(rt: HostRuntime) -> Result<(), Fail> {
+fn copies_of_values_keep_marks(rt: HostRuntime) {
     let alloc = rt.alloc();
     for text in ["foo", "r#foo", "r#"] {
-        let copy = ident(alloc, text)?.clone(alloc)?;
-        assert_prints(&rt, alloc, &copy, text)?;
-        assert!(rt; same_ident(&copy, &ident(alloc, text)?), "{text}");
+        let copy = ident(&rt, alloc, text).clone(alloc).expect(&rt, "memory");
+        assert_prints(&rt, alloc, &copy, text);
+        assert!(rt; same_ident(&copy, &ident(&rt, alloc, text)), "{text}");
     }
     for (text, printed) in [
         ("r#foo", "r#foo"),
@@ -186,15 +183,14 @@ fn copies_of_values_keep_marks(rt: HostRuntime) -> Result<(), Fail> {
         ("r#k=1", "r#k = \"1\""),
         ("k=", "k = \"\""),
     ] {
-        let copy = value(alloc, text)?.clone(alloc)?;
-        assert_prints(&rt, alloc, &copy, printed)?;
-        assert!(rt; same_value(&copy, &value(alloc, text)?), "{text}");
+        let copy = value(&rt, alloc, text).clone(alloc).expect(&rt, "memory");
+        assert_prints(&rt, alloc, &copy, printed);
+        assert!(rt; same_value(&copy, &value(&rt, alloc, text)), "{text}");
     }
-    Ok(())
 }
 
 #[test]
-fn copies_of_expressions_keep_marks(rt: HostRuntime) -> Result<(), Fail> {
+fn copies_of_expressions_keep_marks(rt: HostRuntime) {
     let alloc = rt.alloc();
     for (text, printed) in [
         ("not all2 r#foo k=1", "not(all(r#foo, k = \"1\"))"),
@@ -205,19 +201,19 @@ fn copies_of_expressions_keep_marks(rt: HostRuntime) -> Result<(), Fail> {
         ("false", "false"),
         ("all1 r#k=é", "all(r#k = \"é\")"),
     ] {
-        let copy = expression(alloc, text)?.clone(alloc)?;
-        assert_prints(&rt, alloc, &copy, printed)?;
-        assert!(rt; same(&copy, &expression(alloc, text)?), "{text}");
+        let copy = expression(&rt, alloc, text)
+            .clone(alloc)
+            .expect(&rt, "memory");
+        assert_prints(&rt, alloc, &copy, printed);
+        assert!(rt; same(&copy, &expression(&rt, alloc, text)), "{text}");
     }
-    Ok(())
 }
 
 #[test]
-fn an_index_of_the_same_name_twice(rt: HostRuntime) -> Result<(), Fail> {
-    let facts = values(rt.alloc(), "foo r#foo")?;
-    let index = FactIndex::new(rt.alloc(), &facts)?;
-    assert!(rt; index.holds(&value(rt.alloc(), "foo")?));
-    assert!(rt; index.holds(&value(rt.alloc(), "r#foo")?));
-    assert!(rt; !index.holds(&value(rt.alloc(), "foo=")?));
-    Ok(())
+fn an_index_of_the_same_name_twice(rt: HostRuntime) {
+    let facts = values(&rt, rt.alloc(), "foo r#foo");
+    let index = FactIndex::new(rt.alloc(), &facts).expect(&rt, "memory");
+    assert!(rt; index.holds(&value(&rt, rt.alloc(), "foo")));
+    assert!(rt; index.holds(&value(&rt, rt.alloc(), "r#foo")));
+    assert!(rt; !index.holds(&value(&rt, rt.alloc(), "foo=")));
 }

@@ -7,10 +7,9 @@ use crate::support::{
     Fault, assert_prints, assert_refused, error_of, is_fault, repeated, same, value, values,
 };
 use cargo_platform::{CfgExpr, Platform, ReadError};
-use std::alloc::{AllocError, Global};
+use std::alloc::Global;
 use std::cmp::Ordering;
 use std::process::Abort;
-use std::test::Fail;
 
 /// Texts that are read as names of targets.
 const NAMES: &[&str] = &[
@@ -32,17 +31,16 @@ const NAMES: &[&str] = &[
 ];
 
 #[test]
-fn names_of_targets(rt: HostRuntime) -> Result<(), Fail> {
+fn names_of_targets(rt: HostRuntime) {
     let alloc = rt.alloc();
     for text in NAMES {
-        let read = Platform::from_str(alloc, text)?;
-        assert_prints(&rt, alloc, &read, text)?;
+        let read = Platform::from_str(alloc, text).expect(&rt, text);
+        assert_prints(&rt, alloc, &read, text);
         assert!(rt;
             matches!(&read, Platform::Name(name) if name.as_str() == *text),
             "{text}"
         );
     }
-    Ok(())
 }
 
 /// A text, and the printed form of the expression in it.
@@ -65,19 +63,18 @@ pub const CONDITIONS: &[(&str, &str)] = &[
 ];
 
 #[test]
-fn conditions_are_read_and_print(rt: HostRuntime) -> Result<(), Fail> {
+fn conditions_are_read_and_print(rt: HostRuntime) {
     let alloc = rt.alloc();
     for (text, inner) in CONDITIONS {
-        let read = Platform::from_str(alloc, text)?;
-        let printed = format!(in alloc; "cfg({inner})")?;
-        assert_reads_back(&rt, alloc, &read, &printed)?;
-        let wanted = CfgExpr::from_str(alloc, inner)?;
+        let read = Platform::from_str(alloc, text).expect(&rt, text);
+        let printed = format!(in alloc; "cfg({inner})").expect(&rt, "memory");
+        assert_reads_back(&rt, alloc, &read, &printed);
+        let wanted = CfgExpr::from_str(alloc, inner).expect(&rt, inner);
         assert!(rt;
             matches!(&read, Platform::Cfg(e) if same(e, &wanted)),
             "{text}"
         );
     }
-    Ok(())
 }
 
 const PARENTHESIS: &str = "unexpected `(` character, cfg expressions must start with `cfg(`";
@@ -103,11 +100,12 @@ const BAD_NAMES: &[(&str, &str)] = &[
 ];
 
 #[test]
-fn bad_names_of_targets(rt: HostRuntime) -> Result<(), Fail> {
+fn bad_names_of_targets(rt: HostRuntime) {
     let alloc = rt.alloc();
     for (text, message) in BAD_NAMES {
         let refusal = Platform::from_str(alloc, text).err();
-        let printed = format!(in alloc; "invalid target specifier: {message}")?;
+        let printed = format!(in alloc; "invalid target specifier: {message}");
+        let printed = printed.expect(&rt, "memory");
         assert_refused(
             &rt,
             alloc,
@@ -115,9 +113,8 @@ fn bad_names_of_targets(rt: HostRuntime) -> Result<(), Fail> {
             text,
             Fault::InvalidTarget(message),
             &printed,
-        )?;
+        );
     }
-    Ok(())
 }
 
 /// The text between `cfg(` and `)`, its fault, and what the fault prints.
@@ -153,26 +150,24 @@ const BAD_EXPRESSIONS: &[Refused] = &[
 ];
 
 #[test]
-fn bad_expressions_in_conditions(rt: HostRuntime) -> Result<(), Fail> {
+fn bad_expressions_in_conditions(rt: HostRuntime) {
     let alloc = rt.alloc();
     for (inner, fault, message) in BAD_EXPRESSIONS {
-        let text = format!(in alloc; "cfg({inner})")?;
+        let text = format!(in alloc; "cfg({inner})").expect(&rt, "memory");
         let refusal = Platform::from_str(alloc, &text).err();
-        assert_refused(&rt, alloc, refusal, inner, *fault, message)?;
+        assert_refused(&rt, alloc, refusal, inner, *fault, message);
     }
-    Ok(())
 }
 
 #[test]
-fn a_name_that_prints_as_an_expression(rt: HostRuntime) -> Result<(), Fail> {
+fn a_name_that_prints_as_an_expression(rt: HostRuntime) {
     let alloc = rt.alloc();
-    let named = Platform::Name(String::from_str(alloc, "cfg(a)")?);
-    let printed = named.to_string(alloc)?;
+    let named = Platform::Name(String::from_str(alloc, "cfg(a)").expect(&rt, "memory"));
+    let printed = named.to_string(alloc).expect(&rt, "memory");
     assert_eq!(rt; printed.as_str(), "cfg(a)");
-    let read = Platform::from_str(alloc, &printed)?;
-    let wanted = CfgExpr::Value(value(alloc, "a")?);
+    let read = Platform::from_str(alloc, &printed).expect(&rt, &printed);
+    let wanted = CfgExpr::Value(value(&rt, alloc, "a"));
     assert!(rt; matches!(&read, Platform::Cfg(e) if same(e, &wanted)));
-    Ok(())
 }
 
 /// A condition, the name of a target, its facts as `made::values` takes them, and whether it matches.
@@ -193,13 +188,12 @@ const MATCHED: &[Matched] = &[
 ];
 
 #[test]
-fn conditions_match_targets(rt: HostRuntime) -> Result<(), Fail> {
+fn conditions_match_targets(rt: HostRuntime) {
     for (text, name, facts, wanted) in MATCHED {
-        let condition = Platform::from_str(rt.alloc(), text)?;
-        let facts = values(rt.alloc(), facts)?;
+        let condition = Platform::from_str(rt.alloc(), text).expect(&rt, text);
+        let facts = values(&rt, rt.alloc(), facts);
         assert_eq!(rt; condition.matches(name, &facts), *wanted, "{text}");
     }
-    Ok(())
 }
 
 /// A key, and whether it is an expression that holds where `a` alone is a fact.
@@ -214,13 +208,12 @@ const KEYS: &[(&str, bool)] = &[
 ];
 
 #[test]
-fn keys_match_facts(rt: HostRuntime) -> Result<(), Fail> {
-    let facts = values(rt.alloc(), "r#a")?;
+fn keys_match_facts(rt: HostRuntime) {
+    let facts = values(&rt, rt.alloc(), "r#a");
     for (key, wanted) in KEYS {
-        let answer = CfgExpr::matches_key(rt.alloc(), key, &facts)?;
+        let answer = CfgExpr::matches_key(rt.alloc(), key, &facts).expect(&rt, "memory");
         assert_eq!(rt; answer, *wanted, "{key}");
     }
-    Ok(())
 }
 
 /// Two conditions, and how the first stands to the second.
@@ -235,88 +228,85 @@ const ORDERED: &[(&str, &str, Ordering)] = &[
 ];
 
 #[test]
-fn conditions_by_their_keys(rt: HostRuntime) -> Result<(), Fail> {
+fn conditions_by_their_keys(rt: HostRuntime) {
     for (first, second, order) in ORDERED {
-        let a = Platform::from_str(rt.alloc(), first)?;
-        let b = Platform::from_str(rt.alloc(), second)?;
-        let pair = format!(in rt.alloc(); "{first} with {second}")?;
+        let a = Platform::from_str(rt.alloc(), first).expect(&rt, first);
+        let b = Platform::from_str(rt.alloc(), second).expect(&rt, second);
+        let pair = format!(in rt.alloc(); "{first} with {second}").expect(&rt, "memory");
         assert_order(&rt, &a, &b, *order, &pair);
     }
-    Ok(())
 }
 
 #[test]
-fn copies_of_conditions(rt: HostRuntime) -> Result<(), Fail> {
+fn copies_of_conditions(rt: HostRuntime) {
     let alloc = rt.alloc();
     for text in ["x86_64-apple-darwin", "cfg(any(r#foo, k = \"1\"))"] {
-        let copy = Platform::from_str(alloc, text)?.clone(alloc)?;
-        assert_prints(&rt, alloc, &copy, text)?;
+        let copy = Platform::from_str(alloc, text)
+            .expect(&rt, text)
+            .clone(alloc)
+            .expect(&rt, "memory");
+        assert_prints(&rt, alloc, &copy, text);
     }
-    Ok(())
 }
 
 /// Whether a text is the name of a target, where all its characters are ASCII, and else the message on it.
-fn plain_name(alloc: Global, text: &str) -> Result<Option<String>, AllocError> {
+fn plain_name(rt: &impl Abort, alloc: Global, text: &str) -> Option<String> {
     if text.contains('(') {
-        return Ok(Some(String::from_str(alloc, PARENTHESIS)?));
+        return Some(String::from_str(alloc, PARENTHESIS).expect(rt, "memory"));
     }
     for c in text.chars() {
         if !c.is_ascii_alphanumeric() && c != '_' && c != '-' && c != '.' {
-            return Ok(Some(format!(in alloc; "unexpected character {c} in target name")?));
+            let message = format!(in alloc; "unexpected character {c} in target name");
+            return Some(message.expect(rt, "memory"));
         }
     }
-    Ok(None)
+    None
 }
 
 /// Asserts what an ASCII text without `cfg(` reads as. Whether it was read.
-fn is_name(rt: &impl Abort, alloc: Global, text: &str) -> Result<bool, Fail> {
+fn is_name(rt: &impl Abort, alloc: Global, text: &str) -> bool {
     let read = Platform::from_str(alloc, text);
-    let Some(message) = plain_name(alloc, text)? else {
-        assert_prints(rt, alloc, &read?, text)?;
-        return Ok(true);
+    let Some(message) = plain_name(rt, alloc, text) else {
+        assert_prints(rt, alloc, &read.expect(rt, text), text);
+        return true;
     };
-    let error = error_of(read.err())?;
+    let error = error_of(rt, read.err());
     let kind = error.kind();
     assert!(rt;
         is_fault(kind, Fault::InvalidTarget(&message)),
         "{text}: {kind:?}"
     );
     assert_eq!(rt; error.orig(), text);
-    Ok(false)
+    false
 }
 
 /// Asserts that a condition prints as it is wanted, and that this text reads back.
-fn assert_reads_back(
-    rt: &impl Abort,
-    alloc: Global,
-    read: &Platform,
-    printed: &str,
-) -> Result<(), Fail> {
-    assert_prints(rt, alloc, read, printed)?;
-    let again = Platform::from_str(alloc, printed)?;
-    assert_prints(rt, alloc, &again, printed)
+fn assert_reads_back(rt: &impl Abort, alloc: Global, read: &Platform, printed: &str) {
+    assert_prints(rt, alloc, read, printed);
+    let again = Platform::from_str(alloc, printed).expect(rt, printed);
+    assert_prints(rt, alloc, &again, printed);
 }
 
 /// Asserts that `cfg(`, the text and `)` reads as the plain reader reads the text. Whether it was read.
-pub fn is_condition(rt: &impl Abort, alloc: Global, inner: &str) -> Result<bool, Fail> {
-    let text = format!(in alloc; "cfg({inner})")?;
+pub fn is_condition(rt: &impl Abort, alloc: Global, inner: &str) -> bool {
+    let text = format!(in alloc; "cfg({inner})").expect(rt, "memory");
     let read = Platform::from_str(alloc, &text);
     match plain_reader::read_expression(alloc, inner) {
         Ok(plain) => {
-            let printed = format!(in alloc; "cfg({plain})")?;
-            assert_reads_back(rt, alloc, &read?, &printed)?;
-            Ok(true)
+            let printed = format!(in alloc; "cfg({plain})").expect(rt, "memory");
+            assert_reads_back(rt, alloc, &read.expect(rt, inner), &printed);
+            true
         }
         Err(stop) => {
-            assert_same_refusal(rt, inner, read.err(), stop)?;
-            Ok(false)
+            assert_same_refusal(rt, inner, read.err(), stop);
+            false
         }
     }
 }
 
 /// Asserts what an ASCII text reads as: between `cfg(` and `)` an expression, and else the name of a target. Whether it
 /// was read.
-fn is_platform(rt: &impl Abort, alloc: Global, text: &str) -> Result<bool, Fail> {
+fn is_platform(rt: &impl Abort, alloc: Global, text: &str) -> bool {
     match text
         .strip_prefix("cfg(")
         .and_then(|rest| rest.strip_suffix(')'))
@@ -327,84 +317,80 @@ fn is_platform(rt: &impl Abort, alloc: Global, text: &str) -> Result<bool, Fail>
 }
 
 /// Asserts that an ASCII text is read, and what each of its beginnings reads as.
-fn assert_platform_beginnings(rt: &impl Abort, alloc: Global, text: &str) -> Result<(), Fail> {
-    assert!(rt; is_platform(rt, alloc, text)?, "{text}");
+fn assert_platform_beginnings(rt: &impl Abort, alloc: Global, text: &str) {
+    assert!(rt; is_platform(rt, alloc, text), "{text}");
     for (end, _) in text.char_indices() {
-        is_platform(rt, alloc, text.get(..end).unwrap_or(""))?;
+        is_platform(rt, alloc, text.get(..end).unwrap_or(""));
     }
-    Ok(())
 }
 
 #[test]
-fn beginnings_of_conditions(rt: HostRuntime) -> Result<(), Fail> {
+fn beginnings_of_conditions(rt: HostRuntime) {
     for (text, _) in CONDITIONS {
-        assert_platform_beginnings(&rt, rt.alloc(), text)?;
+        assert_platform_beginnings(&rt, rt.alloc(), text);
     }
     for (text, _, _, _) in MATCHED {
-        assert_platform_beginnings(&rt, rt.alloc(), text)?;
+        assert_platform_beginnings(&rt, rt.alloc(), text);
     }
     for (first, second, _) in ORDERED {
-        assert_platform_beginnings(&rt, rt.alloc(), first)?;
-        assert_platform_beginnings(&rt, rt.alloc(), second)?;
+        assert_platform_beginnings(&rt, rt.alloc(), first);
+        assert_platform_beginnings(&rt, rt.alloc(), second);
     }
-    Ok(())
 }
 
 #[test]
-fn beginnings_of_names(rt: HostRuntime) -> Result<(), Fail> {
+fn beginnings_of_names(rt: HostRuntime) {
     let alloc = rt.alloc();
     for text in NAMES {
         for (end, _) in text.char_indices() {
             let beginning = text.get(..end).unwrap_or("");
-            let read = Platform::from_str(alloc, beginning)?;
+            let read = Platform::from_str(alloc, beginning).expect(&rt, beginning);
             assert!(rt;
                 matches!(&read, Platform::Name(name) if name.as_str() == beginning),
                 "{beginning}"
             );
         }
     }
-    Ok(())
 }
 
 /// How many texts are read alone, and how many between `cfg(` and `)`.
-fn read_texts(rt: &impl Abort, alloc: Global, alphabet: &Alphabet) -> Result<(u32, u32), Fail> {
+fn read_texts(rt: &impl Abort, alloc: Global, alphabet: &Alphabet) -> (u32, u32) {
     let mut names = 0u32;
     let mut conditions = 0u32;
     for (length, count) in COUNTS.iter().enumerate() {
         for place in 0..*count {
-            let text = text_at(alloc, alphabet, length, place)?;
-            names = names.saturating_add(u32::from(is_name(rt, alloc, &text)?));
-            conditions = conditions.saturating_add(u32::from(is_condition(rt, alloc, &text)?));
+            let text = text_at(rt, alloc, alphabet, length, place);
+            names = names.saturating_add(u32::from(is_name(rt, alloc, &text)));
+            conditions = conditions.saturating_add(u32::from(is_condition(rt, alloc, &text)));
         }
     }
-    Ok((names, conditions))
+    (names, conditions)
 }
 
 #[test]
-fn conditions_of_at_most_five_characters(rt: HostRuntime) -> Result<(), Fail> {
-    let (names, conditions) = read_texts(&rt, rt.alloc(), &CHARACTERS)?;
+fn conditions_of_at_most_five_characters(rt: HostRuntime) {
+    let (names, conditions) = read_texts(&rt, rt.alloc(), &CHARACTERS);
     // The names are all texts of `a` and `r`: one of no character, two of one, and so on to 32 of five.
     assert_eq!(rt; names, 63);
     assert_eq!(rt; conditions, 260);
-    Ok(())
 }
 
 #[test]
-fn conditions_of_at_most_five_pieces(rt: HostRuntime) -> Result<(), Fail> {
-    let (names, conditions) = read_texts(&rt, rt.alloc(), &PIECES)?;
+fn conditions_of_at_most_five_pieces(rt: HostRuntime) {
+    let (names, conditions) = read_texts(&rt, rt.alloc(), &PIECES);
     // The empty list, and one of the words `a`, `true`, `all` and `not`.
     assert_eq!(rt; names, 5);
     assert_eq!(rt; conditions, 10);
-    Ok(())
 }
 
 #[test]
-fn a_deep_condition(rt: HostRuntime) -> Result<(), Fail> {
+fn a_deep_condition(rt: HostRuntime) {
     let alloc = rt.alloc();
-    let mut inner = repeated(alloc, "not(", 500)?;
-    inner.push('a')?;
-    assert!(rt; !is_condition(&rt, alloc, &inner)?);
-    inner.push_str(&repeated(alloc, ")", 500)?)?;
-    assert!(rt; is_condition(&rt, alloc, &inner)?);
-    Ok(())
+    let mut inner = repeated(&rt, alloc, "not(", 500);
+    inner.push('a').expect(&rt, "memory");
+    assert!(rt; !is_condition(&rt, alloc, &inner));
+    inner
+        .push_str(&repeated(&rt, alloc, ")", 500))
+        .expect(&rt, "memory");
+    assert!(rt; is_condition(&rt, alloc, &inner));
 }

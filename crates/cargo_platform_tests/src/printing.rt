@@ -5,16 +5,15 @@ use cargo_platform::{Cfg, CfgExpr, ParseError, ParseErrorKind, Platform, ReadErr
 use std::alloc::Global;
 use std::error::Error;
 use std::process::Abort;
-use std::test::Fail;
 
 #[test]
-fn names_and_pairs_print(rt: HostRuntime) -> Result<(), Fail> {
+fn names_and_pairs_print(rt: HostRuntime) {
     let alloc = rt.alloc();
     for (name, printed) in [("foo", "foo"), ("r#foo", "r#foo"), ("", ""), ("r#", "r#")] {
-        let name = ident(alloc, name)?;
-        assert_prints(&rt, alloc, &name, printed)?;
+        let name = ident(&rt, alloc, name);
+        assert_prints(&rt, alloc, &name, printed);
         let alone = Cfg::Name(name);
-        assert_prints(&rt, alloc, &alone, printed)?;
+        assert_prints(&rt, alloc, &alone, printed);
     }
     for (pair, printed) in [
         ("k=1", "k = \"1\""),
@@ -23,10 +22,9 @@ fn names_and_pairs_print(rt: HostRuntime) -> Result<(), Fail> {
         ("k=é\n, )", "k = \"é\n, )\""),
         ("all=x", "all = \"x\""),
     ] {
-        let pair = value(alloc, pair)?;
-        assert_prints(&rt, alloc, &pair, printed)?;
+        let pair = value(&rt, alloc, pair);
+        assert_prints(&rt, alloc, &pair, printed);
     }
-    Ok(())
 }
 
 /// A tree as `made::expression` takes it, and the printed form.
@@ -46,75 +44,74 @@ const HAND_MADE: &[(&str, &str)] = &[
 ];
 
 #[test]
-fn expressions_print(rt: HostRuntime) -> Result<(), Fail> {
+fn expressions_print(rt: HostRuntime) {
     let alloc = rt.alloc();
     for (tree, printed) in TREES.iter().chain(HAND_MADE) {
-        let tree = expression(alloc, tree)?;
-        assert_prints(&rt, alloc, &tree, printed)?;
+        let tree = expression(&rt, alloc, tree);
+        assert_prints(&rt, alloc, &tree, printed);
         let condition = Platform::Cfg(tree);
-        let wanted = format!(in alloc; "cfg({printed})")?;
-        assert_prints(&rt, alloc, &condition, &wanted)?;
+        let wanted = format!(in alloc; "cfg({printed})").expect(&rt, "memory");
+        assert_prints(&rt, alloc, &condition, &wanted);
     }
-    Ok(())
 }
 
 #[test]
-fn targets_print(rt: HostRuntime) -> Result<(), Fail> {
+fn targets_print(rt: HostRuntime) {
     let alloc = rt.alloc();
     for name in ["", "x86_64-unknown-linux-gnu", "cfg(a)"] {
-        let target = Platform::Name(String::from_str(alloc, name)?);
-        assert_prints(&rt, alloc, &target, name)?;
+        let target = Platform::Name(String::from_str(alloc, name).expect(&rt, "memory"));
+        assert_prints(&rt, alloc, &target, name);
     }
-    Ok(())
 }
 
 #[test]
-fn a_nameless_value(rt: HostRuntime) -> Result<(), Fail> {
+fn a_nameless_value(rt: HostRuntime) {
     let alloc = rt.alloc();
-    let nameless = CfgExpr::Value(Cfg::Name(ident(alloc, "")?));
-    assert_prints(&rt, alloc, &nameless, "")?;
+    let nameless = CfgExpr::Value(Cfg::Name(ident(&rt, alloc, "")));
+    assert_prints(&rt, alloc, &nameless, "");
     let fault = Fault::IncompleteExpr("start of a cfg expression");
     let message = "expected start of a cfg expression, but cfg expression ended";
     let read = CfgExpr::from_str(alloc, "");
-    assert_refused(&rt, alloc, read.err(), "", fault, message)
+    assert_refused(&rt, alloc, read.err(), "", fault, message);
 }
 
 #[test]
-fn a_value_named_true(rt: HostRuntime) -> Result<(), Fail> {
+fn a_value_named_true(rt: HostRuntime) {
     let alloc = rt.alloc();
-    let named = CfgExpr::Value(Cfg::Name(ident(alloc, "true")?));
-    assert_prints(&rt, alloc, &named, "true")?;
-    assert!(rt; matches!(CfgExpr::from_str(alloc, "true")?, CfgExpr::True));
-    let fact = value(alloc, "true")?;
+    let named = CfgExpr::Value(Cfg::Name(ident(&rt, alloc, "true")));
+    assert_prints(&rt, alloc, &named, "true");
+    let read = CfgExpr::from_str(alloc, "true").expect(&rt, "true");
+    assert!(rt; matches!(&read, CfgExpr::True));
+    let fact = value(&rt, alloc, "true");
     assert!(rt; named.matches(&[fact]));
     assert!(rt; !named.matches(&[]));
-    Ok(())
 }
 
 #[test]
-fn values_that_read_as_something_else(rt: HostRuntime) -> Result<(), Fail> {
+fn values_that_read_as_something_else(rt: HostRuntime) {
     let alloc = rt.alloc();
-    let quoted = CfgExpr::Value(value(alloc, "k=a\"b")?);
-    let printed = quoted.to_string(alloc)?;
+    let quoted = CfgExpr::Value(value(&rt, alloc, "k=a\"b"));
+    let printed = quoted.to_string(alloc).expect(&rt, "memory");
     assert_eq!(rt; printed.as_str(), "k = \"a\"b\"");
     let read = CfgExpr::from_str(alloc, &printed);
     let fault = Fault::UnterminatedExpression("b\"");
     let message = "unexpected content `b\"` found after cfg expression";
-    assert_refused(&rt, alloc, read.err(), &printed, fault, message)?;
-    let word = CfgExpr::Value(value(alloc, "all")?);
-    let printed = word.to_string(alloc)?;
+    assert_refused(&rt, alloc, read.err(), &printed, fault, message);
+    let word = CfgExpr::Value(value(&rt, alloc, "all"));
+    let printed = word.to_string(alloc).expect(&rt, "memory");
     assert_eq!(rt; printed.as_str(), "all");
     let read = CfgExpr::from_str(alloc, &printed);
     let fault = Fault::IncompleteExpr("`(`");
     let message = "expected `(`, but cfg expression ended";
-    assert_refused(&rt, alloc, read.err(), &printed, fault, message)
+    assert_refused(&rt, alloc, read.err(), &printed, fault, message);
 }
 
 #[test]
-fn kinds_print(rt: HostRuntime) -> Result<(), Fail> {
+fn kinds_print(rt: HostRuntime) {
     let alloc = rt.alloc();
-    let content = String::from_str(alloc, "b \"")?;
-    let message = String::from_str(alloc, "unexpected character € in target name")?;
+    let content = String::from_str(alloc, "b \"").expect(&rt, "memory");
+    let message = "unexpected character € in target name";
+    let message = String::from_str(alloc, message).expect(&rt, "memory");
     for (kind, printed) in [
         (
             ParseErrorKind::UnterminatedString,
@@ -144,34 +141,27 @@ fn kinds_print(rt: HostRuntime) -> Result<(), Fail> {
             "invalid target specifier: unexpected character € in target name",
         ),
     ] {
-        assert_prints(&rt, alloc, &kind, printed)?;
+        assert_prints(&rt, alloc, &kind, printed);
     }
-    Ok(())
 }
 
 #[test]
-fn errors_hold_what_they_are_made_of(rt: HostRuntime) -> Result<(), Fail> {
+fn errors_hold_what_they_are_made_of(rt: HostRuntime) {
     let alloc = rt.alloc();
-    let content = String::from_str(alloc, "b")?;
+    let content = String::from_str(alloc, "b").expect(&rt, "memory");
     let kind = ParseErrorKind::UnterminatedExpression(content);
-    let error = ParseError::new(alloc, "a b", kind)?;
+    let error = ParseError::new(alloc, "a b", kind).expect(&rt, "memory");
     assert_eq!(rt; error.orig(), "a b");
     assert!(rt; is_fault(error.kind(), Fault::UnterminatedExpression("b")));
     let printed =
         "failed to parse `a b` as a cfg expression: unexpected content `b` found after cfg expression";
-    assert_prints(&rt, alloc, &error, printed)?;
-    assert_prints_error(&rt, alloc, &error, printed)?;
+    assert_prints(&rt, alloc, &error, printed);
+    assert_prints_error(&rt, alloc, &error, printed);
     let refusal = ReadError::Parse(error);
-    assert_prints(&rt, alloc, &refusal, printed)?;
-    Ok(())
+    assert_prints(&rt, alloc, &refusal, printed);
 }
 
 /// Asserts what an error of any type prints.
-fn assert_prints_error<E: Error>(
-    rt: &impl Abort,
-    alloc: Global,
-    error: &E,
-    printed: &str,
-) -> Result<(), Fail> {
-    assert_prints(rt, alloc, error, printed)
+fn assert_prints_error<E: Error>(rt: &impl Abort, alloc: Global, error: &E, printed: &str) {
+    assert_prints(rt, alloc, error, printed);
 }

@@ -2,80 +2,80 @@
 //! reader has to hold and to print.
 
 use cargo_platform::{Cfg, CfgExpr, Ident, ParseError, ParseErrorKind, ReadError};
-use std::alloc::{AllocError, Global};
+use std::alloc::Global;
 use std::fmt::Display;
 use std::process::Abort;
-use std::test::Fail;
 
 /// Asserts what a value prints.
-pub fn assert_prints<T: Display>(
-    rt: &impl Abort,
-    alloc: Global,
-    x: &T,
-    printed: &str,
-) -> Result<(), Fail> {
-    let text = x.to_string(alloc)?;
+pub fn assert_prints<T: Display>(rt: &impl Abort, alloc: Global, x: &T, printed: &str) {
+    let text = x.to_string(alloc).expect(rt, "memory");
     assert_eq!(rt; text.as_str(), printed);
-    Ok(())
 }
 
 /// `foo`, or `r#foo` where the name is marked.
-pub fn ident(alloc: Global, text: &str) -> Result<Ident, AllocError> {
+pub fn ident(rt: &impl Abort, alloc: Global, text: &str) -> Ident {
     let (raw, name) = match text.strip_prefix("r#") {
         Some(name) => (true, name),
         None => (false, text),
     };
-    Ok(Ident {
-        name: String::from_str(alloc, name)?,
+    Ident {
+        name: String::from_str(alloc, name).expect(rt, "memory"),
         raw,
-    })
+    }
 }
 
 /// A name as above, or a key, `=` and the value as it stands, as in `k=1`.
-pub fn value(alloc: Global, text: &str) -> Result<Cfg, AllocError> {
+pub fn value(rt: &impl Abort, alloc: Global, text: &str) -> Cfg {
     match text.split_once('=') {
-        Some((key, value)) => Ok(Cfg::KeyPair(ident(alloc, key)?, String::from_str(alloc, value)?)),
-        None => Ok(Cfg::Name(ident(alloc, text)?)),
+        Some((key, value)) => Cfg::KeyPair(
+            ident(rt, alloc, key),
+            String::from_str(alloc, value).expect(rt, "memory"),
+        ),
+        None => Cfg::Name(ident(rt, alloc, text)),
     }
 }
 
 /// Values as above, with spaces between them.
-pub fn values(alloc: Global, text: &str) -> Result<Vec<Cfg>, AllocError> {
+pub fn values(rt: &impl Abort, alloc: Global, text: &str) -> Vec<Cfg> {
     let mut all = Vec::new(alloc);
     for word in text.split_whitespace() {
-        all.push(value(alloc, word)?)?;
+        all.push(value(rt, alloc, word)).expect(rt, "memory");
     }
-    Ok(all)
+    all
 }
 
 /// An expression with each form before its parts, and groups with the number of their members: `any(not(foo), bar)` is
 /// `any2 not foo bar`. All other words are values as above.
-pub fn expression(alloc: Global, text: &str) -> Result<CfgExpr, Fail> {
+pub fn expression(rt: &impl Abort, alloc: Global, text: &str) -> CfgExpr {
     let mut made: Vec<CfgExpr> = Vec::new(alloc);
     for word in text.split_whitespace().rev() {
         let e = match word {
             "true" => CfgExpr::True,
             "false" => CfgExpr::False,
-            "not" => CfgExpr::Not(Box::new(alloc, made.pop().ok_or("an expression")?)?),
+            "not" => {
+                let negated = Box::new(alloc, made.pop().expect(rt, "an expression"));
+                CfgExpr::Not(negated.expect(rt, "memory"))
+            }
             "all0" => CfgExpr::All(Vec::new(alloc)),
-            "all1" => CfgExpr::All(members(alloc, &mut made, 1)?),
-            "all2" => CfgExpr::All(members(alloc, &mut made, 2)?),
+            "all1" => CfgExpr::All(members(rt, alloc, &mut made, 1)),
+            "all2" => CfgExpr::All(members(rt, alloc, &mut made, 2)),
             "any0" => CfgExpr::Any(Vec::new(alloc)),
-            "any1" => CfgExpr::Any(members(alloc, &mut made, 1)?),
-            "any2" => CfgExpr::Any(members(alloc, &mut made, 2)?),
-            _ => CfgExpr::Value(value(alloc, word)?),
+            "any1" => CfgExpr::Any(members(rt, alloc, &mut made, 1)),
+            "any2" => CfgExpr::Any(members(rt, alloc, &mut made, 2)),
+            _ => CfgExpr::Value(value(rt, alloc, word)),
         };
-        made.push(e)?;
+        made.push(e).expect(rt, "memory");
     }
-    Ok(made.pop().ok_or("an expression")?)
+    made.pop().expect(rt, "an expression")
 }
 
-fn members(alloc: Global, made: &mut Vec<CfgExpr>, count: usize) -> Result<Vec<CfgExpr>, Fail> {
+fn members(rt: &impl Abort, alloc: Global, made: &mut Vec<CfgExpr>, count: usize) -> Vec<CfgExpr> {
     let mut all = Vec::new(alloc);
     for _ in 0..count {
-        all.push(made.pop().ok_or("a member")?)?;
+        all.push(made.pop().expect(rt, "a member"))
+            .expect(rt, "memory");
     }
-    Ok(all)
+    all
 }
 
 /// Whether the names and the raw marks are the same.
@@ -120,12 +120,12 @@ fn same_members(a: &[CfgExpr], b: &[CfgExpr]) -> bool {
 }
 
 /// The text of a number of copies of `piece`.
-pub fn repeated(alloc: Global, piece: &str, count: usize) -> Result<String, AllocError> {
+pub fn repeated(rt: &impl Abort, alloc: Global, piece: &str, count: usize) -> String {
     let mut text = String::new(alloc);
     for _ in 0..count {
-        text.push_str(piece)?;
+        text.push_str(piece).expect(rt, "memory");
     }
-    Ok(text)
+    text
 }
 
 /// The kind of an error, as the tests expect it.
@@ -158,11 +158,11 @@ pub fn is_fault(kind: &ParseErrorKind, fault: Fault<'_>) -> bool {
 }
 
 /// The error of a refused text: nothing else was answered.
-pub fn error_of(refusal: Option<ReadError>) -> Result<ParseError, Fail> {
+pub fn error_of(rt: &impl Abort, refusal: Option<ReadError>) -> ParseError {
     match refusal {
-        Some(ReadError::Parse(error)) => Ok(error),
-        Some(ReadError::Memory(error)) => Err(Fail::from(error)),
-        None => Err(Fail::new("a text was read that has to be refused")),
+        Some(ReadError::Parse(error)) => error,
+        Some(ReadError::Memory(_)) => panic!(rt; "memory"),
+        None => panic!(rt; "a text was read that has to be refused"),
     }
 }
 
@@ -174,14 +174,15 @@ pub fn assert_refused(
     orig: &str,
     fault: Fault<'_>,
     message: &str,
-) -> Result<(), Fail> {
-    let error = error_of(refusal)?;
+) {
+    let error = error_of(rt, refusal);
     let kind = error.kind();
     assert!(rt; is_fault(kind, fault), "{orig}: {kind:?}");
     assert_eq!(rt; error.orig(), orig);
-    assert_prints(rt, alloc, kind, message)?;
-    let whole = format!(in alloc; "failed to parse `{orig}` as a cfg expression: {message}")?;
-    assert_prints(rt, alloc, &error, &whole)?;
+    assert_prints(rt, alloc, kind, message);
+    let whole = format!(in alloc; "failed to parse `{orig}` as a cfg expression: {message}");
+    let whole = whole.expect(rt, "memory");
+    assert_prints(rt, alloc, &error, &whole);
     let refusal = ReadError::Parse(error);
-    assert_prints(rt, alloc, &refusal, &whole)
+    assert_prints(rt, alloc, &refusal, &whole);
 }

@@ -2,17 +2,17 @@
 
 use crate::support::{expression, value};
 use cargo_platform::{CfgExpr, Platform};
-use std::alloc::{AllocError, Global};
+use std::alloc::Global;
 use std::process::Abort;
-use std::test::Fail;
 
 /// The warning on a name, which is printed with its mark.
-fn on_name(alloc: Global, name: &str) -> Result<String, AllocError> {
+fn on_name(rt: &impl Abort, alloc: Global, name: &str) -> String {
     format!(in alloc;
         "Found `{name}` in `target.'cfg(...)'.dependencies`. This value is not supported for selecting dependencies \
         and will not work as expected. To learn more visit \
         https://doc.rust-lang.org/cargo/reference/specifying-dependencies.html#platform-specific-dependencies"
     )
+    .expect(rt, "memory")
 }
 
 /// The warning on a pair with the key `feature`.
@@ -22,46 +22,52 @@ const ON_FEATURE: &str =
     https://doc.rust-lang.org/cargo/reference/features.html";
 
 /// The warning on a word as a name or a key, for the path, the printed name or pair, and the word.
-pub fn on_word(alloc: Global, path: &str, cfg: &str, word: &str) -> Result<String, AllocError> {
+pub fn on_word(rt: &impl Abort, alloc: Global, path: &str, cfg: &str, word: &str) -> String {
     format!(in alloc;
         "[{path}] future-incompatibility: `cfg({cfg})` is deprecated as `{word}` is a keyword and not an identifier \
         and should not have have been accepted in this position.\n | this was previously accepted by Cargo but is \
         being phased out; it will become a hard error in a future release!\n |\n | help: use raw-idents instead: \
         `cfg(r#{word})`"
     )
+    .expect(rt, "memory")
 }
 
 /// The warnings on attributes: for `feature` the one on that key, and for each other word the one on that name. The
 /// word `w` stands for itself.
-pub fn on_attributes(alloc: Global, words: &str) -> Result<Vec<String>, AllocError> {
+pub fn on_attributes(rt: &impl Abort, alloc: Global, words: &str) -> Vec<String> {
     let mut texts = Vec::new(alloc);
     for word in words.split_whitespace() {
         let text = match word {
-            "w" => String::from_str(alloc, "w")?,
-            "feature" => String::from_str(alloc, ON_FEATURE)?,
-            _ => on_name(alloc, word)?,
+            "w" => String::from_str(alloc, "w").expect(rt, "memory"),
+            "feature" => String::from_str(alloc, ON_FEATURE).expect(rt, "memory"),
+            _ => on_name(rt, alloc, word),
         };
-        texts.push(text)?;
+        texts.push(text).expect(rt, "memory");
     }
-    Ok(texts)
+    texts
 }
 
 /// The warnings on a condition's attributes.
-pub fn attributes_of(alloc: Global, condition: &Platform) -> Result<Vec<String>, AllocError> {
+pub fn attributes_of(rt: &impl Abort, alloc: Global, condition: &Platform) -> Vec<String> {
     let mut found = Vec::new(alloc);
-    condition.check_cfg_attributes(alloc, &mut found)?;
-    Ok(found)
+    condition
+        .check_cfg_attributes(alloc, &mut found)
+        .expect(rt, "memory");
+    found
 }
 
 /// The warnings on a condition's keywords, in the manifest at a path.
 pub fn keywords_of(
+    rt: &impl Abort,
     alloc: Global,
     condition: &Platform,
     path: &str,
-) -> Result<Vec<String>, AllocError> {
+) -> Vec<String> {
     let mut found = Vec::new(alloc);
-    condition.check_cfg_keywords(alloc, &mut found, path)?;
-    Ok(found)
+    condition
+        .check_cfg_keywords(alloc, &mut found, path)
+        .expect(rt, "memory");
+    found
 }
 
 /// Asserts which warnings were found on a condition.
@@ -113,14 +119,13 @@ pub const ATTRIBUTES: &[(&str, &str)] = &[
 ];
 
 #[test]
-fn attributes_that_select_nothing(rt: HostRuntime) -> Result<(), Fail> {
+fn attributes_that_select_nothing(rt: HostRuntime) {
     let alloc = rt.alloc();
     for (text, words) in ATTRIBUTES {
-        let condition = Platform::Cfg(CfgExpr::from_str(alloc, text)?);
-        let found = attributes_of(alloc, &condition)?;
-        assert_warnings(&rt, &found, &on_attributes(alloc, words)?, text);
+        let condition = Platform::Cfg(CfgExpr::from_str(alloc, text).expect(&rt, text));
+        let found = attributes_of(&rt, alloc, &condition);
+        assert_warnings(&rt, &found, &on_attributes(&rt, alloc, words), text);
     }
-    Ok(())
 }
 
 /// An expression with warnings of two kinds.
@@ -144,88 +149,96 @@ const WORDS: &[(&str, Option<(&str, &str)>)] = &[
 
 /// The warning on a name or a pair, if it is warned about, for its printed form and the word.
 fn on_keyword(
+    rt: &impl Abort,
     alloc: Global,
     path: &str,
     warned: Option<(&str, &str)>,
-) -> Result<Vec<String>, AllocError> {
+) -> Vec<String> {
     let mut texts = Vec::new(alloc);
     if let Some((printed, word)) = warned {
-        texts.push(on_word(alloc, path, printed, word)?)?;
+        texts
+            .push(on_word(rt, alloc, path, printed, word))
+            .expect(rt, "memory");
     }
-    Ok(texts)
+    texts
 }
 
 #[test]
-fn keywords_as_names_and_keys(rt: HostRuntime) -> Result<(), Fail> {
+fn keywords_as_names_and_keys(rt: HostRuntime) {
     let alloc = rt.alloc();
     for (text, warned) in WORDS {
-        let negated = Box::new(alloc, CfgExpr::Value(value(alloc, text)?))?;
-        let condition = Platform::Cfg(CfgExpr::Not(negated));
-        let found = keywords_of(alloc, &condition, "a b/Cargo.toml")?;
-        let wanted = on_keyword(alloc, "a b/Cargo.toml", *warned)?;
+        let negated = Box::new(alloc, CfgExpr::Value(value(&rt, alloc, text)));
+        let condition = Platform::Cfg(CfgExpr::Not(negated.expect(&rt, "memory")));
+        let found = keywords_of(&rt, alloc, &condition, "a b/Cargo.toml");
+        let wanted = on_keyword(&rt, alloc, "a b/Cargo.toml", *warned);
         assert_warnings(&rt, &found, &wanted, text);
     }
-    Ok(())
 }
 
 #[test]
-fn keywords_from_left_to_right(rt: HostRuntime) -> Result<(), Fail> {
+fn keywords_from_left_to_right(rt: HostRuntime) {
     let alloc = rt.alloc();
     let tree = "all2 any2 true=1 not false=2 all2 r#true=3 true";
-    let found = keywords_of(alloc, &Platform::Cfg(expression(alloc, tree)?), "")?;
+    let found = keywords_of(&rt, alloc, &Platform::Cfg(expression(&rt, alloc, tree)), "");
     let mut wanted = Vec::new(alloc);
-    wanted.push(on_word(alloc, "", "true = \"1\"", "true")?)?;
-    wanted.push(on_word(alloc, "", "false = \"2\"", "false")?)?;
+    wanted
+        .push(on_word(&rt, alloc, "", "true = \"1\"", "true"))
+        .expect(&rt, "memory");
+    wanted
+        .push(on_word(&rt, alloc, "", "false = \"2\"", "false"))
+        .expect(&rt, "memory");
     assert_warnings(&rt, &found, &wanted, tree);
-    Ok(())
 }
 
 #[test]
-fn literals_are_no_keywords(rt: HostRuntime) -> Result<(), Fail> {
+fn literals_are_no_keywords(rt: HostRuntime) {
     let alloc = rt.alloc();
-    let condition = Platform::Cfg(CfgExpr::from_str(alloc, LITERALS)?);
-    let found = keywords_of(alloc, &condition, "-")?;
+    let condition = Platform::Cfg(CfgExpr::from_str(alloc, LITERALS).expect(&rt, LITERALS));
+    let found = keywords_of(&rt, alloc, &condition, "-");
     assert!(rt; found.is_empty());
-    Ok(())
 }
 
 /// Adds the warnings on a condition that is read from text, and asserts which there are: those on attributes alone.
-fn add_read(rt: &impl Abort, alloc: Global, found: &mut Vec<String>) -> Result<(), Fail> {
-    let condition = Platform::from_str(alloc, &format!(in alloc; "cfg({TWO_KINDS})")?)?;
-    let wanted = on_attributes(alloc, "w feature r#test")?;
-    condition.check_cfg_attributes(alloc, found)?;
+fn add_read(rt: &impl Abort, alloc: Global, found: &mut Vec<String>) {
+    let text = format!(in alloc; "cfg({TWO_KINDS})").expect(rt, "memory");
+    let condition = Platform::from_str(alloc, &text).expect(rt, &text);
+    let wanted = on_attributes(rt, alloc, "w feature r#test");
+    condition
+        .check_cfg_attributes(alloc, found)
+        .expect(rt, "memory");
     assert_warnings(rt, found, &wanted, "attributes");
-    condition.check_cfg_keywords(alloc, found, "-")?;
+    condition
+        .check_cfg_keywords(alloc, found, "-")
+        .expect(rt, "memory");
     assert_warnings(rt, found, &wanted, "keywords");
-    Ok(())
 }
 
 /// Adds the warning on a condition that is made by hand.
-fn add_made(alloc: Global, found: &mut Vec<String>) -> Result<(), Fail> {
-    let made = Platform::Cfg(expression(alloc, "true=x")?);
-    made.check_cfg_keywords(alloc, found, "-")?;
-    Ok(())
+fn add_made(rt: &impl Abort, alloc: Global, found: &mut Vec<String>) {
+    let made = Platform::Cfg(expression(rt, alloc, "true=x"));
+    made.check_cfg_keywords(alloc, found, "-")
+        .expect(rt, "memory");
 }
 
 #[test]
-fn warnings_go_behind_those_before(rt: HostRuntime) -> Result<(), Fail> {
+fn warnings_go_behind_those_before(rt: HostRuntime) {
     let alloc = rt.alloc();
-    let mut found = on_attributes(alloc, "w")?;
-    add_read(&rt, alloc, &mut found)?;
-    add_made(alloc, &mut found)?;
-    let mut wanted = on_attributes(alloc, "w feature r#test")?;
-    wanted.push(on_word(alloc, "-", "true = \"x\"", "true")?)?;
+    let mut found = on_attributes(&rt, alloc, "w");
+    add_read(&rt, alloc, &mut found);
+    add_made(&rt, alloc, &mut found);
+    let mut wanted = on_attributes(&rt, alloc, "w feature r#test");
+    wanted
+        .push(on_word(&rt, alloc, "-", "true = \"x\"", "true"))
+        .expect(&rt, "memory");
     assert_warnings(&rt, &found, &wanted, "true=x");
-    Ok(())
 }
 
 #[test]
-fn names_of_targets_give_none(rt: HostRuntime) -> Result<(), Fail> {
+fn names_of_targets_give_none(rt: HostRuntime) {
     let alloc = rt.alloc();
     for name in ["test", "true"] {
-        let target = Platform::Name(String::from_str(alloc, name)?);
-        assert_warnings(&rt, &attributes_of(alloc, &target)?, &[], name);
-        assert_warnings(&rt, &keywords_of(alloc, &target, "-")?, &[], name);
+        let target = Platform::Name(String::from_str(alloc, name).expect(&rt, "memory"));
+        assert_warnings(&rt, &attributes_of(&rt, alloc, &target), &[], name);
+        assert_warnings(&rt, &keywords_of(&rt, alloc, &target, "-"), &[], name);
     }
-    Ok(())
 }
