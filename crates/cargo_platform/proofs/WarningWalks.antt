@@ -1,15 +1,16 @@
 -- The warnings on values grow by those on the next one, and a cut takes all of them back.
 use Rattle.std.proofs.Common.{◌≡◌, refl, sym, ap, ◌∙◌, ◌⊎◌, inl, inr, ℕ, ◌+◌, ◌≤◌, ◌==◌, true, false, true≢false}
 use Rattle.std.proofs.Common.{List, [], ◌∷◌, ◌++◌, length, take, map, flat_map, reverse, sum, append-nil, append_assoc}
-use Rattle.std.proofs.Common.{String, Vec, Box, Global, string_bytes, box_value, vec_len, arith, rules}
+use Rattle.std.proofs.Common.{String, Vec, Box, Global, string_bytes, vec_len, arith, rules}
 use Rattle.std.proofs.lemmas.Bool.{eqb-true}
 use Rattle.std.proofs.lemmas.List.{length-map, map-append, take-map, take_all, take-append-le, reverse-append}
 use Rattle.std.proofs.lemmas.List.{nil_from_length}
 use Rattle.std.proofs.lemmas.List.Sums.{sum_by-append, sum_by-cons}
 use Rattle.std.proofs.lemmas.Grind.{flat_map-append}
-use Rattle.cargo_platform.specs.declared.cfg.CfgExpr.{CfgExpr, the_lemmas}
+use Rattle.cargo_platform.specs.declared.cfg.CfgExpr.{CfgExpr}
 use Rattle.cargo_platform.specs.declared.cfg.CfgExpr.TheVariants as expr
 use Rattle.cargo_platform.specs.ExpressionSizes.{node_count, node_counts}
+use Rattle.cargo_platform.specs.Inside.Printing.{is_group}
 use Rattle.cargo_platform.specs.Trees.{CfgValue, tree_of, trees_of}
 use Rattle.cargo_platform.specs.Errors.{texts}
 use Rattle.cargo_platform.specs.Warnings.{IsLonger, values, members_values}
@@ -31,46 +32,22 @@ pub one_if_any : (es : List CfgExpr) → (length es == 0) ≡ false → count_if
 one_if_any [] some = absurd (true≢false some)
 one_if_any (e ∷ es) some = refl
 
-size_of-Not : (b : Box CfgExpr Global) → node_count (expr.Not b) ≡ node_count (box_value b) + 1
-size_of-Not b = search (rules, the_lemmas)
-
-size_of-All : (v : Vec CfgExpr Global) → node_count (expr.All v) ≡ node_counts v.items + 1
-size_of-All v = search (rules, the_lemmas)
-
-size_of-Any : (v : Vec CfgExpr Global) → node_count (expr.Any v) ≡ node_counts v.items + 1
-size_of-Any v = search (rules, the_lemmas)
-
 pub nodes_of_first : (ms os : List CfgExpr) (e : CfgExpr) → ms ≡ e ∷ os
     → node_counts ms ≡ node_count e + node_counts os
 nodes_of_first ms os e is = ap (λ z. node_counts z) is ∙ sum_by-cons (λ n. n) (node_count e) (map node_count os)
 
--- the expression is a group of these members
-abbrev pub IsGroup : CfgExpr → List CfgExpr → Type 0
-IsGroup e es = (values (tree_of e) ≡ values_of es) × (node_count e ≡ node_counts es + 1)
-
-pub list_group : (e : CfgExpr) (v : Vec CfgExpr Global) (es : List CfgExpr) → (e ≡ expr.All v) ⊎ (e ≡ expr.Any v)
-    → es ≡ v.items → IsGroup e es
-list_group e v es is members = (
-  elim is [
-    | inl p ↦ ap (λ z. values (tree_of z)) p ∙ ap values (tree_of-All v) ∙ ap values_of (sym members)
-    | inr p ↦ ap (λ z. values (tree_of z)) p ∙ ap values (tree_of-Any v) ∙ ap values_of (sym members)
-  ],
-  elim is [
-    | inl p ↦ ap node_count p ∙ size_of-All v ∙ ap (λ z. node_counts z + 1) (sym members)
-    | inr p ↦ ap node_count p ∙ size_of-Any v ∙ ap (λ z. node_counts z + 1) (sym members)
-  ],
-)
-
-pub negated_group : (e : CfgExpr) (b : Box CfgExpr Global) (inner : CfgExpr) (es : List CfgExpr) → e ≡ expr.Not b
-    → inner ≡ box_value b → es ≡ inner ∷ [] → IsGroup e es
-negated_group e b inner es is same members =
-    let only : es ≡ box_value b ∷ [] = members ∙ ap (λ z. z ∷ []) same in (
-      ap (λ z. values (tree_of z)) is
-          ∙ ap values (tree_of-Not b)
-          ∙ sym (append-nil (values (tree_of (box_value b))))
-          ∙ ap values_of (sym only),
-      omega (arith, ap node_count is, size_of-Not b, nodes_of_first es [] (box_value b) only),
-    )
+-- a negation and a list are groups
+pub is_opened : (e : CfgExpr)
+    → ((b : Box CfgExpr Global) × (e ≡ expr.Not b))
+    ⊎ (((v : Vec CfgExpr Global) × (e ≡ expr.All v)) ⊎ ((v : Vec CfgExpr Global) × (e ≡ expr.Any v)))
+    → is_group (tree_of e) ≡ true
+is_opened e is = elim is [
+  | inl p ↦ ap (λ z. is_group (tree_of z)) p.1 ∙ ap is_group (tree_of-Not p.0)
+  | inr q ↦ elim q [
+    | inl p ↦ ap (λ z. is_group (tree_of z)) p.1 ∙ ap is_group (tree_of-All p.0)
+    | inr p ↦ ap (λ z. is_group (tree_of z)) p.1 ∙ ap is_group (tree_of-Any p.0)
+  ]
+]
 
 -- the values of the first member, and then those of the others
 pub first_values : (ms os : List CfgExpr) (e : CfgExpr) (vs rest : List CfgValue) → ms ≡ e ∷ os

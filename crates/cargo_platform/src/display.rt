@@ -61,6 +61,7 @@ ghost use Rattle.cargo_platform.specs.Inside.Printing.{is_group, word, begun, be
 ghost use Rattle.cargo_platform.specs.Inside.Printing.{ending_last};
 ghost use Rattle.cargo_platform.specs.Inside.Printing.{closed, HasWrittenBut};
 ghost use Rattle.cargo_platform.specs.ExpressionSizes.{node_count, node_counts};
+ghost use Rattle.cargo_platform.specs.Warnings.{values, members_values};
 
 /// An expression, with the expressions inside it. What recurses are the groups that others follow: the last members are
 /// gone down in loops, and what writes has a frame of its own, so that a level of the recursion takes few bytes.
@@ -120,13 +121,14 @@ fn is_followed_group(first: &CfgExpr, others: &[CfgExpr]) -> bool
 
 /// The members of a group; that of a negation is what it negates.
 #[inline(always)]
-fn members_of(e: &CfgExpr) -> Option<&[CfgExpr]>
+pub(crate) fn members_of(e: &CfgExpr) -> Option<&[CfgExpr]>
     ensures group { MatchOption result (is_group (tree_of e.now) ≡ false) (λ _. is_group (tree_of e.now) ≡ true) }
     ensures begun { IfSome result
         (λ ms. begun (tree_of e.now) ≡ word (tree_of e.now) ++ begun_members (trees_of (map tree_of ms.now))) }
     ensures ending { MatchOption result (ending (tree_of e.now) ≡ 0)
         (λ ms. ending (tree_of e.now) ≡ suc (ending_last (trees_of (map tree_of ms.now)))) }
     ensures size { MatchOption result (node_count e.now ≡ 1) (λ ms. node_count e.now ≡ node_counts ms.now + 1) }
+    ensures values { IfSome result (λ ms. values (tree_of e.now) ≡ members_values (trees_of (map tree_of ms.now))) }
 {
     match e {
         CfgExpr::Not(inner) => {

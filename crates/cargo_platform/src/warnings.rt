@@ -1,13 +1,16 @@
 //! Warnings on conditions that are read without a fault, but do not select dependencies as their writer may expect.
 
-ghost use Rattle.std.specs.Prelude.{◌≡◌, ◌++◌, List, ℕ, IfOk, OnOk, OnErr, flat_map, string_bytes};
-ghost use Rattle.cargo_platform.specs.Trees.{CfgValue, name_of, value_of, tree_of, condition_of};
+ghost use Rattle.std.specs.Prelude.{◌≡◌, ◌+◌, ◌++◌, true, List, ℕ, IfOk, OnOk, OnErr, map, flat_map, string_bytes};
+ghost use Rattle.cargo_platform.specs.Trees.{CfgValue, name_of, value_of, tree_of, trees_of, condition_of};
 ghost use Rattle.cargo_platform.specs.Spelling.{is_literal_word};
 ghost use Rattle.cargo_platform.specs.Errors.{texts};
-ghost use Rattle.cargo_platform.specs.Warnings.{values, attribute_warning, attribute_warnings, keyword_warning};
+ghost use Rattle.cargo_platform.specs.Inside.Printing.{is_group};
+ghost use Rattle.cargo_platform.specs.ExpressionSizes.{node_count, node_counts};
+ghost use Rattle.cargo_platform.specs.Warnings.{values, members_values, attribute_warning, attribute_warnings, keyword_warning};
 ghost use Rattle.cargo_platform.specs.Warnings.{keyword_warning_of, keyword_warnings, condition_values};
 ghost use Rattle.cargo_platform.specs.Warnings.{is_unsupported_name, unsupported_name, unsupported_feature, IsLonger};
 
+use crate::display::members_of;
 use crate::{Cfg, CfgExpr, Ident, Platform};
 use std::alloc::{AllocError, Global};
 use std::slice;
@@ -175,6 +178,17 @@ fn warn<L: Lint>(
     result
 }
 
+/// The members of a group; that of a negation is what it negates.
+// Stands apart, so that the walk compares its way to a value and takes no jump through a table.
+#[inline(never)]
+fn opened(e: &CfgExpr) -> &[CfgExpr]
+    ensures values { is_group (tree_of e.now) ≡ true
+        → values (tree_of e.now) ≡ members_values (trees_of (map tree_of result.now)) }
+    ensures size { is_group (tree_of e.now) ≡ true → node_count e.now ≡ node_counts result.now + 1 }
+{
+    members_of(e).unwrap_or(&[])
+}
+
 /// Appends the warnings on the values of an expression, as far as memory is granted.
 fn walk<L: Lint>(
     e: &CfgExpr,
@@ -211,11 +225,7 @@ fn walk<L: Lint>(
                 continue;
             }
             CfgExpr::True | CfgExpr::False => continue,
-            CfgExpr::Not(inner) => {
-                let negated: &CfgExpr = inner;
-                slice::from_ref(negated)
-            }
-            CfgExpr::All(members) | CfgExpr::Any(members) => members.as_slice(),
+            CfgExpr::Not(_) | CfgExpr::All(_) | CfgExpr::Any(_) => opened(first),
         };
         if !members.is_empty() {
             if !around.is_empty() {

@@ -7,11 +7,10 @@ use Rattle.cargo_platform.specs.Errors.{texts}
 use Rattle.cargo_platform.specs.Warnings.{values, IsLonger}
 use Rattle.cargo_platform.proofs.Printing.{others_smaller}
 use Rattle.cargo_platform.proofs.TreeViews.{tree_of-Value}
-use Rattle.cargo_platform.proofs.WarningWalks.{IsGroup, list_group, negated_group, values_of, first_values, nodes_kept}
+use Rattle.cargo_platform.proofs.WarningWalks.{is_opened, values_of, first_values, nodes_kept}
 use Rattle.cargo_platform.proofs.WarningWalks.{opened_last, opened_first, opened_within, nodes_of_first, warned_on}
 use Rattle.cargo_platform.proofs.WarningWalks.{at_most_one, one_if_any}
 use Rattle.cargo_platform.proofs.warnings.walk.Goals as goal
-use Rattle.cargo_platform.proofs.warnings.walk.Goals.{in-Not, in-All2}
 
 pub returns-in_err-check-in-Value-clause-err : goal.returns-in_err-check-in-Value-clause-err
 returns-in_err-check-in-Value-clause-err g c =
@@ -72,69 +71,44 @@ members-preserved-in-Value g c =
 
 pub members-smaller : goal.members-smaller
 members-smaller g c =
-    let group : IsGroup c.in-Some.first.now c.match-first.group.now = elim c.match-first.branch [
-      | in-Not w ↦ negated_group c.in-Some.first.now w.in-Not.inner w.deref-negated.result.now c.match-first.group.now
-          w.in-Not.is w.deref-negated.ensures (ap (λ r. r.now) w.group-is ∙ w.from_ref-group.ensures.value)
-      | in-All2 w ↦ list_group c.in-Some.first.now w.in-All.members c.match-first.group.now w.in-All.is
-          (ap (λ r. r.now) w.group-is ∙ w.as_slice-group.ensures.value)
-    ] in
+    let opens = is_opened c.in-Some.first.now c.in-Not.is in
     let first = nodes_of_first c.members.members.now c.in-Some.others.now c.in-Some.first.now
     c.in-Some.ensures.cases.0 in
-    omega (arith, group.1, first)
+    omega (arith, c.opened-group.ensures.size opens, first)
 
 pub members-preserved : goal.members-preserved
 members-preserved g c =
-    let group : IsGroup c.in-Some.first.now c.match-first.group.now = elim c.match-first.branch [
-      | in-Not w ↦ negated_group c.in-Some.first.now w.in-Not.inner w.deref-negated.result.now c.match-first.group.now
-          w.in-Not.is w.deref-negated.ensures (ap (λ r. r.now) w.group-is ∙ w.from_ref-group.ensures.value)
-      | in-All2 w ↦ list_group c.in-Some.first.now w.in-All.members c.match-first.group.now w.in-All.is
-          (ap (λ r. r.now) w.group-is ∙ w.as_slice-group.ensures.value)
-    ] in
+    let opens = is_opened c.in-Some.first.now c.in-Not.is in
     let none : (length c.in-Some.others.now == 0) ≡ true = search rules in (
       c.members.invariant.0,
       c.members.invariant.1,
       opened_last c.members.invariant.0 (values (tree_of c.args.e.now)) c.members.members.now c.in-Some.others.now
-          c.match-first.group.now c.in-Some.first.now c.in-Some.ensures.cases.0 group.0
+          c.opened-group.result.now c.in-Some.first.now c.in-Some.ensures.cases.0 (c.opened-group.ensures.values opens)
           (values_of c.members.around.now ++ flat_map (λ es. values_of es.now) (reverse c.members.outer.items)) none
           c.members.invariant.2,
     )
 
 pub members-smaller-else-not-is_empty-3 : goal.members-smaller-else-not-is_empty-3
 members-smaller-else-not-is_empty-3 g c =
-    let group : IsGroup c.in-Some.first.now c.match-first.group.now = elim c.match-first.branch [
-      | in-Not w ↦ negated_group c.in-Some.first.now w.in-Not.inner w.deref-negated.result.now c.match-first.group.now
-          w.in-Not.is w.deref-negated.ensures (ap (λ r. r.now) w.group-is ∙ w.from_ref-group.ensures.value)
-      | in-All2 w ↦ list_group c.in-Some.first.now w.in-All.members c.match-first.group.now w.in-All.is
-          (ap (λ r. r.now) w.group-is ∙ w.as_slice-group.ensures.value)
-    ] in
+    let opens = is_opened c.in-Some.first.now c.in-Not.is in
     let first = nodes_of_first c.members.members.now c.in-Some.others.now c.in-Some.first.now
     c.in-Some.ensures.cases.0 in
-    omega (arith, group.1, first, at_most_one c.in-Some.others.now)
+    omega (arith, c.opened-group.ensures.size opens, first, at_most_one c.in-Some.others.now)
 
 pub members-preserved-else-not-is_empty-3 : goal.members-preserved-else-not-is_empty-3
 members-preserved-else-not-is_empty-3 g c =
-    let group : IsGroup c.in-Some.first.now c.match-first.group.now = elim c.match-first.branch [
-      | in-Not w ↦ negated_group c.in-Some.first.now w.in-Not.inner w.deref-negated.result.now c.match-first.group.now
-          w.in-Not.is w.deref-negated.ensures (ap (λ r. r.now) w.group-is ∙ w.from_ref-group.ensures.value)
-      | in-All2 w ↦ list_group c.in-Some.first.now w.in-All.members c.match-first.group.now w.in-All.is
-          (ap (λ r. r.now) w.group-is ∙ w.as_slice-group.ensures.value)
-    ] in
+    let opens = is_opened c.in-Some.first.now c.in-Not.is in
     let none : (length c.members.around.now == 0) ≡ true = search rules in (
       c.members.invariant.0,
       c.members.invariant.1,
       opened_first c.members.invariant.0 (values (tree_of c.args.e.now)) c.members.members.now c.in-Some.others.now
-          c.match-first.group.now c.in-Some.first.now c.in-Some.ensures.cases.0 group.0 c.members.around.now
+          c.opened-group.result.now c.in-Some.first.now c.in-Some.ensures.cases.0 (c.opened-group.ensures.values opens) c.members.around.now
           (flat_map (λ es. values_of es.now) (reverse c.members.outer.items)) none c.members.invariant.2,
     )
 
 pub members-smaller-in_ok-push : goal.members-smaller-in_ok-push
 members-smaller-in_ok-push g c =
-    let group : IsGroup c.in-Some.first.now c.match-first.group.now = elim c.match-first.branch [
-      | in-Not w ↦ negated_group c.in-Some.first.now w.in-Not.inner w.deref-negated.result.now c.match-first.group.now
-          w.in-Not.is w.deref-negated.ensures (ap (λ r. r.now) w.group-is ∙ w.from_ref-group.ensures.value)
-      | in-All2 w ↦ list_group c.in-Some.first.now w.in-All.members c.match-first.group.now w.in-All.is
-          (ap (λ r. r.now) w.group-is ∙ w.as_slice-group.ensures.value)
-    ] in
+    let opens = is_opened c.in-Some.first.now c.in-Not.is in
     let first = nodes_of_first c.members.members.now c.in-Some.others.now c.in-Some.first.now
     c.in-Some.ensures.cases.0 in
     let some : (length c.members.around.now == 0) ≡ false = search rules in
@@ -142,7 +116,7 @@ members-smaller-in_ok-push g c =
     c.in_ok-push.ensures.items in
     omega (
       arith,
-      group.1,
+      c.opened-group.ensures.size opens,
       first,
       at_most_one c.in-Some.others.now,
       one_if_any c.members.around.now some,
@@ -153,15 +127,10 @@ members-smaller-in_ok-push g c =
 
 pub members-preserved-in_ok-push : goal.members-preserved-in_ok-push
 members-preserved-in_ok-push g c =
-    let group : IsGroup c.in-Some.first.now c.match-first.group.now = elim c.match-first.branch [
-      | in-Not w ↦ negated_group c.in-Some.first.now w.in-Not.inner w.deref-negated.result.now c.match-first.group.now
-          w.in-Not.is w.deref-negated.ensures (ap (λ r. r.now) w.group-is ∙ w.from_ref-group.ensures.value)
-      | in-All2 w ↦ list_group c.in-Some.first.now w.in-All.members c.match-first.group.now w.in-All.is
-          (ap (λ r. r.now) w.group-is ∙ w.as_slice-group.ensures.value)
-    ] in (
+    let opens = is_opened c.in-Some.first.now c.in-Not.is in (
       c.members.invariant.0,
       c.members.invariant.1,
       opened_within c.members.invariant.0 (values (tree_of c.args.e.now)) c.members.members.now c.in-Some.others.now
-          c.match-first.group.now c.in-Some.first.now c.in-Some.ensures.cases.0 group.0 (λ es. values_of es.now)
+          c.opened-group.result.now c.in-Some.first.now c.in-Some.ensures.cases.0 (c.opened-group.ensures.values opens) (λ es. values_of es.now)
           c.members.outer.items c.push.new.self.items c.members.around c.in_ok-push.ensures.items c.members.invariant.2,
     )
