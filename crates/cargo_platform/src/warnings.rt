@@ -6,8 +6,9 @@ ghost use Rattle.cargo_platform.specs.Spelling.{is_literal_word};
 ghost use Rattle.cargo_platform.specs.Errors.{texts};
 ghost use Rattle.cargo_platform.specs.Inside.Printing.{is_group};
 ghost use Rattle.cargo_platform.specs.ExpressionSizes.{node_count, node_counts};
-ghost use Rattle.cargo_platform.specs.Warnings.{values, members_values, attribute_warning, attribute_warnings, keyword_warning};
-ghost use Rattle.cargo_platform.specs.Warnings.{keyword_warning_of, keyword_warnings, condition_values};
+ghost use Rattle.cargo_platform.specs.Warnings.{values, members_values, attribute_warning, attribute_warnings};
+ghost use Rattle.cargo_platform.specs.Warnings.{keyword_warning, keyword_warning_of, keyword_warnings};
+ghost use Rattle.cargo_platform.specs.Warnings.{condition_values};
 ghost use Rattle.cargo_platform.specs.Warnings.{is_unsupported_name, unsupported_name, unsupported_feature, IsLonger};
 
 use crate::display::members_of;

@@ -102,7 +102,8 @@ members-preserved-else-not-is_empty-3 g c =
       c.members.invariant.0,
       c.members.invariant.1,
       opened_first c.members.invariant.0 (values (tree_of c.args.e.now)) c.members.members.now c.in-Some.others.now
-          c.opened-group.result.now c.in-Some.first.now c.in-Some.ensures.cases.0 (c.opened-group.ensures.values opens) c.members.around.now
+          c.opened-group.result.now c.in-Some.first.now c.in-Some.ensures.cases.0
+          (c.opened-group.ensures.values opens) c.members.around.now
           (flat_map (λ es. values_of es.now) (reverse c.members.outer.items)) none c.members.invariant.2,
     )
 
@@ -131,6 +132,7 @@ members-preserved-in_ok-push g c =
       c.members.invariant.0,
       c.members.invariant.1,
       opened_within c.members.invariant.0 (values (tree_of c.args.e.now)) c.members.members.now c.in-Some.others.now
-          c.opened-group.result.now c.in-Some.first.now c.in-Some.ensures.cases.0 (c.opened-group.ensures.values opens) (λ es. values_of es.now)
+          c.opened-group.result.now c.in-Some.first.now c.in-Some.ensures.cases.0
+          (c.opened-group.ensures.values opens) (λ es. values_of es.now)
           c.members.outer.items c.push.new.self.items c.members.around c.in_ok-push.ensures.items c.members.invariant.2,
     )
