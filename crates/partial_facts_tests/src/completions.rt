@@ -1,11 +1,13 @@
 //! What is decided and what is left, against the truth over every completion of the facts that are not known.
 
+use crate::support::{
+    assert_decision, assert_rows, decided, decision, expression, fact, left, parts,
+};
 use cargo_platform::{Cfg, CfgExpr, Listed};
 use cargo_platform_tests::real_facts::{LINUX, MACOS, WASM, WINDOWS};
-use partial_facts::{Complete, Partial, decide, residual};
+use partial_facts::{Complete, Partial};
 use std::alloc::Global;
 use std::process::Abort;
-use std::test::Fail;
 
 /// The facts that a target may have or not: features of its processor, a custom cfg, and a feature of a package.
 const UNKNOWN: &[&str] = &[
@@ -32,156 +34,147 @@ const KNOWN: &[&str] = &[
     "windows",
 ];
 
-/// What is decided for 64-bit Linux, Windows, macOS on ARM and WebAssembly without a system.
-type Decided = [Option<bool>; 4];
-
-const YES: Option<bool> = Some(true);
-
-const NO: Option<bool> = Some(false);
-
-/// Conditions in which no name or pair stands twice, so that one that is not decided is true over one completion and
-/// false over another.
-const CONDITIONS: &[(&str, Decided)] = &[
-    ("unix", [YES, NO, YES, NO]),
-    ("all(unix, not(target_os = \"macos\"))", [YES, NO, NO, NO]),
-    ("panic = \"unwind\"", [YES, YES, YES, NO]),
-    ("target_feature = \"neon\"", [None; 4]),
-    (
-        "all(target_arch = \"aarch64\", target_feature = \"neon\")",
-        [NO, NO, None, NO],
-    ),
-    (
-        "any(target_arch = \"x86_64\", r#target_feature = \"neon\")",
-        [YES, YES, None, None],
-    ),
-    ("all(loom, feature = \"std\")", [None; 4]),
-    ("all(not(loom), any(windows, unix))", [None, None, None, NO]),
-    ("not(any(loom, windows))", [None, NO, None, None]),
-    (
-        "all(any(target_feature = \"sse2\", target_feature = \"neon\"), not(target_os = \"unknown\"))",
-        [None, None, None, NO],
-    ),
-    (
-        "any(not(target_pointer_width = \"64\"), feature = \"std\")",
-        [None, None, None, YES],
-    ),
-    (
-        "all(any(target_os = \"linux\", loom), any(target_env = \"msvc\", feature = \"std\"))",
-        [None; 4],
-    ),
-    (
-        "any(all(unix, loom), all(windows, target_feature = \"sse2\"), target_family = \"wasm\")",
-        [None, None, None, YES],
-    ),
-    ("not(all(unix, r#loom))", [None, YES, None, YES]),
-    ("not(not(all(true, not(loom), any(false))))", [NO; 4]),
-    ("all()", [YES; 4]),
-    ("any()", [NO; 4]),
-];
+/// Conditions, and what is decided of each for 64-bit Linux, Windows, macOS on ARM and WebAssembly without a system. In
+/// none of them a name or pair stands twice, so that one that is not decided is true over one completion and false over
+/// another.
+const CONDITIONS: &str = r#"unix => yes no yes no
+all(unix, not(target_os = "macos")) => yes no no no
+panic = "unwind" => yes yes yes no
+target_feature = "neon" => open open open open
+all(target_arch = "aarch64", target_feature = "neon") => no no open no
+any(target_arch = "x86_64", r#target_feature = "neon") => yes yes open open
+all(loom, feature = "std") => open open open open
+all(not(loom), any(windows, unix)) => open open open no
+not(any(loom, windows)) => open no open open
+all(any(target_feature = "sse2", target_feature = "neon"), not(target_os = "unknown")) => open open open no
+any(not(target_pointer_width = "64"), feature = "std") => open open open yes
+all(any(target_os = "linux", loom), any(target_env = "msvc", feature = "std")) => open open open open
+any(all(unix, loom), all(windows, target_feature = "sse2"), target_family = "wasm") => open open open yes
+not(all(unix, r#loom)) => open yes open yes
+not(not(all(true, not(loom), any(false)))) => no no no no
+all() => yes yes yes yes
+any() => no no no no
+"#;
 
 /// The facts of a target but for the features of its processor.
-fn known_facts(alloc: Global, lines: &str) -> Result<Vec<Cfg>, Fail> {
+fn known_facts(rt: &impl Abort, alloc: Global, lines: &str) -> Vec<Cfg> {
     let mut facts = Vec::new(alloc);
     for line in lines.lines() {
         if !line.starts_with("target_feature") {
-            facts.push(Cfg::from_str(alloc, line)?)?;
+            facts.push(fact(rt, alloc, line)).expect(rt, "memory");
         }
     }
-    Ok(facts)
+    facts
+}
+
+fn copies(rt: &impl Abort, alloc: Global, facts: &[Cfg]) -> Vec<Cfg> {
+    let mut copies = Vec::new(alloc);
+    for fact in facts {
+        let copy = fact.clone(alloc).expect(rt, "memory");
+        copies.push(copy).expect(rt, "memory");
+    }
+    copies
 }
 
 /// The facts, and of the unknown ones those whose bit is set.
-fn completion(alloc: Global, known: &[Cfg], bits: u32) -> Result<Vec<Cfg>, Fail> {
-    let mut facts = Vec::new(alloc);
-    for fact in known {
-        facts.push(fact.clone(alloc)?)?;
-    }
+fn completion(rt: &impl Abort, alloc: Global, known: &[Cfg], bits: u32) -> Vec<Cfg> {
+    let mut facts = copies(rt, alloc, known);
     for (place, text) in UNKNOWN.iter().enumerate() {
         if (bits >> place) & 1 == 1 {
-            facts.push(Cfg::from_str(alloc, text)?)?;
+            facts.push(fact(rt, alloc, text)).expect(rt, "memory");
         }
     }
-    Ok(facts)
+    facts
 }
 
-/// Whether an expression is true over some completion, and false over some. What is left of it has to be as true over
-/// each.
-fn truths(
+/// Whether an expression is true over a completion. What is left of it has to be as true.
+fn truth(
     rt: &impl Abort,
     alloc: Global,
     e: &CfgExpr,
     left: &CfgExpr,
     known: &[Cfg],
-) -> Result<(bool, bool), Fail> {
-    let mut some_true = false;
-    let mut some_false = false;
-    for bits in 0..16 {
-        let facts = completion(alloc, known, bits)?;
-        let matches = e.matches(&facts);
-        assert_eq!(rt;
-            left.matches(&facts),
-            matches,
-            "{e} leaves {left}, completion {bits}"
-        );
-        if matches {
-            some_true = true;
-        } else {
-            some_false = true;
-        }
+    bits: u32,
+) -> bool {
+    let facts = completion(rt, alloc, known, bits);
+    let truth = e.matches(&facts);
+    assert_eq!(rt;
+        left.matches(&facts),
+        truth,
+        "{e} leaves {left}, completion {bits}"
+    );
+    truth
+}
+
+/// The truth of an expression where it is the same over every completion. What is left of it has to be as true over
+/// each.
+fn common_truth(
+    rt: &impl Abort,
+    alloc: Global,
+    e: &CfgExpr,
+    left: &CfgExpr,
+    known: &[Cfg],
+) -> Option<bool> {
+    let first = truth(rt, alloc, e, left, known, 0);
+    let mut is_common = true;
+    for bits in 1..16 {
+        is_common &= truth(rt, alloc, e, left, known, bits) == first;
     }
-    Ok((some_true, some_false))
+    if is_common { Some(first) } else { None }
 }
 
 /// Asserts what is decided of a condition, and that it is the truth over every completion.
-fn assert_decided(
-    rt: &impl Abort,
-    alloc: Global,
-    text: &str,
-    known: &[Cfg],
-    wanted: Option<bool>,
-) -> Result<(), Fail> {
+fn assert_decided(rt: &impl Abort, alloc: Global, text: &str, known: &[Cfg], wanted: Option<bool>) {
     let partial = Partial {
         facts: known,
         complete: KNOWN,
     };
-    let e = CfgExpr::from_str(alloc, text)?;
-    let decided = decide(&e, &partial);
-    assert!(rt; decided == wanted, "{text} over {} facts", known.len());
-    let left = residual(alloc, &e, &partial)?;
-    let found = truths(rt, alloc, &e, &left, known)?;
-    let expected = match decided {
-        Some(truth) => (truth, !truth),
-        None => (true, true),
-    };
-    assert!(rt;
-        found == expected,
-        "{text} over {} facts and more",
-        known.len()
-    );
-    Ok(())
+    let e = expression(rt, alloc, text);
+    assert_decision(rt, text, decided(&e, &partial), wanted);
+    let left = left(rt, alloc, &e, &partial);
+    let common = common_truth(rt, alloc, &e, &left, known);
+    assert_decision(rt, text, common, wanted);
+}
+
+/// Asserts of each condition what its row says in this column, for the target with these facts.
+fn assert_column(rt: &impl Abort, alloc: Global, lines: &str, column: usize) {
+    let known = known_facts(rt, alloc, lines);
+    for row in CONDITIONS.lines() {
+        let (text, answers) = parts(rt, row);
+        let answer = answers.split_whitespace().nth(column).expect(rt, row);
+        assert_decided(rt, alloc, text, &known, decision(rt, answer));
+    }
 }
 
 #[test]
-fn decides_as_every_completion(rt: HostRuntime) -> Result<(), Fail> {
-    for (target, lines) in [LINUX, WINDOWS, MACOS, WASM].iter().enumerate() {
-        let known = known_facts(rt.alloc(), lines)?;
-        for (text, wanted) in CONDITIONS {
-            assert_decided(&rt, rt.alloc(), text, &known, wanted[target])?;
-        }
+fn decides_as_every_completion(rt: HostRuntime) {
+    assert_rows(&rt, CONDITIONS, 17);
+    assert_column(&rt, rt.alloc(), LINUX, 0);
+    assert_column(&rt, rt.alloc(), WINDOWS, 1);
+    assert_column(&rt, rt.alloc(), MACOS, 2);
+    assert_column(&rt, rt.alloc(), WASM, 3);
+}
+
+/// Asserts that what is decided of a condition is its truth, where the facts are all that there are.
+fn assert_all_decided(rt: &impl Abort, alloc: Global, text: &str, facts: &[Cfg]) {
+    let e = expression(rt, alloc, text);
+    let decided = decided(&e, &Complete(&Listed(facts)));
+    assert_decision(rt, text, decided, Some(e.matches(facts)));
+}
+
+/// Asserts it of each condition, for the target with these facts.
+fn assert_table_decided(rt: &impl Abort, alloc: Global, lines: &str) {
+    let facts = known_facts(rt, alloc, lines);
+    for row in CONDITIONS.lines() {
+        let (text, _) = parts(rt, row);
+        assert_all_decided(rt, alloc, text, &facts);
     }
-    Ok(())
 }
 
 #[test]
-fn decides_all_where_all_is_known(rt: HostRuntime) -> Result<(), Fail> {
-    for lines in [LINUX, WINDOWS, MACOS, WASM] {
-        let facts = known_facts(rt.alloc(), lines)?;
-        let listed = Listed(&facts);
-        for (text, _) in CONDITIONS {
-            let e = CfgExpr::from_str(rt.alloc(), text)?;
-            let decided = decide(&e, &Complete(&listed));
-            assert!(rt; decided == Some(e.matches(&facts)), "{text}");
-        }
-    }
-    Ok(())
+fn decides_all_where_all_is_known(rt: HostRuntime) {
+    assert_table_decided(&rt, rt.alloc(), LINUX);
+    assert_table_decided(&rt, rt.alloc(), WINDOWS);
+    assert_table_decided(&rt, rt.alloc(), MACOS);
+    assert_table_decided(&rt, rt.alloc(), WASM);
 }

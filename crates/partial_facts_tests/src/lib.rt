@@ -10,4 +10,6 @@ mod deep;
 pub mod planner;
 #[cfg(test)]
 mod residuals;
+#[cfg(test)]
+mod support;
 pub mod targets;
