@@ -7,157 +7,243 @@ use crate::own_facts::System;
 use crate::planner::plan;
 use crate::printed_facts::holds_for;
 use crate::selected::is_selected;
-use cargo_platform::{CfgExpr, Platform, read_facts};
+use cargo_platform::{Cfg, CfgExpr, Platform, read_facts};
 use std::alloc::Global;
 use std::collections::{BTreeMap, HashMap};
 use std::process::Abort;
-use std::test::Fail;
 
 /// What `rustc --print cfg` printed for 64-bit Linux, but for some of the lines.
 const LINUX: &str = "target_env=\"gnu\"\ntarget_os=\"linux\"\nunix\n";
 
+const LINUX_TARGET: &str = "x86_64-unknown-linux-gnu";
+
+fn facts(rt: &impl Abort, alloc: Global, lines: &str) -> Vec<Cfg> {
+    read_facts(alloc, lines).expect(rt, lines)
+}
+
+fn expression(rt: &impl Abort, alloc: Global, text: &str) -> CfgExpr {
+    CfgExpr::from_str(alloc, text).expect(rt, text)
+}
+
+fn platform(rt: &impl Abort, alloc: Global, text: &str) -> Platform {
+    Platform::from_str(alloc, text).expect(rt, text)
+}
+
+/// Asserts what was answered to a question.
+fn assert_answer(rt: &impl Abort, question: &str, answer: bool, wanted: bool) {
+    assert_eq!(rt; answer, wanted, "{question}");
+}
+
+fn assert_text(rt: &impl Abort, text: &str, wanted: &str) {
+    assert_eq!(rt; text, wanted);
+}
+
+/// Asserts whether a key selects for 64-bit Linux.
+fn assert_selects(rt: &impl Abort, alloc: Global, facts: &[Cfg], key: &str, wanted: bool) {
+    let selected = is_selected(alloc, key, LINUX_TARGET, facts).expect(rt, key);
+    assert_answer(rt, key, selected, wanted);
+}
+
 #[test]
-fn keys_select(rt: HostRuntime) -> Result<(), Fail> {
-    let facts = read_facts(rt.alloc(), LINUX)?;
-    for (key, wanted) in [
-        ("cfg(unix)", true),
-        ("cfg(windows)", false),
-        ("x86_64-unknown-linux-gnu", true),
-        ("x86_64-pc-windows-msvc", false),
-    ] {
-        let selected = is_selected(rt.alloc(), key, "x86_64-unknown-linux-gnu", &facts)?;
-        assert_eq!(rt; selected, wanted, "{key}");
-    }
+fn keys_select(rt: HostRuntime) {
+    let facts = facts(&rt, rt.alloc(), LINUX);
+    assert_selects(&rt, rt.alloc(), &facts, "cfg(unix)", true);
+    assert_selects(&rt, rt.alloc(), &facts, "cfg(windows)", false);
+    assert_selects(&rt, rt.alloc(), &facts, "x86_64-unknown-linux-gnu", true);
+    assert_selects(&rt, rt.alloc(), &facts, "x86_64-pc-windows-msvc", false);
     let refused = is_selected(rt.alloc(), "cfg(unix", "x", &facts);
-    assert!(rt; refused.is_err());
-    Ok(())
+    assert_answer(&rt, "is it refused?", refused.is_err(), true);
+}
+
+/// Asserts whether a condition holds for a target of which these lines were printed.
+fn assert_holds(rt: &impl Abort, alloc: Global, condition: &CfgExpr, lines: &str, wanted: bool) {
+    let holds = holds_for(alloc, condition, lines).expect(rt, lines);
+    assert_answer(rt, lines, holds, wanted);
 }
 
 #[test]
-fn printed_facts_are_asked(rt: HostRuntime) -> Result<(), Fail> {
-    let condition = CfgExpr::from_str(rt.alloc(), "all(unix, not(target_os = \"macos\"))")?;
-    assert!(rt; holds_for(rt.alloc(), &condition, LINUX)?);
-    assert!(rt; !holds_for(rt.alloc(), &condition, "windows\n")?);
-    assert!(rt; holds_for(rt.alloc(), &condition, "unix\n\n").is_err());
-    Ok(())
+fn printed_facts_are_asked(rt: HostRuntime) {
+    let condition = expression(&rt, rt.alloc(), "all(unix, not(target_os = \"macos\"))");
+    assert_holds(&rt, rt.alloc(), &condition, LINUX, true);
+    assert_holds(&rt, rt.alloc(), &condition, "windows\n", false);
+    let refused = holds_for(rt.alloc(), &condition, "unix\n\n");
+    assert_answer(&rt, "is it refused?", refused.is_err(), true);
 }
 
-#[test]
-fn conditions_are_planned(rt: HostRuntime) -> Result<(), Fail> {
-    let facts = read_facts(rt.alloc(), LINUX)?;
-    let mut conditions = Vec::new(rt.alloc());
-    for text in ["unix", "windows", "target_env = \"gnu\"", "any()"] {
-        conditions.push(CfgExpr::from_str(rt.alloc(), text)?)?;
+fn expressions(rt: &impl Abort, alloc: Global, lines: &str) -> Vec<CfgExpr> {
+    let mut all = Vec::new(alloc);
+    for line in lines.lines() {
+        all.push(expression(rt, alloc, line)).expect(rt, "memory");
     }
-    let planned = plan(rt.alloc(), &facts, &conditions)?;
+    all
+}
+
+#[test]
+fn conditions_are_planned(rt: HostRuntime) {
+    let facts = facts(&rt, rt.alloc(), LINUX);
+    let conditions = expressions(
+        &rt,
+        rt.alloc(),
+        "unix\nwindows\ntarget_env = \"gnu\"\nany()",
+    );
+    let planned = plan(rt.alloc(), &facts, &conditions).expect(&rt, "memory");
     assert_eq!(rt; planned.as_slice(), [true, false, true, false].as_slice());
-    Ok(())
+}
+
+/// Asserts the report on a key.
+fn assert_report(rt: &impl Abort, alloc: Global, key: &str, wanted: &str) {
+    let report = lint(alloc, "Cargo.toml", key).expect(rt, "memory");
+    assert_text(rt, &report, wanted);
 }
 
 #[test]
-fn keys_are_linted(rt: HostRuntime) -> Result<(), Fail> {
-    for (key, wanted) in [
-        ("cfg( any(a,b , ))", "cfg(any(a, b))\n"),
-        ("x86_64-apple-darwin", "x86_64-apple-darwin\n"),
-        (
-            "cfg(all(a b))",
-            "failed to parse `all(a b)` as a cfg expression: expected `)`, found an identifier\n",
-        ),
-        (
-            "cfg(any(test, windows))",
-            "cfg(any(test, windows))\nFound `test` in `target.'cfg(...)'.dependencies`. This value is not supported \
-            for selecting dependencies and will not work as expected. To learn more visit \
-            https://doc.rust-lang.org/cargo/reference/specifying-dependencies.html#platform-specific-dependencies\n",
-        ),
-    ] {
-        let report = lint(rt.alloc(), "Cargo.toml", key)?;
-        assert_eq!(rt; report.as_str(), wanted);
-    }
-    Ok(())
+fn keys_are_linted(rt: HostRuntime) {
+    assert_report(&rt, rt.alloc(), "cfg( any(a,b , ))", "cfg(any(a, b))\n");
+    assert_report(
+        &rt,
+        rt.alloc(),
+        "x86_64-apple-darwin",
+        "x86_64-apple-darwin\n",
+    );
+    assert_report(
+        &rt,
+        rt.alloc(),
+        "cfg(all(a b))",
+        "failed to parse `all(a b)` as a cfg expression: expected `)`, found an identifier\n",
+    );
+    assert_report(
+        &rt,
+        rt.alloc(),
+        "cfg(any(test, windows))",
+        "cfg(any(test, windows))\nFound `test` in `target.'cfg(...)'.dependencies`. This value is not supported \
+        for selecting dependencies and will not work as expected. To learn more visit \
+        https://doc.rust-lang.org/cargo/reference/specifying-dependencies.html#platform-specific-dependencies\n",
+    );
+}
+
+/// Asserts whether what is noted under one key, in a map by order, stands under the other.
+fn assert_noted(rt: &impl Abort, alloc: Global, a: &Platform, b: &Platform, wanted: bool) {
+    let mut licences = BTreeMap::new(alloc);
+    let key = a.clone(alloc).expect(rt, "memory");
+    let licence = String::from_str(alloc, "MIT").expect(rt, "memory");
+    note(&mut licences, key, licence).expect(rt, "memory");
+    assert_answer(rt, "is it noted?", licences.get(b).is_some(), wanted);
+}
+
+/// The same in a map by hashes.
+fn assert_noted_hashed(rt: &impl Abort, alloc: Global, a: &Platform, b: &Platform, wanted: bool) {
+    let mut licences = HashMap::new(alloc);
+    let key = a.clone(alloc).expect(rt, "memory");
+    let licence = String::from_str(alloc, "MIT").expect(rt, "memory");
+    note_hashed(&mut licences, key, licence).expect(rt, "memory");
+    assert_answer(rt, "is it noted?", licences.get(b).is_some(), wanted);
 }
 
 /// Asserts whether two keys are one.
-fn assert_one(rt: &impl Abort, alloc: Global, a: &str, b: &str, wanted: bool) -> Result<(), Fail> {
-    let a = Platform::from_str(alloc, a)?;
-    let b = Platform::from_str(alloc, b)?;
-    assert_eq!(rt; is_one_key(&a, &b), wanted);
-    let licence = String::from_str(alloc, "MIT")?;
-    let mut ordered = BTreeMap::new(alloc);
-    let mut hashed = HashMap::new(alloc);
-    note(&mut ordered, a.clone(alloc)?, licence.clone()?)?;
-    note_hashed(&mut hashed, a, licence)?;
-    assert_eq!(rt; ordered.get(&b).is_some(), wanted);
-    assert_eq!(rt; hashed.get(&b).is_some(), wanted);
-    Ok(())
+fn assert_one(rt: &impl Abort, alloc: Global, a: &str, b: &str, wanted: bool) {
+    let a = platform(rt, alloc, a);
+    let b = platform(rt, alloc, b);
+    assert_answer(rt, "is it one key?", is_one_key(&a, &b), wanted);
+    assert_noted(rt, alloc, &a, &b, wanted);
+    assert_noted_hashed(rt, alloc, &a, &b, wanted);
 }
 
 #[test]
-fn conditions_are_keys(rt: HostRuntime) -> Result<(), Fail> {
-    assert_one(&rt, rt.alloc(), "cfg(a)", "cfg( r#a )", true)?;
-    assert_one(&rt, rt.alloc(), "cfg(any(a, b))", "cfg(any(b, a))", false)?;
-    assert_one(&rt, rt.alloc(), "a", "cfg(a)", false)?;
-    let text = canonical(rt.alloc(), "cfg( all( r#a,b, ) )")?;
-    assert_eq!(rt; text.as_str(), "cfg(all(r#a, b))");
-    Ok(())
+fn conditions_are_keys(rt: HostRuntime) {
+    assert_one(&rt, rt.alloc(), "cfg(a)", "cfg( r#a )", true);
+    assert_one(&rt, rt.alloc(), "cfg(any(a, b))", "cfg(any(b, a))", false);
+    assert_one(&rt, rt.alloc(), "a", "cfg(a)", false);
+    let text = canonical(rt.alloc(), "cfg( all( r#a,b, ) )").expect(&rt, "a key");
+    assert_text(&rt, &text, "cfg(all(r#a, b))");
+}
+
+/// Asserts whether the fixed key applies to a target with these facts.
+fn assert_unix(rt: &impl Abort, alloc: Global, lines: &str, wanted: bool) {
+    let is_unix = is_unix(alloc, &facts(rt, alloc, lines)).expect(rt, "memory");
+    assert_answer(rt, lines, is_unix, wanted);
 }
 
 #[test]
-fn the_fixed_key_is_asked(rt: HostRuntime) -> Result<(), Fail> {
-    assert!(rt; is_unix(rt.alloc(), &read_facts(rt.alloc(), LINUX)?)?);
-    assert!(rt; !is_unix(rt.alloc(), &read_facts(rt.alloc(), "unix=\"\"\n")?)?);
-    Ok(())
+fn the_fixed_key_is_asked(rt: HostRuntime) {
+    assert_unix(&rt, rt.alloc(), LINUX, true);
+    assert_unix(&rt, rt.alloc(), "unix=\"\"\n", false);
+}
+
+/// Asserts that an error is that of a key, and what it prints.
+fn assert_key_error(rt: &impl Abort, alloc: Global, error: &ManifestError, wanted: &str) {
+    let is_key = matches!(error, ManifestError::Key { .. });
+    assert_answer(rt, "is it a key?", is_key, true);
+    let text = error.to_string(alloc).expect(rt, "memory");
+    assert_text(rt, &text, wanted);
+}
+
+/// Asserts what the platform of a key prints.
+fn assert_key(rt: &impl Abort, alloc: Global, key: &str, wanted: &str) {
+    let platform = read_key(alloc, 7, key).expect(rt, key);
+    let text = platform.to_string(alloc).expect(rt, "memory");
+    assert_text(rt, &text, wanted);
 }
 
 #[test]
-fn the_error_says_where(rt: HostRuntime) -> Result<(), Fail> {
-    let read = read_key(rt.alloc(), 7, "cfg(unix)")?;
-    assert_eq!(rt; read.to_string(rt.alloc())?.as_str(), "cfg(unix)");
-    let Some(error) = read_key(rt.alloc(), 7, "!foo").err() else {
-        return Err(Fail::new("a key was read that has to be refused"));
-    };
-    assert!(rt; matches!(&error, ManifestError::Key { .. }));
-    assert_eq!(rt;
-        error.to_string(rt.alloc())?.as_str(),
+fn the_error_says_where(rt: HostRuntime) {
+    assert_key(&rt, rt.alloc(), "cfg(unix)", "cfg(unix)");
+    let error = read_key(rt.alloc(), 7, "!foo").expect_err(&rt, "a refused key");
+    assert_key_error(
+        &rt,
+        rt.alloc(),
+        &error,
         "Cargo.toml:7: failed to parse `!foo` as a cfg expression: invalid target specifier: unexpected character ! \
-        in target name"
+        in target name",
     );
-    Ok(())
+}
+
+/// Asserts whether a condition is true for a system.
+fn assert_true_for(rt: &impl Abort, alloc: Global, system: &System, text: &str, wanted: bool) {
+    let condition = expression(rt, alloc, text);
+    assert_answer(rt, text, condition.matches_in(system), wanted);
 }
 
 #[test]
-fn a_system_is_asked(rt: HostRuntime) -> Result<(), Fail> {
+fn a_system_is_asked(rt: HostRuntime) {
     let system = System {
-        name: String::from_str(rt.alloc(), "linux")?,
+        name: String::from_str(rt.alloc(), "linux").expect(&rt, "memory"),
         is_unix: true,
     };
-    for (text, wanted) in [
-        ("unix", true),
-        ("r#unix", true),
-        ("linux", false),
-        ("target_os = \"linux\"", true),
-        ("target_os = \"macos\"", false),
-        ("target_env = \"linux\"", false),
-        ("all(unix, not(windows))", true),
-    ] {
-        let condition = CfgExpr::from_str(rt.alloc(), text)?;
-        assert_eq!(rt; condition.matches_in(&system), wanted, "{text}");
-    }
-    Ok(())
+    assert_true_for(&rt, rt.alloc(), &system, "unix", true);
+    assert_true_for(&rt, rt.alloc(), &system, "r#unix", true);
+    assert_true_for(&rt, rt.alloc(), &system, "linux", false);
+    assert_true_for(&rt, rt.alloc(), &system, "target_os = \"linux\"", true);
+    assert_true_for(&rt, rt.alloc(), &system, "target_os = \"macos\"", false);
+    assert_true_for(&rt, rt.alloc(), &system, "target_env = \"linux\"", false);
+    assert_true_for(&rt, rt.alloc(), &system, "all(unix, not(windows))", true);
+}
+
+/// Asserts the line on a key, for 64-bit Linux.
+fn assert_line(rt: &impl Abort, alloc: Global, key: &str, wanted: &str) {
+    let facts = facts(rt, alloc, "target_os=\"linux\"\nunix\n");
+    let line = describe(alloc, key, LINUX_TARGET, &facts).expect(rt, "memory");
+    assert_text(rt, &line, wanted);
 }
 
 #[test]
-fn keys_are_described(rt: HostRuntime) -> Result<(), Fail> {
-    let facts = read_facts(rt.alloc(), "target_os=\"linux\"\nunix\n")?;
-    for (key, wanted) in [
-        ("cfg(any( unix,windows, ))", "cfg(any(unix, windows)): true"),
-        ("x86_64-apple-darwin", "x86_64-apple-darwin: false"),
-        (
-            "cfg(all(unix windows))",
-            "failed to parse `all(unix windows)` as a cfg expression: expected `)`, found an identifier",
-        ),
-    ] {
-        let line = describe(rt.alloc(), key, "x86_64-unknown-linux-gnu", &facts)?;
-        assert_eq!(rt; line.as_str(), wanted);
-    }
-    Ok(())
+fn keys_are_described(rt: HostRuntime) {
+    let unix_or_windows = "cfg(any( unix,windows, ))";
+    assert_line(
+        &rt,
+        rt.alloc(),
+        unix_or_windows,
+        "cfg(any(unix, windows)): true",
+    );
+    assert_line(
+        &rt,
+        rt.alloc(),
+        "x86_64-apple-darwin",
+        "x86_64-apple-darwin: false",
+    );
+    assert_line(
+        &rt,
+        rt.alloc(),
+        "cfg(all(unix windows))",
+        "failed to parse `all(unix windows)` as a cfg expression: expected `)`, found an identifier",
+    );
 }
