@@ -3,7 +3,7 @@
 use crate::inputs::Matching;
 use cargo_platform::{Cfg, CfgExpr, FactIndex, Listed, Tokenizer};
 use partial_facts::{Complete, Partial, decide};
-use std::alloc::{AllocError, Global};
+use std::alloc::Global;
 use std::io;
 use std::rt::Clock;
 use std::time::{Duration, Instant};
@@ -79,26 +79,22 @@ impl<'a> Call<'a> {
     }
 }
 
-/// A call, what it answered last, and how long its rounds took. The answer is stored, so that no call is left out by a
+/// A call, words on what it is given, and what it answered last. The answer is stored, so that no call is left out by a
 /// compiler.
-#[derive(Drop)]
+#[derive(Clone, Copy)]
 pub struct Timed<'a> {
-    call: Call<'a>,
-    answer: usize,
-    rounds: Vec<Duration>,
+    pub call: Call<'a>,
+    pub given: &'a str,
+    pub answer: usize,
 }
 
 impl<'a> Timed<'a> {
-    pub fn new(alloc: Global, call: Call<'a>) -> Timed<'a> {
+    pub fn new(given: &'a str, call: Call<'a>) -> Timed<'a> {
         Timed {
             call,
+            given,
             answer: 0,
-            rounds: Vec::new(alloc),
         }
-    }
-
-    pub fn answer(&self) -> usize {
-        self.answer
     }
 
     #[inline(never)]
@@ -112,30 +108,17 @@ impl<'a> Timed<'a> {
         1 + 200_000 / self.call.size().max(1)
     }
 
-    /// Makes the calls of a round.
-    pub fn take_turn(&mut self, rt: &(impl Clock + AllocGlobal)) -> io::Result<()> {
+    /// Makes the calls of a round, and returns how long they took.
+    pub fn take_turn(&mut self, rt: &(impl Clock + AllocGlobal)) -> io::Result<Duration> {
         let start = Instant::now(rt)?;
         for _ in 0..self.calls() {
             self.make(rt.alloc());
         }
-        let taken = start.elapsed(rt)?;
-        self.rounds.push(taken).map_err(AllocError::from)?;
-        Ok(())
+        start.elapsed(rt)
     }
 
-    /// The nanoseconds of one call in this of the rounds, the fastest of which is 0.
-    fn nanoseconds(&mut self, place: usize) -> io::Result<f64> {
-        self.rounds.sort()?;
-        let round = self.rounds.get(place).copied().unwrap_or(Duration::MAX);
-        Ok(round.as_secs_f64() * 1e9 / f64::from(self.calls()))
-    }
-
-    pub fn fastest(&mut self) -> io::Result<f64> {
-        self.nanoseconds(0)
-    }
-
-    pub fn median(&mut self) -> io::Result<f64> {
-        let middle = self.rounds.len() / 2;
-        self.nanoseconds(middle)
+    /// The nanoseconds of one call in a round that took so long.
+    pub fn nanoseconds(&self, round: Duration) -> f64 {
+        round.as_secs_f64() * 1e9 / f64::from(self.calls())
     }
 }

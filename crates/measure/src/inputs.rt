@@ -18,28 +18,35 @@ fn push_times(text: &mut String, piece: &str, count: u32) -> Result<(), AllocErr
     Ok(())
 }
 
+/// So many pieces with these texts before and behind them.
+fn repeated(
+    alloc: Global,
+    before: &str,
+    piece: &str,
+    count: u32,
+    behind: &str,
+) -> Result<String, AllocError> {
+    let mut text = String::from_str(alloc, before)?;
+    push_times(&mut text, piece, count)?;
+    text.push_str(behind)?;
+    Ok(text)
+}
+
 /// `all(`, so many times `a,`, and `)`.
 pub fn list(alloc: Global, count: u32) -> Result<String, AllocError> {
-    let mut text = String::from_str(alloc, "all(")?;
-    push_times(&mut text, "a,", count)?;
-    text.push_str(")")?;
-    Ok(text)
+    repeated(alloc, "all(", "a,", count, ")")
 }
 
 /// A name inside so many `not(..)`.
 pub fn nest(alloc: Global, depth: u32) -> Result<String, AllocError> {
-    let mut text = String::new(alloc);
-    push_times(&mut text, "not(", depth)?;
-    text.push_str("a")?;
+    let mut text = repeated(alloc, "", "not(", depth, "a")?;
     push_times(&mut text, ")", depth)?;
     Ok(text)
 }
 
 /// A key whose string has so many spaces and no end.
 pub fn open_string(alloc: Global, count: u32) -> Result<String, AllocError> {
-    let mut text = String::from_str(alloc, "a = \"")?;
-    push_times(&mut text, " ", count)?;
-    Ok(text)
+    repeated(alloc, "a = \"", " ", count, "")
 }
 
 fn pair(alloc: Global, key: &str, value: String) -> Result<Cfg, AllocError> {

@@ -8,8 +8,9 @@ mod inputs;
 
 use calls::{Call, Timed};
 use inputs::Matching;
-use std::alloc::AllocError;
+use std::alloc::{AllocError, Global};
 use std::rt::{Clock, Env};
+use std::time::Duration;
 use std::{env, io};
 
 /// The number of rounds, if the first argument is one.
@@ -20,6 +21,15 @@ fn rounds(rt: &(impl Env + Alloc)) -> io::Result<Option<u32>> {
     Ok(word.parse::<u32>().ok())
 }
 
+/// Prints the row of a call that took so many nanoseconds, with this number behind them.
+fn print_row(rt: &impl Print, timed: &Timed<'_>, nanoseconds: f64, behind: f64) -> io::Result<()> {
+    let name = timed.call.name();
+    let size = timed.call.size();
+    let given = timed.given;
+    let answer = timed.answer;
+    println!(rt; "| `{name}` | {given} | {size} | {answer} | {nanoseconds:.1} | {behind:.2} |")
+}
+
 /// Times a call, and prints its row.
 fn time(
     rt: &(impl Print + Clock + AllocGlobal),
@@ -27,16 +37,18 @@ fn time(
     given: &str,
     call: Call<'_>,
 ) -> io::Result<()> {
-    let name = call.name();
-    let size = call.size();
-    let mut timed = Timed::new(rt.alloc(), call);
+    let mut timed = Timed::new(given, call);
+    let mut fastest = Duration::MAX;
     for _ in 0..rounds {
-        timed.take_turn(rt)?;
+        fastest = fastest.min(timed.take_turn(rt)?);
     }
-    let nanoseconds = timed.fastest()?;
-    let each = nanoseconds / f64::from(size);
-    let answer = timed.answer();
-    println!(rt; "| `{name}` | {given} | {size} | {answer} | {nanoseconds:.1} | {each:.2} |")
+    let nanoseconds = timed.nanoseconds(fastest);
+    print_row(
+        rt,
+        &timed,
+        nanoseconds,
+        nanoseconds / f64::from(call.size()),
+    )
 }
 
 /// The rows on long texts.
@@ -67,10 +79,51 @@ fn time_usual(rt: &(impl Print + Clock + AllocGlobal), rounds: u32) -> io::Resul
 /// The rows on matching a usual condition over more and more facts.
 fn time_matching(rt: &(impl Print + Clock + AllocGlobal), rounds: u32) -> io::Result<()> {
     for count in [20, 50, 1_000] {
-        let matching = Matching::new(rt.alloc(), count)?;
-        time(rt, rounds, "a list", Call::Match(&matching))?;
-        time(rt, rounds, "an index", Call::MatchIn(&matching))?;
-        time(rt, rounds, "a list", Call::Index(&matching))?;
+        time_matches(rt, rounds, &Matching::new(rt.alloc(), count)?)?;
+    }
+    Ok(())
+}
+
+fn time_matches(
+    rt: &(impl Print + Clock + AllocGlobal),
+    rounds: u32,
+    matching: &Matching,
+) -> io::Result<()> {
+    time(rt, rounds, "a list", Call::Match(matching))?;
+    time(rt, rounds, "an index", Call::MatchIn(matching))?;
+    time(rt, rounds, "a list", Call::Index(matching))
+}
+
+/// How long a round took of the call at this place of those that are timed in turns.
+#[derive(Clone, Copy)]
+struct Turn {
+    place: usize,
+    taken: Duration,
+}
+
+/// The median of the turns of the call at this place.
+fn median(alloc: Global, turns: &[Turn], place: usize) -> Result<Duration, AllocError> {
+    let mut own = Vec::new(alloc);
+    for turn in turns {
+        if turn.place == place {
+            own.push(turn.taken)?;
+        }
+    }
+    own.sort_unstable();
+    Ok(own.get(own.len() / 2).copied().unwrap_or(Duration::MAX))
+}
+
+/// Prints for each call the median of its turns, and that over the first call's.
+fn print_medians(
+    rt: &(impl Print + AllocGlobal),
+    calls: &[Timed<'_>],
+    turns: &[Turn],
+) -> io::Result<()> {
+    let mut first = None;
+    for (place, timed) in calls.iter().enumerate() {
+        let nanoseconds = timed.nanoseconds(median(rt.alloc(), turns, place)?);
+        let ratio = nanoseconds / *first.get_or_insert(nanoseconds);
+        print_row(rt, timed, nanoseconds, ratio)?;
     }
     Ok(())
 }
@@ -80,47 +133,46 @@ fn time_matching(rt: &(impl Print + Clock + AllocGlobal), rounds: u32) -> io::Re
 fn time_in_turn(
     rt: &(impl Print + Clock + AllocGlobal),
     rounds: u32,
-    calls: &[(&str, Call<'_>)],
+    calls: &mut [Timed<'_>],
 ) -> io::Result<()> {
-    let mut all = Vec::new(rt.alloc());
-    for (_, call) in calls {
-        all.push(Timed::new(rt.alloc(), *call))
-            .map_err(AllocError::from)?;
-    }
+    let mut turns = Vec::new(rt.alloc());
     for _ in 0..rounds {
-        for timed in &mut all {
-            timed.take_turn(rt)?;
+        for (place, timed) in calls.iter_mut().enumerate() {
+            let taken = timed.take_turn(rt)?;
+            turns.push(Turn { place, taken }).map_err(AllocError::from)?;
         }
     }
-    let mut first = None;
-    for ((given, call), timed) in calls.iter().zip(&mut all) {
-        let name = call.name();
-        let size = call.size();
-        let median = timed.median()?;
-        let ratio = median / *first.get_or_insert(median);
-        let answer = timed.answer();
-        println!(rt; "| `{name}` | {given} | {size} | {answer} | {median:.1} | {ratio:.2} |")?;
-    }
-    Ok(())
+    print_medians(rt, calls, &turns)
 }
 
 /// The rows on what is decided, beside what matches.
 fn time_deciding(rt: &(impl Print + Clock + AllocGlobal), rounds: u32) -> io::Result<()> {
     for count in [19, 1_000] {
-        let matching = Matching::new(rt.alloc(), count)?;
-        let list = [
-            ("a list", Call::Match(&matching)),
-            ("a list, all known", Call::Decide(&matching)),
-            ("a list, known in part", Call::DecidePartly(&matching)),
-        ];
-        time_in_turn(rt, rounds, &list)?;
-        let index = [
-            ("an index", Call::MatchIn(&matching)),
-            ("an index, all known", Call::DecideIn(&matching)),
-        ];
-        time_in_turn(rt, rounds, &index)?;
+        time_decisions(rt, rounds, &Matching::new(rt.alloc(), count)?)?;
     }
     Ok(())
+}
+
+fn time_decisions(
+    rt: &(impl Print + Clock + AllocGlobal),
+    rounds: u32,
+    matching: &Matching,
+) -> io::Result<()> {
+    let mut list = [
+        Timed::new("a list", Call::Match(matching)),
+        Timed::new("a list, all known", Call::Decide(matching)),
+        Timed::new("a list, known in part", Call::DecidePartly(matching)),
+    ];
+    time_in_turn(rt, rounds, &mut list)?;
+    let mut index = [
+        Timed::new("an index", Call::MatchIn(matching)),
+        Timed::new("an index, all known", Call::DecideIn(matching)),
+    ];
+    time_in_turn(rt, rounds, &mut index)
+}
+
+fn print_heading(rt: &impl Print, columns: &str) -> io::Result<()> {
+    println!(rt; "{columns}\n|---|---|--:|--:|--:|--:|")
 }
 
 fn main(rt: HostRuntime) -> io::Result<()> {
@@ -128,14 +180,20 @@ fn main(rt: HostRuntime) -> io::Result<()> {
         None | Some(0) => return println!(rt; "measure: give the number of rounds, 1 or more"),
         Some(rounds) => rounds,
     };
-    println!(rt; "| call | text | bytes | answer | nanoseconds | a byte |")?;
-    println!(rt; "|---|---|--:|--:|--:|--:|")?;
+    print_heading(
+        &rt,
+        "| call | text | bytes | answer | nanoseconds | a byte |",
+    )?;
     time_growth(&rt, rounds)?;
     time_usual(&rt, rounds)?;
-    println!(rt; "\n| call | facts in | facts | answer | nanoseconds | a fact |")?;
-    println!(rt; "|---|---|--:|--:|--:|--:|")?;
+    print_heading(
+        &rt,
+        "\n| call | facts in | facts | answer | nanoseconds | a fact |",
+    )?;
     time_matching(&rt, rounds)?;
-    println!(rt; "\n| call | facts in | facts | answer | nanoseconds | ratio |")?;
-    println!(rt; "|---|---|--:|--:|--:|--:|")?;
+    print_heading(
+        &rt,
+        "\n| call | facts in | facts | answer | nanoseconds | ratio |",
+    )?;
     time_deciding(&rt, rounds)
 }
