@@ -49,6 +49,15 @@ fn printed<T: Display>(alloc: Global, value: &T) -> Result<String, Fault> {
     Ok(format!(in alloc; "{value}\n")?)
 }
 
+/// The printed value, or want of memory where it was not made.
+fn printed_if_made<T: Display + Drop>(
+    alloc: Global,
+    made: Result<T, AllocError>,
+) -> Result<String, Fault> {
+    let value = made?;
+    printed(alloc, &value)
+}
+
 /// The printed value, or the printed error of a refused text.
 fn shown<T: Display + Drop>(alloc: Global, read: Result<T, ReadError>) -> Result<String, Fault> {
     match read {
@@ -182,15 +191,14 @@ fn listed(alloc: Global, facts: &[Cfg]) -> Result<String, Fault> {
 }
 
 fn error(alloc: Global, text: &str) -> Result<String, Fault> {
-    let error = ParseError::new(alloc, text, ParseErrorKind::UnterminatedString)?;
-    printed(alloc, &error)
+    let error = ParseError::new(alloc, text, ParseErrorKind::UnterminatedString);
+    printed_if_made(alloc, error)
 }
 
 /// An error whose kind holds a text of its own.
 fn error_with_text(alloc: Global, text: &str) -> Result<String, Fault> {
     let kind = ParseErrorKind::UnterminatedExpression(String::from_str(alloc, "b")?);
-    let error = ParseError::new(alloc, text, kind)?;
-    printed(alloc, &error)
+    printed_if_made(alloc, ParseError::new(alloc, text, kind))
 }
 
 /// A condition of one fact, which is read from no text: a literal is its key.
@@ -237,23 +245,21 @@ fn name_clone(alloc: Global, text: &str) -> Result<String, Fault> {
         name: String::from_str(alloc, text)?,
         raw: true,
     };
-    let copy = name.clone(alloc)?;
-    printed(alloc, &copy)
+    printed_if_made(alloc, name.clone(alloc))
 }
 
 fn fact_clone(alloc: Global, text: &str) -> Result<String, Fault> {
-    let copy = fact(alloc, text)?.clone(alloc)?;
-    printed(alloc, &copy)
+    let fact = fact(alloc, text)?;
+    printed_if_made(alloc, fact.clone(alloc))
 }
 
 fn group_clone(alloc: Global, text: &str) -> Result<String, Fault> {
-    let copy = expression(alloc, text)?.clone(alloc)?;
-    printed(alloc, &copy)
+    let group = expression(alloc, text)?;
+    printed_if_made(alloc, group.clone(alloc))
 }
 
 fn condition_clone(alloc: Global, platform: &Platform) -> Result<String, Fault> {
-    let copy = platform.clone(alloc)?;
-    printed(alloc, &copy)
+    printed_if_made(alloc, platform.clone(alloc))
 }
 
 /// The copy of a condition whose expression is a copy.
@@ -289,9 +295,9 @@ fn read_json(alloc: Global, value: &Value) -> Result<String, Fault> {
 
 fn dropped(alloc: Global, text: &str) -> Result<String, Fault> {
     let deep = platform(alloc, text)?;
-    let text = printed(alloc, &deep)?;
+    let text = printed(alloc, &deep);
     deep.drop_iteratively(alloc);
-    Ok(text)
+    text
 }
 
 fn main(rt: HostRuntime) -> io::Result<ExitCode> {
