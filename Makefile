@@ -1,6 +1,6 @@
 # make run    builds the program and runs it on its sample input
 # make build  leaves the program, and says where
-# make test   the gate: everything proved from nothing, the wrong bodies, the tests, the programs
+# make test   the gate: everything proved from nothing, the wrong bodies, each refused growth of memory, all runs
 # make wrong-bodies   the wrong bodies of crates/*/wrong-bodies alone, over kept work where there is some
 # make refusals   each growth of memory refused in turn, in each call and in the program
 # make statuses   the program where reading or writing fails
