@@ -1,13 +1,14 @@
 # make run    builds the program and runs it on its sample input
 # make build  leaves the program, and says where
-# make test   the gate: everything proved from nothing, the wrong bodies, each refused growth of memory, all runs
-# make wrong-bodies   the wrong bodies of crates/*/wrong-bodies alone, over kept work where there is some
-# make refusals   each growth of memory refused in turn, in each call and in the program
+# make test   proves everything from nothing, and runs all tests and programs
+# make gate   what decides whether a change lands: make test, and the mutants
+# make quick  the checks alone, over the cache
+# make mutants    the mutants of crates/*/mutants alone, over the cache where there is some
+# make refusals   each allocation refused in turn, in each call and in the program
 # make statuses   the program where reading or writing fails
-# make depths     the program on the deepest conditions that its input holds
-# make quick  the checks alone, over kept work
+# make depths     the programs on the deepest conditions that their inputs hold
 # make fmt    lays out the files
-.PHONY: run build test wrong-bodies refusals statuses depths quick fmt rt
+.PHONY: run build test gate mutants refusals statuses depths quick fmt rt
 
 PROGRAM := crates/platform_check
 
@@ -24,10 +25,13 @@ build: rt
 	@echo "the program is $(PROGRAM)/out/platform_check"
 
 test: rt
-	.ci/gate
+	@.ci/test
 
-wrong-bodies: rt
-	.ci/wrong-bodies
+gate: rt
+	@.ci/gate
+
+mutants: rt
+	.ci/mutants
 
 refusals: rt
 	.ci/refusals
@@ -39,7 +43,7 @@ depths: rt
 	.ci/depths
 
 quick: rt
-	rt all check
+	rt all check --jobs 2
 
 fmt: rt
 	for crate in crates/*/; do (cd $$crate && rt fmt) || exit 1; done
