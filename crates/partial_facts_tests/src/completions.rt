@@ -4,10 +4,10 @@ use crate::support::{
     assert_decision, assert_rows, decided, decision, expression, fact, left, parts,
 };
 use cargo_platform::{Cfg, CfgExpr, Listed};
-use cargo_platform_tests::real_facts::{LINUX, MACOS, WASM, WINDOWS};
 use partial_facts::{Complete, Partial};
 use std::alloc::Global;
 use std::process::Abort;
+use test_support::real_facts::{LINUX, MACOS, WASM, WINDOWS};
 
 /// The facts that a target may have or not: features of its processor, a custom cfg, and a feature of a package.
 const UNKNOWN: &[&str] = &[

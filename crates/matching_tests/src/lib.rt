@@ -1,0 +1,7 @@
+//! What holds over facts, by each kind of holder, over the library's public calls alone.
+#![tactic(auto)]
+
+#[cfg(test)]
+mod matching;
+#[cfg(test)]
+mod support;
