@@ -56,7 +56,8 @@ class Steps:
         while not ended.wait(5):
             if time.monotonic() - self.last > SILENCE:
                 now = time.monotonic()
-                each = [f"{name} ({done} done, {(now - since) / 60:.0f} min)" for name, (since, done) in self.running.items()]
+                running = self.running.items()
+                each = [f"{name} ({done} done, {(now - since) / 60:.0f} min)" for name, (since, done) in running]
                 self.say(f"running: {', '.join(each) or 'nothing'}; {len(self.failures)} failed so far")
 
     def run(self, step):
@@ -80,7 +81,7 @@ class Steps:
         self.end(step, process.returncode, last, told)
 
     def end(self, step, status, last, told):
-        """Takes how a step ended. One that counts is one failure where its last line does not say, or says it wrongly."""
+        """Takes how a step ended. One that counts is one failure where its last line does not say how, or is wrong."""
         since, _ = self.running.pop(step.name)
         passed, failed = (0, 1) if status else (1, 0)
         if step.counts:
