@@ -28,6 +28,8 @@ mod platforms;
 mod printing;
 pub mod real_facts;
 #[cfg(test)]
+mod spans;
+#[cfg(test)]
 mod support;
 #[cfg(test)]
 mod tokens;

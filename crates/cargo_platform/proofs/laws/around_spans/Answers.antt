@@ -1,0 +1,8 @@
+use Rattle.cargo_platform.proofs.AroundSpans.{surplus_at, behind_prefix}
+use Rattle.cargo_platform.proofs.laws.around_spans.Goals as goal
+
+pub returns-clause-surplus : goal.returns-clause-surplus
+returns-clause-surplus c = λ g text rest. surplus_at g text rest
+
+pub returns-clause-prefix : goal.returns-clause-prefix
+returns-clause-prefix c = λ g text fault r. behind_prefix g text fault r

@@ -1,0 +1,172 @@
+//! Where refused texts go wrong: the span of each fault.
+
+use crate::support::error_of;
+use cargo_platform::{Cfg, CfgExpr, FactsError, ParseError, ParseErrorKind, Platform, read_facts};
+use std::process::Abort;
+
+/// A refused text, and where the span of its fault begins and ends.
+type Row = (&'static str, usize, usize);
+
+/// As an expression.
+const EXPRESSIONS: &[Row] = &[
+    // A token that does not fit: behind nothing, a `(`, a comma, `=`, a group's word, and the end of a member.
+    (")", 0, 1),
+    ("\"é\"", 0, 4),
+    ("all(,a)", 4, 5),
+    ("all(a, ,)", 7, 8),
+    ("a = b", 4, 5),
+    ("a = r#b", 4, 7),
+    ("all a", 4, 5),
+    ("not \"x\"", 4, 7),
+    ("all(unix windows)", 9, 16),
+    ("any(a r#b)", 6, 9),
+    ("any(a \"x\")", 6, 9),
+    ("all(k = \"é\" \"ü\")", 13, 17),
+    ("true = \"x\")", 5, 11),
+    // Something left behind a whole expression: to the end.
+    ("a b", 2, 3),
+    ("a  )  ", 3, 6),
+    ("a = \"x\" %", 8, 9),
+    ("a r#", 2, 4),
+    ("a \"x", 2, 4),
+    ("a é b", 2, 6),
+    // A character that begins no token; behind `r#` the character and not the mark.
+    ("%", 0, 1),
+    ("é", 0, 2),
+    ("all(é)", 4, 6),
+    ("all(k = \"é\" %)", 13, 14),
+    ("r#%", 2, 3),
+    ("r#é", 2, 4),
+    ("all(a, r#漢)", 9, 12),
+    ("all(r# a)", 6, 7),
+    ("all(r, a#)", 8, 9),
+    // An open string, from its quote on.
+    ("k = \"ab", 4, 7),
+    ("all(\"é)", 4, 8),
+    // The end of the text.
+    ("", 0, 0),
+    ("  ", 2, 2),
+    ("all", 3, 3),
+    ("not( ", 5, 5),
+    ("a =", 3, 3),
+    ("any(a, é", 7, 9),
+    ("any(a", 5, 5),
+    ("any(a ", 6, 6),
+    ("r#", 2, 2),
+    ("all( r#", 7, 7),
+];
+
+/// As a name or a pair.
+const FACTS: &[Row] = &[
+    ("", 0, 0),
+    ("= ", 0, 1),
+    ("a)", 1, 2),
+    ("all(", 3, 4),
+    ("a = b", 4, 5),
+    ("a = ", 4, 4),
+    ("k = \"v", 4, 6),
+    ("r#1", 2, 3),
+    ("unix\r", 4, 5),
+];
+
+/// As a condition: the part of the key in which the span lies, and the span there.
+const CONDITIONS: &[(&str, &str, usize, usize)] = &[
+    ("cfg()", "", 0, 0),
+    ("cfg(all(a b))", "all(a b)", 6, 7),
+    ("cfg(r#%)", "r#%", 2, 3),
+    ("a b", "a b", 1, 2),
+    (" cfg(x)", " cfg(x)", 4, 5),
+    ("é%(é(", "é%(é(", 3, 4),
+    ("x%y%", "x%y%", 1, 2),
+    ("漢 x", "漢 x", 3, 4),
+    ("x→y", "x→y", 1, 4),
+    ("x(", "x(", 1, 2),
+];
+
+fn assert_span(rt: &impl Abort, error: &ParseError, orig: &str, start: usize, end: usize) {
+    assert_eq!(rt; error.orig(), orig);
+    match error.span() {
+        Some(span) => {
+            assert_eq!(rt; span.start, start, "{orig}");
+            assert_eq!(rt; span.end, end, "{orig}");
+        }
+        None => panic!(rt; "{orig}: no span"),
+    }
+}
+
+#[test]
+fn spans_of_expressions(rt: HostRuntime) {
+    for (text, start, end) in EXPRESSIONS {
+        let error = error_of(&rt, CfgExpr::from_str(rt.alloc(), text).err());
+        assert_span(&rt, &error, text, *start, *end);
+    }
+}
+
+#[test]
+fn spans_of_facts(rt: HostRuntime) {
+    for (text, start, end) in FACTS {
+        let error = error_of(&rt, Cfg::from_str(rt.alloc(), text).err());
+        assert_span(&rt, &error, text, *start, *end);
+    }
+}
+
+#[test]
+fn spans_of_conditions(rt: HostRuntime) {
+    for (text, orig, start, end) in CONDITIONS {
+        let error = error_of(&rt, Platform::from_str(rt.alloc(), text).err());
+        assert_span(&rt, &error, orig, *start, *end);
+    }
+}
+
+#[test]
+fn spans_of_lines(rt: HostRuntime) {
+    match read_facts(rt.alloc(), "unix\na = \"é\" b\n%") {
+        Err(FactsError::Line { number, error }) => {
+            assert_eq!(rt; number, 2);
+            assert_span(&rt, &error, "a = \"é\" b", 9, 10);
+        }
+        Err(FactsError::Memory(_)) => panic!(rt; "memory"),
+        Ok(_) => panic!(rt; "a line was read that has to be refused"),
+    }
+}
+
+#[test]
+fn an_error_made_by_hand_has_no_span(rt: HostRuntime) {
+    let error = ParseError::new(rt.alloc(), "a", ParseErrorKind::UnterminatedString);
+    let error = error.expect(&rt, "memory");
+    assert!(rt; error.span().is_none());
+}
+
+/// A refused expression and its snippet.
+const SNIPPETS: &[(&str, &str)] = &[
+    (
+        "all(unix, any(windows target_os = \"linux\"))",
+        "all(unix, any(windows target_os = \"linux\"))\n                      ^^^^^^^^^",
+    ),
+    ("", "\n^"),
+    ("all(", "all(\n    ^"),
+    ("all(é %)", "all(é %)\n    ^"),
+    ("a é b", "a é b\n  ^^^"),
+    ("a\tb", "a\u{FFFD}b\n ^^"),
+    (
+        "a \u{202E}x\nforged",
+        "a \u{FFFD}x\u{FFFD}forged\n  ^^^^^^^^^",
+    ),
+    (
+        "any(aaaaaaaaaaaaaaaaaaaaaaaaaaaaaa, bbbbbbbbbb cccccccccc, dddddddddddddddddddddddddd)",
+        "..aaaaaaaaaaa, bbbbbbbbbb cccccccccc, dddddddddddddddddddddd..\n                          ^^^^^^^^^^",
+    ),
+    (
+        "x \"0123456789012345678901234567890123456789\")",
+        "x \"01234567890123456789012..\n  ^^^^^^^^^^^^^^^^^^^^^^^^",
+    ),
+];
+
+#[test]
+fn snippets_of_expressions(rt: HostRuntime) {
+    for (text, wanted) in SNIPPETS {
+        let error = error_of(&rt, CfgExpr::from_str(rt.alloc(), text).err());
+        let snippet = error.snippet(rt.alloc()).expect(&rt, "memory");
+        assert_eq!(rt; snippet.as_str(), *wanted, "{text}");
+    }
+}
