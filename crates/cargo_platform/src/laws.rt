@@ -21,7 +21,7 @@ ghost use Rattle.cargo_platform.specs.FaultLaws.{IsSurplusAt, IsBehindPrefix};
 ghost use Rattle.cargo_platform.specs.WellFormed.{IsWellFormedValue, IsWellFormed, IsWellFormedCondition};
 ghost use Rattle.cargo_platform.specs.Print.{print_value, print, print_condition};
 ghost use Rattle.cargo_platform.specs.Platforms.{IsConditionText, IsConditionRefusal, IsPlacedConditionRefusal};
-ghost use Rattle.cargo_platform.specs.Platforms.{IsConditionPlacedWithin};
+ghost use Rattle.cargo_platform.specs.Platforms.{IsConditionPlacedWithin, IsBehindName};
 ghost use Rattle.cargo_platform.specs.ChangeLaws.{SpelledReleased, IsAcceptedAsReleased, IsRefusedAsReleased};
 ghost use Rattle.cargo_platform.specs.ChangeLaws.{IsTreeTextAsReleased, KeepsTree, IsConditionTextAsReleased};
 ghost use Rattle.cargo_platform.specs.ChangeLaws.{KeepsCondition, SpelledTransitional, IsRefusedForLiteralKeys};
@@ -147,10 +147,12 @@ pub fn faults_are_placed()
 {}
 
 /// The span of what is left behind a whole value or expression is that of its text. Before the span of any fault stand
-/// the tokens of the fault prefix, and the next token begins with it.
+/// the tokens of the fault prefix, and the next token begins with it. Before that of a refused target name stands a
+/// target name, where it does not begin with `cfg(`.
 pub fn around_spans()
     ensures surplus { (g : Grammar) (text rest : List ℕ) → IsSurplusAt g text rest }
     ensures prefix { (g : Grammar) (text : List ℕ) (fault : Fault) (r : IsRefused g text fault) → IsBehindPrefix r }
+    ensures name { (text : List ℕ) (span : Range ℕ) → IsBehindName text span }
 {}
 
 /// A text spells a name or a pair, or has a fault as one. So it is with expressions and conditions.

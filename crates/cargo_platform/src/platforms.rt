@@ -202,13 +202,14 @@ fn target_error(alloc: Global, name: &str, refused: char) -> Result<ParseError, 
     ParseError::with_span(alloc, name, kind, Some(span))
 }
 
-/// Where the character that is told of stands first, in a target name whose first refused character is given.
+/// Where a target name is refused, whose first refused character is given: at the end where it begins with `cfg(`, and
+/// else at that character.
 fn target_span(name: &str, refused: char) -> Range<usize>
     requires { IsFirstRefused name.now refused }
     ensures { IsTargetSpan name.now result }
 {
-    if let Some(start) = name.find('(') {
-        return start..start + 1;
+    if name.starts_with("cfg(") {
+        return name.len()..name.len();
     }
     let Some(start) = name.find(refused) else {
         unreachable!()
