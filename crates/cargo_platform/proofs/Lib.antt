@@ -18,6 +18,7 @@ pub mod Completable
 pub mod Expecting
 pub mod OneFault
 pub mod Spans
+pub mod Snippets
 pub mod AroundSpans
 pub mod SomeFault
 pub mod PrintedSpells

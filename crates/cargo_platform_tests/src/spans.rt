@@ -143,30 +143,61 @@ fn an_error_made_by_hand_has_no_span(rt: HostRuntime) {
     let error = ParseError::new(rt.alloc(), "a", ParseErrorKind::UnterminatedString);
     let error = error.expect(&rt, "memory");
     assert!(rt; error.span().is_none());
+    let snippet = error.snippet(rt.alloc()).expect(&rt, "memory");
+    assert!(rt; snippet.is_none());
 }
 
 /// A refused expression and its snippet.
 const SNIPPETS: &[(&str, &str)] = &[
     (
         "all(unix, any(windows target_os = \"linux\"))",
-        "all(unix, any(windows target_os = \"linux\"))\n                      ^^^^^^^^^",
+        "all(unix, any(windows target_os = \"linux\"))\n                      ^^^^^^^^^ expected `)\
+        `, found an identifier",
     ),
-    ("", "\n^"),
-    ("all(", "all(\n    ^"),
-    ("all(é %)", "all(é %)\n    ^"),
-    ("a é b", "a é b\n  ^^^"),
-    ("a\tb", "a\u{FFFD}b\n ^^"),
+    (
+        "",
+        "\n^ expected start of a cfg expression, but cfg expression ended",
+    ),
+    (
+        "all(",
+        "all(\n    ^ expected start of a cfg expression, but cfg expression ended",
+    ),
+    (
+        "all(é %)",
+        "all(é %)\n    ^ unexpected character `é` in cfg, expected parens, a comma, an identifier, \
+        or a string",
+    ),
+    (
+        "a é b",
+        "a é b\n  ^^^ unexpected content `é b` found after cfg expression",
+    ),
+    (
+        "a\tb",
+        "a\u{FFFD}b\n ^^ unexpected content `\u{FFFD}b` found after cfg expression",
+    ),
+    (
+        "\n",
+        "\u{FFFD}\n^ unexpected character `\u{FFFD}` in cfg, expected parens, a comma, an identifie\
+        r, or a string",
+    ),
     (
         "a \u{202E}x\nforged",
-        "a \u{FFFD}x\u{FFFD}forged\n  ^^^^^^^^^",
+        "a \u{FFFD}x\u{FFFD}forged\n  ^^^^^^^^^ unexpected content `\u{FFFD}x\u{FFFD}forged` found \
+        after cfg expression",
     ),
     (
-        "any(aaaaaaaaaaaaaaaaaaaaaaaaaaaaaa, bbbbbbbbbb cccccccccc, dddddddddddddddddddddddddd)",
-        "..aaaaaaaaaaa, bbbbbbbbbb cccccccccc, dddddddddddddddddddddd..\n                          ^^^^^^^^^^",
+        "any(aaaaaaaaaaaaaaaaaaaaaaaaaaaaaaaaaaaaaaaaaaaaaaaaaaaaaaaaaaaa bbbbbbbbbb, ccccccccccccc\
+        ccccccccccccccccccccccccccccccccccccccccccccccc)",
+        "..aaaaaaaaaaaaaaaaaaaaaaaaaaaaaaaaaaaaaaa bbbbbbbbbb, cccccccccccccccccccccccccccccccccccc\
+        cccccccccccc..\n                                          ^^^^^^^^^^ expected `)`, found a\
+        n identifier",
     ),
     (
-        "x \"0123456789012345678901234567890123456789\")",
-        "x \"01234567890123456789012..\n  ^^^^^^^^^^^^^^^^^^^^^^^^",
+        "a bbbbbbbbbbbbbbbbbbbbbbbbbbbbbbbbbbbbbbbbbbbbbbbbbbbbbbbbbbbbbbbbbbbbbbbbbbbbbbbbbbbbbbbb\
+        bbbbbbbbbbbbbbbbbbbbbbbbbbbbbbbb",
+        "a bbbbbbbbbbbbbbbbbbbbbbbbbbbbbbbbbbbbbbbb..\n  ^^^^^^^^^^^^^^^^^^^^^^^^^^^^^^^^^^^^^^^^ u\
+        nexpected content `bbbbbbbbbbbbbbbbbbbbbbbbbbbbbbbbbbbbbbbbbbbbbbbbbbbbbbbbbbbbbbbbbbbbbbb\
+        bbbbbbbbbbbbbbbbbbbbbbbbbbbbb..` found after cfg expression",
     ),
 ];
 
@@ -175,6 +206,20 @@ fn snippets_of_expressions(rt: HostRuntime) {
     for (text, wanted) in SNIPPETS {
         let error = error_of(&rt, CfgExpr::from_str(rt.alloc(), text).err());
         let snippet = error.snippet(rt.alloc()).expect(&rt, "memory");
+        let snippet = snippet.expect(&rt, "no span");
         assert_eq!(rt; snippet.as_str(), *wanted, "{text}");
     }
+}
+
+#[test]
+fn the_snippet_of_an_open_string_is_short(rt: HostRuntime) {
+    let value = "x".repeat(rt.alloc(), 1_000_000).expect(&rt, "memory");
+    let text = format!(in rt.alloc(); "k = \"{value}").expect(&rt, "memory");
+    let error = error_of(&rt, CfgExpr::from_str(rt.alloc(), &text).err());
+    let snippet = error.snippet(rt.alloc()).expect(&rt, "memory");
+    let snippet = snippet.expect(&rt, "no span");
+    assert_eq!(rt;
+        snippet.as_str(),
+        "k = \"xxxxxxxxxxxxxxxxxxxxxxxxxxxxxxxxxxxxxxx..\n    ^^^^^^^^^^^^^^^^^^^^^^^^^^^^^^^^^^^^^^^^ unterminated string in cfg"
+    );
 }
