@@ -18,7 +18,8 @@ use Rattle.cargo_platform.specs.Tokens.{IsWellWritten, Placed}
 use Rattle.cargo_platform.specs.Cut.{IsPiece, AreSpaces, EndsBefore, BeginsFault}
 use Rattle.cargo_platform.specs.Reading.{characters_from}
 use Rattle.cargo_platform.specs.Cut.{Item, Token, Lexical, Nothing, is_token}
-use Rattle.cargo_platform.specs.Inside.Ahead.{Ahead, NextIs}
+use Rattle.cargo_platform.specs.Faults.{from_to}
+use Rattle.cargo_platform.specs.Inside.Ahead.{Ahead, NextIs, GoesPast}
 use Rattle.cargo_platform.specs.Inside.Looking.{IsCharAt, Shows, Costs, character_of, IsFound, IsReadingAt}
 use Rattle.cargo_platform.specs.Inside.Scanning.{IsTokenAt}
 use Rattle.cargo_platform.specs.Inside.Parsing.{TakesToken, Lacks, lexeme_of, IsIdentifier, IsSurplus}
@@ -54,6 +55,16 @@ takes text at end to t within stands spaces = (
   },
 )
 
+-- the same, with where the token ends
+pub goes_past : (text : List ℕ) (at end to : ℕ) (t : Lexeme) → at ≤ length text → IsTokenAt text t at end
+    → AreSpaces text end to
+    → GoesPast (ahead_at text at) (ahead_at text to) (record { token = t; start = at; end = end })
+goes_past text at end to t within stands spaces = record {
+  same_text = refl;
+  comes = (no_spaces text at within, stands.written, stands.whole, refl);
+  spaces = spaces;
+}
+
 pub fault_ahead : (text : List ℕ) (at : ℕ) (k : TokenFaultKind) → at ≤ length text → BeginsFault (drop at text) k
     → NextIs (ahead_at text at) (Lexical k at)
 fault_ahead text at k within f = record { to = at; comes = (no_spaces text at within, f, refl) }
@@ -65,10 +76,12 @@ end_ahead text at is =
 
 -- what is left from a place on that is not the end
 pub rest_ahead : (text : List ℕ) (at : ℕ) → IsUtf8 text → IsCharBoundary text at → slice_index text at ≢ 0x20
-    → at < length text → (next : Item) × NextIs (ahead_at text at) next × IsSurplus text next (drop at text)
+    → at < length text → (next : Item) × NextIs (ahead_at text at) next
+    × IsSurplus text next (drop at text) (from_to at (length text))
 rest_ahead text at u b past within = go (lex (drop at text) (IsUtf8-drop text at u b) (no_space text at past))
   where
-    go : Outcome (drop at text) → (next : Item) × NextIs (ahead_at text at) next × IsSurplus text next (drop at text)
+    go : Outcome (drop at text) → (next : Item) × NextIs (ahead_at text at) next
+        × IsSurplus text next (drop at text) (from_to at (length text))
     go (inl (inl e)) = absurd (omega (arith, ap length e, length-drop at text, within))
     go (inl (inr f)) = (Lexical f.0 at, fault_ahead text at f.0 b.0 f.1, λ g last. refl)
     go (inr x) =

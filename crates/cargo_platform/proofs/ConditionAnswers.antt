@@ -8,9 +8,9 @@ use Rattle.cargo_platform.specs.declared.error.ReadError.{ReadError}
 use Rattle.cargo_platform.specs.declared.error.ReadError.TheVariants as errors
 use Rattle.cargo_platform.specs.Trees.{Tree, tree_of, Condition, Expression, condition_of}
 use Rattle.cargo_platform.specs.Spelling.{Expressions}
-use Rattle.cargo_platform.specs.Faults.{IsRefused}
-use Rattle.cargo_platform.specs.Platforms.{IsCfgOf, IsConditionText, IsRefusedCondition}
-use Rattle.cargo_platform.specs.Errors.{IfParse, orig_of, fault_in}
+use Rattle.cargo_platform.specs.Faults.{IsRefused, IsRefusedAt}
+use Rattle.cargo_platform.specs.Platforms.{IsCfgOf, IsConditionText, IsRefusedCondition, IsRefusedConditionAt}
+use Rattle.cargo_platform.specs.Errors.{IfParse, orig_of, fault_in, span_in}
 
 -- the fault of the text between `cfg(` and `)` is that of the whole text
 pub expression_fault : (text inner : List ℕ) (x : ReadError) → IsCfgOf text inner
@@ -21,6 +21,16 @@ expression_fault text inner (errors.Parse e) h orig fault =
     let P : List ℕ → Type 0 = λ z. IsCfgOf text z × IsRefused Expressions z (fault_in e) in
     inl (subst P (sym orig) (h, fault))
 expression_fault text inner (errors.Memory e) h orig fault = tt
+
+-- and so is its span
+pub expression_span : (text inner : List ℕ) (x : ReadError) → IsCfgOf text inner
+    → IfParse {A = CfgExpr} (Err x) (λ e. orig_of e ≡ inner)
+    → IfParse {A = CfgExpr} (Err x) (λ e. IsRefusedAt Expressions inner (fault_in e) (span_in e))
+    → IfParse {A = Platform} (Err x) (λ e. IsRefusedConditionAt text (orig_of e) (fault_in e) (span_in e))
+expression_span text inner (errors.Parse e) h orig span =
+    let P : List ℕ → Type 0 = λ z. IsCfgOf text z × IsRefusedAt Expressions z (fault_in e) (span_in e) in
+    inl (subst P (sym orig) (h, span))
+expression_span text inner (errors.Memory e) h orig span = tt
 
 -- ---- from an answer to what the text spells
 

@@ -41,7 +41,7 @@ cfg_or_bare text =
     ] refl
 
 -- between `cfg(` and `)` stands a text of characters
-inner_utf8 : (text inner : List ℕ) → IsUtf8 text → IsCfgOf text inner → IsUtf8 inner
+pub inner_utf8 : (text inner : List ℕ) → IsUtf8 text → IsCfgOf text inner → IsUtf8 inner
 inner_utf8 text inner u h =
     let behind = (ascii_sides 0x28 text (codes "cfg") (inner ++ codes ")") (lit≤ tt) u h).1 in
     (ascii_sides 0x29 (inner ++ codes ")") inner [] (lit≤ tt) behind refl).0
@@ -103,7 +103,7 @@ one_first t (f ∷ fs) (g ∷ gs) after others c d fails fails_too all all_too e
     ∙ append_assoc (encode_utf8 g) (encode_utf8_all gs) (encode_utf8 d ++ others)) in
     one_first t fs gs after others c d fails fails_too (and_parts _ _ all).1 (and_parts _ _ all_too).1 same.1
 
-one_first_refused : (text : List ℕ) (c d : ℕ) → IsFirstRefused text c → IsFirstRefused text d → c ≡ d
+pub one_first_refused : (text : List ℕ) (c d : ℕ) → IsFirstRefused text c → IsFirstRefused text d → c ≡ d
 one_first_refused text c d p q =
     one_first is_target_char p.3.0 q.3.0 p.4.0 q.4.0 c d p.5 q.5 p.3.3 q.3.3
     (sym (first_parts text c p) ∙ first_parts text d q)

@@ -12,10 +12,10 @@ use Rattle.cargo_platform.specs.declared.fact_lines.FactsError.{FactsError}
 use Rattle.cargo_platform.specs.declared.fact_lines.FactsError.TheVariants.{Line, Memory}
 use Rattle.cargo_platform.specs.Trees.{CfgValue, value_of}
 use Rattle.cargo_platform.specs.Spelling.{Values, IsValueText}
-use Rattle.cargo_platform.specs.Faults.{IsRefused}
+use Rattle.cargo_platform.specs.Faults.{IsRefused, IsRefusedAt}
 use Rattle.cargo_platform.specs.WellFormed.{IsWellFormedValue}
 use Rattle.cargo_platform.specs.Print.{print_value}
-use Rattle.cargo_platform.specs.Errors.{orig_of, fault_in}
+use Rattle.cargo_platform.specs.Errors.{orig_of, fault_in, span_in}
 use Rattle.cargo_platform.specs.Lines.{lines_of, line_at, IsUnbroken, ended}
 use Rattle.cargo_platform.specs.FactLines.{SpellFacts, SpellsNoFact, IsFirstNoFact, IfLine}
 use Rattle.cargo_platform.proofs.OneText.{one_value_text}
@@ -113,14 +113,16 @@ pub record IsRefusedLine (ls : List (List ℕ)) (n : ℕ) (e : ParseError) : Typ
   pub first : IsFirstNoFact ls n
   pub orig : orig_of e ≡ line_at ls n
   pub fault : IsRefused Values (line_at ls n) (fault_in e)
+  pub span : IsRefusedAt Values (line_at ls n) (fault_in e) (span_in e)
 
 -- the line behind those that were read is refused
 refused_at : (ls : List (List ℕ)) (n : ℕ) (e : ParseError) (i : ℕ) (facts : List CfgValue) → i < length ls
     → SpellFacts (take i ls) facts → n ≡ i + 1 → SpellsNoFact (get_or ls i []) → orig_of e ≡ get_or ls i []
-    → IsRefused Values (get_or ls i []) (fault_in e) → IsRefusedLine ls n e
-refused_at ls n e i facts l h number none orig fault =
+    → IsRefusedAt Values (get_or ls i []) (fault_in e) (span_in e) → IsRefusedLine ls n e
+refused_at ls n e i facts l h number none orig place =
     let at : i ≡ n - 1 = omega arith in
     let here : get_or ls i [] ≡ line_at ls n = ap (λ k. get_or ls k []) at in
+    let span = subst (λ t. IsRefusedAt Values t (fault_in e) (span_in e)) here place in
     record {
       first = record {
         numbered = (omega arith, omega arith);
@@ -128,7 +130,8 @@ refused_at ls n e i facts l h number none orig fault =
         here = subst (λ t. SpellsNoFact t) here none;
       };
       orig = orig ∙ here;
-      fault = subst (λ t. IsRefused Values t (fault_in e)) here fault;
+      fault = span.0;
+      span = span;
     }
 
 -- the same, where the lines are the parts that a loop goes over, and k of them were read
@@ -138,7 +141,7 @@ pub refused_behind : (ls parts read : List (List ℕ)) (k number : ℕ) (l : Lis
     → number ≡ length facts + 1
     → IfLine {A = Cfg} (Err r) (λ n e. n ≡ number) → IfLine {A = Cfg} (Err r) (λ n e. SpellsNoFact l)
     → IfLine {A = Cfg} (Err r) (λ n e. orig_of e ≡ l)
-    → IfLine {A = Cfg} (Err r) (λ n e. IsRefused Values l (fault_in e))
+    → IfLine {A = Cfg} (Err r) (λ n e. IsRefusedAt Values l (fault_in e) (span_in e))
     → IfLine {A = Cfg} (Err r) (λ n e. IsRefusedLine ls n e)
 refused_behind ls parts read k number l facts (Memory e) cut taken spelled at count n none orig fault = tt
 refused_behind ls parts read k number l facts (Line n e) cut taken spelled at count same none orig fault =
@@ -149,7 +152,7 @@ refused_behind ls parts read k number l facts (Line n e) cut taken spelled at co
     let many : length facts ≡ length (take k ls) = as_many (take k ls) facts before in
     let number_is : n ≡ k + 1 = omega (arith, length-take k ls) in
     refused_at ls n e k facts within before number_is (subst (λ t. SpellsNoFact t) here none) (orig ∙ here)
-    (subst (λ t. IsRefused Values t (fault_in e)) here fault)
+    (subst (λ t. IsRefusedAt Values t (fault_in e) (span_in e)) here fault)
 
 of_list : (P : ℕ → ParseError → Type 0) (r : FactsError) → IfLine {A = Cfg} (Err r) P
     → IfLine {A = Vec Cfg Global} (Err r) P

@@ -17,6 +17,9 @@ pub mod Refused
 pub mod Completable
 pub mod Expecting
 pub mod OneFault
+pub mod Spans
+pub mod Snippets
+pub mod AroundSpans
 pub mod SomeFault
 pub mod PrintedSpells
 pub mod Printing
@@ -39,6 +42,7 @@ pub mod TargetNames
 pub mod Conditions
 pub mod Changes
 pub mod ConditionFaults
+pub mod ConditionSpans
 pub mod TextLaws
 pub mod ConditionAnswers
 pub mod WarningWalks

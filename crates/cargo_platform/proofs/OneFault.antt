@@ -106,9 +106,10 @@ same_truth true b f g = sym (f refl)
 same_truth false true f g = g refl
 same_truth false false f g = refl
 
--- a text has at most one fault
-pub one_fault : (g : Grammar) (text : List ℕ) (e f : Fault) → IsRefused g text e → IsRefused g text f → e ≡ f
-one_fault g text e f p q =
+-- two faults of a text are behind the same prefix, which is accepted or not, and before the same item
+pub one_place : (g : Grammar) (text : List ℕ) (e f : Fault) (p : IsRefused g text e) (q : IsRefused g text f)
+    → (p.prefix ≡ q.prefix) × (p.accepted ≡ q.accepted) × (p.next ≡ q.next)
+one_place g text e f p q =
     let cut = one_cut_from text p.ts q.ts 0 p.tail q.tail p.cut q.cut in
     let parts : p.prefix ++ p.after ≡ q.prefix ++ q.after = sym p.is_prefix.parts ∙ cut.0 ∙ q.is_prefix.parts in
     let no_longer = q.is_prefix.longest p.prefix p.after (sym cut.0 ∙ p.is_prefix.parts) p.is_prefix.completable in
@@ -124,5 +125,11 @@ one_fault g text e f p q =
     let next = one_next text q.after q.tail p.next q.next
     (behind_is text 0 p.place q.tail q.prefix q.after p.next c (subst B same.0 p.follows))
     (behind_is text 0 q.place q.tail q.prefix q.after q.next c q.follows) in
+    (same.0, accepted, next)
+
+-- a text has at most one fault
+pub one_fault : (g : Grammar) (text : List ℕ) (e f : Fault) → IsRefused g text e → IsRefused g text f → e ≡ f
+one_fault g text e f p q =
+    let same = one_place g text e f p q in
     same_Some _ _
-    (sym p.is_fault ∙ (λ i. fault_of g text (accepted i) (last_or None (lexemes (same.0 i))) (next i)) ∙ q.is_fault)
+    (sym p.is_fault ∙ (λ i. fault_of g text (same.1 i) (last_or None (lexemes (same.0 i))) (same.2 i)) ∙ q.is_fault)

@@ -6,7 +6,10 @@ use Rattle.std.proofs.Common.{true≢false, arith}
 use Rattle.std.specs.Prelude.{IsFalse, Result, IfOk, IfErr, IfSome}
 use Rattle.std.specs.List.{last_or}
 use Rattle.std.proofs.lemmas.Option.{IfSome_then}
+use Rattle.std.specs.declared.ops.Range.{Range}
+use Rattle.std.proofs.lemmas.Option.{same_Some}
 use Rattle.cargo_platform.specs.declared.reader.Refusal.{Refusal}
+use Rattle.cargo_platform.specs.declared.reader.Refusal.TheVariants as refusal
 use Rattle.cargo_platform.specs.declared.reader.Punctuation.TheVariants as punctuation
 use Rattle.cargo_platform.specs.Tokens.{Lexeme, LeftParen, RightParen, Ident, Comma, Equals, String, Placed}
 use Rattle.cargo_platform.specs.Tokens.{written}
@@ -14,13 +17,13 @@ use Rattle.cargo_platform.specs.Cut.{lexemes}
 use Rattle.cargo_platform.specs.Trees.{Name, CfgValue, Alone, KeyPair, Tree, Not, Value}
 use Rattle.cargo_platform.specs.Spelling.{Grammar, Values, Expressions, identifier, value_spelling, name_in, MayStand}
 use Rattle.cargo_platform.specs.Spelling.{is_group_word, is_literal_word, Spells}
-use Rattle.cargo_platform.specs.Faults.{Fault, expected_token, expected_end, fault_of}
+use Rattle.cargo_platform.specs.Faults.{Fault, expected_token, expected_end}
 use Rattle.cargo_platform.specs.Walk.{Word, Several, Negation, State, Behind, Named, Keyed, after, after_expression}
 use Rattle.cargo_platform.specs.Walk.{walk, is_whole}
 use Rattle.cargo_platform.specs.Cut.{Item, Nothing, Comes}
 use Rattle.cargo_platform.specs.Inside.Ahead.{Ahead, NextIs, GoesPast, Path, bytes_left}
 use Rattle.cargo_platform.specs.Cut as cut
-use Rattle.cargo_platform.specs.Inside.Refusals.{refused_fault}
+use Rattle.cargo_platform.specs.Inside.Refusals.{FaultAt, fault_at_of, refused_fault, refused_span, refused_at}
 use Rattle.cargo_platform.specs.Inside.Parsing.{Opening, Negated, Listed, list_tree, kind, kinds}
 use Rattle.cargo_platform.specs.Inside.Parsing.{is_list, is_lone, Wants, Has, HasName, HasWord}
 use Rattle.cargo_platform.specs.Inside.Parsing.{Reads, TakesToken, LacksPunctuation, LacksName}
@@ -98,14 +101,31 @@ reads_shorter l m P Q a = path_shorter l m a.us a.path
 
 -- ---- refusing
 
-pub if_fault : (r : Refusal) (P Q : Fault → Type 0) → ((f : Fault) → P f → Q f) → IfFault r P → IfFault r Q
-if_fault r P Q f p = IfSome_then (refused_fault r) p f
+pub if_fault : (r : Refusal) (P Q : FaultAt → Type 0) → ((f : FaultAt) → P f → Q f) → IfFault r P → IfFault r Q
+if_fault r P Q f p = IfSome_then (refused_at r) p f
 
 -- what is said of the fault, where there is one
-pub fault_is : (r : Refusal) (f : Fault) (P : Fault → Type 0) → refused_fault r ≡ Some f → IfFault r P → P f
-fault_is r f P h p = let I : Option Fault → Type 0 = λ o. IfSome o P in subst I h p
+fault_is : (r : Refusal) (f : FaultAt) (P : FaultAt → Type 0) → refused_at r ≡ Some f → IfFault r P → P f
+fault_is r f P h p = let I : Option FaultAt → Type 0 = λ o. IfSome o P in subst I h p
 
-each_fault : (o : Option Fault) (P : Fault → Type 0) → ((f : Fault) → o ≡ Some f → P f) → IfSome o P
+-- a fault and its span, each by itself
+moved : (a f : Fault) (x : Range ℕ) (s : Option (Range ℕ)) (P : Fault → Option (Range ℕ) → Type 0) → Some a ≡ Some f
+    → Some x ≡ s → P a (Some x) → P f s
+moved a f x s P h k p =
+    let A : Fault → Type 0 = λ z. P z (Some x) in
+    let B : Option (Range ℕ) → Type 0 = λ z. P f z in
+    subst B k (subst A (same_Some _ _ h) p)
+
+-- what is said of the fault that a refusal stands for and of its span
+pub fault_and_span : (r : Refusal) (f : Fault) (s : Option (Range ℕ)) (P : Fault → Option (Range ℕ) → Type 0)
+    → refused_fault r ≡ Some f → refused_span r ≡ s → IfFault r (λ x. P x.fault (Some x.span)) → P f s
+fault_and_span (refusal.Unexpected expected found x) f s P h k p = moved _ f x s P h k p
+fault_and_span (refusal.Incomplete expected x) f s P h k p = moved _ f x s P h k p
+fault_and_span (refusal.Lexical kind x) f s P h k p = moved _ f x s P h k p
+fault_and_span (refusal.Unterminated rest x) f s P h k p = moved _ f x s P h k p
+fault_and_span (refusal.Memory e) f s P h k p = absurd cc
+
+each_fault : (o : Option FaultAt) (P : FaultAt → Type 0) → ((f : FaultAt) → o ≡ Some f → P f) → IfSome o P
 each_fault (Some f) P p = p f refl
 each_fault None P p = tt
 
@@ -113,7 +133,7 @@ pub stops_then : (g : Grammar) (l m : Ahead) (P Q : List Lexeme → Type 0) (r :
     → Stops g m Q r → Stops g l P r
 stops_then g l m P Q r a s = if_fault r (StopsAt g m Q) (StopsAt g l P) (λ f b. at f b) s
   where
-    at : (f : Fault) → StopsAt g m Q f → StopsAt g l P f
+    at : (f : FaultAt) → StopsAt g m Q f → StopsAt g l P f
     at f b = record {
       us = a.us ++ b.us;
       stop = b.stop;
@@ -140,12 +160,12 @@ record Refused (g : Grammar) (l : Ahead) (next : Item) (r : Refusal) (ts : List 
   s : State
   walked : walk g ts ≡ Some s
   unfit : (t : Placed) → NextIs l (cut.Token t) → after g s t.token ≡ None
-  refused : IfFault r (λ f. fault_of g l.text (is_whole s) (last_or None ts) next ≡ Some f)
+  refused : IfFault r (λ f. fault_at_of g l.text (is_whole s) (last_or None ts) next ≡ Some f)
 
 refused_here : (g : Grammar) (l : Ahead) (next : Item) (P : List Lexeme → Type 0) (r : Refusal) → NextIs l next
     → ((ts : List Lexeme) → P ts → Refused g l next r ts) → Stops g l P r
 refused_here g l next P r comes h =
-    each_fault (refused_fault r) (StopsAt g l P) (λ f is. record {
+    each_fault (refused_at r) (StopsAt g l P) (λ f is. record {
       us = [];
       stop = l;
       path = refl;
@@ -176,7 +196,7 @@ stops_here : {g : Grammar} (l : Ahead) (P : List Lexeme → Type 0) (r : Refusal
 stops_here {g} l P r expected at_end h f = refused_here g l h.0 P r h.1 (λ ts p.
     let a = f ts p in
     let m = walk_matches g ts a.s a.walked in
-    let F : Bool → Type 0 = λ b. IfFault r (λ z. fault_of g l.text b (last_or None ts) h.0 ≡ Some z) in
+    let F : Bool → Type 0 = λ b. IfFault r (λ z. fault_at_of g l.text b (last_or None ts) h.0 ≡ Some z) in
     record {
       s = a.s;
       walked = a.walked;
@@ -206,7 +226,7 @@ pub stops_behind : {g : Grammar} (l : Ahead) (P : List Lexeme → Type 0) (r : R
     → ((ts : List Lexeme) → P ts → Whole g l ts) → Stops g l P r
 stops_behind {g} l P r h f = refused_here g l h.0 P r h.1 (λ ts p.
     let a = f ts p in
-    let F : Bool → Type 0 = λ b. IfFault r (λ z. fault_of g l.text b (last_or None ts) h.0 ≡ Some z) in
+    let F : Bool → Type 0 = λ b. IfFault r (λ z. fault_at_of g l.text b (last_or None ts) h.0 ≡ Some z) in
     record {
       s = ends a.lone [];
       walked = a.walked;

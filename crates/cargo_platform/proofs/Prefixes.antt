@@ -6,7 +6,7 @@ use Rattle.cargo_platform.specs.Tokens.{Lexeme, Placed}
 use Rattle.cargo_platform.specs.Cut.{IsCut, lexemes}
 use Rattle.cargo_platform.specs.Cut.{Item, ComesBehind}
 use Rattle.cargo_platform.specs.Spelling.{Grammar, IsAccepted}
-use Rattle.cargo_platform.specs.Faults.{IsCompletable, Fault, fault_of, IsRefused}
+use Rattle.cargo_platform.specs.Faults.{IsCompletable, Fault, fault_of, span_of, IsRefused, IsRefusedAt}
 use Rattle.cargo_platform.specs.Walk.{State, after, walk, is_whole}
 use Rattle.cargo_platform.proofs.Paths.{IsNext, comes_behind}
 use Rattle.cargo_platform.proofs.Walk.{walk_next}
@@ -62,29 +62,33 @@ abbrev pub goes_on : Grammar → State → List Placed → Option State
 goes_on g s [] = None
 goes_on g s (t ∷ ts) = after g s t.token
 
--- where a prefix is walked, and what follows does not go on with it, the text is refused
-pub refused_walked : (g : Grammar) (text : List ℕ) (ts prefix behind : List Placed) (tail : ℕ) (s : State) (next : Item)
-    (fault : Fault) → IsCut text ts tail → ts ≡ prefix ++ behind → walk g (lexemes prefix) ≡ Some s
+-- where a prefix is walked, and what follows does not go on with it, the text is refused there
+pub refused_walked_at : (g : Grammar) (text : List ℕ) (ts prefix behind : List Placed) (tail : ℕ) (s : State)
+    (next : Item) (fault : Fault) → IsCut text ts tail → ts ≡ prefix ++ behind → walk g (lexemes prefix) ≡ Some s
     → goes_on g s behind ≡ None → IsNext text behind tail next
-    → fault_of g text (is_whole s) (last_or None (lexemes prefix)) next ≡ Some fault → IsRefused g text fault
-refused_walked g text ts prefix behind tail s next fault cut parts walked stops follows table = record {
-  ts = ts;
-  tail = tail;
-  cut = cut;
-  prefix = prefix;
-  after = behind;
-  is_prefix = record {
-    parts = parts;
-    completable = walked_completes g (lexemes prefix) s walked;
-    longest = λ longer others h p. no_longer prefix behind s walked stops longer others (sym parts ∙ h) p;
-  };
-  next = next;
-  place = comes.0;
-  follows = comes.1;
-  accepted = is_whole s;
-  is_accepted = (λ h. whole_accepted g s (lexemes prefix) h walked, λ p. accepted_whole g s (lexemes prefix) walked p);
-  is_fault = table;
-}
+    → fault_of g text (is_whole s) (last_or None (lexemes prefix)) next ≡ Some fault
+    → IsRefusedAt g text fault (Some (span_of text (is_whole s) next))
+refused_walked_at g text ts prefix behind tail s next fault cut parts walked stops follows table = (
+  record {
+    ts = ts;
+    tail = tail;
+    cut = cut;
+    prefix = prefix;
+    after = behind;
+    is_prefix = record {
+      parts = parts;
+      completable = walked_completes g (lexemes prefix) s walked;
+      longest = λ longer others h p. no_longer prefix behind s walked stops longer others (sym parts ∙ h) p;
+    };
+    next = next;
+    place = comes.0;
+    follows = comes.1;
+    accepted = is_whole s;
+    is_accepted = (λ h. whole_accepted g s (lexemes prefix) h walked, λ p. accepted_whole g s (lexemes prefix) walked p);
+    is_fault = table;
+  },
+  refl,
+)
   where
     C : List Placed → Type 0
     C z = IsCut text z tail
@@ -100,3 +104,10 @@ refused_walked g text ts prefix behind tail s next fault cut parts walked stops 
         longest_before g prefix rest t
         (λ more a. stopped g (lexemes prefix ++ (t.token ∷ [])) more
         (walk_next g (lexemes prefix) t.token s walked ∙ stops) a) longer others h p
+
+pub refused_walked : (g : Grammar) (text : List ℕ) (ts prefix behind : List Placed) (tail : ℕ) (s : State) (next : Item)
+    (fault : Fault) → IsCut text ts tail → ts ≡ prefix ++ behind → walk g (lexemes prefix) ≡ Some s
+    → goes_on g s behind ≡ None → IsNext text behind tail next
+    → fault_of g text (is_whole s) (last_or None (lexemes prefix)) next ≡ Some fault → IsRefused g text fault
+refused_walked g text ts prefix behind tail s next fault cut parts walked stops follows table =
+    (refused_walked_at g text ts prefix behind tail s next fault cut parts walked stops follows table).0

@@ -1,13 +1,13 @@
 -- What a reader answers, from what it read or where it stopped.
-use Rattle.std.proofs.Common.{◌≡◌, refl, ℕ, List, [], Some, Err}
+use Rattle.std.proofs.Common.{◌≡◌, refl, ℕ, List, [], Some, Result, Ok, Err}
 use Rattle.cargo_platform.specs.declared.error.ParseError.{ParseError}
 use Rattle.cargo_platform.specs.declared.error.ReadError.{ReadError}
 use Rattle.cargo_platform.specs.declared.error.ReadError.TheVariants as errors
 use Rattle.cargo_platform.specs.declared.reader.Refusal.{Refusal}
 use Rattle.cargo_platform.specs.Trees.{CfgValue, Tree}
 use Rattle.cargo_platform.specs.Spelling.{value_spelling, IsValueText, IsTreeText}
-use Rattle.cargo_platform.specs.Errors.{IfParse, orig_of, fault_in}
-use Rattle.cargo_platform.specs.Inside.Refusals.{refused_fault, Becomes}
+use Rattle.cargo_platform.specs.Errors.{IfParse, orig_of, fault_in, span_in}
+use Rattle.cargo_platform.specs.Inside.Refusals.{refused_fault, refused_span, Becomes}
 use Rattle.cargo_platform.specs.Cut.{AreSpaces, Nothing}
 use Rattle.cargo_platform.specs.Inside.Ahead.{Ahead, NextIs}
 use Rattle.cargo_platform.specs.Inside.Parsing.{Has, Reads, HasRead}
@@ -27,6 +27,18 @@ expression_read text l m e same spaces a done =
 
 -- what is said of the fault that a refusal stands for is said of its error
 pub parse_is : (A : Type 0) (r : Refusal) (orig : List ℕ) (x : ReadError) (P : ParseError → Type 0) → Becomes r orig x
-    → ((e : ParseError) → orig_of e ≡ orig → refused_fault r ≡ Some (fault_in e) → P e) → IfParse {A = A} (Err x) P
-parse_is A r orig (errors.Parse e) P b f = f e b.0 b.1
+    → ((e : ParseError) → orig_of e ≡ orig → refused_fault r ≡ Some (fault_in e) → refused_span r ≡ span_in e → P e)
+    → IfParse {A = A} (Err x) P
+parse_is A r orig (errors.Parse e) P b f = f e b.0 b.1 b.2
 parse_is A r orig (errors.Memory e) P b f = tt
+
+-- a part of what is said of an error
+pub if_parse : (A : Type 0) (x : ReadError) (P Q : ParseError → Type 0) → ((e : ParseError) → P e → Q e)
+    → IfParse {A = A} (Err x) P → IfParse {A = A} (Err x) Q
+if_parse A (errors.Parse e) P Q f h = f e h
+if_parse A (errors.Memory e) P Q f h = tt
+
+pub answer_parse : (A : Type 0) (answer : Result A ReadError) (P Q : ParseError → Type 0)
+    → ((e : ParseError) → P e → Q e) → IfParse answer P → IfParse answer Q
+answer_parse A (Ok a) P Q f h = tt
+answer_parse A (Err x) P Q f h = if_parse A x P Q f h

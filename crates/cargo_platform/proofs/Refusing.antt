@@ -1,16 +1,19 @@
 -- Where a reader stops is the first fault.
-use Rattle.std.proofs.Common.{◌≡◌, refl, subst, ◌∙◌, ℕ, List, [], ◌∷◌, Some, None, length}
+use Rattle.std.proofs.Common.{◌≡◌, refl, ap, subst, ◌∙◌, ℕ, List, [], ◌∷◌, Option, Some, None, length}
+use Rattle.std.specs.declared.ops.Range.{Range}
+use Rattle.std.proofs.lemmas.Option.{same_Some}
 use Rattle.std.specs.List.{last_or}
 use Rattle.std.specs.Prelude.{IsUtf8}
 use Rattle.cargo_platform.specs.declared.reader.Refusal.{Refusal}
 use Rattle.cargo_platform.specs.Tokens.{Placed}
 use Rattle.cargo_platform.specs.Cut.{AreSpaces, IsCut, lexemes, Item, Nothing, Comes, ComesBehind}
 use Rattle.cargo_platform.specs.Spelling.{Grammar}
-use Rattle.cargo_platform.specs.Faults.{Fault, fault_of, IsRefused}
+use Rattle.cargo_platform.specs.Faults.{Fault, fault_of, span_of, IsRefusedAt}
 use Rattle.cargo_platform.specs.Walk.{State, is_whole}
 use Rattle.cargo_platform.specs.Inside.Ahead.{Ahead, NextIs, Path}
+use Rattle.cargo_platform.specs.Inside.Refusals.{FaultAt, placed_fault, fault_at_of}
 use Rattle.cargo_platform.specs.Inside.Parsing.{IsStop, IfFault, StopsAt, Stops}
-use Rattle.cargo_platform.proofs.Prefixes.{goes_on, refused_walked}
+use Rattle.cargo_platform.proofs.Prefixes.{goes_on, refused_walked_at}
 use Rattle.cargo_platform.proofs.SomeCut.{some_cut}
 use Rattle.cargo_platform.proofs.Paths.{IsNext, first_left, behind_spaces, path_comes, path_text}
 use Rattle.cargo_platform.proofs.Runs.{cuts_are_read}
@@ -28,22 +31,35 @@ way_comes text l m us i to same spaces path c =
     let B : List ℕ → Type 0 = λ z. ComesBehind z l.place us i to in
     behind_spaces text 0 l.place to us i spaces (subst B same (path_comes l m us i to path c))
 
+-- the fault and its span, each by itself
+parts_of : (span : Range ℕ) (o : Option Fault) (f : FaultAt) → placed_fault span o ≡ Some f
+    → (o ≡ Some f.fault) × (span ≡ f.span)
+parts_of span None f h = absurd cc
+parts_of span (Some e) f h =
+    let same = same_Some _ _ h in (ap (λ (z : FaultAt). Some z.fault) same, ap (λ (z : FaultAt). z.span) same)
+
 -- where a reader of the whole text stops is the first fault
 pub stops_refused : (g : Grammar) (text : List ℕ) (l : Ahead) (r : Refusal) → IsUtf8 text → l.text ≡ text
-    → AreSpaces text 0 l.place → Stops g l (λ ts. ts ≡ []) r → IfFault r (IsRefused g text)
+    → AreSpaces text 0 l.place → Stops g l (λ ts. ts ≡ []) r
+    → IfFault r (λ f. IsRefusedAt g text f.fault (Some f.span))
 stops_refused g text l r utf8 same spaces h =
-    if_fault r (StopsAt g l (λ ts. ts ≡ [])) (IsRefused g text) (λ f a. at f a) h
+    if_fault r (StopsAt g l (λ ts. ts ≡ [])) (λ f. IsRefusedAt g text f.fault (Some f.span)) (λ f a. at f a) h
   where
-    at : (f : Fault) → StopsAt g l (λ ts. ts ≡ []) f → IsRefused g text f
+    at : (f : FaultAt) → StopsAt g l (λ ts. ts ≡ []) f → IsRefusedAt g text f.fault (Some f.span)
     at f a =
         let s = a.stuck [] refl in
         let w = way_comes text l a.stop a.us s.next s.comes.to same spaces a.path s.comes.comes in
         let c = some_cut text utf8 in
         let left = first_left text 0 s.comes.to c.1 a.us c.0 s.next c.2 w in
-        let F : List ℕ → Type 0 = λ z. fault_of g z (is_whole s.s) (last_or None (lexemes a.us)) s.next ≡ Some f in
-        refused_walked g text c.0 a.us left.0 c.1 s.s s.next f c.2 left.1 s.walked
-        (goes_not_on g text left.0 c.1 s.s s.next left.2 s.stops) left.2
-        (subst F (path_text l a.stop a.us a.path ∙ same) s.is)
+        let F : List ℕ → Type 0 =
+        λ z. fault_at_of g z (is_whole s.s) (last_or None (lexemes a.us)) s.next ≡ Some f in
+        let both = parts_of (span_of text (is_whole s.s) s.next)
+        (fault_of g text (is_whole s.s) (last_or None (lexemes a.us)) s.next) f
+        (subst F (path_text l a.stop a.us a.path ∙ same) s.is) in
+        let R : Range ℕ → Type 0 = λ z. IsRefusedAt g text f.fault (Some z) in
+        subst R both.1
+        (refused_walked_at g text c.0 a.us left.0 c.1 s.s s.next f.fault c.2 left.1 s.walked
+        (goes_not_on g text left.0 c.1 s.s s.next left.2 s.stops) left.2 both.0)
 
 -- tokens that were taken from the start up to the end are those of the cut
 pub path_cut : (text : List ℕ) (l m : Ahead) (us : List Placed) → l.text ≡ text → AreSpaces text 0 l.place

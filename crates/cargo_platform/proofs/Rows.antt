@@ -3,6 +3,7 @@ mod Tokens
 mod Cut
 mod Spelling
 mod Faults
+mod Spans
 mod ValueFaults
 mod Trees
 mod Conditions

@@ -2,11 +2,13 @@
 use Rattle.std.proofs.Common.{◌≡◌, refl, sym, ap, ◌∙◌, subst, ℕ, Bool, true, false, true≢false, not, ◌<◌, cond, List}
 use Rattle.std.proofs.Common.{[], ◌∷◌, ◌++◌, length, codes, get_or, Option, Some, None, MatchOption, find, IsTrue}
 use Rattle.std.proofs.Common.{IsFalse, IsUtf8, MatchBool, option_map, inl, inr, ◌==◌, ◌||◌, eq-eqb, eqb-true, chars}
-use Rattle.std.proofs.Common.{encode_utf8, encode_utf8_all, append_assoc, length-append, arith}
-use Rattle.std.specs.Char.{IsScalar}
+use Rattle.std.proofs.Common.{encode_utf8, encode_utf8_all, append_assoc, length-append, arith, ◌+◌, ◌≤◌, drop}
+use Rattle.std.proofs.Common.{take, length-take, take-append-drop}
+use Rattle.std.specs.Char.{IsScalar, len_utf8}
+use Rattle.std.specs.declared.ops.Range.{Range}
 use Rattle.std.specs.List.{list_all, list_any}
-use Rattle.std.specs.Str.{all_scalars, NonePass}
-use Rattle.std.specs.Str.Pattern.{FindsChar, HasMatch}
+use Rattle.std.specs.Str.{all_scalars, NonePass, NoCharPasses, IsCharBoundary}
+use Rattle.std.specs.Str.Pattern.{FindsChar, FindsTextPrefix, HasMatch, HasPrefixMatch, MatchBeginsAt}
 use Rattle.std.proofs.lemmas.Bool.{and_parts, agree_below_at}
 use Rattle.std.proofs.lemmas.Str.{NoCharPasses-byte, encode_ascii, encode_same, length-encode, len_utf8_bounds}
 use Rattle.std.proofs.lemmas.Str.{chars_from_encodes}
@@ -22,7 +24,8 @@ use Rattle.unicode.specs.Binary.{is_alphabetic}
 use Rattle.unicode.specs.GeneralCategory.{general_category}
 use Rattle.cargo_platform.specs.Chars.{BeginsWith, is_identifier_rest}
 use Rattle.cargo_platform.specs.Platforms.{is_target_char, is_plain_byte, IsTargetName, IsFirstRefused, IsTargetMessage}
-use Rattle.cargo_platform.specs.Platforms.{IsBare}
+use Rattle.cargo_platform.specs.Platforms.{IsBare, IsTargetSpan}
+use Rattle.cargo_platform.specs.Faults.{from_to}
 use Rattle.cargo_platform.proofs.OneCut.{both_true, either, never}
 use Rattle.cargo_platform.proofs.SomeCut.{rest_is_ascii}
 
@@ -203,3 +206,107 @@ message_is_no_name text message (inl m) w =
     let k = Any-from_list_any (λ c. c == 0x28) text m.0 in
     no_parenthesis text k.0 k.2 (get_or_default text k.0 0 k.1 k.2 ∙ k.3 ∙ eqb-true k.1 0x28 k.4) w
 message_is_no_name text message (inr m) w = refused_is_no_name text m.1.0 m.1.1 w
+
+-- ---- the span
+
+-- the character stands here, and nowhere before
+abbrev StandsFirst : List ℕ → ℕ → Range ℕ → Type 0
+StandsFirst text c span =
+    NoCharPasses (λ d. d == c) (take span.start text)
+    × (drop span.start text ≡ encode_utf8 c ++ drop span.end text) × (span.start ≤ length text)
+
+stands_first : (text : List ℕ) (c i j : ℕ) → FindsChar c text (Some (i, j)) → IsCharBoundary text i
+    → StandsFirst text c (from_to i (i + len_utf8 c))
+stands_first text c i j f b = (f.0, f.1.split ∙ ap (λ k. encode_utf8 c ++ drop k text) f.1.ends, b.0)
+
+none_all : (p : ℕ → Bool) (cs : List ℕ) → NonePass p cs → IsTrue (list_all (λ d. not (p d)) cs)
+none_all p [] h = refl
+none_all p (c ∷ cs) h = both_true _ _ (ap not h.0) (none_all p cs h.1)
+
+-- the first refused character is found
+pub refused_is_found : (text : List ℕ) (c : ℕ) → IsFirstRefused text c → FindsChar c text None → ⊥
+refused_is_found text c r none =
+    fails_not_all (λ d. not (d == c)) r.3.0 none.0 r.4.0 c (ap not (eq-eqb c c refl))
+    (none_all (λ d. d == c) none.0 none.2) (sym (first_parts text c r) ∙ sym none.1)
+
+-- characters before the first one that is c
+one_front : (c : ℕ) (fs gs after others : List ℕ) → IsTrue (list_all (λ d. not (d == c)) fs)
+    → IsTrue (list_all (λ d. not (d == c)) gs)
+    → encode_utf8_all fs ++ (encode_utf8 c ++ after) ≡ encode_utf8_all gs ++ (encode_utf8 c ++ others)
+    → encode_utf8_all fs ≡ encode_utf8_all gs
+one_front c [] [] after others p q e = refl
+one_front c [] (g ∷ gs) after others p q e =
+    let same = encode_same c g after _ (e ∙ append_assoc (encode_utf8 g) (encode_utf8_all gs) (encode_utf8 c ++ others)) in
+    absurd (true≢false (sym (and_parts _ _ q).0 ∙ ap not (eq-eqb g c (sym same.0))))
+one_front c (f ∷ fs) [] after others p q e =
+    let same = encode_same c f others _
+    (sym e ∙ append_assoc (encode_utf8 f) (encode_utf8_all fs) (encode_utf8 c ++ after)) in
+    absurd (true≢false (sym (and_parts _ _ p).0 ∙ ap not (eq-eqb f c (sym same.0))))
+one_front c (f ∷ fs) (g ∷ gs) after others p q e =
+    let same = encode_same f g _ _
+    (sym (append_assoc (encode_utf8 f) (encode_utf8_all fs) (encode_utf8 c ++ after)) ∙ e
+    ∙ append_assoc (encode_utf8 g) (encode_utf8_all gs) (encode_utf8 c ++ others)) in
+    let rest = one_front c fs gs after others (and_parts _ _ p).1 (and_parts _ _ q).1 same.1 in
+    λ i. encode_utf8 (same.0 i) ++ rest i
+
+start_within : (text : List ℕ) (c : ℕ) (s : Range ℕ) → StandsFirst text c s → s.start ≤ length text
+start_within text c s h = h.2
+
+start_is : (text : List ℕ) (c : ℕ) (s : Range ℕ) (h : StandsFirst text c s)
+    → length (encode_utf8_all h.0.0) ≡ s.start
+start_is text c s h =
+    omega (arith, ap length h.0.1, length-take s.start text, start_within text c s h)
+
+text_is : (text : List ℕ) (c : ℕ) (s : Range ℕ) (h : StandsFirst text c s)
+    → encode_utf8_all h.0.0 ++ (encode_utf8 c ++ drop s.end text) ≡ text
+text_is text c s h = (λ i. h.0.1 i ++ sym h.1 i) ∙ take-append-drop s.start text
+
+-- what passes a test is no character that fails it
+apart : (t : ℕ → Bool) (c : ℕ) (cs : List ℕ) → IsFalse (t c) → IsTrue (list_all t cs)
+    → IsTrue (list_all (λ d. not (d == c)) cs)
+apart t c [] fails all = refl
+apart t c (d ∷ cs) fails all =
+    let parts = and_parts _ _ all in
+    both_true _ _
+    (elim (d == c) as (λ b. (d == c) ≡ b → not b ≡ true) [
+      | false ↦ λ _. refl
+      | true ↦ λ is. absurd (true≢false (sym parts.0 ∙ ap t (eqb-true d c is) ∙ fails))
+    ] refl)
+    (apart t c cs fails parts.1)
+
+-- the first refused character stands where it is found
+first_at : (text : List ℕ) (c i : ℕ) (first : IsFirstRefused text c) → MatchBeginsAt (FindsChar c) text i
+    → i ≡ length first.0
+first_at text c i first m =
+    let s = stands_first text c i m.0 m.1 m.3 in
+    let front = one_front c first.3.0 s.0.0 _ _ (apart is_target_char c first.3.0 first.5 first.3.3)
+    (none_all (λ d. d == c) s.0.0 s.0.2)
+    (sym (first_parts text c first) ∙ sym (text_is text c (from_to i (i + len_utf8 c)) s)) in
+    sym (start_is text c (from_to i (i + len_utf8 c)) s) ∙ ap length (sym front) ∙ ap length (sym first.3.2)
+
+-- two first refused characters that are the same stand in one place
+pub one_first_place : (text : List ℕ) (c d : ℕ) (p : IsFirstRefused text c) (q : IsFirstRefused text d) → c ≡ d
+    → length p.0 ≡ length q.0
+one_first_place text c d p q same =
+    let front = one_front c p.3.0 q.3.0 _ _ (apart is_target_char c p.3.0 p.5 p.3.3)
+    (apart is_target_char c q.3.0 p.5 q.3.3)
+    (sym (first_parts text c p) ∙ first_parts text d q
+    ∙ ap (λ z. encode_utf8_all q.3.0 ++ (encode_utf8 z ++ q.4.0)) (sym same)) in
+    ap length p.3.2 ∙ ap length front ∙ ap length (sym q.3.2)
+
+-- whether `starts_with` finds `cfg(`
+abbrev StartsCfg : List ℕ → Bool → Type 0
+StartsCfg text r =
+    MatchBool r (HasPrefixMatch (FindsTextPrefix (codes "cfg(")) text) (FindsTextPrefix (codes "cfg(") text None)
+
+pub end_span : (text : List ℕ) (r : Bool) → StartsCfg text r → r ≡ true
+    → IsTargetSpan text (from_to (length text) (length text))
+end_span text true m is = inl ((drop m.0 text, m.1.1), refl)
+end_span text false m is = absurd (true≢false (sym is))
+
+pub character_span : (text : List ℕ) (c i : ℕ) (r : Bool) → StartsCfg text r → r ≡ false → IsFirstRefused text c
+    → MatchBeginsAt (FindsChar c) text i → IsTargetSpan text (from_to i (i + len_utf8 c))
+character_span text c i true m is first found = absurd (true≢false is)
+character_span text c i false m is first found =
+    let at = first_at text c i first found in
+    inr ((λ b. m b.0 b.1), (c, (first, λ k. from_to (at k) (at k + len_utf8 c))))

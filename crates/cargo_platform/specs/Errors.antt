@@ -1,6 +1,7 @@
 -- What an error says, apart from where it lies in memory.
 use Rattle.std.specs.Prelude.{ℕ, List, map, String, Vec, string_bytes, Option, Some, None, Result, Ok, Err}
 use Rattle.std.specs.declared.alloc.Global.{Global}
+use Rattle.std.specs.declared.ops.Range.{Range}
 use Rattle.cargo_platform.specs.declared.error.ParseErrorKind.{ParseErrorKind}
 use Rattle.cargo_platform.specs.declared.error.ParseErrorKind.TheVariants as kind
 use Rattle.cargo_platform.specs.declared.error.ParseError.{ParseError}
@@ -25,6 +26,10 @@ orig_of e = string_bytes e.orig
 
 abbrev pub fault_in : ParseError → Fault
 fault_in e = fault_meant e.kind
+
+-- where the fault lies in that text; an error that is made by hand has no such place
+abbrev pub span_in : ParseError → Option (Range ℕ)
+span_in e = e.span
 
 -- what is said of a refusal, where it is no want of memory
 abbrev pub IfParse : {A : Type 0} → Result A ReadError → (ParseError → Type 0) → Type 0

@@ -1,13 +1,16 @@
 -- Laws of completion and of the fault prefix.
 use Rattle.std.specs.Prelude.{◌≡◌, ◌⊎◌, ◌↔◌, ◌≤◌, ◌+◌, ◌++◌, ℕ, Bool, true, false, List, [], ◌∷◌, Some, None, codes}
-use Rattle.std.specs.Prelude.{length}
+use Rattle.std.specs.Prelude.{length, drop}
+use Rattle.std.specs.Str.{IsCharBoundary}
+use Rattle.std.specs.declared.ops.Range.{Range}
 use Rattle.std.specs.List.{AllByRecursion, count_by, last_or}
 use Rattle.cargo_platform.specs.Tokens.{Lexeme, LeftParen, RightParen, Ident, Comma, Equals, String, Placed}
 use Rattle.cargo_platform.specs.Tokens.{IsWellWritten}
 use Rattle.cargo_platform.specs.Cut.{lexemes, Nothing}
 use Rattle.cargo_platform.specs.Spelling.{Grammar, Expressions, IsAccepted}
 use Rattle.cargo_platform.specs.Faults.{IsCompletable, IsFaultPrefix, Fault, UnexpectedToken, IncompleteExpr}
-use Rattle.cargo_platform.specs.Faults.{expected_token, expected_end, IsRefused}
+use Rattle.cargo_platform.specs.Faults.{expected_token, expected_end, UnterminatedExpression, IsRefused, IsRefusedAt}
+use Rattle.cargo_platform.specs.Faults.{span_of}
 use Rattle.cargo_platform.specs.Walk.{State, after, walk}
 
 -- whether a list can be completed is told by its walk
@@ -72,3 +75,24 @@ Names {fault = fault} r class =
 abbrev pub NamesWhatCanFollow : Grammar → List ℕ → Fault → Type 0
 NamesWhatCanFollow g text fault = (r : IsRefused g text fault) (class : List ℕ) → Names r class
     → CanFollow g (lexemes r.prefix) class
+
+-- a span within the text, in order, which begins and ends at characters
+abbrev pub IsSpanIn : List ℕ → Range ℕ → Type 0
+IsSpanIn text span = (span.start ≤ span.end) × IsCharBoundary text span.start × IsCharBoundary text span.end
+
+-- the fault of a text lies within it
+abbrev pub IsPlacedWithin : Grammar → List ℕ → Fault → Range ℕ → Type 0
+IsPlacedWithin g text fault span = IsRefusedAt g text fault (Some span) → IsSpanIn text span
+
+-- what is left behind a whole value or expression runs from the span's start to the end of the text
+abbrev pub IsSurplusAt : Grammar → List ℕ → List ℕ → Type 0
+IsSurplusAt g text rest = (r : IsRefused g text (UnterminatedExpression rest))
+    → (drop (span_of text r.accepted r.next).start text ≡ rest)
+    × ((span_of text r.accepted r.next).end ≡ length text)
+
+-- before the span stand the tokens of the fault prefix, and the next token, if there is one, begins where it begins
+abbrev pub IsBehindPrefix : {g : Grammar} {text : List ℕ} {fault : Fault} → IsRefused g text fault → Type 0
+IsBehindPrefix {text = text} r =
+    AllByRecursion (λ t. t.end ≤ (span_of text r.accepted r.next).start) r.prefix
+    × ((t : Placed) (others : List Placed) → r.after ≡ t ∷ others
+    → (span_of text r.accepted r.next).start ≡ t.start)

@@ -6,6 +6,7 @@ pub mod CutLaws
 pub mod Trees
 pub mod ViewLaws
 pub mod Sizes
+pub mod Snippets
 pub mod Spelling
 pub mod WellFormed
 pub mod GrammarLaws

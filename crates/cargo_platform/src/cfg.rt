@@ -71,9 +71,9 @@ impl Cfg {
     ghost use Rattle.cargo_platform.specs.Trees.{CfgValue, value_of};
     ghost use Rattle.cargo_platform.specs.Spelling.{Values, IsValueText};
     ghost use Rattle.cargo_platform.specs.WellFormed.{IsWellFormedValue};
-    ghost use Rattle.cargo_platform.specs.Faults.{IsRefused};
+    ghost use Rattle.cargo_platform.specs.Faults.{IsRefused, IsRefusedAt};
     ghost use Rattle.cargo_platform.specs.Print.{print_value};
-    ghost use Rattle.cargo_platform.specs.Errors.{IfParse, orig_of, fault_in};
+    ghost use Rattle.cargo_platform.specs.Errors.{IfParse, orig_of, fault_in, span_in};
 
     /// Reads a name, or a key, `=` and a string. Spaces may stand before, between and behind them; `all`, `any`, `not`,
     /// `true` and `false` are ordinary names here.
@@ -84,9 +84,10 @@ impl Cfg {
     pub fn from_str(alloc: Global, s: &str) -> Result<Cfg, ReadError>
         // What is read is what the text spells.
         ensures value { IfOk result (λ c. IsValueText s.now (value_of c)) }
-        // The error is of this text, and is its first fault.
+        // The error is of this text, is its first fault, and tells its span.
         ensures orig { IfParse result (λ e. orig_of e ≡ s.now) }
         ensures fault { IfParse result (λ e. IsRefused Values s.now (fault_in e)) }
+        ensures span { IfParse result (λ e. IsRefusedAt Values s.now (fault_in e) (span_in e)) }
         // The other clauses follow by the laws. No text that spells a value is refused, and the print of a well-formed
         // value is answered by that very value.
         ensures well_formed { IfOk result (λ c. IsWellFormedValue (value_of c)) }
@@ -108,9 +109,9 @@ impl CfgExpr {
     ghost use Rattle.cargo_platform.specs.Trees.{Tree, tree_of};
     ghost use Rattle.cargo_platform.specs.Spelling.{Expressions, IsTreeText};
     ghost use Rattle.cargo_platform.specs.WellFormed.{IsWellFormed};
-    ghost use Rattle.cargo_platform.specs.Faults.{IsRefused};
+    ghost use Rattle.cargo_platform.specs.Faults.{IsRefused, IsRefusedAt};
     ghost use Rattle.cargo_platform.specs.Print.{print};
-    ghost use Rattle.cargo_platform.specs.Errors.{IfParse, orig_of, fault_in};
+    ghost use Rattle.cargo_platform.specs.Errors.{IfParse, orig_of, fault_in, span_in};
 
     /// Reads an expression: a name, a pair, a literal, or `all(..)`, `any(..)` or `not(..)` of expressions, to any
     /// depth. Unmarked `all`, `any`, `not`, `true` and `false` are words of the language, and no names or keys. A raw
@@ -122,9 +123,10 @@ impl CfgExpr {
     pub fn from_str(alloc: Global, s: &str) -> Result<CfgExpr, ReadError>
         // What is read is the tree that the text spells.
         ensures tree { IfOk result (λ e. IsTreeText s.now (tree_of e)) }
-        // The error is of this text, and is its first fault.
+        // The error is of this text, is its first fault, and tells its span.
         ensures orig { IfParse result (λ e. orig_of e ≡ s.now) }
         ensures fault { IfParse result (λ e. IsRefused Expressions s.now (fault_in e)) }
+        ensures span { IfParse result (λ e. IsRefusedAt Expressions s.now (fault_in e) (span_in e)) }
         // The other clauses follow by the laws. No text that spells a tree is refused, and the print of a well-formed
         // tree is answered by that very tree.
         ensures well_formed { IfOk result (λ e. IsWellFormed (tree_of e)) }
@@ -143,6 +145,7 @@ impl CfgExpr {
         ensures tree { IfOk result.0 (λ e. IsTreeText s.now (tree_of e)) }
         ensures orig { IfParse result.0 (λ e. orig_of e ≡ s.now) }
         ensures fault { IfParse result.0 (λ e. IsRefused Expressions s.now (fault_in e)) }
+        ensures span { IfParse result.0 (λ e. IsRefusedAt Expressions s.now (fault_in e) (span_in e)) }
         ensures well_formed { IfOk result.0 (λ e. IsWellFormed (tree_of e)) }
         ensures refused { IfParse result.0 (λ _. (t : Tree) → IsTreeText s.now t → ⊥) }
         ensures reads_back { (t : Tree) → IsWellFormed t → s.now ≡ print t

@@ -1,9 +1,10 @@
 //! Why a text is refused.
 
-ghost use Rattle.std.specs.Prelude.{◌≡◌, IfOk};
+ghost use Rattle.std.specs.Prelude.{◌≡◌, IfOk, None};
 
 use std::alloc::{AllocError, Global};
 use std::fmt;
+use std::ops::Range;
 
 /// What is wrong with a text. A text is read up to its first fault: the longest prefix of its tokens that some tokens
 /// would complete, and what follows that prefix.
@@ -35,18 +36,35 @@ pub struct ParseError {
     kind: ParseErrorKind,
     /// The whole text.
     orig: String,
+    /// Where in the text, in bytes; an error that is made by hand names no place.
+    span: Option<Range<usize>>,
 }
 
 impl ParseError {
-    ghost use Rattle.cargo_platform.specs.Errors.{fault_in, fault_meant, orig_of};
+    ghost use Rattle.cargo_platform.specs.Errors.{fault_in, fault_meant, orig_of, span_in};
 
-    /// The error of a text, of which it keeps a copy. Without memory for the copy the kind is dropped.
+    /// The error of a text, of which it keeps a copy, with no span. Without memory for the copy the kind is dropped.
     pub fn new(alloc: Global, orig: &str, kind: ParseErrorKind) -> Result<ParseError, AllocError>
         ensures of { IfOk result (λ e. orig_of e ≡ orig.now) }
         ensures why { IfOk result (λ e. fault_in e ≡ fault_meant kind) }
+        ensures nowhere { IfOk result (λ e. span_in e ≡ None) }
+    {
+        ParseError::with_span(alloc, orig, kind, None)
+    }
+
+    /// The same, with the span of the fault.
+    pub(crate) fn with_span(
+        alloc: Global,
+        orig: &str,
+        kind: ParseErrorKind,
+        span: Option<Range<usize>>,
+    ) -> Result<ParseError, AllocError>
+        ensures of { IfOk result (λ e. orig_of e ≡ orig.now) }
+        ensures why { IfOk result (λ e. fault_in e ≡ fault_meant kind) }
+        ensures place { IfOk result (λ e. span_in e ≡ span) }
     {
         let orig = String::from_str(alloc, orig)?;
-        Ok(ParseError { kind, orig })
+        Ok(ParseError { kind, orig, span })
     }
 
     /// What is wrong with the text.
@@ -61,6 +79,19 @@ impl ParseError {
         ensures { result.now ≡ orig_of self.now }
     {
         &self.orig
+    }
+
+    /// Where the fault lies in `orig`, in bytes: the token that does not fit; what is left behind a whole value or
+    /// expression; the character that begins no token, or that no target name may hold; an open string from its quote
+    /// on; and the empty span at the end where the text ends too early. An error of a reader has a span, and one that
+    /// `new` made has none.
+    pub fn span(&self) -> Option<Range<usize>>
+        ensures { result ≡ span_in self.now }
+    {
+        match &self.span {
+            Some(span) => Some(span.start..span.end),
+            None => None,
+        }
     }
 }
 

@@ -4,10 +4,10 @@ ghost use Rattle.std.specs.Prelude.{◌≡◌, ◌≢◌, ◌==◌, List, [], ma
 ghost use Rattle.std.specs.List.{AllByRecursion, slice_split};
 ghost use Rattle.cargo_platform.specs.Trees.{CfgValue, value_of};
 ghost use Rattle.cargo_platform.specs.Spelling.{Values, IsValueText};
-ghost use Rattle.cargo_platform.specs.Faults.{IsRefused};
+ghost use Rattle.cargo_platform.specs.Faults.{IsRefused, IsRefusedAt};
 ghost use Rattle.cargo_platform.specs.WellFormed.{IsWellFormedValue};
 ghost use Rattle.cargo_platform.specs.Print.{print_value};
-ghost use Rattle.cargo_platform.specs.Errors.{orig_of, fault_in};
+ghost use Rattle.cargo_platform.specs.Errors.{orig_of, fault_in, span_in};
 ghost use Rattle.cargo_platform.specs.Lines.{lines_of, line_at, IsUnbroken, ended};
 ghost use Rattle.cargo_platform.specs.FactLines.{SpellFacts, IsFirstNoFact, IfLine, SpellsNoFact};
 
@@ -45,6 +45,7 @@ fn read_line(alloc: Global, number: usize, line: &str) -> Result<Cfg, FactsError
     ensures refused { IfLine result (λ n e. SpellsNoFact line.now) }
     ensures orig { IfLine result (λ n e. orig_of e ≡ line.now) }
     ensures fault { IfLine result (λ n e. IsRefused Values line.now (fault_in e)) }
+    ensures span { IfLine result (λ n e. IsRefusedAt Values line.now (fault_in e) (span_in e)) }
 {
     match Cfg::from_str(alloc, line) {
         Ok(fact) => Ok(fact),
@@ -62,10 +63,13 @@ fn read_line(alloc: Global, number: usize, line: &str) -> Result<Cfg, FactsError
 pub fn read_facts(alloc: Global, text: &str) -> Result<Vec<Cfg>, FactsError>
     // What is read is what the lines spell, one fact a line.
     ensures facts { IfOk result (λ v. SpellFacts (lines_of text.now) (map value_of v.items)) }
-    // The first line that spells no fact is refused. The error is of that line, and is its first fault.
+    // The first line that spells no fact is refused. The error is of that line, is its first fault,
+    // and tells its span in that line.
     ensures refused { IfLine result (λ n e. IsFirstNoFact (lines_of text.now) n) }
     ensures orig { IfLine result (λ n e. orig_of e ≡ line_at (lines_of text.now) n) }
     ensures fault { IfLine result (λ n e. IsRefused Values (line_at (lines_of text.now) n) (fault_in e)) }
+    ensures span { IfLine result
+        (λ n e. IsRefusedAt Values (line_at (lines_of text.now) n) (fault_in e) (span_in e)) }
     // The other clauses follow by the laws. The prints of well-formed facts, one a line, are answered by those very
     // facts.
     ensures well_formed { IfOk result (λ v. AllByRecursion IsWellFormedValue (map value_of v.items)) }

@@ -5,10 +5,10 @@ ghost use Rattle.serde_json.specs.Data as json;
 ghost use Rattle.serde_json.specs.View.{view};
 ghost use Rattle.cargo_platform.specs.declared.json.JsonError.TheVariants.{NotText};
 ghost use Rattle.cargo_platform.specs.Trees.{Condition, condition_of};
-ghost use Rattle.cargo_platform.specs.Platforms.{IsConditionText, IsRefusedCondition};
+ghost use Rattle.cargo_platform.specs.Platforms.{IsConditionText, IsRefusedCondition, IsRefusedConditionAt};
 ghost use Rattle.cargo_platform.specs.WellFormed.{IsWellFormedCondition};
 ghost use Rattle.cargo_platform.specs.Print.{print_condition};
-ghost use Rattle.cargo_platform.specs.Errors.{orig_of, fault_in};
+ghost use Rattle.cargo_platform.specs.Errors.{orig_of, fault_in, span_in};
 ghost use Rattle.cargo_platform.specs.Json.{IfJsonParse, IsText};
 
 use crate::{ParseError, Platform, ReadError};
@@ -47,6 +47,8 @@ impl Platform {
         // The error is the fault of the text between `cfg(` and `)`, and else of the whole text.
         ensures fault { (text : List ℕ) → view value.now ≡ json.string text
             → IfJsonParse result (λ e. IsRefusedCondition text (orig_of e) (fault_in e)) }
+        ensures span { (text : List ℕ) → view value.now ≡ json.string text
+            → IfJsonParse result (λ e. IsRefusedConditionAt text (orig_of e) (fault_in e) (span_in e)) }
         // The other clauses follow by the laws. No text that spells a condition is refused, and the JSON text of a
         // well-formed condition is answered by that very condition.
         ensures well_formed { IfOk result (λ p. IsWellFormedCondition (condition_of p)) }

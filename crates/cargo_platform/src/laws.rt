@@ -2,23 +2,26 @@
 
 ghost use Rattle.std.specs.Prelude.{◌≡◌, ◌≤◌, true, false, ℕ, List, [], IsUtf8, Box, Vec};
 ghost use Rattle.std.specs.declared.alloc.Global.{Global};
+ghost use Rattle.std.specs.declared.ops.Range.{Range};
 ghost use Rattle.cargo_platform.specs.declared.cfg.Cfg.{Cfg};
 ghost use Rattle.cargo_platform.specs.declared.cfg.CfgExpr.{CfgExpr};
 ghost use Rattle.cargo_platform.specs.Tokens.{Lexeme, Placed};
 ghost use Rattle.cargo_platform.specs.Reading.{Progress};
 ghost use Rattle.cargo_platform.specs.Trees.{Name, CfgValue, Tree, All, Any, Trees, none, Condition};
 ghost use Rattle.cargo_platform.specs.Spelling.{Grammar, Values, Expressions, IsValueText, IsTreeText};
-ghost use Rattle.cargo_platform.specs.Faults.{IsCompletable, IsRefused, Fault};
+ghost use Rattle.cargo_platform.specs.Faults.{IsCompletable, IsRefused, IsPlacedRefusal, Fault};
 ghost use Rattle.cargo_platform.specs.CutLaws.{HasOneCut, CutsAreRead, IsReadAlike, EndsForGood, FailsOnce};
 ghost use Rattle.cargo_platform.specs.GrammarLaws.{HasOneTree, HasOneValue, SpellsWellFormed};
 ghost use Rattle.cargo_platform.specs.TextLaws.{AtMostOne, SpellsOrIsRefused, RefusedSpellsNothing, SpellsOnly};
 ghost use Rattle.cargo_platform.specs.TextLaws.{PrintSpells, PrintsApart};
 ghost use Rattle.cargo_platform.specs.FaultLaws.{PrefixesAreCompletable, IsCompletedShortly, IsWalkedIffCompletable};
 ghost use Rattle.cargo_platform.specs.FaultLaws.{IsKeptByWalk, IsPrefixCompletable, IsStoppedByNext};
-ghost use Rattle.cargo_platform.specs.FaultLaws.{IsExpectedToFollow, NamesWhatCanFollow};
+ghost use Rattle.cargo_platform.specs.FaultLaws.{IsExpectedToFollow, NamesWhatCanFollow, IsPlacedWithin};
+ghost use Rattle.cargo_platform.specs.FaultLaws.{IsSurplusAt, IsBehindPrefix};
 ghost use Rattle.cargo_platform.specs.WellFormed.{IsWellFormedValue, IsWellFormed, IsWellFormedCondition};
 ghost use Rattle.cargo_platform.specs.Print.{print_value, print, print_condition};
-ghost use Rattle.cargo_platform.specs.Platforms.{IsConditionText, IsConditionRefusal};
+ghost use Rattle.cargo_platform.specs.Platforms.{IsConditionText, IsConditionRefusal, IsPlacedConditionRefusal};
+ghost use Rattle.cargo_platform.specs.Platforms.{IsConditionPlacedWithin, IsBehindName};
 ghost use Rattle.cargo_platform.specs.ChangeLaws.{SpelledReleased, IsAcceptedAsReleased, IsRefusedAsReleased};
 ghost use Rattle.cargo_platform.specs.ChangeLaws.{IsTreeTextAsReleased, KeepsTree, IsConditionTextAsReleased};
 ghost use Rattle.cargo_platform.specs.ChangeLaws.{KeepsCondition, SpelledTransitional, IsRefusedForLiteralKeys};
@@ -127,6 +130,29 @@ pub fn named_can_follow()
 pub fn one_fault()
     ensures texts { (g : Grammar) (text : List ℕ) → AtMostOne (IsRefused g) text }
     ensures conditions { (text : List ℕ) → AtMostOne IsConditionRefusal text }
+{}
+
+/// The fault of a text lies in one place.
+pub fn one_place()
+    ensures texts { (g : Grammar) (text : List ℕ) → AtMostOne (IsPlacedRefusal g) text }
+    ensures conditions { (text : List ℕ) → AtMostOne IsPlacedConditionRefusal text }
+{}
+
+/// It lies within the text, and begins and ends at characters.
+pub fn faults_are_placed()
+    ensures texts { (g : Grammar) (text : List ℕ) (fault : Fault) (span : Range ℕ) → IsUtf8 text
+        → IsPlacedWithin g text fault span }
+    ensures conditions { (text orig : List ℕ) (fault : Fault) (span : Range ℕ) → IsUtf8 text
+        → IsConditionPlacedWithin text orig fault span }
+{}
+
+/// The span of what is left behind a whole value or expression is that of its text. Before the span of any fault stand
+/// the tokens of the fault prefix, and the next token begins with it. Before that of a refused target name stands a
+/// target name, where it does not begin with `cfg(`.
+pub fn around_spans()
+    ensures surplus { (g : Grammar) (text rest : List ℕ) → IsSurplusAt g text rest }
+    ensures prefix { (g : Grammar) (text : List ℕ) (fault : Fault) (r : IsRefused g text fault) → IsBehindPrefix r }
+    ensures name { (text : List ℕ) (span : Range ℕ) → IsBehindName text span }
 {}
 
 /// A text spells a name or a pair, or has a fault as one. So it is with expressions and conditions.

@@ -20,6 +20,7 @@ mod order;
 mod parser;
 mod platforms;
 mod reader;
+mod snippet;
 mod source;
 pub mod tokens;
 mod warnings;

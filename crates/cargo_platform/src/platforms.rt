@@ -5,21 +5,23 @@
 //! conditional compilation.
 
 ghost use Rattle.std.specs.Prelude.{◌≡◌, ◌↔◌, ◌≤◌, ◌<◌, ◌+◌, ℕ, List, true, false, IsTrue, IfOk, MatchOption, map};
-ghost use Rattle.std.specs.Prelude.{length, string_bytes, slice_index};
+ghost use Rattle.std.specs.Prelude.{length, string_bytes, slice_index, Some};
+ghost use Rattle.std.specs.declared.ops.Range.{Range};
 ghost use Rattle.unicode.specs.GeneralCategory.{general_category};
 ghost use Rattle.cargo_platform.specs.Trees.{Tree, Condition, Expression, value_of, condition_of};
 ghost use Rattle.cargo_platform.specs.Facts.{fact_set, truth, IsTrueCondition};
 ghost use Rattle.cargo_platform.specs.Faults.{InvalidTarget};
 ghost use Rattle.cargo_platform.specs.Platforms.{is_number_category, is_target_char, is_plain_byte, IsTargetName};
-ghost use Rattle.cargo_platform.specs.Platforms.{IsFirstRefused, IsTargetMessage, IsCfgOf, IsBare, IsConditionText};
-ghost use Rattle.cargo_platform.specs.Errors.{IfParse, orig_of, fault_in};
-ghost use Rattle.cargo_platform.specs.Platforms.{IsRefusedCondition};
+ghost use Rattle.cargo_platform.specs.Platforms.{IsFirstRefused, IsTargetMessage, IsTargetSpan, IsCfgOf, IsBare};
+ghost use Rattle.cargo_platform.specs.Platforms.{IsConditionText, IsRefusedCondition, IsRefusedConditionAt};
+ghost use Rattle.cargo_platform.specs.Errors.{IfParse, orig_of, fault_in, span_in};
 ghost use Rattle.cargo_platform.specs.WellFormed.{IsWellFormedCondition};
 ghost use Rattle.cargo_platform.specs.Print.{print_condition};
 
 use crate::classes::{LANES, continues_identifier};
 use crate::{Cfg, CfgExpr, ParseError, ParseErrorKind, Platform, ReadError};
 use std::alloc::{AllocError, Global};
+use std::ops::Range;
 use std::simd::prelude::*;
 use unicode::properties::{GeneralCategory, is_alphabetic};
 
@@ -37,6 +39,8 @@ impl Platform {
         ensures condition { IfOk result (λ p. IsConditionText s.now (condition_of p)) }
         // The error is the fault of the text between `cfg(` and `)`, and else of the whole text.
         ensures fault { IfParse result (λ e. IsRefusedCondition s.now (orig_of e) (fault_in e)) }
+        // Its span is one of that text.
+        ensures span { IfParse result (λ e. IsRefusedConditionAt s.now (orig_of e) (fault_in e) (span_in e)) }
         // The other clauses follow by the laws. No text that spells a condition is refused, and the print of a
         // well-formed condition is answered by that very condition.
         ensures well_formed { IfOk result (λ p. IsWellFormedCondition (condition_of p)) }
@@ -190,9 +194,27 @@ fn target_error(alloc: Global, name: &str, refused: char) -> Result<ParseError, 
     ensures of { IfOk result (λ e. orig_of e ≡ name.now) }
     ensures why { IfOk result
         (λ e. (message : List ℕ) × IsTargetMessage name.now message × (fault_in e ≡ InvalidTarget message)) }
+    ensures place { IfOk result (λ e. (at : Range ℕ) × IsTargetSpan name.now at × (span_in e ≡ Some at)) }
 {
     let message = target_message(alloc, name, refused)?;
-    ParseError::new(alloc, name, ParseErrorKind::InvalidTarget(message))
+    let span = target_span(name, refused);
+    let kind = ParseErrorKind::InvalidTarget(message);
+    ParseError::with_span(alloc, name, kind, Some(span))
+}
+
+/// Where a target name is refused, whose first refused character is given: at the end where it begins with `cfg(`, and
+/// else at that character.
+fn target_span(name: &str, refused: char) -> Range<usize>
+    requires { IsFirstRefused name.now refused }
+    ensures { IsTargetSpan name.now result }
+{
+    if name.starts_with("cfg(") {
+        return name.len()..name.len();
+    }
+    let Some(start) = name.find(refused) else {
+        unreachable!()
+    };
+    start..start + refused.len_utf8()
 }
 
 /// What is said of a target name, whose first refused character is given.

@@ -1,10 +1,11 @@
 //! The tokens of a text, each taken where it is wanted: what the parsers read from.
 
-ghost use Rattle.std.specs.Prelude.{◌≡◌, ◌≤◌, ◌+◌, [], ◌∷◌, IsTrue, IsFalse, IfSome, IfNone, IfErr, OnOk, MatchOption};
+ghost use Rattle.std.specs.Prelude.{◌≡◌, ◌≤◌, ◌+◌, length, [], ◌∷◌, IsTrue, IsFalse, IfSome, IfNone, IfErr, OnOk, MatchOption};
 ghost use Rattle.cargo_platform.specs.declared.source.Look.TheVariants.{Ascii};
 ghost use Rattle.cargo_platform.specs.Tokens.{Ident as ident_token, String as string_token, Placed, lexeme, written};
 ghost use Rattle.cargo_platform.specs.Reading.{characters_from};
 ghost use Rattle.cargo_platform.specs.Cut.{AreSpaces, Nothing};
+ghost use Rattle.cargo_platform.specs.Faults.{from_to, lexical_span};
 ghost use Rattle.cargo_platform.specs.Cut as cut;
 ghost use Rattle.cargo_platform.specs.Inside.Ahead.{NextIs};
 ghost use Rattle.cargo_platform.specs.Inside.Parsing.{IsIdentifier, SeesRest, Takes, TakesToken, LacksPunctuation};
@@ -14,9 +15,10 @@ use crate::Looks;
 use crate::classes::begins_identifier;
 use crate::error::{ParseError, ParseErrorKind, ReadError};
 use crate::source::{Look, Source};
-use crate::tokens::{Token, TokenFaultKind, character_of, token_at};
+use crate::tokens::{Spanned, Token, TokenFaultKind, character_of, token_at};
 use std::alloc::{AllocError, Global};
 use std::marker::Model;
+use std::ops::Range;
 
 /// A text, the place that was reached in it, and what is there. No space stands there. A token is cut off when it is
 /// taken: what begins one tells which it may be.
@@ -104,7 +106,7 @@ impl<'a> Reader<'a> {
         ensures not_taken { IfNone result ((self.new ≡ self.old) × LacksName self.old) }
     {
         match self.take()? {
-            Ok(token) => name_of(token),
+            Ok(taken) => name_of(taken.token),
             Err(_kind) => None,
         }
     }
@@ -132,9 +134,10 @@ impl<'a> Reader<'a> {
         Some(value)
     }
 
-    /// Takes the next token, whatever it is. Where none is next it gives the fault, or nothing at the end of the text.
+    /// Takes the next token, whatever it is, with its span. Where none is next it gives the fault, which begins here, or
+    /// nothing at the end of the text.
     #[inline(never)]
-    fn take(&mut self) -> Option<Result<Token<'a>, TokenFaultKind>>
+    fn take(&mut self) -> Option<Result<Spanned<'a>, TokenFaultKind>>
         ensures same_text { self.new.text ≡ self.old.text }
         ensures taken { Takes self.old self.new result }
     {
@@ -146,8 +149,13 @@ impl<'a> Reader<'a> {
         };
         match token_at(&mut self.source, self.place, first) {
             Ok(cut) => {
+                let start = self.place;
                 (self.place, self.seen) = self.source.past_spaces(cut.end, cut.seen);
-                Some(Ok(cut.token))
+                Some(Ok(Spanned {
+                    token: cut.token,
+                    start,
+                    end: cut.end,
+                }))
             }
             Err(kind) => {
                 self.fault = Some(kind);
@@ -156,14 +164,44 @@ impl<'a> Reader<'a> {
         }
     }
 
-    /// The text from what comes next on, or nothing at the end.
+    /// The text from what comes next on and its span, or nothing at the end.
     #[inline(always)]
-    pub fn rest(&self) -> Option<&'a str>
+    pub fn rest(&self) -> Option<Rest<'a>>
         ensures { SeesRest self.now result }
     {
         match character_of(self.seen) {
-            Some(_first) => Some(self.source.text_from(self.place)),
+            Some(_first) => Some(Rest {
+                text: self.source.text_from(self.place),
+                span: self.place..self.source.len(),
+            }),
             None => None,
+        }
+    }
+
+    /// The empty span at the end of the text.
+    fn end_span(&self) -> Range<usize>
+        ensures { result ≡ from_to (length self.now.text) (length self.now.text) }
+    {
+        let end = self.source.len();
+        end..end
+    }
+
+    /// The span of the lexical fault that begins here.
+    fn fault_span(&self, kind: TokenFaultKind) -> Range<usize>
+        requires { NextIs self.now (cut.Lexical kind self.now.place) }
+        ensures { result ≡ lexical_span self.now.text self.now.place kind }
+    {
+        let end = self.source.len();
+        match kind {
+            TokenFaultKind::UnterminatedString => self.place..end,
+            TokenFaultKind::UnexpectedChar(c) => {
+                if is_byte(self.seen, b'r') {
+                    let start = self.place + 2;
+                    return start..start + c.len_utf8();
+                }
+                self.place..self.place + c.len_utf8()
+            }
+            TokenFaultKind::MissingIdentifier => end..end,
         }
     }
 
@@ -181,6 +219,12 @@ impl<'a> Reader<'a> {
         } = self;
         source.spend()
     }
+}
+
+/// What is left of a text behind a whole value or expression, and its span.
+pub(crate) struct Rest<'a> {
+    pub text: &'a str,
+    pub span: Range<usize>,
 }
 
 /// The raw mark and the name of an identifier.
@@ -229,17 +273,18 @@ fn byte_of(wanted: Punctuation) -> u8
     }
 }
 
-/// Why nothing was read.
+/// Why nothing was read: the fault and its span, or want of memory.
 #[derive(Drop)]
 pub(crate) enum Refusal<'a> {
     Unexpected {
         expected: &'static str,
         found: &'static str,
+        span: Range<usize>,
     },
-    Incomplete(&'static str),
-    Lexical(TokenFaultKind),
+    Incomplete(&'static str, Range<usize>),
+    Lexical(TokenFaultKind, Range<usize>),
     /// A whole expression ended, and this text is left.
-    Unterminated(&'a str),
+    Unterminated(&'a str, Range<usize>),
     Memory(AllocError),
 }
 
@@ -250,27 +295,31 @@ impl<'a> Refusal<'a> {
     pub fn into_error(self, alloc: Global, orig: &str) -> ReadError
         ensures { Becomes self.entry orig.now result }
     {
-        let kind = match self {
-            Refusal::Unexpected { expected, found } => {
-                ParseErrorKind::UnexpectedToken { expected, found }
+        let (kind, span) = match self {
+            Refusal::Unexpected {
+                expected,
+                found,
+                span,
+            } => (ParseErrorKind::UnexpectedToken { expected, found }, span),
+            Refusal::Incomplete(expected, span) => {
+                (ParseErrorKind::IncompleteExpr(expected), span)
             }
-            Refusal::Incomplete(expected) => ParseErrorKind::IncompleteExpr(expected),
-            Refusal::Lexical(TokenFaultKind::UnterminatedString) => {
-                ParseErrorKind::UnterminatedString
+            Refusal::Lexical(TokenFaultKind::UnterminatedString, span) => {
+                (ParseErrorKind::UnterminatedString, span)
             }
-            Refusal::Lexical(TokenFaultKind::UnexpectedChar(c)) => {
-                ParseErrorKind::UnexpectedChar(c)
+            Refusal::Lexical(TokenFaultKind::UnexpectedChar(c), span) => {
+                (ParseErrorKind::UnexpectedChar(c), span)
             }
-            Refusal::Lexical(TokenFaultKind::MissingIdentifier) => {
-                ParseErrorKind::IncompleteExpr("identifier")
+            Refusal::Lexical(TokenFaultKind::MissingIdentifier, span) => {
+                (ParseErrorKind::IncompleteExpr("identifier"), span)
             }
-            Refusal::Unterminated(rest) => match String::from_str(alloc, rest) {
-                Ok(rest) => ParseErrorKind::UnterminatedExpression(rest),
+            Refusal::Unterminated(rest, span) => match String::from_str(alloc, rest) {
+                Ok(rest) => (ParseErrorKind::UnterminatedExpression(rest), span),
                 Err(e) => return ReadError::Memory(e),
             },
             Refusal::Memory(e) => return ReadError::Memory(e),
         };
-        match ParseError::new(alloc, orig, kind) {
+        match ParseError::with_span(alloc, orig, kind, Some(span)) {
             Ok(e) => ReadError::Parse(e),
             Err(e) => ReadError::Memory(e),
         }
@@ -299,12 +348,13 @@ pub(crate) fn refuse<'a>(
     ensures refused { RefusesNext reader.old expected.now at_end.now result }
 {
     match reader.take() {
-        Some(Ok(token)) => Refusal::Unexpected {
+        Some(Ok(taken)) => Refusal::Unexpected {
             expected,
-            found: token.classify(),
+            found: taken.token.classify(),
+            span: taken.start..taken.end,
         },
-        Some(Err(kind)) => Refusal::Lexical(kind),
-        None => Refusal::Incomplete(at_end),
+        Some(Err(kind)) => Refusal::Lexical(kind, reader.fault_span(kind)),
+        None => Refusal::Incomplete(at_end, reader.end_span()),
     }
 }
 
@@ -315,7 +365,7 @@ pub(crate) fn expect_end<'a>(reader: &Reader<'a>) -> Result<(), Refusal<'a>>
     ensures more { IfErr result (RefusesMore reader.now) }
 {
     match reader.rest() {
-        Some(rest) => Err(Refusal::Unterminated(rest)),
+        Some(Rest { text, span }) => Err(Refusal::Unterminated(text, span)),
         None => Ok(()),
     }
 }

@@ -66,6 +66,14 @@ impl<'a> Source<'a> {
         Source { text, looks: 0 }
     }
 
+    /// How many bytes the text has.
+    #[inline(always)]
+    pub fn len(&self) -> usize
+        ensures { result ≡ length self.now.text.now }
+    {
+        self.text.len()
+    }
+
     /// What is at a byte place.
     #[inline(always)]
     pub fn look(&mut self, at: usize) -> Look

@@ -3,8 +3,9 @@
 use Rattle.std.specs.Prelude.{◌≡◌, ℕ, Bool, true, false, List, [], ◌∷◌, ◌++◌, map, reverse, codes, Option, Some, None}
 use Rattle.std.specs.Prelude.{Result, Ok, Err, IfSome}
 use Rattle.std.specs.List.{last_or}
-use Rattle.cargo_platform.specs.declared.tokens.Token.{Token}
-use denote.Ref.{Bor}
+use Rattle.std.specs.declared.ops.Range.{Range}
+use Rattle.cargo_platform.specs.declared.tokens.Spanned.{Spanned}
+use Rattle.cargo_platform.specs.declared.reader.Rest.{Rest}
 use Rattle.cargo_platform.specs.declared.tokens.TokenFaultKind.{TokenFaultKind}
 use Rattle.cargo_platform.specs.declared.cfg.CfgExpr.{CfgExpr}
 use Rattle.cargo_platform.specs.declared.reader.Refusal.{Refusal}
@@ -17,27 +18,28 @@ use Rattle.cargo_platform.specs.declared.parser.Opened.{Opened}
 use Rattle.cargo_platform.specs.declared.parser.OpenGroups.{OpenGroups}
 use Rattle.cargo_platform.specs.declared.parser.Group.TheVariants as groups
 use Rattle.cargo_platform.specs.Tokens.{Lexeme, LeftParen, RightParen, Ident, Comma, Equals, String, Placed, plain}
-use Rattle.cargo_platform.specs.Tokens.{lexeme}
+use Rattle.cargo_platform.specs.Tokens.{placed}
 use Rattle.cargo_platform.specs.Cut.{lexemes}
 use Rattle.cargo_platform.specs.Cut.{Item, Nothing}
 use Rattle.cargo_platform.specs.Inside.Ahead.{Ahead, NextIs, GoesPast, Path}
 use Rattle.cargo_platform.specs.Cut as cut
 use Rattle.cargo_platform.specs.Trees.{CfgValue, Alone, KeyPair, Tree, All, Any, Value, trees_of, tree_of}
 use Rattle.cargo_platform.specs.Spelling.{Grammar, Spells, SpellEach}
-use Rattle.cargo_platform.specs.Faults.{Fault, UnterminatedExpression, expected_token}
-use Rattle.cargo_platform.specs.Faults.{expected_end, fault_of}
+use Rattle.cargo_platform.specs.Faults.{UnterminatedExpression, expected_token}
+use Rattle.cargo_platform.specs.Faults.{expected_end}
 use Rattle.cargo_platform.specs.Walk.{Word, Several, Negation, State, after, walk, is_whole}
-use Rattle.cargo_platform.specs.Inside.Refusals.{refused_fault}
+use Rattle.cargo_platform.specs.Inside.Refusals.{FaultAt, fault_at_of, refused_at}
 
--- behind tokens that are accepted this text is the surplus
-abbrev pub IsSurplus : List ℕ → Item → List ℕ → Type 0
-IsSurplus text next rest =
-    (g : Grammar) (last : Option Lexeme) → fault_of g text true last next ≡ Some (UnterminatedExpression rest)
+-- behind tokens that are accepted this text is the surplus, and it lies here
+abbrev pub IsSurplus : List ℕ → Item → List ℕ → Range ℕ → Type 0
+IsSurplus text next rest span =
+    (g : Grammar) (last : Option Lexeme)
+    → fault_at_of g text true last next ≡ Some (record { fault = UnterminatedExpression rest; span = span })
 
 -- the text from the next item on, which is the surplus behind what is accepted, or nothing at the end
-abbrev pub SeesRest : Ahead → Option (Bor (List ℕ)) → Type 0
+abbrev pub SeesRest : Ahead → Option Rest → Type 0
 SeesRest l None = NextIs l Nothing
-SeesRest l (Some rest) = (next : Item) × NextIs l next × IsSurplus l.text next rest.now
+SeesRest l (Some rest) = (next : Item) × NextIs l next × IsSurplus l.text next rest.text.now rest.span
 
 abbrev pub lexeme_of : Punctuation → Lexeme
 lexeme_of punctuation.LeftParen = LeftParen
@@ -50,10 +52,10 @@ abbrev pub TakesToken : Ahead → Ahead → Lexeme → Type 0
 TakesToken old new t = (first : Placed) × (first.token ≡ t) × GoesPast old new first
 
 -- what comes next is taken, if it is a token
-abbrev pub Takes : Ahead → Ahead → Option (Result Token TokenFaultKind) → Type 0
+abbrev pub Takes : Ahead → Ahead → Option (Result Spanned TokenFaultKind) → Type 0
 Takes old new None = (new ≡ old) × NextIs old Nothing
-Takes old new (Some (Ok t)) = TakesToken old new (lexeme t)
-Takes old new (Some (Err kind)) = (new ≡ old) × (at : ℕ) × NextIs old (cut.Lexical kind at)
+Takes old new (Some (Ok t)) = GoesPast old new (placed t)
+Takes old new (Some (Err kind)) = (new ≡ old) × NextIs old (cut.Lexical kind old.place)
 
 -- the token is an identifier
 abbrev pub IsIdentifier : Lexeme → Type 0
@@ -199,20 +201,20 @@ IsStop g s (cut.Lexical kind at) = Unit {0}
 IsStop g s Nothing = Unit {0}
 
 -- The tokens read cannot go on with the next item.
-pub record IsStuck (g : Grammar) (l : Ahead) (ts : List Lexeme) (fault : Fault) : Type 0 where
+pub record IsStuck (g : Grammar) (l : Ahead) (ts : List Lexeme) (fault : FaultAt) : Type 0 where
   pub next : Item
   pub comes : NextIs l next
   pub s : State
   pub walked : walk g ts ≡ Some s
   pub stops : IsStop g s next
-  pub is : fault_of g l.text (is_whole s) (last_or None ts) next ≡ Some fault
+  pub is : fault_at_of g l.text (is_whole s) (last_or None ts) next ≡ Some fault
 
 -- what is said of the fault that a refusal stands for, where it is no want of memory
-abbrev pub IfFault : Refusal → (Fault → Type 0) → Type 0
-IfFault r P = IfSome (refused_fault r) P
+abbrev pub IfFault : Refusal → (FaultAt → Type 0) → Type 0
+IfFault r P = IfSome (refused_at r) P
 
 -- some tokens were read, and the fault is where they cannot go on
-pub record StopsAt (g : Grammar) (l : Ahead) (P : List Lexeme → Type 0) (fault : Fault) : Type 0 where
+pub record StopsAt (g : Grammar) (l : Ahead) (P : List Lexeme → Type 0) (fault : FaultAt) : Type 0 where
   pub us : List Placed
   pub stop : Ahead
   pub path : Path l us stop
@@ -227,13 +229,13 @@ abbrev pub RefusesNext : Ahead → List ℕ → List ℕ → Refusal → Type 0
 RefusesNext l expected at_end r =
     (next : Item) × NextIs l next
     × ((g : Grammar) (last : Option Lexeme) → expected_token g last ≡ expected → expected_end g last ≡ at_end
-    → IfFault r (λ fault. fault_of g l.text false last next ≡ Some fault))
+    → IfFault r (λ fault. fault_at_of g l.text false last next ≡ Some fault))
 
 -- the next item is refused, behind tokens that are accepted
 abbrev pub RefusesMore : Ahead → Refusal → Type 0
 RefusesMore l r =
     (next : Item) × NextIs l next
-    × ((g : Grammar) (last : Option Lexeme) → IfFault r (λ fault. fault_of g l.text true last next ≡ Some fault))
+    × ((g : Grammar) (last : Option Lexeme) → IfFault r (λ fault. fault_at_of g l.text true last next ≡ Some fault))
 
 -- ---- names and pairs
 

@@ -6,7 +6,7 @@ use Rattle.cargo_platform.specs.declared.error.ReadError.TheVariants as errors
 use Rattle.cargo_platform.specs.Trees.{condition_of}
 use Rattle.cargo_platform.specs.Platforms.{IsConditionText, IsRefusedCondition, IsTargetName}
 use Rattle.cargo_platform.specs.Errors.{orig_of, fault_in}
-use Rattle.cargo_platform.proofs.ConditionAnswers.{expression_fault}
+use Rattle.cargo_platform.proofs.ConditionAnswers.{expression_fault, expression_span}
 use Rattle.cargo_platform.proofs.TextLaws.{condition_laws, refused_answer, answer_back}
 use Rattle.cargo_platform.proofs.TargetNames.{name_is_bare}
 use Rattle.cargo_platform.proofs.Platform.from_str.Goals.{then-not-is_plain+in_default+in_default-first_refused}
@@ -21,6 +21,7 @@ returns-in-Ok c =
     record {
       condition = read;
       fault = tt;
+      span = tt;
       well_formed = c.in-Ok.ensures.well_formed;
       refused = tt;
       reads_back = answer_back condition_laws condition_of c.args.s.now answer read tt;
@@ -35,6 +36,9 @@ returns-in-Err c =
     record {
       condition = tt;
       fault = fault;
+      span =
+          expression_span c.args.s.now c.in-Some.inner.now c.in-Err.error c.in-Some.ensures c.in-Err.ensures.orig
+          c.in-Err.ensures.span;
       well_formed = tt;
       refused = none;
       reads_back = answer_back condition_laws condition_of c.args.s.now answer tt none;
@@ -50,6 +54,13 @@ returns-in-Ok-target_error c =
     record {
       condition = tt;
       fault = fault;
+      span =
+          inr (
+            c.in_default.ensures,
+            c.in-Ok-target_error.ensures.of,
+            c.in-Ok-target_error.ensures.why,
+            c.in-Ok-target_error.ensures.place,
+          );
       well_formed = tt;
       refused = none;
       reads_back = answer_back condition_laws condition_of c.args.s.now answer tt none;
@@ -67,6 +78,7 @@ returns-in-Ok-from_str c =
     record {
       condition = read;
       fault = tt;
+      span = tt;
       well_formed = subst IsTargetName (sym c.in-Ok-from_str.ensures.ok) name;
       refused = tt;
       reads_back = answer_back condition_laws condition_of c.args.s.now answer read tt;

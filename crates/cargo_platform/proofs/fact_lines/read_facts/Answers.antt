@@ -25,6 +25,7 @@ returns-then-is_empty c =
       refused = tt;
       orig = tt;
       fault = tt;
+      span = tt;
       well_formed = list_formed text (Ok c.new-facts.result) facts;
       reads_back = list_back text (Ok c.new-facts.result) facts tt;
     }
@@ -44,6 +45,7 @@ returns c =
       refused = tt;
       orig = tt;
       fault = tt;
+      span = tt;
       well_formed = list_formed text (Ok c.loop-line.facts) facts;
       reads_back = list_back text (Ok c.loop-line.facts) facts tt;
     }
@@ -66,13 +68,14 @@ returns-in_err-fact c =
     let line = passed_on P e _ is
     (refused_behind (lines_of text) _ _ (length c.loop-line.yielded) (c.len.result + 1) c.in-Some.line.now facts e
     (c.without_last_end.ensures some) so_far c.loop-line.invariant turn number c.in_err-fact.ensures.numbered
-    c.in_err-fact.ensures.refused c.in_err-fact.ensures.orig c.in_err-fact.ensures.fault) in
+    c.in_err-fact.ensures.refused c.in_err-fact.ensures.orig c.in_err-fact.ensures.span) in
     let first = if_line P (λ n e. IsFirstNoFact (lines_of text) n) _ (λ n e h. h.first) line in
     record {
       facts = no_list _ e _ is;
       refused = first;
       orig = if_line P _ _ (λ n e h. h.orig) line;
       fault = if_line P _ _ (λ n e h. h.fault) line;
+      span = if_line P _ _ (λ n e h. h.span) line;
       well_formed = no_list _ e _ is;
       reads_back = list_back text _ (no_list _ e _ is) first;
     }

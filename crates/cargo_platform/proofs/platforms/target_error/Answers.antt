@@ -4,5 +4,5 @@ use Rattle.cargo_platform.proofs.platforms.target_error.Goals as goal
 
 pub returns-clause-why : goal.returns-clause-why
 returns-clause-why c =
-    IfOk-weaker c.new.result _ _
-    (λ e is. (string_bytes c.in_ok-message.message, c.in_ok-message.ensures, is)) c.new.ensures.why
+    IfOk-weaker c.with_span.result _ _
+    (λ e is. (string_bytes c.in_ok-message.message, c.in_ok-message.ensures, is)) c.with_span.ensures.why

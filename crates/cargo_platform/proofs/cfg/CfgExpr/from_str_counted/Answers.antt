@@ -4,10 +4,11 @@ use Rattle.cargo_platform.specs.declared.cfg.CfgExpr.{CfgExpr}
 use Rattle.cargo_platform.specs.declared.error.ReadError.{ReadError}
 use Rattle.cargo_platform.specs.Trees.{tree_of}
 use Rattle.cargo_platform.specs.Spelling.{Expressions, IsTreeText}
-use Rattle.cargo_platform.specs.Faults.{IsRefused}
-use Rattle.cargo_platform.specs.Errors.{IfParse, orig_of, fault_in}
-use Rattle.cargo_platform.proofs.ReaderAnswers.{expression_read, parse_is}
-use Rattle.cargo_platform.proofs.Parsing.{fault_is}
+use Rattle.cargo_platform.specs.Faults.{IsRefused, IsRefusedAt}
+use Rattle.cargo_platform.specs.declared.error.ParseError.{ParseError}
+use Rattle.cargo_platform.specs.Errors.{IfParse, orig_of, fault_in, span_in}
+use Rattle.cargo_platform.proofs.ReaderAnswers.{expression_read, parse_is, answer_parse}
+use Rattle.cargo_platform.proofs.Parsing.{fault_and_span}
 use Rattle.cargo_platform.proofs.Refusing.{stops_refused}
 use Rattle.cargo_platform.proofs.TextLaws.{tree_laws, formed_answer, refused_answer, answer_back}
 use Rattle.cargo_platform.proofs.cfg.CfgExpr.from_str_counted.Goals as goal
@@ -31,21 +32,27 @@ returns-clause-orig c =
     elim c.match-read_expression.branch [
       | in-Ok w ↦ subst P (sym w.read-is) tt
       | in-Err w ↦ subst P (sym w.read-is)
-          (parse_is CfgExpr w.in-Err.refusal s w.into_error.result _ w.into_error.ensures (λ e o f. o))
+          (parse_is CfgExpr w.in-Err.refusal s w.into_error.result _ w.into_error.ensures (λ e o f p. o))
+    ]
+
+pub returns-clause-span : goal.returns-clause-span
+returns-clause-span c =
+    let s = c.args.s.now in
+    let At : ParseError → Type 0 = λ e. IsRefusedAt Expressions s (fault_in e) (span_in e) in
+    let P : Result CfgExpr ReadError → Type 0 = λ z. IfParse z At in
+    elim c.match-read_expression.branch [
+      | in-Ok w ↦ subst P (sym w.read-is) tt
+      | in-Err w ↦ subst P (sym w.read-is)
+          (parse_is CfgExpr w.in-Err.refusal s w.into_error.result At w.into_error.ensures
+          (λ e o f p. fault_and_span w.in-Err.refusal (fault_in e) (span_in e) (IsRefusedAt Expressions s) f p
+          (stops_refused Expressions s c.new-reader.result w.in-Err.refusal c.utf8.s c.new-reader.ensures.text
+          c.new-reader.ensures.first w.in-Err.ensures.refused)))
     ]
 
 pub returns-clause-fault : goal.returns-clause-fault
 returns-clause-fault c =
     let s = c.args.s.now in
-    let P : Result CfgExpr ReadError → Type 0 = λ z. IfParse z (λ e. IsRefused Expressions s (fault_in e)) in
-    elim c.match-read_expression.branch [
-      | in-Ok w ↦ subst P (sym w.read-is) tt
-      | in-Err w ↦ subst P (sym w.read-is)
-          (parse_is CfgExpr w.in-Err.refusal s w.into_error.result _ w.into_error.ensures
-          (λ e o f. fault_is w.in-Err.refusal (fault_in e) _ f
-          (stops_refused Expressions s c.new-reader.result w.in-Err.refusal c.utf8.s c.new-reader.ensures.text
-          c.new-reader.ensures.first w.in-Err.ensures.refused)))
-    ]
+    answer_parse CfgExpr _ _ (λ e. IsRefused Expressions s (fault_in e)) (λ e h. h.0) (returns-clause-span c)
 
 pub returns-clause-well_formed : goal.returns-clause-well_formed
 returns-clause-well_formed c = formed_answer tree_laws tree_of c.args.s.now _ (returns-clause-tree c)

@@ -1,8 +1,7 @@
-use Rattle.std.proofs.Common.{refl, subst, Option, Some, None}
-use Rattle.std.specs.Prelude.{IfNone, MatchOption}
-use Rattle.cargo_platform.specs.Tokens.{Lexeme}
+use Rattle.std.proofs.Common.{refl, Option, Some, None}
+use Rattle.std.specs.Prelude.{IfSome, IfNone, MatchOption}
+use Rattle.cargo_platform.specs.Tokens.{placed}
 use Rattle.cargo_platform.specs.Cut.{Lexical, Nothing}
-use Rattle.cargo_platform.specs.Inside.Parsing.{IsIdentifier}
 use Rattle.cargo_platform.proofs.Coming.{no_token}
 use Rattle.cargo_platform.proofs.reader.Reader.eat_name_with_r.Goals as goal
 
@@ -10,19 +9,28 @@ none_or : {A : Type 0} (o : Option A) (N P : Type 0) (S : A → Type 0) → Matc
 none_or None N P S n f = f n
 none_or (Some a) N P S n f = tt
 
+some_or : {A : Type 0} (o : Option A) (N : Type 0) (S P : A → Type 0) → MatchOption o N S → ((a : A) → S a → P a)
+    → IfSome o P
+some_or None N S P m f = tt
+some_or (Some a) N S P m f = f a m
+
+pub returns-in-Ok-clause-taken : goal.returns-in-Ok-clause-taken
+returns-in-Ok-clause-taken c =
+    let taken = rw c.in-Ok.is at c.in_ok-taken.ensures.taken in
+    some_or c.name_of.result _ _ _ c.name_of.ensures (λ r is. (placed c.in-Ok.taken, is, taken))
+
 pub returns-in-Ok-clause-not_taken : goal.returns-in-Ok-clause-not_taken
 returns-in-Ok-clause-not_taken c =
-    let taken = rw c.in-Ok.is at c.in_ok-token.ensures.taken in
-    let I : Lexeme → Type 0 = λ z. IsIdentifier z in
+    let taken = rw c.in-Ok.is at c.in_ok-taken.ensures.taken in
     none_or c.name_of.result _ _ _ c.name_of.ensures (λ other.
-    absurd (other (subst I taken.1 (c.requires taken.0 (record { to = taken.0.end; comes = taken.2.comes })))))
+    absurd (other (c.requires (placed c.in-Ok.taken) (record { to = c.in-Ok.taken.end; comes = taken.comes }))))
 
 pub returns-in-Err-clause-not_taken : goal.returns-in-Err-clause-not_taken
 returns-in-Err-clause-not_taken c =
-    let taken = rw c.in-Err.is at c.in_ok-token.ensures.taken in
-    (taken.0, λ t is p. no_token c.args.self.now (Lexical c.in-Err._kind taken.1) t refl taken.2 is)
+    let taken = rw c.in-Err.is at c.in_ok-taken.ensures.taken in
+    (taken.0, λ t is p. no_token c.args.self.now (Lexical c.in-Err._kind c.args.self.now.place) t refl taken.1 is)
 
-pub returns-in_err-token-clause-not_taken : goal.returns-in_err-token-clause-not_taken
-returns-in_err-token-clause-not_taken c =
-    let taken = c.in_err-token.ensures.taken in
+pub returns-in_err-taken-clause-not_taken : goal.returns-in_err-taken-clause-not_taken
+returns-in_err-taken-clause-not_taken c =
+    let taken = c.in_err-taken.ensures.taken in
     rw c.from_residual.ensures (taken.0, λ t is p. no_token c.args.self.now Nothing t refl taken.1 is)

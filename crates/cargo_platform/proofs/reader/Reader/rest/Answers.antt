@@ -1,6 +1,7 @@
 use Rattle.std.proofs.Common.{sym, subst, ◌∙◌}
 use Rattle.cargo_platform.specs.Cut.{Item, Nothing}
 use Rattle.cargo_platform.specs.Inside.Parsing.{IsSurplus}
+use Rattle.cargo_platform.specs.Faults.{from_to}
 use Rattle.cargo_platform.specs.Inside.Ahead.{Ahead, NextIs}
 use Rattle.cargo_platform.proofs.Coming.{end_ahead, rest_ahead, nothing_seen, something_seen}
 use Rattle.cargo_platform.proofs.reader.Reader.rest.Goals as goal
@@ -18,6 +19,7 @@ returns-in-Some c =
     let r = c.self.inside in
     let i = c.self.invariant in
     let within = something_seen r.source.text.now r.place _ r.seen i.sees (sym c.character_of.ensures ∙ c.in-Some.is) in
-    let S : Ahead → Type 0 = λ z. (next : Item) × NextIs z next × IsSurplus z.text next c.text_from.result.now in
+    let span = from_to r.place c.len.result in
+    let S : Ahead → Type 0 = λ z. (next : Item) × NextIs z next × IsSurplus z.text next c.text_from.result.now span in
     subst S c.self.view_is
-    (rw c.text_from.ensures (rest_ahead r.source.text.now r.place i.utf8 i.reached i.past within))
+    (rw (c.text_from.ensures, c.len.ensures) (rest_ahead r.source.text.now r.place i.utf8 i.reached i.past within))

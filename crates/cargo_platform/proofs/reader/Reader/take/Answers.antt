@@ -1,9 +1,8 @@
 use Rattle.std.proofs.Common.{◌≡◌, refl, sym, ap, subst, ◌∙◌}
 use Rattle.cargo_platform.specs.Cut.{Lexical, Nothing}
-use Rattle.cargo_platform.specs.Tokens.{lexeme}
-use Rattle.cargo_platform.specs.Inside.Ahead.{Ahead, NextIs}
-use Rattle.cargo_platform.specs.Inside.Parsing.{TakesToken}
-use Rattle.cargo_platform.proofs.Coming.{ahead_at, fault_ahead, end_ahead, nothing_seen, takes}
+use Rattle.cargo_platform.specs.Tokens.{lexeme, Placed}
+use Rattle.cargo_platform.specs.Inside.Ahead.{Ahead, NextIs, GoesPast}
+use Rattle.cargo_platform.proofs.Coming.{ahead_at, fault_ahead, end_ahead, nothing_seen, goes_past}
 use Rattle.cargo_platform.proofs.reader.Reader.take.Goals as goal
 
 pub returns-in-Some-clause-taken : goal.returns-in-Some-clause-taken
@@ -11,8 +10,8 @@ returns-in-Some-clause-taken c =
     let r = c.self.inside in
     let i = c.self.invariant in
     let found = rw c.in-Some.is at i.found in
-    let N : Ahead → Type 0 = λ z. NextIs z (Lexical c.in-Some.kind r.place) in
-    (refl, r.place, subst N c.self.view_is (fault_ahead r.source.text.now r.place c.in-Some.kind i.reached.0 found))
+    let N : Ahead → Type 0 = λ z. NextIs z (Lexical c.in-Some.kind z.place) in
+    (refl, subst N c.self.view_is (fault_ahead r.source.text.now r.place c.in-Some.kind i.reached.0 found))
 
 pub returns-in_default-character_of-clause-taken : goal.returns-in_default-character_of-clause-taken
 returns-in_default-character_of-clause-taken c =
@@ -31,20 +30,20 @@ returns-in-Ok-clause-taken c =
     let t = lexeme c.in-Ok.cut.token in
     let cut = c.in-Ok.ensures.token in
     let found = rw c.in-Ok.ensures.same at c.past_spaces.ensures in
-    let T : Ahead → Type 0 = λ z. TakesToken z (ahead_at c.past_spaces.new.self.text.now to) t in
+    let p : Placed = record { token = t; start = r.place; end = c.in-Ok.cut.end } in
+    let T : Ahead → Type 0 = λ z. GoesPast z (ahead_at c.past_spaces.new.self.text.now to) p in
     subst T c.self.view_is
     (subst
-    (λ z. TakesToken (ahead_at text r.place) (ahead_at z.now to) t) (sym found.same)
-    (takes text r.place c.in-Ok.cut.end to t i.reached.0 cut.stands found.spaces))
+    (λ z. GoesPast (ahead_at text r.place) (ahead_at z.now to) p) (sym found.same)
+    (goes_past text r.place c.in-Ok.cut.end to t i.reached.0 cut.stands found.spaces))
 
 pub returns-in-Err-clause-taken : goal.returns-in-Err-clause-taken
 returns-in-Err-clause-taken c =
     let r = c.self.inside in
     let i = c.self.invariant in
     let V : Ahead → Type 0 = λ z. ahead_at c.token_at.new.source.text.now r.place ≡ z in
-    let N : Ahead → Type 0 = λ z. NextIs z (Lexical c.in-Err.kind r.place) in (
+    let N : Ahead → Type 0 = λ z. NextIs z (Lexical c.in-Err.kind z.place) in (
       subst V c.self.view_is (ap (λ z. ahead_at z.now r.place) c.in-Err.ensures.same),
-      r.place,
       subst N c.self.view_is
           (fault_ahead r.source.text.now r.place c.in-Err.kind i.reached.0 c.in-Err.ensures.fault),
     )

@@ -1,0 +1,239 @@
+//! Two lines that show where a text is refused.
+
+ghost use Rattle.std.specs.Prelude.{◌≡◌, ◌≤◌, ◌+◌, IfOk, length, string_bytes, Some};
+ghost use Rattle.std.specs.Str.{chars};
+ghost use Rattle.unicode.specs.GeneralCategory.{general_category};
+ghost use Rattle.cargo_platform.specs.Errors.{fault_in, fault_meant, orig_of, span_in};
+ghost use Rattle.cargo_platform.specs.Print.{print_fault};
+ghost use Rattle.cargo_platform.specs.Snippets.{is_mark_category, is_separator_category, is_control_category};
+ghost use Rattle.cargo_platform.specs.Snippets.{is_other_category, is_hidden_category, shown, margin, caret_count};
+ghost use Rattle.cargo_platform.specs.Snippets.{first_shown, end_shown, shown_part, shown_line};
+ghost use Rattle.cargo_platform.specs.Snippets.{carets, dots, shown_fault, lines, lines_by, IsSnippet};
+
+use crate::error::{ParseError, ParseErrorKind};
+use std::alloc::{AllocError, Global};
+use std::ops::Range;
+use unicode::properties::GeneralCategory;
+
+/// A text of more characters is cut.
+const WIDTH: usize = 100;
+
+/// So many characters before a span are shown of a text that is cut, and so many of the span.
+const PART: usize = 40;
+
+impl ParseError {
+    /// Two lines for people, with a line end between them and none behind: `orig`, and carets under the span of the
+    /// fault, one for each character and at least one, with a space and the print of the kind behind. There are none
+    /// where the error has no span.
+    ///
+    /// A character is shown as U+FFFD that is neither the space U+0020 nor in one of the general categories L, N, P and
+    /// S: so no text forges a line, and each character takes one column. Wide letters, and those that are written from
+    /// right to left, may still move the carets. Of a text with more than 100 characters up to 40 before the span are
+    /// shown, the first 40 of a longer span, and else 100 in all, with `..` at each side that is cut. A text that the
+    /// kind holds is shown and cut in the same way, from its start on.
+    pub fn snippet(&self, alloc: Global) -> Result<Option<String>, AllocError>
+        ensures { IfOk result (λ s. IsSnippet (orig_of self.now) (span_in self.now) (fault_in self.now) s) }
+    {
+        match self.span() {
+            Some(span) => snippet_at(alloc, self.orig(), span, self.kind()),
+            None => Ok(None),
+        }
+    }
+}
+
+/// The two lines of a text, or nothing where the span does not lie in it.
+pub(crate) fn snippet_at(
+    alloc: Global,
+    text: &str,
+    span: Range<usize>,
+    kind: &ParseErrorKind,
+) -> Result<Option<String>, AllocError>
+    ensures { IfOk result (λ s. IsSnippet text.now (Some span) (fault_meant kind.now) s) }
+{
+    let Some(before) = text.get(0..span.start) else {
+        return Ok(None);
+    };
+    let Some(inside) = text.get(span.start..span.end) else {
+        return Ok(None);
+    };
+    let lines = lines(alloc, text, count(before), count(inside), kind)?;
+    Ok(Some(lines))
+}
+
+/// The two lines of a text with so many characters before the span, and so many in it.
+fn lines(
+    alloc: Global,
+    text: &str,
+    before: usize,
+    inside: usize,
+    kind: &ParseErrorKind,
+) -> Result<String, AllocError>
+    ensures { IfOk result (λ s. string_bytes s ≡ lines_by text.now before inside (fault_meant kind.now)) }
+{
+    let line = shown_line(alloc, text, before, inside)?;
+    let size = count(text);
+    let first = first_shown(size, before);
+    let margin = margin(0 < first);
+    let spaces = " ".repeat(alloc, before.saturating_sub(first))?;
+    let carets = "^".repeat(alloc, caret_count(size, before, inside))?;
+    let kind = shown_kind(alloc, kind)?;
+    format!(in alloc; "{line}\n{margin}{spaces}{carets} {kind}")
+}
+
+/// How many characters the text has.
+fn count(text: &str) -> usize
+    ensures { result ≡ length (chars text.now) }
+{
+    text.chars().count()
+}
+
+/// The number of the first character that is shown.
+fn first_shown(size: usize, before: usize) -> usize
+    ensures { result ≡ first_shown size before }
+{
+    if size <= WIDTH {
+        0
+    } else {
+        before.saturating_sub(PART)
+    }
+}
+
+/// The number of the character behind the last one that is shown.
+fn end_shown(size: usize, before: usize, inside: usize) -> usize
+    ensures { result ≡ end_shown size before inside }
+{
+    if size <= WIDTH {
+        return size;
+    }
+    if PART < inside {
+        return size.min(before.saturating_add(PART));
+    }
+    size.min(before.saturating_sub(PART).saturating_add(WIDTH))
+}
+
+/// How many carets there are.
+fn caret_count(size: usize, before: usize, inside: usize) -> usize
+    ensures { result ≡ caret_count size before inside }
+{
+    let shown = inside.min(end_shown(size, before, inside).saturating_sub(before));
+    if shown == 0 { 1 } else { shown }
+}
+
+/// The mark of a cut.
+fn dots(is_cut: bool) -> &'static str
+    ensures { result.now ≡ dots is_cut }
+{
+    if is_cut { ".." } else { "" }
+}
+
+/// As many spaces as the mark of a cut has characters.
+fn margin(is_cut: bool) -> &'static str
+    ensures { result.now ≡ margin is_cut }
+{
+    if is_cut { "  " } else { "" }
+}
+
+/// The text as it is shown, with so many characters before the span and so many in it.
+fn shown_line(alloc: Global, text: &str, before: usize, inside: usize) -> Result<String, AllocError>
+    ensures { IfOk result (λ s. string_bytes s ≡ shown_line (chars text.now) before inside) }
+{
+    let size = count(text);
+    let first = first_shown(size, before);
+    let end = end_shown(size, before, inside);
+    let length = end.saturating_sub(first);
+    let part: String = text
+        .chars()
+        .skip(first)
+        .take(length)
+        .map(shown)
+        .collect(alloc)?;
+    let left = dots(0 < first);
+    let right = dots(end < size);
+    format!(in alloc; "{left}{part}{right}")
+}
+
+/// The kind with the text of the user in it as it is shown.
+fn shown_kind(alloc: Global, kind: &ParseErrorKind) -> Result<ParseErrorKind, AllocError>
+    ensures { IfOk result (λ k. fault_meant k ≡ shown_fault (fault_meant kind.now)) }
+{
+    Ok(match kind {
+        ParseErrorKind::UnterminatedString => ParseErrorKind::UnterminatedString,
+        ParseErrorKind::UnexpectedChar(c) => ParseErrorKind::UnexpectedChar(shown(*c)),
+        ParseErrorKind::UnexpectedToken { expected, found } => ParseErrorKind::UnexpectedToken {
+            expected,
+            found,
+        },
+        ParseErrorKind::IncompleteExpr(expected) => ParseErrorKind::IncompleteExpr(expected),
+        ParseErrorKind::UnterminatedExpression(rest) => {
+            ParseErrorKind::UnterminatedExpression(shown_line(alloc, rest, 0, 0)?)
+        }
+        ParseErrorKind::InvalidTarget(message) => {
+            ParseErrorKind::InvalidTarget(shown_line(alloc, message, 0, 0)?)
+        }
+    })
+}
+
+/// The character that is shown for one.
+fn shown(c: char) -> char
+    ensures { result ≡ shown c }
+{
+    if c == ' ' {
+        return c;
+    }
+    if is_hidden_category(GeneralCategory::for_char(c)) {
+        '\u{FFFD}'
+    } else {
+        c
+    }
+}
+
+/// Whether characters of the category are hidden.
+fn is_hidden_category(category: GeneralCategory) -> bool
+    ensures { result ≡ is_hidden_category category }
+{
+    is_mark_category(category)
+        || is_separator_category(category)
+        || is_control_category(category)
+        || is_other_category(category)
+}
+
+/// Whether the category is Mn, Mc or Me.
+fn is_mark_category(category: GeneralCategory) -> bool
+    ensures { result ≡ is_mark_category category }
+{
+    matches!(
+        category,
+        GeneralCategory::NonspacingMark
+            | GeneralCategory::SpacingMark
+            | GeneralCategory::EnclosingMark
+    )
+}
+
+/// Whether the category is Zs, Zl or Zp.
+fn is_separator_category(category: GeneralCategory) -> bool
+    ensures { result ≡ is_separator_category category }
+{
+    matches!(
+        category,
+        GeneralCategory::SpaceSeparator
+            | GeneralCategory::LineSeparator
+            | GeneralCategory::ParagraphSeparator
+    )
+}
+
+/// Whether the category is Cc or Cf.
+fn is_control_category(category: GeneralCategory) -> bool
+    ensures { result ≡ is_control_category category }
+{
+    matches!(category, GeneralCategory::Control | GeneralCategory::Format)
+}
+
+/// Whether the category is Cs, Co or Cn.
+fn is_other_category(category: GeneralCategory) -> bool
+    ensures { result ≡ is_other_category category }
+{
+    matches!(
+        category,
+        GeneralCategory::Surrogate | GeneralCategory::PrivateUse | GeneralCategory::Unassigned
+    )
+}

@@ -1,0 +1,235 @@
+//! Where refused texts go wrong: the span of each fault.
+
+use cargo_platform::{
+    Cfg, CfgExpr, FactsError, ParseError, ParseErrorKind, Platform, ReadError, read_facts,
+};
+use std::process::Abort;
+
+/// A refused text, and where the span of its fault begins and ends.
+type Row = (&'static str, usize, usize);
+
+/// As an expression.
+const EXPRESSIONS: &[Row] = &[
+    // A token that does not fit: behind nothing, a `(`, a comma, `=`, a group's word, and the end of a member.
+    (")", 0, 1),
+    ("\"é\"", 0, 4),
+    ("all(,a)", 4, 5),
+    ("all(a, ,)", 7, 8),
+    ("a = b", 4, 5),
+    ("a = r#b", 4, 7),
+    ("all a", 4, 5),
+    ("not \"x\"", 4, 7),
+    ("all(unix windows)", 9, 16),
+    ("any(a r#b)", 6, 9),
+    ("any(a \"x\")", 6, 9),
+    ("all(k = \"é\" \"ü\")", 13, 17),
+    ("true = \"x\")", 5, 11),
+    // Something left behind a whole expression: to the end.
+    ("a b", 2, 3),
+    ("a  )  ", 3, 6),
+    ("a = \"x\" %", 8, 9),
+    ("a r#", 2, 4),
+    ("a \"x", 2, 4),
+    ("a é b", 2, 6),
+    // A character that begins no token; behind `r#` the character and not the mark.
+    ("%", 0, 1),
+    ("é", 0, 2),
+    ("all(é)", 4, 6),
+    ("all(k = \"é\" %)", 13, 14),
+    ("r#%", 2, 3),
+    ("r#é", 2, 4),
+    ("all(a, r#漢)", 9, 12),
+    ("all(r# a)", 6, 7),
+    ("all(r, a#)", 8, 9),
+    // An open string, from its quote on.
+    ("k = \"ab", 4, 7),
+    ("all(\"é)", 4, 8),
+    // The end of the text.
+    ("", 0, 0),
+    ("  ", 2, 2),
+    ("all", 3, 3),
+    ("not( ", 5, 5),
+    ("a =", 3, 3),
+    ("any(a, é", 7, 9),
+    ("any(a", 5, 5),
+    ("any(a ", 6, 6),
+    ("r#", 2, 2),
+    ("all( r#", 7, 7),
+];
+
+/// As a name or a pair.
+const FACTS: &[Row] = &[
+    ("", 0, 0),
+    ("= ", 0, 1),
+    ("a)", 1, 2),
+    ("all(", 3, 4),
+    ("a = b", 4, 5),
+    ("a = ", 4, 4),
+    ("k = \"v", 4, 6),
+    ("r#1", 2, 3),
+    ("unix\r", 4, 5),
+];
+
+/// As a condition: the part of the key in which the span lies, and the span there.
+const CONDITIONS: &[(&str, &str, usize, usize)] = &[
+    ("cfg()", "", 0, 0),
+    ("cfg(all(a b))", "all(a b)", 6, 7),
+    ("cfg(r#%)", "r#%", 2, 3),
+    ("cfg(cfg(a))", "cfg(a)", 3, 6),
+    // A target name that begins with `cfg(`: at the end, where the `)` is missing.
+    ("cfg(", "cfg(", 4, 4),
+    ("cfg(unix", "cfg(unix", 8, 8),
+    ("cfg(é) ", "cfg(é) ", 8, 8),
+    // Any other: its first character that no target name has, wherever a `(` stands.
+    ("a b", "a b", 1, 2),
+    ("a b(c", "a b(c", 1, 2),
+    (" cfg(unix)", " cfg(unix)", 0, 1),
+    ("\"cfg(unix)\"", "\"cfg(unix)\"", 0, 1),
+    ("é%(é(", "é%(é(", 2, 3),
+    ("x%y%", "x%y%", 1, 2),
+    ("漢 x", "漢 x", 3, 4),
+    ("x→y", "x→y", 1, 4),
+    ("x(", "x(", 1, 2),
+];
+
+/// The error of a refused text.
+fn error_of(rt: &impl Abort, refusal: Option<ReadError>) -> ParseError {
+    match refusal {
+        Some(ReadError::Parse(error)) => error,
+        _ => panic!(rt; "a fault"),
+    }
+}
+
+fn assert_span(rt: &impl Abort, error: &ParseError, orig: &str, start: usize, end: usize) {
+    assert_eq!(rt; error.orig(), orig);
+    match error.span() {
+        Some(span) => {
+            assert_eq!(rt; span.start, start, "{orig}");
+            assert_eq!(rt; span.end, end, "{orig}");
+        }
+        None => panic!(rt; "{orig}: no span"),
+    }
+}
+
+#[test]
+fn spans_of_expressions(rt: HostRuntime) {
+    for (text, start, end) in EXPRESSIONS {
+        let error = error_of(&rt, CfgExpr::from_str(rt.alloc(), text).err());
+        assert_span(&rt, &error, text, *start, *end);
+    }
+}
+
+#[test]
+fn spans_of_facts(rt: HostRuntime) {
+    for (text, start, end) in FACTS {
+        let error = error_of(&rt, Cfg::from_str(rt.alloc(), text).err());
+        assert_span(&rt, &error, text, *start, *end);
+    }
+}
+
+#[test]
+fn spans_of_conditions(rt: HostRuntime) {
+    for (text, orig, start, end) in CONDITIONS {
+        let error = error_of(&rt, Platform::from_str(rt.alloc(), text).err());
+        assert_span(&rt, &error, orig, *start, *end);
+    }
+}
+
+#[test]
+fn spans_of_lines(rt: HostRuntime) {
+    match read_facts(rt.alloc(), "unix\na = \"é\" b\n%") {
+        Err(FactsError::Line { number, error }) => {
+            assert_eq!(rt; number, 2);
+            assert_span(&rt, &error, "a = \"é\" b", 9, 10);
+        }
+        Err(FactsError::Memory(_)) => panic!(rt; "memory"),
+        Ok(_) => panic!(rt; "a line was read that has to be refused"),
+    }
+}
+
+#[test]
+fn an_error_made_by_hand_has_no_span(rt: HostRuntime) {
+    let error = ParseError::new(rt.alloc(), "a", ParseErrorKind::UnterminatedString);
+    let error = error.expect(&rt, "memory");
+    assert!(rt; error.span().is_none());
+    let snippet = error.snippet(rt.alloc()).expect(&rt, "memory");
+    assert!(rt; snippet.is_none());
+}
+
+/// A refused expression and its snippet.
+const SNIPPETS: &[(&str, &str)] = &[
+    (
+        "all(unix, any(windows target_os = \"linux\"))",
+        "all(unix, any(windows target_os = \"linux\"))\n                      ^^^^^^^^^ expected `)\
+        `, found an identifier",
+    ),
+    (
+        "",
+        "\n^ expected start of a cfg expression, but cfg expression ended",
+    ),
+    (
+        "all(",
+        "all(\n    ^ expected start of a cfg expression, but cfg expression ended",
+    ),
+    (
+        "all(é %)",
+        "all(é %)\n    ^ unexpected character `é` in cfg, expected parens, a comma, an identifier, \
+        or a string",
+    ),
+    (
+        "a é b",
+        "a é b\n  ^^^ unexpected content `é b` found after cfg expression",
+    ),
+    (
+        "a\tb",
+        "a\u{FFFD}b\n ^^ unexpected content `\u{FFFD}b` found after cfg expression",
+    ),
+    (
+        "\n",
+        "\u{FFFD}\n^ unexpected character `\u{FFFD}` in cfg, expected parens, a comma, an identifie\
+        r, or a string",
+    ),
+    (
+        "a \u{202E}x\nforged",
+        "a \u{FFFD}x\u{FFFD}forged\n  ^^^^^^^^^ unexpected content `\u{FFFD}x\u{FFFD}forged` found \
+        after cfg expression",
+    ),
+    (
+        "any(aaaaaaaaaaaaaaaaaaaaaaaaaaaaaaaaaaaaaaaaaaaaaaaaaaaaaaaaaaaa bbbbbbbbbb, ccccccccccccc\
+        ccccccccccccccccccccccccccccccccccccccccccccccc)",
+        "..aaaaaaaaaaaaaaaaaaaaaaaaaaaaaaaaaaaaaaa bbbbbbbbbb, cccccccccccccccccccccccccccccccccccc\
+        cccccccccccc..\n                                          ^^^^^^^^^^ expected `)`, found a\
+        n identifier",
+    ),
+    (
+        "a bbbbbbbbbbbbbbbbbbbbbbbbbbbbbbbbbbbbbbbbbbbbbbbbbbbbbbbbbbbbbbbbbbbbbbbbbbbbbbbbbbbbbbbb\
+        bbbbbbbbbbbbbbbbbbbbbbbbbbbbbbbb",
+        "a bbbbbbbbbbbbbbbbbbbbbbbbbbbbbbbbbbbbbbbb..\n  ^^^^^^^^^^^^^^^^^^^^^^^^^^^^^^^^^^^^^^^^ u\
+        nexpected content `bbbbbbbbbbbbbbbbbbbbbbbbbbbbbbbbbbbbbbbbbbbbbbbbbbbbbbbbbbbbbbbbbbbbbbb\
+        bbbbbbbbbbbbbbbbbbbbbbbbbbbbb..` found after cfg expression",
+    ),
+];
+
+#[test]
+fn snippets_of_expressions(rt: HostRuntime) {
+    for (text, wanted) in SNIPPETS {
+        let error = error_of(&rt, CfgExpr::from_str(rt.alloc(), text).err());
+        let snippet = error.snippet(rt.alloc()).expect(&rt, "memory");
+        let snippet = snippet.expect(&rt, "no span");
+        assert_eq!(rt; snippet.as_str(), *wanted, "{text}");
+    }
+}
+
+#[test]
+fn the_snippet_of_an_open_string_is_short(rt: HostRuntime) {
+    let value = "x".repeat(rt.alloc(), 1_000_000).expect(&rt, "memory");
+    let text = format!(in rt.alloc(); "k = \"{value}").expect(&rt, "memory");
+    let error = error_of(&rt, CfgExpr::from_str(rt.alloc(), &text).err());
+    let snippet = error.snippet(rt.alloc()).expect(&rt, "memory");
+    let snippet = snippet.expect(&rt, "no span");
+    assert_eq!(rt;
+        snippet.as_str(),
+        "k = \"xxxxxxxxxxxxxxxxxxxxxxxxxxxxxxxxxxxxxxx..\n    ^^^^^^^^^^^^^^^^^^^^^^^^^^^^^^^^^^^^^^^^ \
+        unterminated string in cfg"
+    );
+}
