@@ -1,0 +1,4 @@
+pub mod Bits
+pub mod Found
+pub mod Steps
+pub mod Taken
