@@ -1,10 +1,12 @@
 -- Steps of the walk.
-use Rattle.std.proofs.Common.{◌≡◌, ◌∙◌, refl, sym, ap, ℕ, ◌+◌, Bool, true, false, ◌&&◌, ◌||◌, List, [], ◌∷◌, map, length}
+use Rattle.std.proofs.Common.{◌≡◌, ◌∙◌, refl, sym, ap, ℕ, ◌+◌, Bool, true}
+use Rattle.std.proofs.Common.{false, ◌&&◌, ◌||◌, List, [], ◌∷◌, map, length}
 use Rattle.std.proofs.Common.{Option, Some, None}
 use Rattle.std.proofs.Common.{Global, Box, box_value, rules, arith, ◌++◌, append_assoc}
 use Rattle.std.specs.List.{list_any}
 use Rattle.cargo_platform.specs.Trees.{CfgValue, Alone, KeyPair}
-use Rattle.known_targets.specs.Rows.{Values, Keys, with_fact, names_of, keys_of, values_of, plain, facts_of_values, facts_in}
+use Rattle.known_targets.specs.Rows.{Values, Keys, with_fact, names_of, keys_of}
+use Rattle.known_targets.specs.Rows.{values_of, plain, facts_of_values, facts_in}
 use Rattle.known_targets.specs.Bits.{has}
 use Rattle.std.specs.Prelude.{not, ◌≢◌, bytes_eq}
 use Rattle.std.specs.Borrow.{Bor}
@@ -161,7 +163,8 @@ pub rows_ended : {X Y : Type 0} (f : X → Y) (p : Y → Bool) (set : Bool) (xs 
     → i ≤ length xs → length xs ≤ i → set ≡ list_any p (map f (take i xs)) → set ≡ list_any p (map f xs)
 rows_ended f p set xs i low high before =
     let last : i ≡ length xs = omega arith in
-    before ∙ ap (λ n. list_any p (map f (take n xs))) last ∙ ap (λ ys. list_any p (map f ys)) (take_all (length xs) xs (omega arith))
+    before ∙ ap (λ n. list_any p (map f (take n xs))) last
+    ∙ ap (λ ys. list_any p (map f ys)) (take_all (length xs) xs (omega arith))
 
 -- ---- names that are gone through
 

@@ -10,7 +10,8 @@ use Rattle.partial_facts.specs.Kleene.{kleene}
 use Rattle.partial_facts.specs.Conditions.{kleene_condition}
 use Rattle.partial_facts.proofs.Refining.{all_known}
 use Rattle.partial_facts.proofs.Naming.{condition_sound}
-use Rattle.known_targets.specs.Open.{open_told, taken_as, IsSameButOpen, open_sound}
+use Rattle.partial_facts.specs.Partly.{is_named}
+use Rattle.known_targets.specs.Open.{unless_open, open_told, taken_as, IsSameButOpen, open_sound}
 
 -- with nothing open
 pub closed : (name : List ℕ) (s : FactSet) (c : Condition)
@@ -56,3 +57,14 @@ module _ (name : List ℕ) (facts : FactSet) (keys : List (List ℕ)) (s : FactS
   pub holds_possibly : (m : Bool) → m ≡ taken_as true (kleene_condition (Some name) (open_told facts keys) c)
       → IsTrueCondition name s c → IsTrue m
   holds_possibly m is h = is ∙ what_holds_may _ (IsTrueCondition name s c) agrees h
+
+closed_fact : (o t c : Bool) → IfSome (unless_open o t) (λ b. c ≡ b) → o ≡ false → c ≡ t
+closed_fact false t c h is = h
+closed_fact true t c h is = absurd (true≢false is)
+
+pub allowed : (facts : FactSet) (keys : List (List ℕ)) (s : FactSet) → IsSameButOpen facts keys s
+    ↔ ((p : Pair) → IfSome (open_told facts keys p) (λ b. contains s p ≡ b))
+allowed facts keys s = (
+  λ same p. open_sound facts keys s p same,
+  λ told p. closed_fact (is_named p.name keys) (contains facts p) (contains s p) (told p),
+)

@@ -1,5 +1,5 @@
--- What the groups around an expression make of its truth at one target, while their members are gone through. What is not
--- known is taken as a truth that each group states, since a negation turns it around.
+-- What the groups around an expression make of its truth at one target, while their members are gone through. What is
+-- not known is taken as a truth that each group states, since a negation turns it around.
 use Rattle.std.specs.Prelude.{ℕ, ◌+◌, ◌*◌, Bool, true, false, not, ◌&&◌, ◌||◌, Option, List, [], ◌∷◌, map, reverse, sum}
 use Rattle.cargo_platform.specs.Trees.{Tree, All, Any, Trees, tree_of, trees_of}
 use Rattle.cargo_platform.specs.Facts.{Pair, fact_set}

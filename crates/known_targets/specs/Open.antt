@@ -29,6 +29,7 @@ sound_by : (o t c : Bool) → (o ≡ false → c ≡ t) → IfSome (unless_open 
 sound_by true t c h = tt
 sound_by false t c h = h refl
 
-pub open_sound : (facts : FactSet) (open_keys : List (List ℕ)) (s : FactSet) (p : Pair) → IsSameButOpen facts open_keys s
+pub open_sound : (facts : FactSet) (open_keys : List (List ℕ)) (s : FactSet) (p : Pair)
+    → IsSameButOpen facts open_keys s
     → IfSome (open_told facts open_keys p) (λ b. contains s p ≡ b)
 open_sound facts open_keys s p is = sound_by (is_named p.name open_keys) (contains facts p) (contains s p) (is p)

@@ -33,9 +33,9 @@ pub fn matching(alloc: Global, platform: &Platform) -> Result<TargetSet, AllocEr
 
 /// The targets at which the condition holds, whatever the facts of these names and keys are.
 ///
-/// A name in `open_keys` leaves open whether the name alone is a fact, and each value of it as a key: with `loom` in `open_keys`
-/// neither `cfg(loom)` nor `cfg(not(loom))` holds anywhere for certain. A fact counts by its name or key without the raw
-/// mark. The truth is that of Kleene's strong logic, which takes each fact by itself: `any(loom, not(loom))` is not
+/// A name in `open_keys` leaves open whether the name alone is a fact, and each value of it as a key. With `loom` in
+/// it, neither `cfg(loom)` nor `cfg(not(loom))` holds anywhere for certain. A fact counts by its name or key without the
+/// raw mark. The truth is that of Kleene's strong logic, which takes each fact by itself: `any(loom, not(loom))` is not
 /// certain either. It refuses only where memory is refused.
 pub fn certainly_matching(
     alloc: Global,
@@ -54,7 +54,7 @@ pub fn certainly_matching(
 
 /// The targets at which the condition may hold, as the facts of these names and keys are.
 ///
-/// What is not in the set is certain: the condition does not hold there, whatever those facts are. `open_keys` is as for
+/// At a target that is not in the set the condition does not hold, whatever those facts are. `open_keys` is as for
 /// `certainly_matching`. It refuses only where memory is refused.
 pub fn possibly_matching(
     alloc: Global,
@@ -79,7 +79,8 @@ fn taken_at(
     unknown: bool,
 ) -> Result<TargetSet, AllocError>
     ensures { IfOk result (λ set. (k : ℕ) → k < COUNT → is_member set k
-        ≡ taken_as unknown (kleene_condition (Some (target_name k)) (open_told (target_facts k) (names_of open_keys.now))
+        ≡ taken_as unknown
+        (kleene_condition (Some (target_name k)) (open_told (target_facts k) (names_of open_keys.now))
         (condition_of platform.now))) }
 {
     match platform {

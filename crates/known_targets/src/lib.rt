@@ -6,7 +6,9 @@
 
 mod conditions;
 mod known;
+pub mod laws;
 mod listing;
+mod members;
 mod open_groups;
 mod open_target;
 mod rows;
@@ -17,6 +19,7 @@ mod walk;
 
 pub use conditions::{certainly_matching, having, matching, possibly_matching};
 pub use known::KnownTarget;
+pub use members::Targets;
 pub use open_target::OpenTarget;
 pub use table::{COUNT, RUSTC_VERSION};
 pub use target_set::TargetSet;
