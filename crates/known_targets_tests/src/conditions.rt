@@ -2,7 +2,7 @@
 
 use crate::support::{assert_count, platform, row_parts, rows};
 use cargo_platform::Platform;
-use known_targets::{TargetSet, certainly_matching, matching, possibly_matching};
+use known_targets::{KnownTarget, TargetSet, certainly_matching, matching, possibly_matching};
 use std::alloc::Global;
 use std::process::Abort;
 
@@ -74,17 +74,18 @@ cfg(not(any(unix, loom))) => 0 118"#;
 /// What flags, profiles and a package's own build change.
 const OPEN: &[&str] = &["loom", "panic", "debug_assertions", "target_feature"];
 
+/// The target's name, `-` where there is none.
+fn name_of(target: Option<KnownTarget>) -> &'static str {
+    match target {
+        Some(target) => target.name(),
+        None => "-",
+    }
+}
+
 /// Asserts the first and the last name of a set, `-` where it is empty.
 fn assert_ends(rt: &impl Abort, text: &str, set: TargetSet, first: &str, last: &str) {
-    let mut lowest = "-";
-    let mut highest = "-";
-    for target in set.iter() {
-        if lowest == "-" {
-            lowest = target.name();
-        }
-        highest = target.name();
-    }
-    assert!(rt; lowest == first && highest == last, "{text}");
+    assert!(rt; name_of(set.iter().next()) == first, "{text}");
+    assert!(rt; name_of(set.iter().last()) == last, "{text}");
 }
 
 /// Asserts that each target by itself says the same as the set.
