@@ -1,0 +1,5 @@
+pub mod Bits
+pub mod Found
+pub mod Places
+pub mod Steps
+pub mod Taken

@@ -1,0 +1,26 @@
+//! The targets that rustc knows: their names and facts, and all of them at which a condition holds, in one walk.
+//!
+//! The table is what `rustc --print cfg --target NAME` prints for each target of `rustc --print target-list`, with the
+//! flags' defaults. `debug_assertions`, `panic` and `target_feature` are changed by profiles and flags.
+#![tactic(auto)]
+
+mod conditions;
+mod known;
+pub mod laws;
+mod listing;
+mod members;
+mod open_groups;
+mod open_target;
+mod rows;
+mod table;
+mod target_set;
+mod views;
+mod walk;
+
+pub use conditions::{certainly_matching, having, matching, possibly_matching};
+pub use known::KnownTarget;
+pub use members::Targets;
+pub use open_target::OpenTarget;
+pub use table::{COUNT, RUSTC_VERSION};
+pub use target_set::TargetSet;
+pub use views::names;

@@ -1,0 +1,10 @@
+use Rattle.std.proofs.Common.{◌∙◌, sym, true≢false}
+use Rattle.std.specs.Prelude.{IsTrue}
+use Rattle.known_targets.specs.Sets.{is_member}
+use Rattle.known_targets_tests.proofs.callers.holds_nowhere.Goals as goal
+
+pub returns : goal.returns
+returns c k s nowhere below same holds =
+    let may : IsTrue (is_member c.in_ok-possibly_matching.field-0 k) =
+    c.in_ok-possibly_matching.ensures.sound k s below same holds in
+    absurd (true≢false (sym may ∙ c.is_empty.ensures.yes nowhere k below))

@@ -1,0 +1,36 @@
+//! Callers of `known_targets`, as its users write them.
+
+ghost use Rattle.std.specs.Prelude.{◌<◌, ℕ, IsTrue, IfOk, IfSome, ◌≡◌};
+ghost use Rattle.cargo_platform.specs.Trees.{tree_of, condition_of};
+ghost use Rattle.cargo_platform.specs.Facts.{FactSet, truth, IsTrueCondition};
+ghost use Rattle.known_targets.specs.Open.{IsSameButOpen};
+ghost use Rattle.known_targets.specs.Rows.{names_of};
+ghost use Rattle.known_targets.specs.Sets.{place};
+ghost use Rattle.known_targets.specs.Table.{target_name, target_facts};
+
+use cargo_platform::{CfgExpr, Platform};
+use known_targets::{COUNT, KnownTarget, OpenTarget, possibly_matching};
+use partial_facts::decide;
+use std::alloc::{AllocError, Global};
+
+/// Whether a linter may say that the condition holds at no known target, whatever the facts of these names and keys
+/// are.
+pub fn holds_nowhere(
+    alloc: Global,
+    platform: &Platform,
+    open_keys: &[&str],
+) -> Result<bool, AllocError>
+    ensures { IfOk result (λ nowhere. (k : ℕ) (s : FactSet) → IsTrue nowhere → k < COUNT
+        → IsSameButOpen (target_facts k) (names_of open_keys.now) s
+        → IsTrueCondition (target_name k) s (condition_of platform.now) → ⊥) }
+{
+    Ok(possibly_matching(alloc, platform, open_keys)?.is_empty())
+}
+
+/// What the expression is for the target under any flags, where that follows from the facts that no flag changes.
+pub fn under_any_flags(e: &CfgExpr, target: KnownTarget, open_keys: &[&str]) -> Option<bool>
+    ensures { (s : FactSet) → IsSameButOpen (target_facts (place target)) (names_of open_keys.now) s
+        → IfSome result (λ b. truth s (tree_of e.now) ≡ b) }
+{
+    decide(e, &OpenTarget { target, open_keys })
+}
