@@ -3,11 +3,12 @@ use Rattle.std.proofs.Common.{◌≡◌, ◌∙◌, refl, sym, ap, Bool, true, f
 use Rattle.std.specs.List.{list_any}
 use Rattle.std.specs.FinSet.{contains, from_list}
 use Rattle.std.proofs.lemmas.List.Sorted.{list_any-IsPermutation, IsPermutation-reverse}
-use Rattle.cargo_platform.specs.Facts.{Pair, pair_cmp}
+use Rattle.cargo_platform.specs.Trees.{CfgValue, Alone, KeyPair}
+use Rattle.cargo_platform.specs.Facts.{Pair, pair_of, pair_cmp}
 use Rattle.partial_facts.specs.Partly.{told_by}
 use Rattle.exact_answers.specs.Asking.{is_pair}
 use Rattle.exact_answers.specs.Inside.Paths.{Turn, Base, takes, refuses, facts_on, set_on, rules_out}
-use Rattle.exact_answers.specs.Inside.Paths.{is_refuted}
+use Rattle.exact_answers.specs.Inside.Paths.{is_refuted, unmarked}
 use Rattle.exact_answers.proofs.Telling.{any_on, on_path}
 
 any_reversed : (f : Turn → Bool) (xs : List Turn) → list_any f (reverse xs) ≡ list_any f xs
@@ -77,3 +78,8 @@ pub told_open : (l n : Bool) → l ≡ false → n ≡ false → None ≡ told_b
 told_open true n h k = cc
 told_open false true h k = cc
 told_open false false h k = refl
+
+-- a mark is no part of the pair
+pub unmarked_pair : (c : CfgValue) → pair_of (unmarked c) ≡ pair_of c
+unmarked_pair (Alone n) = refl
+unmarked_pair (KeyPair k v) = refl

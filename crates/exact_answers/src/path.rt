@@ -1,13 +1,14 @@
 //! The splits that lead to a part of the possible sets of facts, and what is known there.
 
-ghost use Rattle.std.specs.Prelude.{◌≡◌, ◌++◌, ◌∷◌, [], true, Some, None, map, reverse, string_bytes, IfOk, OnOk};
+ghost use Rattle.std.specs.Prelude.{◌≡◌, ◌++◌, ◌∷◌, [], true, false, Some, None, map, reverse, string_bytes, IfOk, OnOk};
 ghost use Rattle.std.specs.Bool.{MatchBool};
-ghost use Rattle.cargo_platform.specs.Trees.{value_of};
+ghost use Rattle.cargo_platform.specs.Trees.{name_of, value_of};
 ghost use Rattle.cargo_platform.specs.Facts.{pair_of};
 ghost use Rattle.exact_answers.specs.Asking.{is_pair};
 ghost use Rattle.exact_answers.specs.Possible.{is_value, has_value};
 ghost use Rattle.exact_answers.specs.Inside.Paths.{takes, refuses, facts_on, rules_out};
 ghost use Rattle.exact_answers.specs.Inside.Paths.{base_of, turn_of, turns, turned, taken, set_on, is_refuted};
+ghost use Rattle.exact_answers.specs.Inside.Paths.{unmarked};
 ghost use Rattle.std.specs.FinSet.{contains};
 
 use crate::known::{Known, has_value, is_named, is_value};
@@ -176,7 +177,8 @@ impl<'a> Path<'a> {
     }
 }
 
-/// The pairs that are taken as facts, the last one first.
+/// The pairs that are taken as facts, the last one first, without marks.
+#[tactic(auto, using(crate::proofs::OnPath::unmarked_pair))]
 fn taken_facts(alloc: Global, splits: Vec<Split<'_>>) -> Result<Vec<Cfg>, AllocError>
     ensures { IfOk result (λ facts. map pair_of (map value_of facts.items)
         ≡ taken (reverse (map turn_of splits.entry.items))) }
@@ -185,19 +187,42 @@ fn taken_facts(alloc: Global, splits: Vec<Split<'_>>) -> Result<Vec<Cfg>, AllocE
     let mut facts = Vec::new(alloc);
     'splits: while let Some(split) = left.pop() {
         if split.holds {
-            facts.push(split.fact.clone(alloc)?)?;
+            facts.push(unmarked(alloc, split.fact)?)?;
         }
     }
     Ok(facts)
 }
 
-/// The facts, and copies of others behind them.
+/// The facts, and others behind them, without marks.
+#[tactic(auto, using(crate::proofs::OnPath::unmarked_pair))]
 fn with_copies(alloc: Global, mut facts: Vec<Cfg>, others: &[Cfg]) -> Result<Vec<Cfg>, AllocError>
     ensures { IfOk result (λ all. map pair_of (map value_of all.items)
         ≡ map pair_of (map value_of facts.items) ++ map pair_of (map value_of others.now)) }
 {
     for other in others {
-        facts.push(other.clone(alloc)?)?;
+        facts.push(unmarked(alloc, other)?)?;
     }
     Ok(facts)
+}
+
+/// The fact without its raw mark.
+fn unmarked(alloc: Global, fact: &Cfg) -> Result<Cfg, AllocError>
+    ensures { IfOk result (λ r. value_of r ≡ unmarked (value_of fact.now)) }
+{
+    match fact {
+        Cfg::Name(name) => Ok(Cfg::Name(unmarked_name(alloc, name)?)),
+        Cfg::KeyPair(key, value) => Ok(Cfg::KeyPair(
+            unmarked_name(alloc, key)?,
+            String::from_str(alloc, value.as_str())?,
+        )),
+    }
+}
+
+fn unmarked_name(alloc: Global, name: &Ident) -> Result<Ident, AllocError>
+    ensures { IfOk result (λ r. name_of r ≡ record { raw = false; name = string_bytes name.now.name }) }
+{
+    Ok(Ident {
+        name: String::from_str(alloc, name.as_str())?,
+        raw: false,
+    })
 }

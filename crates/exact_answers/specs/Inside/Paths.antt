@@ -3,7 +3,7 @@ use Rattle.std.specs.Prelude.{◌≡◌, ℕ, Bool, true, false, not, ◌&&◌, 
 use Rattle.std.specs.Prelude.{Option, Some, None, if◌then◌else◌, IfSome}
 use Rattle.std.specs.List.{list_any}
 use Rattle.std.specs.FinSet.{contains, from_list}
-use Rattle.cargo_platform.specs.Trees.{value_of}
+use Rattle.cargo_platform.specs.Trees.{CfgValue, Alone, KeyPair, value_of}
 use Rattle.cargo_platform.specs.Facts.{Pair, FactSet, pair_of, pair_cmp}
 use Rattle.partial_facts.specs.Partly.{told_by, IsPartlyKnown}
 use Rattle.exact_answers.specs.Possible.{HasOneValue, is_ruled_out}
@@ -34,6 +34,11 @@ takes f ds = list_any (λ d. d.holds && f d.pair) ds
 
 abbrev pub refuses : (Pair → Bool) → List Turn → Bool
 refuses f ds = list_any (λ d. not d.holds && f d.pair) ds
+
+-- a fact without its raw mark
+abbrev pub unmarked : CfgValue → CfgValue
+unmarked (Alone n) = Alone (record { raw = false; name = n.name })
+unmarked (KeyPair k v) = KeyPair (record { raw = false; name = k.name }) v
 
 -- the pairs that are taken as facts; the last turn comes first
 abbrev pub taken : List Turn → List Pair
