@@ -286,4 +286,5 @@ needs_more_by k es budget h = λ ps all. subst (λ n. budget + 1 < 2 ^ n) (open_
 -- the order of two expressions does not matter
 pub other_order : (k : Known) (a b : Tree) (budget : ℕ) → NeedsMore k (tree b (tree a none)) budget
     → NeedsMore k (tree a (tree b none)) budget
-other_order k a b budget h = λ ps all. h ps (λ p is. all p (swapped (asks (tree_of k.assumed.now) p) (asks a p) (asks b p) is))
+other_order k a b budget h = λ ps all.
+    h ps (λ p is. all p (swapped (asks (tree_of k.assumed.now) p) (asks a p) (asks b p) is))

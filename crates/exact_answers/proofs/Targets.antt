@@ -7,7 +7,7 @@ use Rattle.std.proofs.lemmas.Slice.Eq.{bytes_eq-Decides}
 use Rattle.cargo_platform.specs.Trees.{Tree, True, False, Condition, Target, Expression, tree, none, tree_of, value_of}
 use Rattle.cargo_platform.specs.Facts.{Pair, FactSet, fact_set, truth, IsTrueCondition}
 use Rattle.exact_answers.specs.Possible.{IsAllowed}
-use Rattle.exact_answers.specs.Asking.{asks, some_asks, NeedsMore}
+use Rattle.exact_answers.specs.Asking.{asks, NeedsMore}
 use Rattle.exact_answers.specs.Targets.{IsOtherName, MayHaveName, IsExample, asked_tree, SaysCanSelect, SaysMustSelect}
 use Rattle.exact_answers.specs.Inside.Goals.{SaysFound}
 use Rattle.exact_answers.specs.Inside.Targets.{tree_under, is_name_of, Wanted, wants, MetUnder, MissedUnder}

@@ -21,7 +21,8 @@ pub const ONE_VALUED: &[&str] = &[
 ];
 
 /// The rule by which rustc sets `unix` and `windows`, as an expression that a caller reads and assumes: each is a fact
-/// exactly where the pair of `target_family` is. The Rust reference states it in its chapter on conditional compilation.
+/// exactly where the pair of `target_family` is. The Rust reference states it in its chapter on conditional
+/// compilation.
 pub const FAMILY_RULE: &str = "all(\
     any(all(unix, target_family = \"unix\"), not(any(unix, target_family = \"unix\"))), \
     any(all(windows, target_family = \"windows\"), not(any(windows, target_family = \"windows\"))))";

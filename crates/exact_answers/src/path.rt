@@ -1,6 +1,7 @@
 //! The splits that lead to a part of the possible sets of facts, and what is known there.
 
-ghost use Rattle.std.specs.Prelude.{◌≡◌, ◌++◌, ◌∷◌, [], true, false, Some, None, map, reverse, string_bytes, IfOk, OnOk};
+ghost use Rattle.std.specs.Prelude.{◌≡◌, ◌++◌, ◌∷◌, [], true, false, Some, None, map, reverse, string_bytes};
+ghost use Rattle.std.specs.Prelude.{IfOk, OnOk};
 ghost use Rattle.std.specs.Bool.{MatchBool};
 ghost use Rattle.cargo_platform.specs.Trees.{name_of, value_of};
 ghost use Rattle.cargo_platform.specs.Facts.{pair_of};
@@ -116,8 +117,8 @@ impl<'a> Path<'a> {
         refuses(&self.splits, c) || self.rules_out(c)
     }
 
-    /// Whether what is known rules out the pair of `c`, which is no fact so far: its name or key is complete, or its key
-    /// has one value, and has it already.
+    /// Whether what is known rules out the pair of `c`, which is no fact so far: its name or key is complete, or its
+    /// key has one value, and has it already.
     fn rules_out(&self, c: &Cfg) -> bool
         ensures { result ≡ rules_out (base_of self.now.known.now)
             (facts_on (base_of self.now.known.now) (turns self.now)) (pair_of (value_of c.now)) }
@@ -142,7 +143,8 @@ impl<'a> Path<'a> {
     /// Takes an open pair as a fact.
     pub fn split(&mut self, fact: &'a Cfg) -> Result<(), AllocError>
         ensures known { self.new.known.now ≡ self.old.known.now }
-        ensures split { OnOk result (turns self.new ≡ record { pair = pair_of (value_of fact.now); holds = true } ∷ turns self.old) }
+        ensures split { OnOk result (turns self.new
+            ≡ record { pair = pair_of (value_of fact.now); holds = true } ∷ turns self.old) }
     {
         self.splits.push(Split { fact, holds: true })?;
         Ok(())

@@ -8,7 +8,8 @@ ghost use Rattle.exact_answers.specs.Possible.{IsAllowed};
 ghost use Rattle.exact_answers.specs.Asking.{NeedsMore};
 ghost use Rattle.exact_answers.specs.Targets.{asked_tree, SaysCanSelect, SaysMustSelect};
 ghost use Rattle.exact_answers.specs.Inside.Goals.{SaysFound};
-ghost use Rattle.exact_answers.specs.Inside.Targets.{tree_under, is_name_of, wants, MetUnder, MissedUnder, NeedsMoreFor};
+ghost use Rattle.exact_answers.specs.Inside.Targets.{tree_under, is_name_of, wants, MetUnder, MissedUnder};
+ghost use Rattle.exact_answers.specs.Inside.Targets.{NeedsMoreFor};
 ghost use Rattle.exact_answers.specs.Inside.Targets.{with_name, or_undecided, as_can, as_must, SaysTarget};
 
 use crate::answers::search_both;
@@ -188,7 +189,8 @@ fn search_one_target<'a>(
     known: &'a Known<'a>,
     budget: u64,
 ) -> Result<FoundTarget, AllocError>
-    ensures { IfOk result (λ r. SaysTarget r (wants known.now (condition_of platform.now) wanted (Expression True) true) (λ name. Unit {0}) budget) }
+    ensures { IfOk result (λ r. SaysTarget r
+        (wants known.now (condition_of platform.now) wanted (Expression True) true) (λ name. Unit {0}) budget) }
 {
     let everything = Platform::Cfg(CfgExpr::True);
     search_targets(alloc, platform, wanted, &everything, true, known, budget)
@@ -205,7 +207,8 @@ fn search_targets<'a>(
     known: &'a Known<'a>,
     budget: u64,
 ) -> Result<FoundTarget, AllocError>
-    ensures { IfOk result (λ r. SaysTarget r (wants known.now (condition_of a.now) a_wanted (condition_of b.now) b_wanted) (λ name. Unit {0}) budget) }
+    ensures { IfOk result (λ r. SaysTarget r
+        (wants known.now (condition_of a.now) a_wanted (condition_of b.now) b_wanted) (λ name. Unit {0}) budget) }
 {
     match search_named(alloc, a, a, a_wanted, b, b_wanted, known, budget)? {
         FoundTarget::Target(target) => Ok(FoundTarget::Target(target)),
@@ -227,7 +230,8 @@ fn search_further<'a>(
     known: &'a Known<'a>,
     budget: u64,
 ) -> Result<FoundTarget, AllocError>
-    ensures { IfOk result (λ r. SaysTarget r (wants known.now (condition_of a.now) a_wanted (condition_of b.now) b_wanted)
+    ensures { IfOk result (λ r. SaysTarget r
+        (wants known.now (condition_of a.now) a_wanted (condition_of b.now) b_wanted)
         (λ name. is_name_of (condition_of a.now) name ≡ false) budget) }
 {
     match search_named(alloc, b, a, a_wanted, b, b_wanted, known, budget)? {
@@ -251,7 +255,8 @@ fn search_named<'a>(
     known: &'a Known<'a>,
     budget: u64,
 ) -> Result<FoundTarget, AllocError>
-    ensures { IfOk result (λ r. SaysTarget r (wants known.now (condition_of a.now) a_wanted (condition_of b.now) b_wanted)
+    ensures { IfOk result (λ r. SaysTarget r
+        (wants known.now (condition_of a.now) a_wanted (condition_of b.now) b_wanted)
         (λ name. is_name_of (condition_of by.now) name ≡ true) budget) }
 {
     match by {
@@ -280,7 +285,8 @@ fn search_with_name<'a>(
     known: &'a Known<'a>,
     budget: u64,
 ) -> Result<FoundTarget, AllocError>
-    ensures { IfOk result (λ r. SaysTarget r (wants known.now (condition_of a.now) a_wanted (condition_of b.now) b_wanted)
+    ensures { IfOk result (λ r. SaysTarget r
+        (wants known.now (condition_of a.now) a_wanted (condition_of b.now) b_wanted)
         (λ text. string_bytes name ≡ text) budget) }
 {
     let found = search_under(
@@ -306,7 +312,8 @@ fn search_unnamed<'a>(
     known: &'a Known<'a>,
     budget: u64,
 ) -> Result<FoundTarget, AllocError>
-    ensures { IfOk result (λ r. SaysTarget r (wants known.now (condition_of a.now) a_wanted (condition_of b.now) b_wanted)
+    ensures { IfOk result (λ r. SaysTarget r
+        (wants known.now (condition_of a.now) a_wanted (condition_of b.now) b_wanted)
         (λ name. (is_name_of (condition_of a.now) name ≡ false) × (is_name_of (condition_of b.now) name ≡ false))
         budget) }
 {
@@ -347,8 +354,10 @@ fn search_under<'a>(
     budget: u64,
 ) -> Result<Found, AllocError>
     ensures { IfOk result (λ r. SaysFound r
-        (λ s. MetUnder (wants known.now (condition_of a.now) a_wanted (condition_of b.now) b_wanted) (option_copied name.entry) s)
-        (MissedUnder (wants known.now (condition_of a.now) a_wanted (condition_of b.now) b_wanted) (option_copied name.entry))
+        (λ s. MetUnder (wants known.now (condition_of a.now) a_wanted (condition_of b.now) b_wanted)
+        (option_copied name.entry) s)
+        (MissedUnder (wants known.now (condition_of a.now) a_wanted (condition_of b.now) b_wanted)
+        (option_copied name.entry))
         (NeedsMoreFor (wants known.now (condition_of a.now) a_wanted (condition_of b.now) b_wanted) budget)) }
 {
     let yes = CfgExpr::True;

@@ -1,5 +1,6 @@
 -- Expressions with the truths that are wanted of them, and the search for a set over which they have these.
-use Rattle.std.specs.Prelude.{◌≡◌, ℕ, ◌+◌, ◌^◌, ◌<◌, Bool, true, false, not, ◌&&◌, ◌||◌, List, [], ◌∷◌, map, Option, Some, None, is_none}
+use Rattle.std.specs.Prelude.{◌≡◌, ℕ, ◌+◌, ◌^◌, ◌<◌, Bool, true, false, not, ◌&&◌, ◌||◌, List, [], ◌∷◌, map}
+use Rattle.std.specs.Prelude.{Option, Some, None, is_none}
 use Rattle.cargo_platform.specs.Trees.{Trees, none, tree, tree_of, value_of}
 use Rattle.cargo_platform.specs.Facts.{Pair, FactSet, pair_of, fact_set, truth}
 use Rattle.partial_facts.specs.Kleene.{kleene, kleene_not, kleene_and}

@@ -4,7 +4,7 @@ use Rattle.std.specs.Prelude.{Option, Some, None, if◌then◌else◌, IfSome}
 use Rattle.std.specs.List.{list_any}
 use Rattle.std.specs.FinSet.{contains, from_list}
 use Rattle.cargo_platform.specs.Trees.{CfgValue, Alone, KeyPair, value_of}
-use Rattle.cargo_platform.specs.Facts.{Pair, FactSet, pair_of, pair_cmp}
+use Rattle.cargo_platform.specs.Facts.{Pair, FactSet, pair_of}
 use Rattle.partial_facts.specs.Partly.{told_by, IsPartlyKnown}
 use Rattle.exact_answers.specs.Possible.{HasOneValue, is_ruled_out}
 use Rattle.exact_answers.specs.Asking.{is_pair}

@@ -1,5 +1,6 @@
 -- The search for a possible target, name by name.
-use Rattle.std.specs.Prelude.{◌≡◌, ℕ, Bool, true, false, not, List, [], ◌∷◌, Option, Some, None, if◌then◌else◌, bytes_eq}
+use Rattle.std.specs.Prelude.{◌≡◌, ℕ, Bool, false, not, List, [], ◌∷◌, Option, Some, None}
+use Rattle.std.specs.Prelude.{if◌then◌else◌, bytes_eq}
 use Rattle.std.specs.Prelude.{String}
 use Rattle.std.specs.declared.alloc.Global.{Global}
 use Rattle.cargo_platform.specs.Trees.{Tree, True, False, Condition, Target, Expression, tree, none}
@@ -10,7 +11,6 @@ use Rattle.exact_answers.specs.Targets.{IsExample, asked_tree}
 use Rattle.exact_answers.specs.declared.known.Known.{Known}
 use Rattle.exact_answers.specs.declared.search.Found.{Found}
 use Rattle.exact_answers.specs.declared.search.Found.TheVariants as found
-use Rattle.exact_answers.specs.declared.platforms.PossibleTarget.{PossibleTarget}
 use Rattle.exact_answers.specs.declared.platforms.FoundTarget.{FoundTarget}
 use Rattle.exact_answers.specs.declared.platforms.CanSelect.{CanSelect}
 use Rattle.exact_answers.specs.declared.platforms.CanSelect.TheVariants as can

@@ -13,5 +13,6 @@ returns c =
     (record { e = c.args.known.now.assumed; wanted = true } ∷ record { e = c.args.a; wanted = c.args.a_wanted }
     ∷ record { e = c.args.b; wanted = c.args.b_wanted } ∷ []) c.args.budget
     (NeedsMore c.args.known.now (tree (tree_of c.args.a.now) (tree (tree_of c.args.b.now) none)) c.args.budget)
-    r (needs_more_by c.args.known.now (tree (tree_of c.args.a.now) (tree (tree_of c.args.b.now) none)) c.args.budget) (λ s. refl))
+    r (needs_more_by c.args.known.now (tree (tree_of c.args.a.now) (tree (tree_of c.args.b.now) none)) c.args.budget)
+    (λ s. refl))
     c.search.ensures
