@@ -7,8 +7,9 @@
 # make refusals   each allocation refused in turn, in each call and in the program
 # make statuses   the program where reading or writing fails
 # make depths     the programs on the deepest conditions that their inputs hold
+# make targets    asks the rustc at hand for its targets, and writes the table of crates/known_targets anew
 # make fmt    lays out the files
-.PHONY: run build test gate mutants refusals statuses depths quick fmt rt
+.PHONY: run build test gate mutants refusals statuses depths quick targets fmt rt
 
 PROGRAM := crates/platform_check
 
@@ -44,6 +45,9 @@ depths: rt
 
 quick: rt
 	rt all check --jobs 2
+
+targets:
+	.ci/known-targets --renew
 
 fmt: rt
 	for crate in crates/*/; do (cd $$crate && rt fmt) || exit 1; done

@@ -28,6 +28,8 @@ pub enum Call {
     DropIteratively,
     ExpressionLeft,
     ConditionLeft,
+    ExampleOf,
+    CounterexampleOf,
 }
 
 const WARNED: &str = "cfg(any(not(feature = \"w\"), r#test, r#true = \"x\", true))";
@@ -130,4 +132,14 @@ pub const CALLS: &[(&str, Call, &str)] = &[
         Call::ConditionLeft,
         "x86_64-apple-darwin",
     ),
+    ("exact_example", Call::ExampleOf, "any(a, b)"),
+    (
+        "exact_several",
+        Call::ExampleOf,
+        "all(a, b = \"1\", r#c, d, e)",
+    ),
+    ("exact_none", Call::ExampleOf, "all(a, not(a))"),
+    ("exact_named", Call::CounterexampleOf, "x -> cfg(a)"),
+    ("exact_unnamed", Call::CounterexampleOf, "cfg(a) -> x"),
+    ("exact_implied", Call::CounterexampleOf, "x -> x"),
 ];

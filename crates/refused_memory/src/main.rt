@@ -7,6 +7,7 @@
 #![tactic(auto)]
 
 mod calls;
+mod exact;
 mod known_in_part;
 
 use calls::{CALLS, Call};
@@ -145,6 +146,8 @@ fn make(alloc: Global, call: Call, text: &str) -> Result<String, Fault> {
         Call::DropIteratively => dropped(alloc, text),
         Call::ExpressionLeft => known_in_part::expression_left(alloc, text),
         Call::ConditionLeft => known_in_part::condition_left(alloc, text),
+        Call::ExampleOf => exact::example_of(alloc, text),
+        Call::CounterexampleOf => exact::counterexample_of(alloc, text),
     }
 }
 

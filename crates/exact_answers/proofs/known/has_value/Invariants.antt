@@ -1,0 +1,11 @@
+use Rattle.std.proofs.Common.{◌≡◌, drop, map, string_bytes}
+use Rattle.cargo_platform.specs.Trees.{value_of}
+use Rattle.cargo_platform.specs.Facts.{pair_of}
+use Rattle.exact_answers.specs.Possible.{has_value}
+use Rattle.exact_answers.proofs.known.has_value.Given as goal
+
+-- the answer hangs on the facts that are left
+abbrev pub invariant-loop-fact : goal.invariant-loop-fact
+invariant-loop-fact l =
+    has_value (string_bytes l.key.name) (map pair_of (map value_of (drop l.fact-index l.facts)))
+    ≡ has_value (string_bytes l.key.name) (map pair_of (map value_of l.facts))

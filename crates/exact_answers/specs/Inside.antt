@@ -1,0 +1,4 @@
+-- What the contracts of private functions and types cite, and no promise rests on.
+pub mod Paths
+pub mod Goals
+pub mod Targets

@@ -1,0 +1,233 @@
+//! The questions.
+
+ghost use Rattle.std.specs.Prelude.{◌≡◌, true, false, not, IfOk};
+ghost use Rattle.cargo_platform.specs.Trees.{tree_of, tree, none};
+ghost use Rattle.cargo_platform.specs.Facts.{FactSet, truth};
+ghost use Rattle.exact_answers.specs.Possible.{IsAllowed};
+ghost use Rattle.exact_answers.specs.Answers.{SaysCan, SaysMust};
+ghost use Rattle.exact_answers.specs.Asking.{NeedsMore};
+ghost use Rattle.exact_answers.specs.Inside.Goals.{SaysFound};
+
+use crate::known::Known;
+use crate::search::{Found, Goal, search};
+use cargo_platform::{Cfg, CfgExpr};
+use std::alloc::{AllocError, Global};
+
+/// Whether something can hold.
+#[derive(Drop)]
+pub enum CanHold {
+    /// It does over these facts, which are possible.
+    Yes(Vec<Cfg>),
+    /// It does over no possible set of facts.
+    No,
+    /// The splits are used up.
+    Undecided,
+}
+
+/// Whether something holds whatever is possible.
+#[derive(Drop)]
+pub enum MustHold {
+    /// It holds over each possible set of facts.
+    Yes,
+    /// It does not over these facts, which are possible.
+    No(Vec<Cfg>),
+    /// The splits are used up.
+    Undecided,
+}
+
+/// Whether any set of facts is possible: facts, complete names and keys with one value always leave some, and what is
+/// assumed may be true over none of them. Where this says `No`, so does `can_hold` of each expression, and `always`,
+/// `implies`, `exclude` and `equivalent` say `Yes`.
+pub fn can_be_met<'a>(
+    alloc: Global,
+    known: &'a Known<'a>,
+    budget: u64,
+) -> Result<CanHold, AllocError>
+    ensures { IfOk result (λ r. SaysCan r
+        (λ s. IsAllowed known.now s)
+        ((s : FactSet) → IsAllowed known.now s → ⊥)
+        (NeedsMore known.now none budget)) }
+{
+    match search_any(alloc, known, budget)? {
+        Found::Facts(facts) => Ok(CanHold::Yes(facts)),
+        Found::Nothing => Ok(CanHold::No),
+        Found::Undecided => Ok(CanHold::Undecided),
+    }
+}
+
+/// Whether the expression is true over some possible set of facts.
+pub fn can_hold<'a>(
+    alloc: Global,
+    e: &'a CfgExpr,
+    known: &'a Known<'a>,
+    budget: u64,
+) -> Result<CanHold, AllocError>
+    ensures { IfOk result (λ r. SaysCan r
+        (λ s. IsAllowed known.now s × (truth s (tree_of e.now) ≡ true))
+        ((s : FactSet) → IsAllowed known.now s → truth s (tree_of e.now) ≡ false)
+        (NeedsMore known.now (tree (tree_of e.now) none) budget)) }
+{
+    match search_one(alloc, e, true, known, budget)? {
+        Found::Facts(facts) => Ok(CanHold::Yes(facts)),
+        Found::Nothing => Ok(CanHold::No),
+        Found::Undecided => Ok(CanHold::Undecided),
+    }
+}
+
+/// Whether the expression is true over each possible set of facts.
+pub fn always<'a>(
+    alloc: Global,
+    e: &'a CfgExpr,
+    known: &'a Known<'a>,
+    budget: u64,
+) -> Result<MustHold, AllocError>
+    ensures { IfOk result (λ r. SaysMust r
+        (λ s. IsAllowed known.now s × (truth s (tree_of e.now) ≡ false))
+        ((s : FactSet) → IsAllowed known.now s → truth s (tree_of e.now) ≡ true)
+        (NeedsMore known.now (tree (tree_of e.now) none) budget)) }
+{
+    match search_one(alloc, e, false, known, budget)? {
+        Found::Facts(facts) => Ok(MustHold::No(facts)),
+        Found::Nothing => Ok(MustHold::Yes),
+        Found::Undecided => Ok(MustHold::Undecided),
+    }
+}
+
+/// Whether `b` is true over each possible set of facts over which `a` is.
+pub fn implies<'a>(
+    alloc: Global,
+    a: &'a CfgExpr,
+    b: &'a CfgExpr,
+    known: &'a Known<'a>,
+    budget: u64,
+) -> Result<MustHold, AllocError>
+    ensures { IfOk result (λ r. SaysMust r
+        (λ s. IsAllowed known.now s × ((truth s (tree_of a.now) ≡ true) × (truth s (tree_of b.now) ≡ false)))
+        ((s : FactSet) → IsAllowed known.now s → truth s (tree_of a.now) ≡ true → truth s (tree_of b.now) ≡ true)
+        (NeedsMore known.now (tree (tree_of a.now) (tree (tree_of b.now) none)) budget)) }
+{
+    match search_both(alloc, a, true, b, false, known, budget)? {
+        Found::Facts(facts) => Ok(MustHold::No(facts)),
+        Found::Nothing => Ok(MustHold::Yes),
+        Found::Undecided => Ok(MustHold::Undecided),
+    }
+}
+
+/// Whether `a` and `b` are never both true over a possible set of facts.
+pub fn exclude<'a>(
+    alloc: Global,
+    a: &'a CfgExpr,
+    b: &'a CfgExpr,
+    known: &'a Known<'a>,
+    budget: u64,
+) -> Result<MustHold, AllocError>
+    ensures { IfOk result (λ r. SaysMust r
+        (λ s. IsAllowed known.now s × ((truth s (tree_of a.now) ≡ true) × (truth s (tree_of b.now) ≡ true)))
+        ((s : FactSet) → IsAllowed known.now s → truth s (tree_of a.now) ≡ true → truth s (tree_of b.now) ≡ false)
+        (NeedsMore known.now (tree (tree_of a.now) (tree (tree_of b.now) none)) budget)) }
+{
+    match search_both(alloc, a, true, b, true, known, budget)? {
+        Found::Facts(facts) => Ok(MustHold::No(facts)),
+        Found::Nothing => Ok(MustHold::Yes),
+        Found::Undecided => Ok(MustHold::Undecided),
+    }
+}
+
+/// Whether `a` and `b` are as true as each other over each possible set of facts. Each of the two implications has the
+/// budget.
+#[tactic(auto, using(crate::proofs::Answering::one_way, crate::proofs::Answering::other_way, crate::proofs::Answering::both_ways_same, crate::proofs::Spending::other_order))]
+pub fn equivalent<'a>(
+    alloc: Global,
+    a: &'a CfgExpr,
+    b: &'a CfgExpr,
+    known: &'a Known<'a>,
+    budget: u64,
+) -> Result<MustHold, AllocError>
+    ensures { IfOk result (λ r. SaysMust r
+        (λ s. IsAllowed known.now s × (truth s (tree_of a.now) ≡ not (truth s (tree_of b.now))))
+        ((s : FactSet) → IsAllowed known.now s → truth s (tree_of a.now) ≡ truth s (tree_of b.now))
+        (NeedsMore known.now (tree (tree_of a.now) (tree (tree_of b.now) none)) budget)) }
+{
+    match search_both(alloc, a, true, b, false, known, budget)? {
+        Found::Facts(facts) => Ok(MustHold::No(facts)),
+        Found::Nothing => match search_both(alloc, b, true, a, false, known, budget)? {
+            Found::Facts(facts) => Ok(MustHold::No(facts)),
+            Found::Nothing => Ok(MustHold::Yes),
+            Found::Undecided => Ok(MustHold::Undecided),
+        },
+        Found::Undecided => match search_both(alloc, b, true, a, false, known, budget)? {
+            Found::Facts(facts) => Ok(MustHold::No(facts)),
+            Found::Nothing | Found::Undecided => Ok(MustHold::Undecided),
+        },
+    }
+}
+
+/// Searches for a possible set of facts.
+fn search_any<'a>(alloc: Global, known: &'a Known<'a>, budget: u64) -> Result<Found, AllocError>
+    ensures { IfOk result (λ r. SaysFound r
+        (λ s. IsAllowed known.now s)
+        ((s : FactSet) → IsAllowed known.now s → ⊥)
+        (NeedsMore known.now none budget)) }
+{
+    let goals = [Goal {
+        e: known.assumed,
+        wanted: true,
+    }];
+    search(alloc, &goals, known, budget)
+}
+
+/// Searches for a possible set of facts over which the expression has the truth that is wanted.
+fn search_one<'a>(
+    alloc: Global,
+    e: &'a CfgExpr,
+    wanted: bool,
+    known: &'a Known<'a>,
+    budget: u64,
+) -> Result<Found, AllocError>
+    ensures { IfOk result (λ r. SaysFound r
+        (λ s. IsAllowed known.now s × (truth s (tree_of e.now) ≡ wanted))
+        ((s : FactSet) → IsAllowed known.now s → truth s (tree_of e.now) ≡ not wanted)
+        (NeedsMore known.now (tree (tree_of e.now) none) budget)) }
+{
+    let goals = [
+        Goal {
+            e: known.assumed,
+            wanted: true,
+        },
+        Goal { e, wanted },
+    ];
+    search(alloc, &goals, known, budget)
+}
+
+/// Searches for a possible set of facts over which both expressions have the truths that are wanted.
+pub fn search_both<'a>(
+    alloc: Global,
+    a: &'a CfgExpr,
+    a_wanted: bool,
+    b: &'a CfgExpr,
+    b_wanted: bool,
+    known: &'a Known<'a>,
+    budget: u64,
+) -> Result<Found, AllocError>
+    ensures { IfOk result (λ r. SaysFound r
+        (λ s. IsAllowed known.now s × ((truth s (tree_of a.now) ≡ a_wanted) × (truth s (tree_of b.now) ≡ b_wanted)))
+        ((s : FactSet) → IsAllowed known.now s → truth s (tree_of a.now) ≡ a_wanted
+        → truth s (tree_of b.now) ≡ not b_wanted)
+        (NeedsMore known.now (tree (tree_of a.now) (tree (tree_of b.now) none)) budget)) }
+{
+    let goals = [
+        Goal {
+            e: known.assumed,
+            wanted: true,
+        },
+        Goal {
+            e: a,
+            wanted: a_wanted,
+        },
+        Goal {
+            e: b,
+            wanted: b_wanted,
+        },
+    ];
+    search(alloc, &goals, known, budget)
+}

@@ -1,0 +1,21 @@
+//! Exact answers on conditions over a target that is known only in part: whether an expression can hold, must hold,
+//! implies another one, is the same as another one, or excludes it.
+//!
+//! `partial_facts` takes each name and pair by itself, so that `any(loom, not(loom))` stays unknown. Here the answers
+//! are exact: where three-valued logic does not decide, an open pair is taken as a fact, and then as none. The worst
+//! case takes `2^n - 1` such splits for `n` open names and pairs; a budget bounds them.
+#![tactic(auto)]
+
+mod answers;
+mod known;
+mod opening;
+mod path;
+mod platforms;
+mod search;
+
+pub use answers::{CanHold, MustHold, always, can_be_met, can_hold, equivalent, exclude, implies};
+pub use known::{FAMILY_RULE, Known, ONE_VALUED};
+pub use platforms::{
+    CanSelect, MustSelect, PossibleTarget, always_platform, can_hold_platform, equivalent_platform,
+    exclude_platform, implies_platform,
+};

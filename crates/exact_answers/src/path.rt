@@ -1,0 +1,230 @@
+//! The splits that lead to a part of the possible sets of facts, and what is known there.
+
+ghost use Rattle.std.specs.Prelude.{◌≡◌, ◌++◌, ◌∷◌, [], true, false, Some, None, map, reverse, string_bytes};
+ghost use Rattle.std.specs.Prelude.{IfOk, OnOk};
+ghost use Rattle.std.specs.Bool.{MatchBool};
+ghost use Rattle.cargo_platform.specs.Trees.{name_of, value_of};
+ghost use Rattle.cargo_platform.specs.Facts.{pair_of};
+ghost use Rattle.exact_answers.specs.Asking.{is_pair};
+ghost use Rattle.exact_answers.specs.Possible.{is_value, has_value};
+ghost use Rattle.exact_answers.specs.Inside.Paths.{takes, refuses, facts_on, rules_out};
+ghost use Rattle.exact_answers.specs.Inside.Paths.{base_of, turn_of, turns, turned, taken, set_on, is_refuted};
+ghost use Rattle.exact_answers.specs.Inside.Paths.{unmarked};
+ghost use Rattle.std.specs.FinSet.{contains};
+
+use crate::known::{Known, has_value, is_named, is_value};
+use cargo_platform::{Cfg, Facts, Ident, Listed};
+use partial_facts::Knowledge;
+use std::alloc::{AllocError, Global};
+
+/// A pair that was open, and whether it is taken as a fact.
+#[derive(Clone, Copy)]
+pub struct Split<'a> {
+    pub fact: &'a Cfg,
+    pub holds: bool,
+}
+
+/// Whether the pair of `c` is taken as a fact.
+fn takes(splits: &[Split<'_>], c: &Cfg) -> bool
+    ensures { result ≡ takes (is_pair (pair_of (value_of c.now))) (map turn_of splits.now) }
+{
+    for split in splits {
+        if split.holds && c == split.fact {
+            return true;
+        }
+    }
+    false
+}
+
+/// Whether the pair of `c` is taken as none.
+fn refuses(splits: &[Split<'_>], c: &Cfg) -> bool
+    ensures { result ≡ refuses (is_pair (pair_of (value_of c.now))) (map turn_of splits.now) }
+{
+    for split in splits {
+        if !split.holds && c == split.fact {
+            return true;
+        }
+    }
+    false
+}
+
+/// Whether the key with some value is taken as a fact.
+fn takes_value(splits: &[Split<'_>], key: &Ident) -> bool
+    ensures { result ≡ takes (is_value (string_bytes key.now.name)) (map turn_of splits.now) }
+{
+    for split in splits {
+        if split.holds && is_value(split.fact, key) {
+            return true;
+        }
+    }
+    false
+}
+
+/// The splits, the last one last, over what is known.
+#[derive(Drop)]
+pub struct Path<'a> {
+    known: &'a Known<'a>,
+    splits: Vec<Split<'a>>,
+}
+
+impl<'a> Knowledge for Path<'a> {
+    ghost use Rattle.exact_answers.specs.Inside.Paths.{told_by_path, IsAsTold, as_told};
+
+    ghost allows = { λ k s. IsAsTold (told_by_path k) s };
+
+    ghost example = { λ k. set_on (base_of k.known.now) (turns k) };
+
+    ghost told = { λ k p. told_by_path k p };
+
+    fn tells(&self, c: &Cfg) -> Option<bool> {
+        if self.has_fact(c) {
+            Some(true)
+        } else if self.refutes(c) {
+            Some(false)
+        } else {
+            None
+        }
+    }
+
+    ghost possible = { λ k. as_told (base_of k.known.now) (turns k) };
+
+    ghost sound = { λ k s p is. is p };
+}
+
+impl<'a> Path<'a> {
+    /// No splits.
+    pub fn new(alloc: Global, known: &'a Known<'a>) -> Path<'a>
+        ensures known { result.known.now ≡ known.now }
+        ensures none { turns result ≡ [] }
+    {
+        Path {
+            known,
+            splits: Vec::new(alloc),
+        }
+    }
+
+    /// Whether the pair of `c` is a fact so far.
+    fn has_fact(&self, c: &Cfg) -> bool
+        ensures { result ≡ contains (set_on (base_of self.now.known.now) (turns self.now)) (pair_of (value_of c.now)) }
+    {
+        takes(&self.splits, c) || Listed(self.known.facts).holds(c)
+    }
+
+    /// Whether the pair of `c`, which is no fact so far, is taken as none or ruled out.
+    fn refutes(&self, c: &Cfg) -> bool
+        ensures { result ≡ is_refuted (base_of self.now.known.now) (turns self.now) (pair_of (value_of c.now)) }
+    {
+        refuses(&self.splits, c) || self.rules_out(c)
+    }
+
+    /// Whether what is known rules out the pair of `c`, which is no fact so far: its name or key is complete, or its
+    /// key has one value, and has it already.
+    fn rules_out(&self, c: &Cfg) -> bool
+        ensures { result ≡ rules_out (base_of self.now.known.now)
+            (facts_on (base_of self.now.known.now) (turns self.now)) (pair_of (value_of c.now)) }
+    {
+        match c {
+            Cfg::Name(name) => is_named(name, self.known.complete),
+            Cfg::KeyPair(key, _) => {
+                is_named(key, self.known.complete)
+                    || is_named(key, self.known.single) && self.has_value(key)
+            }
+        }
+    }
+
+    /// Whether the key with some value is a fact so far.
+    fn has_value(&self, key: &Ident) -> bool
+        ensures { result ≡ has_value (string_bytes key.now.name)
+            (facts_on (base_of self.now.known.now) (turns self.now)) }
+    {
+        takes_value(&self.splits, key) || has_value(self.known.facts, key)
+    }
+
+    /// Takes an open pair as a fact.
+    pub fn split(&mut self, fact: &'a Cfg) -> Result<(), AllocError>
+        ensures known { self.new.known.now ≡ self.old.known.now }
+        ensures split { OnOk result (turns self.new
+            ≡ record { pair = pair_of (value_of fact.now); holds = true } ∷ turns self.old) }
+    {
+        self.splits.push(Split { fact, holds: true })?;
+        Ok(())
+    }
+
+    /// Goes back to the last pair that is taken as a fact, and takes it as none. `false` where there is no such pair.
+    pub fn turn(&mut self) -> Result<bool, AllocError>
+        ensures known { self.new.known.now ≡ self.old.known.now }
+        ensures turned { IfOk result (λ is_turned. MatchBool is_turned
+            (turned (turns self.old) ≡ Some (turns self.new)) (turned (turns self.old) ≡ None)) }
+    {
+        'splits: while let Some(split) = self.splits.pop() {
+            if split.holds {
+                self.splits.push(Split {
+                    fact: split.fact,
+                    holds: false,
+                })?;
+                return Ok(true);
+            }
+        }
+        Ok(false)
+    }
+
+    /// The pairs that are taken as facts, the last one first, and the facts that are listed.
+    pub fn facts(self, alloc: Global) -> Result<Vec<Cfg>, AllocError>
+        ensures { IfOk result (λ facts. map pair_of (map value_of facts.items)
+            ≡ facts_on (base_of self.entry.known.now) (turns self.entry)) }
+    {
+        let Path { known, splits } = self;
+        let taken = taken_facts(alloc, splits)?;
+        with_copies(alloc, taken, known.facts)
+    }
+}
+
+/// The pairs that are taken as facts, the last one first, without marks.
+#[tactic(auto, using(crate::proofs::OnPath::unmarked_pair))]
+fn taken_facts(alloc: Global, splits: Vec<Split<'_>>) -> Result<Vec<Cfg>, AllocError>
+    ensures { IfOk result (λ facts. map pair_of (map value_of facts.items)
+        ≡ taken (reverse (map turn_of splits.entry.items))) }
+{
+    let mut left = splits;
+    let mut facts = Vec::new(alloc);
+    'splits: while let Some(split) = left.pop() {
+        if split.holds {
+            facts.push(unmarked(alloc, split.fact)?)?;
+        }
+    }
+    Ok(facts)
+}
+
+/// The facts, and others behind them, without marks.
+#[tactic(auto, using(crate::proofs::OnPath::unmarked_pair))]
+fn with_copies(alloc: Global, mut facts: Vec<Cfg>, others: &[Cfg]) -> Result<Vec<Cfg>, AllocError>
+    ensures { IfOk result (λ all. map pair_of (map value_of all.items)
+        ≡ map pair_of (map value_of facts.items) ++ map pair_of (map value_of others.now)) }
+{
+    for other in others {
+        facts.push(unmarked(alloc, other)?)?;
+    }
+    Ok(facts)
+}
+
+/// The fact without its raw mark.
+fn unmarked(alloc: Global, fact: &Cfg) -> Result<Cfg, AllocError>
+    ensures { IfOk result (λ r. value_of r ≡ unmarked (value_of fact.now)) }
+{
+    match fact {
+        Cfg::Name(name) => Ok(Cfg::Name(unmarked_name(alloc, name)?)),
+        Cfg::KeyPair(key, value) => Ok(Cfg::KeyPair(
+            unmarked_name(alloc, key)?,
+            String::from_str(alloc, value.as_str())?,
+        )),
+    }
+}
+
+fn unmarked_name(alloc: Global, name: &Ident) -> Result<Ident, AllocError>
+    ensures { IfOk result (λ r. name_of r ≡ record { raw = false; name = string_bytes name.now.name }) }
+{
+    Ok(Ident {
+        name: String::from_str(alloc, name.as_str())?,
+        raw: false,
+    })
+}
