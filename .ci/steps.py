@@ -26,7 +26,7 @@ class Step(NamedTuple):
     """A step: its name, its command, the folder that it works in, and the command that repeats it alone.
 
     A step that counts has a last line `N passed, M failed`; each other one counts as one. Lines that match `told` are
-    passed on, and those that match `done` are counted as its progress.
+    passed on, and those that match `done` are counted as its progress, of so many as `total` says.
     """
 
     name: str
@@ -36,6 +36,7 @@ class Step(NamedTuple):
     counts: bool = False
     told: str = "$^"
     done: str = "$^"
+    total: str = ""
 
 
 class Steps:
@@ -44,6 +45,7 @@ class Steps:
     def __init__(self):
         self.start = self.last = time.monotonic()
         self.lock, self.running, self.failures = threading.Lock(), {}, []
+        self.totals = {}
         self.passed = self.failed = 0
 
     def say(self, text):
@@ -57,11 +59,12 @@ class Steps:
             if time.monotonic() - self.last > SILENCE:
                 now = time.monotonic()
                 running = self.running.items()
-                each = [f"{name} ({done} done, {(now - since) / 60:.0f} min)" for name, (since, done) in running]
+                each = [f"{name} ({done}{self.totals[name]} done, {(now - since) / 60:.0f} min)" for name, (since, done) in running]
                 self.say(f"running: {', '.join(each) or 'nothing'}; {len(self.failures)} failed so far")
 
     def run(self, step):
         """Runs a step, and takes how it ended."""
+        self.totals[step.name] = f" of {step.total}" if step.total else ""
         self.running[step.name] = (time.monotonic(), 0)
         self.say(f"{step.name}: begins")
         last, told = "", []
