@@ -25,7 +25,7 @@ FAILED = "FAILED: "
 class Step(NamedTuple):
     """A step: its name, its command, the folder that it works in, and the command that repeats it alone.
 
-    A step that counts has a last line `N passed, M failed`; each other one counts as one. Lines that match `told` are
+    A step that counts prints `N passed, M failed` at its end; each other one counts as one. Lines that match `told` are
     passed on, and those that match `done` are counted as its progress, of so many as `total` says.
     """
 
@@ -67,7 +67,7 @@ class Steps:
         self.totals[step.name] = f" of {step.total}" if step.total else ""
         self.running[step.name] = (time.monotonic(), 0)
         self.say(f"{step.name}: begins")
-        last, told = "", []
+        last, count, told = "", "", []
         with open(LOGS / f"{step.name.replace(' ', '-')}.log", "w", encoding="utf-8") as log:
             how = {"stdin": subprocess.DEVNULL, "stdout": subprocess.PIPE, "stderr": subprocess.STDOUT}
             with subprocess.Popen(step.words, cwd=step.folder, text=True, errors="replace", **how) as process:
@@ -75,16 +75,17 @@ class Steps:
                     log.write(line)
                     log.flush()
                     last = line.strip() or last
+                    count = last if COUNTED.fullmatch(last) else count
                     since, done = self.running[step.name]
                     self.running[step.name] = (since, done + bool(re.search(step.done, line)))
                     if line.startswith(FAILED):
                         told.append(line[len(FAILED) :].strip())
                     if line.startswith(FAILED) or re.search(step.told, line):
                         self.say(f"{step.name}: {line.rstrip()}")
-        self.end(step, process.returncode, last, told)
+        self.end(step, process.returncode, count if step.counts else last, told)
 
     def end(self, step, status, last, told):
-        """Takes how a step ended. One that counts is one failure where its last line does not say how, or is wrong."""
+        """Takes how a step ended. One that counts is one failure where it does not say how, or says it wrongly."""
         since, _ = self.running.pop(step.name)
         passed, failed = (0, 1) if status else (1, 0)
         if step.counts:
