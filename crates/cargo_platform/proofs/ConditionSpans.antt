@@ -1,6 +1,5 @@
 -- Where a text goes wrong that is refused as a condition.
-use Rattle.std.proofs.Common.{◌≡◌, sym, ap, ◌∙◌, subst, ℕ, true≢false, List, Option, Some, inl, inr, IsUtf8, arith}
-use Rattle.std.specs.Str.{IsCharBoundary}
+use Rattle.std.proofs.Common.{◌≡◌, sym, ap, ◌∙◌, subst, ℕ, List, Option, Some, inl, inr, IsUtf8, arith}
 use Rattle.std.specs.declared.ops.Range.{Range}
 use Rattle.std.proofs.lemmas.Option.{same_Some}
 use Rattle.std.proofs.lemmas.Str.{IsUtf8-drop, IsCharBoundary-past_char}

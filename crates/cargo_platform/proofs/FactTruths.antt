@@ -8,11 +8,13 @@ use Rattle.std.specs.Option.{option_cmp}
 use Rattle.std.specs.Cmp.{Equal-is, eq_by_cmp_equiv, first_so, second_so, both_ways}
 use Rattle.std.specs.Cmp.Lexicographic.{slice_cmp}
 use Rattle.std.specs.FinSet.{contains-from_list, same_set, IsAntisymmetric}
+use Rattle.std.proofs.lemmas.Slice.Eq.{bytes_eq-Decides}
 use Rattle.std.proofs.lemmas.Map.Views.{list_any-from_Contains, Contains-from_any}
 use Rattle.cargo_platform.specs.Trees.{CfgValue, Tree, Not, All, Any, Value, True, False, Trees, none, tree}
+use Rattle.cargo_platform.specs.Trees.{Condition, Target, Expression}
 use Rattle.cargo_platform.specs.Facts.{Pair, pair_of, pair_cmp, FactSet, fact_set, truth, all_true, any_true}
 use Rattle.cargo_platform.specs.FactLaws.{IsInWhereListed, HaveSamePairs, HaveSameFacts, HasAllFacts, is_without_not}
-use Rattle.cargo_platform.specs.FactLaws.{are_without_not, negations}
+use Rattle.cargo_platform.specs.FactLaws.{are_without_not, negations, IsTruthOfCondition}
 use Rattle.cargo_platform.specs.OrderLaws.{first_tied, second_tied, text_tie}
 use Rattle.cargo_platform.proofs.FactSets.{pairs_total}
 
@@ -81,3 +83,7 @@ pub not_all : (facts : FactSet) (es : Trees) → not (all_true facts es) ≡ any
 not_all facts none = refl
 not_all facts (tree e es) =
     not_both (truth facts e) (all_true facts es) ∙ ap (λ b. not (truth facts e) || b) (not_all facts es)
+
+pub condition_truth : (target : List ℕ) (facts : FactSet) (p : Condition) → IsTruthOfCondition target facts p
+condition_truth target facts (Target name) = bytes_eq-Decides name target
+condition_truth target facts (Expression e) = (λ h. h, λ h. h)

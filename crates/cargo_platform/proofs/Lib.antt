@@ -19,6 +19,8 @@ pub mod Expecting
 pub mod OneFault
 pub mod Spans
 pub mod Snippets
+pub mod KeySpans
+pub mod FoundInKeys
 pub mod AroundSpans
 pub mod SomeFault
 pub mod PrintedSpells
@@ -36,6 +38,7 @@ pub mod FactIndexes
 pub mod Members
 pub mod Lines
 pub mod TextLines
+pub mod LineStarts
 pub mod FactLines
 pub mod LastMembers
 pub mod TargetNames

@@ -1,5 +1,5 @@
 -- The lines of a snippet, from their parts.
-use Rattle.std.proofs.Common.{◌≡◌, ◌∙◌, sym, ap, ℕ, ◌+◌, ◌-◌, List, ◌++◌, append_assoc, length, codes, take, drop, map}
+use Rattle.std.proofs.Common.{◌≡◌, ◌∙◌, sym, ap, ℕ, ◌-◌, List, ◌++◌, append_assoc, length, codes, take, drop, map}
 use Rattle.std.proofs.Common.{encode_utf8_all}
 use Rattle.std.specs.Prelude.{nat_lt}
 use Rattle.std.specs.List.{repeat}

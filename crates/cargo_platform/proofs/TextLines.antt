@@ -12,7 +12,7 @@ no_end true e = absurd (cc)
 no_end false e = refl
 
 -- a line with its end is the first line of a text that goes on behind it
-first_line : (l rest : List ℕ) → IsUnbroken l → lines_of ((l ++ 10 ∷ []) ++ rest) ≡ l ∷ lines_of rest
+pub first_line : (l rest : List ℕ) → IsUnbroken l → lines_of ((l ++ 10 ∷ []) ++ rest) ≡ l ∷ lines_of rest
 first_line [] rest u = refl
 first_line (b ∷ bs) rest u =
     let parts : (not (b == 10) ≡ true) × IsUnbroken bs =
@@ -20,7 +20,7 @@ first_line (b ∷ bs) rest u =
     rw (no_end (b == 10) parts.0) (ap (onto_first b) (first_line bs rest parts.1))
 
 -- text that has no newline is its last line
-last_line : (l : List ℕ) → IsUnbroken l → l ≢ [] → lines_of l ≡ l ∷ []
+pub last_line : (l : List ℕ) → IsUnbroken l → l ≢ [] → lines_of l ≡ l ∷ []
 last_line [] u n = absurd (n refl)
 last_line (b ∷ []) u n =
     let parts : (not (b == 10) ≡ true) × (true ≡ true) = and_parts (not (b == 10)) true u in

@@ -1,7 +1,7 @@
 -- The warnings on values grow by those on the next one, and a cut takes all of them back.
 use Rattle.std.proofs.Common.{◌≡◌, refl, sym, ap, ◌∙◌, ◌⊎◌, inl, inr, ℕ, ◌+◌, ◌≤◌, ◌==◌, true, false, true≢false}
 use Rattle.std.proofs.Common.{List, [], ◌∷◌, ◌++◌, length, take, map, flat_map, reverse, sum, append-nil, append_assoc}
-use Rattle.std.proofs.Common.{String, Vec, Box, Global, string_bytes, vec_len, arith, rules}
+use Rattle.std.proofs.Common.{String, Vec, Box, Global, string_bytes, vec_len, arith}
 use Rattle.std.proofs.lemmas.Bool.{eqb-true}
 use Rattle.std.proofs.lemmas.List.{length-map, map-append, take-map, take_all, take-append-le, reverse-append}
 use Rattle.std.proofs.lemmas.List.{nil_from_length}

@@ -1,11 +1,12 @@
 -- Laws of the truth of a tree over a set of facts, and of the order of keys.
-use Rattle.std.specs.Prelude.{◌≡◌, ◌↔◌, Bool, true, false, ◌&&◌, IsTrue, List, map, Contains}
+use Rattle.std.specs.Prelude.{◌≡◌, ◌↔◌, ℕ, Bool, true, false, ◌&&◌, IsTrue, List, map, Contains}
 use Rattle.std.specs.declared.cmp.Ordering.{Ordering}
 use Rattle.std.specs.declared.cmp.Ordering.TheVariants.{Equal}
 use Rattle.std.specs.FinSet.{contains}
 use Rattle.std.specs.Cmp.{IsTotalOrder}
 use Rattle.cargo_platform.specs.Trees.{CfgValue, Tree, Not, All, Any, Value, True, False, Trees, none, tree}
-use Rattle.cargo_platform.specs.Facts.{Pair, pair_of, FactSet, fact_set, truth}
+use Rattle.cargo_platform.specs.Trees.{Condition}
+use Rattle.cargo_platform.specs.Facts.{Pair, pair_of, FactSet, fact_set, truth, IsTrueCondition, truth_of_condition}
 
 -- a pair is in the fact set of a list exactly where it is the pair of some member
 abbrev pub IsInWhereListed : List CfgValue → Pair → Type 0
@@ -14,6 +15,10 @@ IsInWhereListed cs p = IsTrue (contains (fact_set cs) p) ↔ Contains (map pair_
 -- the members of two lists have the same pairs, in whatever order and how often
 abbrev pub HaveSamePairs : List CfgValue → List CfgValue → Type 0
 HaveSamePairs cs ds = (p : Pair) → Contains (map pair_of cs) p ↔ Contains (map pair_of ds) p
+
+-- the truth of a condition as a function says which conditions are true
+abbrev pub IsTruthOfCondition : List ℕ → FactSet → Condition → Type 0
+IsTruthOfCondition target facts p = IsTrue (truth_of_condition target facts p) ↔ IsTrueCondition target facts p
 
 -- each fact of the first set is one of the second
 abbrev pub HasAllFacts : FactSet → FactSet → Type 0

@@ -1,15 +1,17 @@
 -- Facts in a text, one a line, and what is answered to such a text.
-use Rattle.std.specs.Prelude.{ℕ, ◌≤◌, ◌-◌, List, [], ◌∷◌, ◌++◌, length, take, codes, Option, Some, None}
+use Rattle.std.specs.Prelude.{◌≡◌, ℕ, ◌≤◌, ◌-◌, List, [], ◌∷◌, ◌++◌, length, take, codes, Option, Some, None}
 use Rattle.std.specs.Prelude.{Result, Ok, Err}
 use Rattle.std.specs.Fmt.{decimal}
+use Rattle.std.specs.declared.ops.Range.{Range}
 use Rattle.cargo_platform.specs.declared.error.ParseError.{ParseError}
 use Rattle.cargo_platform.specs.declared.fact_lines.FactsError.{FactsError}
 use Rattle.cargo_platform.specs.declared.fact_lines.FactsError.TheVariants.{Line, Memory}
 use Rattle.cargo_platform.specs.Trees.{CfgValue}
 use Rattle.cargo_platform.specs.Spelling.{IsValueText}
 use Rattle.cargo_platform.specs.Print.{print_error}
-use Rattle.cargo_platform.specs.Errors.{orig_of, fault_in}
-use Rattle.cargo_platform.specs.Lines.{line_at}
+use Rattle.cargo_platform.specs.Errors.{orig_of, fault_in, span_in}
+use Rattle.cargo_platform.specs.Lines.{lines_of, line_at, ended}
+use Rattle.cargo_platform.specs.KeySpans.{IsSpanBy}
 
 -- no fact, a name or a pair, is spelled by the text
 abbrev pub SpellsNoFact : List ℕ → Type 0
@@ -38,3 +40,15 @@ IfLine (Err (Memory e)) P = Unit {0}
 abbrev pub print_facts_error : FactsError → Option (List ℕ)
 print_facts_error (Line n e) = Some (codes "line " ++ decimal n ++ codes ": " ++ print_error (orig_of e) (fault_in e))
 print_facts_error (Memory e) = None
+
+-- the line of this number begins so many bytes into the text: behind the lines before it and their ends
+abbrev pub BeginsLine : List ℕ → ℕ → List ℕ → ℕ → Type 0
+BeginsLine text number line place =
+    (1 ≤ number) × (number ≤ length (lines_of text)) × (line_at (lines_of text) number ≡ line)
+    × (place ≡ length (ended (take (number - 1) (lines_of text))))
+
+-- where the fault of an error lies in the text of facts: in the line of its number
+abbrev pub IsSpanInFacts : List ℕ → FactsError → Option (Range ℕ) → Type 0
+IsSpanInFacts text (Line number e) found =
+    IsSpanBy (BeginsLine text number (orig_of e)) (orig_of e) (span_in e) found
+IsSpanInFacts text (Memory e) found = found ≡ None

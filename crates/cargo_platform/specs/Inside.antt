@@ -1,5 +1,6 @@
 -- What the contracts of private functions and types cite, and no promise rests on.
 pub mod Refusals
+pub mod LineStarts
 pub mod Looking
 pub mod Scanning
 pub mod Ahead

@@ -7,6 +7,7 @@ pub mod Trees
 pub mod ViewLaws
 pub mod Sizes
 pub mod Snippets
+pub mod KeySpans
 pub mod Spelling
 pub mod WellFormed
 pub mod GrammarLaws

@@ -1,6 +1,6 @@
 //! The facts of a target, read from a text.
 
-ghost use Rattle.std.specs.Prelude.{◌≡◌, ◌≢◌, ◌==◌, List, [], map, IfOk};
+ghost use Rattle.std.specs.Prelude.{◌≡◌, ◌≢◌, ◌==◌, ◌<◌, ◌+◌, ℕ, List, [], map, length, IfOk, MatchOption};
 ghost use Rattle.std.specs.List.{AllByRecursion, slice_split};
 ghost use Rattle.cargo_platform.specs.Trees.{CfgValue, value_of};
 ghost use Rattle.cargo_platform.specs.Spelling.{Values, IsValueText};
@@ -10,11 +10,14 @@ ghost use Rattle.cargo_platform.specs.Print.{print_value};
 ghost use Rattle.cargo_platform.specs.Errors.{orig_of, fault_in, span_in};
 ghost use Rattle.cargo_platform.specs.Lines.{lines_of, line_at, IsUnbroken, ended};
 ghost use Rattle.cargo_platform.specs.FactLines.{SpellFacts, IsFirstNoFact, IfLine, SpellsNoFact};
+ghost use Rattle.cargo_platform.specs.FactLines.{BeginsLine, IsSpanInFacts};
+ghost use Rattle.cargo_platform.specs.Inside.LineStarts.{IsBehind, IsFirstLine, HoldsLine};
 
 use crate::cfg::Cfg;
 use crate::error::{ParseError, ReadError};
 use std::alloc::{AllocError, Global};
 use std::fmt;
+use std::ops::Range;
 
 /// Why a text of facts is refused.
 #[derive(Debug, Drop)]
@@ -88,6 +91,66 @@ pub fn read_facts(alloc: Global, text: &str) -> Result<Vec<Cfg>, FactsError>
         }
     }
     Ok(facts)
+}
+
+impl FactsError {
+    /// Where the fault lies in the text of facts, in bytes of the whole text: in the line of its number. `None` with a
+    /// text that has no such line there, and where memory was refused.
+    pub fn span_in(&self, text: &str) -> Option<Range<usize>>
+        ensures { IsSpanInFacts text.now self.now result }
+    {
+        let FactsError::Line { number, error } = self else {
+            return None;
+        };
+        let span = error.span()?;
+        let place = line_place(text, *number, error.orig())?;
+        let start = span.start.checked_add(place)?;
+        let end = span.end.checked_add(place)?;
+        Some(start..end)
+    }
+}
+
+/// How many bytes into the text the line of this number begins, where it is this line.
+fn line_place(text: &str, number: usize, line: &str) -> Option<usize>
+    ensures { MatchOption result
+        ((place : ℕ) → BeginsLine text.now number line.now place → ⊥)
+        (λ place. HoldsLine text.now number line.now place) }
+{
+    let size = text.len();
+    let rest = behind_lines(text, number.checked_sub(1)?)?;
+    let first = first_line(rest)?;
+    if first == line {
+        Some(size - rest.len())
+    } else {
+        None
+    }
+}
+
+/// The text behind so many lines and their ends, where it has so many.
+fn behind_lines(text: &str, many: usize) -> Option<&str>
+    ensures { MatchOption result (length (lines_of text.now) < many + 1) (λ rest. IsBehind text.now many rest.now) }
+{
+    let mut rest = text;
+    let mut left = many;
+    'lines: while 0 < left {
+        let (_line, behind) = rest.split_once('\n')?;
+        rest = behind;
+        left -= 1;
+    }
+    Some(rest)
+}
+
+/// The first line of a text.
+fn first_line(text: &str) -> Option<&str>
+    ensures { MatchOption result (text.now ≡ []) (λ line. IsFirstLine text.now line.now) }
+{
+    if text.is_empty() {
+        return None;
+    }
+    match text.split_once('\n') {
+        Some((line, _behind)) => Some(line),
+        None => Some(text),
+    }
 }
 
 impl fmt::Display for FactsError {

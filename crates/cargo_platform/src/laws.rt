@@ -1,6 +1,6 @@
 //! Laws over the definitions. The functions do nothing: each contract is a law.
 
-ghost use Rattle.std.specs.Prelude.{◌≡◌, ◌≤◌, true, false, ℕ, List, [], IsUtf8, Box, Vec};
+ghost use Rattle.std.specs.Prelude.{◌≡◌, ◌≤◌, true, false, ℕ, List, [], Option, IsUtf8, Box, Vec};
 ghost use Rattle.std.specs.declared.alloc.Global.{Global};
 ghost use Rattle.std.specs.declared.ops.Range.{Range};
 ghost use Rattle.cargo_platform.specs.declared.cfg.Cfg.{Cfg};
@@ -22,6 +22,7 @@ ghost use Rattle.cargo_platform.specs.WellFormed.{IsWellFormedValue, IsWellForme
 ghost use Rattle.cargo_platform.specs.Print.{print_value, print, print_condition};
 ghost use Rattle.cargo_platform.specs.Platforms.{IsConditionText, IsConditionRefusal, IsPlacedConditionRefusal};
 ghost use Rattle.cargo_platform.specs.Platforms.{IsConditionPlacedWithin, IsBehindName};
+ghost use Rattle.cargo_platform.specs.KeySpans.{IsFoundInKey};
 ghost use Rattle.cargo_platform.specs.ChangeLaws.{SpelledReleased, IsAcceptedAsReleased, IsRefusedAsReleased};
 ghost use Rattle.cargo_platform.specs.ChangeLaws.{IsTreeTextAsReleased, KeepsTree, IsConditionTextAsReleased};
 ghost use Rattle.cargo_platform.specs.ChangeLaws.{KeepsCondition, SpelledTransitional, IsRefusedForLiteralKeys};
@@ -31,7 +32,7 @@ ghost use Rattle.cargo_platform.specs.ViewLaws.{IsNotOf, IsAllOf, IsAnyOf, IsVal
 ghost use Rattle.cargo_platform.specs.Sizes.{size, depth};
 ghost use Rattle.cargo_platform.specs.Facts.{Pair, pair_cmp, FactSet, fact_set, truth};
 ghost use Rattle.cargo_platform.specs.FactLaws.{IsInWhereListed, HaveSamePairs, HaveSameFacts, IsMonotone};
-ghost use Rattle.cargo_platform.specs.FactLaws.{IsNotAllAnyNot, IsOrderOfKeys};
+ghost use Rattle.cargo_platform.specs.FactLaws.{IsNotAllAnyNot, IsOrderOfKeys, IsTruthOfCondition};
 ghost use Rattle.cargo_platform.specs.Lines.{lines_of, AreLines};
 ghost use Rattle.cargo_platform.specs.Key.{name_key, value_key, key, condition_key, name_cmp, value_cmp, tree_cmp};
 ghost use Rattle.cargo_platform.specs.Key.{condition_cmp};
@@ -155,6 +156,13 @@ pub fn around_spans()
     ensures name { (text : List ℕ) (span : Range ℕ) → IsBehindName text span }
 {}
 
+/// Where a key is refused as a condition, what `ParseError::span_in` answers lies in the key, in order, and begins and
+/// ends at characters.
+pub fn faults_are_in_keys()
+    ensures { (key text : List ℕ) (fault : Fault) (span : Range ℕ) (found : Option (Range ℕ)) → IsUtf8 key
+        → IsFoundInKey key text fault span found }
+{}
+
 /// A text spells a name or a pair, or has a fault as one. So it is with expressions and conditions.
 pub fn spelled_or_refused()
     ensures values { (text : List ℕ) → IsUtf8 text → SpellsOrIsRefused IsValueText (IsRefused Values) text }
@@ -235,6 +243,11 @@ pub fn truth_is_of_facts()
     ensures sets { (s t : FactSet) (e : Tree) → HaveSameFacts s t → truth s e ≡ truth t e }
     ensures lists { (cs ds : List CfgValue) (e : Tree) → HaveSamePairs cs ds
         → truth (fact_set cs) e ≡ truth (fact_set ds) e }
+{}
+
+/// The truth of a condition as a function, by which `Platform::matches` answers, says which conditions are true.
+pub fn truth_of_conditions()
+    ensures { (target : List ℕ) (facts : FactSet) (p : Condition) → IsTruthOfCondition target facts p }
 {}
 
 /// In a tree with no `Not`, more facts never turn truth into falsehood.

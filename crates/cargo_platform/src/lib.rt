@@ -13,6 +13,7 @@ mod display;
 pub mod error;
 mod fact_lines;
 mod facts;
+mod in_key;
 mod iterative_drop;
 mod json;
 pub mod laws;
@@ -29,6 +30,7 @@ pub use cfg::{Cfg, CfgExpr, FactIndex, Facts, Ident, Listed};
 pub use error::{ParseError, ParseErrorKind, ReadError};
 pub use fact_lines::{FactsError, read_facts};
 pub use json::JsonError;
+pub use snippet::{shown_start, shown_text};
 pub use tokens::{Looks, Spanned, Token, TokenFault, TokenFaultKind, Tokenizer};
 
 /// The condition of a dependency.

@@ -9,7 +9,7 @@ ghost use Rattle.std.specs.Prelude.{length, string_bytes, slice_index, Some};
 ghost use Rattle.std.specs.declared.ops.Range.{Range};
 ghost use Rattle.unicode.specs.GeneralCategory.{general_category};
 ghost use Rattle.cargo_platform.specs.Trees.{Tree, Condition, Expression, value_of, condition_of};
-ghost use Rattle.cargo_platform.specs.Facts.{fact_set, truth, IsTrueCondition};
+ghost use Rattle.cargo_platform.specs.Facts.{fact_set, truth, IsTrueCondition, truth_of_condition};
 ghost use Rattle.cargo_platform.specs.Faults.{InvalidTarget};
 ghost use Rattle.cargo_platform.specs.Platforms.{is_number_category, is_target_char, is_plain_byte, IsTargetName};
 ghost use Rattle.cargo_platform.specs.Platforms.{IsFirstRefused, IsTargetMessage, IsTargetSpan, IsCfgOf, IsBare};
@@ -71,7 +71,10 @@ impl Platform {
     /// Whether the condition holds for a target with this name and these facts: a name where it is the target's name,
     /// and an expression where it is true over the facts, whatever the name.
     pub fn matches(&self, name: &str, cfg: &[Cfg]) -> bool
-        ensures { IsTrue result ↔ IsTrueCondition name.now (fact_set (map value_of cfg.now)) (condition_of self.now) }
+        ensures truth { result
+            ≡ truth_of_condition name.now (fact_set (map value_of cfg.now)) (condition_of self.now) }
+        ensures applies { IsTrue result
+            ↔ IsTrueCondition name.now (fact_set (map value_of cfg.now)) (condition_of self.now) }
     {
         match self {
             Platform::Name(target) => target.as_str() == name,
@@ -109,7 +112,7 @@ impl CfgExpr {
 }
 
 /// The text between `cfg(` and `)`, where the text begins and ends with these.
-fn inside_cfg(text: &str) -> Option<&str>
+pub(crate) fn inside_cfg(text: &str) -> Option<&str>
     ensures { MatchOption result (IsBare text.now) (λ inner. IsCfgOf text.now inner.now) }
 {
     text.strip_prefix("cfg(")?.strip_suffix(")")

@@ -1,6 +1,7 @@
 //! Two lines that show where a text is refused.
 
-ghost use Rattle.std.specs.Prelude.{◌≡◌, ◌≤◌, ◌+◌, IfOk, length, string_bytes, Some};
+ghost use Rattle.std.specs.Prelude.{◌≡◌, ◌≤◌, ◌+◌, IfOk, length, string_bytes, Some, map};
+ghost use Rattle.std.specs.Prelude.{encode_utf8_all};
 ghost use Rattle.std.specs.Str.{chars};
 ghost use Rattle.unicode.specs.GeneralCategory.{general_category};
 ghost use Rattle.cargo_platform.specs.Errors.{fault_in, fault_meant, orig_of, span_in};
@@ -39,6 +40,22 @@ impl ParseError {
             None => Ok(None),
         }
     }
+}
+
+/// The text as snippets show it, in whole: a character is shown as U+FFFD that is neither the space U+0020 nor in one of
+/// the general categories L, N, P and S. So a printed text forges no line.
+pub fn shown_text(alloc: Global, text: &str) -> Result<String, AllocError>
+    ensures { IfOk result (λ s. string_bytes s ≡ encode_utf8_all (map shown (chars text.now))) }
+{
+    text.chars().map(shown).collect(alloc)
+}
+
+/// The text as snippets show one that is their fault's: as `shown_text`, and of more than 100 characters the first 100
+/// with `..` behind.
+pub fn shown_start(alloc: Global, text: &str) -> Result<String, AllocError>
+    ensures { IfOk result (λ s. string_bytes s ≡ shown_line (chars text.now) 0 0) }
+{
+    shown_line(alloc, text, 0, 0)
 }
 
 /// The two lines of a text, or nothing where the span does not lie in it.

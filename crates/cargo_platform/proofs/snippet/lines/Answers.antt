@@ -1,4 +1,4 @@
-use Rattle.std.proofs.Common.{◌≡◌, ◌∙◌, ◌++◌, chars, codes, length}
+use Rattle.std.proofs.Common.{◌∙◌, ◌++◌, chars, codes, length}
 use Rattle.std.proofs.lemmas.Result.{IfOk-weaker}
 use Rattle.cargo_platform.specs.Print.{print_fault}
 use Rattle.cargo_platform.specs.Errors.{fault_meant}

@@ -1,4 +1,4 @@
-use Rattle.std.proofs.Common.{◌≡◌, ◌∙◌, Ok, chars, rules}
+use Rattle.std.proofs.Common.{◌∙◌, Ok, chars, rules}
 use Rattle.std.proofs.lemmas.Result.{IfOk-weaker}
 use Rattle.std.proofs.lemmas.Iterator.{YieldsList-from_chars, YieldsList-from_take, YieldsList-from_map}
 use Rattle.std.proofs.lemmas.Iterator.{text_from_collect}

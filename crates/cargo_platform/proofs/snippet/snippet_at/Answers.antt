@@ -1,4 +1,4 @@
-use Rattle.std.proofs.Common.{◌≡◌, ◌∙◌, refl, ap, length, chars, arith}
+use Rattle.std.proofs.Common.{◌∙◌, refl, ap, length, chars, arith}
 use Rattle.std.proofs.lemmas.Str.{IsCharBoundary-start}
 use Rattle.cargo_platform.specs.Errors.{fault_meant}
 use Rattle.cargo_platform.specs.Snippets.{lines_by}
