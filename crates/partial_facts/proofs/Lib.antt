@@ -8,3 +8,4 @@ pub mod Keeping
 pub mod Reducing
 pub mod Naming
 pub mod Steps
+pub mod Learning

@@ -16,6 +16,10 @@ pub record IsPartlyKnown (listed : FactSet) (complete : List (List ℕ)) (s : Fa
   pub has : HasAllFacts listed s
   pub no_other : (p : Pair) → IsTrue (is_named p.name complete) → IsTrue (contains s p) → IsTrue (contains listed p)
 
+-- each name that is complete stays so
+abbrev pub KeepsNames : List (List ℕ) → List (List ℕ) → Type 0
+KeepsNames complete more = (n : List ℕ) → IsTrue (is_named n complete) → IsTrue (is_named n more)
+
 -- what follows from whether a pair is listed, and whether its name or key is complete
 abbrev pub told_by : Bool → Bool → Option Bool
 told_by true n = Some true

@@ -2,12 +2,15 @@
 
 ghost use Rattle.std.specs.Prelude.{◌≡◌, ℕ, List, Bool, Option, Some, None};
 ghost use Rattle.std.specs.FinSet.{contains};
-ghost use Rattle.cargo_platform.specs.Trees.{CfgValue, Tree};
+ghost use Rattle.cargo_platform.specs.Trees.{CfgValue, Tree, Condition};
 ghost use Rattle.cargo_platform.specs.Facts.{Pair, FactSet, fact_set, pair_of, truth};
 ghost use Rattle.partial_facts.specs.Kleene.{kleene};
-ghost use Rattle.partial_facts.specs.KleeneLaws.{TellsMore};
+ghost use Rattle.partial_facts.specs.KleeneLaws.{TellsMore, LearnsName};
+ghost use Rattle.partial_facts.specs.Conditions.{kleene_condition, residual_condition};
 ghost use Rattle.partial_facts.specs.Residual.{residual_tree};
-ghost use Rattle.partial_facts.specs.Partly.{partly_told, IsAllowedByTold, IsLeftOpen};
+ghost use Rattle.partial_facts.specs.Partly.{partly_told, IsPartlyKnown, KeepsNames, IsAllowedByTold, IsLeftOpen};
+
+use crate::knowledge::Knowledge;
 
 /// Where each pair is known, each expression is decided, with its truth.
 pub fn all_known_decides()
@@ -24,6 +27,32 @@ pub fn stays_decided()
 pub fn left_in_steps()
     ensures { (told more : Pair → Option Bool) (e : Tree) → TellsMore told more
         → residual_tree more (residual_tree told e) ≡ residual_tree more e }
+{}
+
+/// A condition that is decided stays decided, and the same, as more becomes known of the facts or the target's name.
+pub fn conditions_stay_decided()
+    ensures { (name more_name : Option (List ℕ)) (told more : Pair → Option Bool) (p : Condition) (b : Bool)
+        → LearnsName name more_name → TellsMore told more → kleene_condition name told p ≡ Some b
+        → kleene_condition more_name more p ≡ Some b }
+{}
+
+/// What is left of a condition in two steps, as more becomes known, is what is left at once.
+pub fn conditions_left_in_steps()
+    ensures { (name more_name : Option (List ℕ)) (told more : Pair → Option Bool) (p : Condition)
+        → LearnsName name more_name → TellsMore told more
+        → residual_condition more_name more (residual_condition name told p) ≡ residual_condition more_name more p }
+{}
+
+/// A `Partial` tells more with more names complete, and with a list of facts that was possible before: one with a fact
+/// more of a name that is not complete, say.
+pub fn partial_tells_more()
+    ensures { (listed more : FactSet) (complete names : List (List ℕ)) → IsPartlyKnown listed complete more
+        → KeepsNames complete names → TellsMore (partly_told listed complete) (partly_told more names) }
+{}
+
+/// `Complete` over a set that is possible tells more.
+pub fn complete_tells_more<K: Knowledge>(known: &K)
+    ensures { (s : FactSet) → K.allows known.now s → TellsMore (K.told known.now) (λ p. Some (contains s p)) }
 {}
 
 /// A `Partial` rules out no set without reason: each one in which all that it tells holds is allowed, and a pair of

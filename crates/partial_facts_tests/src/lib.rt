@@ -10,6 +10,9 @@ mod deep;
 pub mod planner;
 #[cfg(test)]
 mod residuals;
+pub mod steps;
+#[cfg(test)]
+mod stepwise;
 #[cfg(test)]
 mod support;
 pub mod targets;

@@ -3,19 +3,23 @@
 ghost use Rattle.std.specs.Prelude.{◌≡◌, IfOk, map, string_bytes};
 ghost use Rattle.cargo_platform.specs.Trees.{Tree, tree_of, value_of};
 ghost use Rattle.cargo_platform.specs.Facts.{FactSet, fact_set, truth};
-ghost use Rattle.cargo_platform.specs.Spelling.{IsTreeText};
+ghost use Rattle.cargo_platform.specs.Spelling.{Expressions, IsTreeText};
+ghost use Rattle.cargo_platform.specs.Faults.{IsRefused};
 ghost use Rattle.cargo_platform.specs.Print.{print};
 ghost use Rattle.cargo_platform.specs.WellFormed.{IsWellFormed};
-ghost use Rattle.cargo_platform.specs.Errors.{IfParse};
+ghost use Rattle.cargo_platform.specs.Errors.{IfParse, orig_of, fault_in};
+ghost use Rattle.partial_facts.specs.Residual.{residual_tree};
 
 use cargo_platform::{Cfg, CfgExpr, ReadError, laws};
 use partial_facts::{Knowledge, residual};
 use std::alloc::{AllocError, Global};
 
-/// The text of what is left of the condition to ask, which is to be stored.
+/// The text of what is left of the condition to ask, which is to be stored: the print of the residual.
 pub fn plan<K: Knowledge>(alloc: Global, e: &CfgExpr, known: &K) -> Result<String, AllocError>
     requires { IsWellFormed (tree_of e.now) }
-    ensures { IfOk result (λ text. (d : Tree) × IsTreeText (string_bytes text) d
+    ensures stored { IfOk result
+        (λ text. string_bytes text ≡ print (residual_tree (K.told known.now) (tree_of e.now))) }
+    ensures asks_the_same { IfOk result (λ text. (d : Tree) × IsTreeText (string_bytes text) d
         × ((s : FactSet) → K.allows known.now s → truth s d ≡ truth s (tree_of e.now))) }
 {
     laws::print_spells();
@@ -27,6 +31,8 @@ pub fn plan<K: Knowledge>(alloc: Global, e: &CfgExpr, known: &K) -> Result<Strin
 pub fn ask(alloc: Global, text: &str, facts: &[Cfg]) -> Result<bool, ReadError>
     ensures answer { IfOk result (λ yes. (d : Tree) → IsTreeText text.now d
         → yes ≡ truth (fact_set (map value_of facts.now)) d) }
+    ensures orig { IfParse result (λ e. orig_of e ≡ text.now) }
+    ensures fault { IfParse result (λ e. IsRefused Expressions text.now (fault_in e)) }
     ensures read { IfParse result (λ _. (d : Tree) → IsTreeText text.now d → ⊥) }
 {
     laws::one_text();

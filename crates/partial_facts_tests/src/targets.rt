@@ -3,6 +3,7 @@
 ghost use Rattle.std.specs.Prelude.{◌≡◌, ◌∷◌, Contains, IfSome};
 ghost use Rattle.cargo_platform.specs.Trees.{tree_of};
 ghost use Rattle.cargo_platform.specs.Facts.{FactSet, truth};
+ghost use Rattle.partial_facts.specs.Kleene.{kleene};
 ghost use Rattle.partial_facts_tests.specs.Targets.{set_of, sets_of, agreed_on};
 
 use cargo_platform::{Cfg, CfgExpr, Facts, Listed};
@@ -41,7 +42,9 @@ impl<'a> Knowledge for OneOf<'a> {
 
 /// What the condition is for all the targets, where that follows from what their facts have in common.
 pub fn for_all(e: &CfgExpr, targets: &OneOf<'_>) -> Option<bool>
-    ensures { (s : FactSet) → Contains (set_of targets.now.first.now ∷ sets_of targets.now.others.now) s
+    ensures exact { result
+        ≡ kleene (agreed_on (set_of targets.now.first.now) (sets_of targets.now.others.now)) (tree_of e.now) }
+    ensures sound { (s : FactSet) → Contains (set_of targets.now.first.now ∷ sets_of targets.now.others.now) s
         → IfSome result (λ b. truth s (tree_of e.now) ≡ b) }
 {
     decide(e, targets)

@@ -1,7 +1,7 @@
 #!/usr/bin/env python3
 """A second telling of the spans in `../src/spans.rt`'s tables: a scan from the left, in characters.
 
-It reads the three tables of `../src/spans.rt`, tells the span of each text on its own, and compares.
+It reads the tables of `../src/spans.rt`, tells the span of each text on its own, and compares. `make test` runs it.
 Run: python3 crates/span_tests/spans/compare.py
 """
 import ast
@@ -115,6 +115,24 @@ def condition_span(key):
     return key, None if at is None else (at, at + 1)
 
 
+def key_span(key):
+    """The span in the key itself."""
+    inner, span = condition_span(key)
+    behind = 0 if inner == key else 4
+    return span and (span[0] + behind, span[1] + behind)
+
+
+def facts_span(text):
+    """The number of the first line that is no fact, and the span in the whole text."""
+    at = 0
+    for number, line in enumerate(text.split("\n"), 1):
+        span = span_of(line, False)
+        if at < len(text) and span:
+            return number, (at + span[0], at + span[1])
+        at += len(line) + 1
+    return None, None
+
+
 def in_bytes(text, span):
     return span and (width(text[: span[0]]), width(text[: span[1]]))
 
@@ -130,6 +148,9 @@ def main():
     told = [(t, t, t, (s, e), span_of(t, True)) for t, s, e in rows(source, "EXPRESSIONS")]
     told += [(t, t, t, (s, e), span_of(t, False)) for t, s, e in rows(source, "FACTS")]
     told += [(k, o, *condition_span(k)[:1], (s, e), condition_span(k)[1]) for k, o, s, e in rows(source, "CONDITIONS")]
+    told += [(k, k, k, (s, e), key_span(k)) for k, s, e in rows(source, "KEYS")]
+    facts = [(t, n, (s, e), *facts_span(t)) for t, n, s, e in rows(source, "FACT_TEXTS")]
+    told += [(t, t, t if n == number else number, at, span) for t, n, at, number, span in facts]
     differ = [r for r in told if r[1] != r[2] or in_bytes(r[1], r[4]) != r[3]]
     for row in differ:
         print("differs:", row)

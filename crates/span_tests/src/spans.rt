@@ -3,6 +3,7 @@
 use cargo_platform::{
     Cfg, CfgExpr, FactsError, ParseError, ParseErrorKind, Platform, ReadError, read_facts,
 };
+use std::ops::Range;
 use std::process::Abort;
 
 /// A refused text, and where the span of its fault begins and ends.
@@ -92,6 +93,32 @@ const CONDITIONS: &[(&str, &str, usize, usize)] = &[
     ("x(", "x(", 1, 2),
 ];
 
+/// A key of a manifest, and where the span of its fault begins and ends in the key.
+const KEYS: &[Row] = &[
+    ("cfg()", 4, 4),
+    ("cfg(all(a b))", 10, 11),
+    ("cfg(all(é %))", 8, 10),
+    ("cfg(k = \"ab)", 8, 11),
+    ("cfg(r#%)", 6, 7),
+    ("cfg(cfg(a))", 7, 10),
+    ("cfg(unix", 8, 8),
+    (" cfg(unix)", 0, 1),
+    ("\"cfg(unix)\"", 0, 1),
+    ("a b(c", 1, 2),
+    ("漢 x", 3, 4),
+];
+
+/// A text of facts, the number of its first refused line, and where the span of its fault lies in the whole text.
+const FACT_TEXTS: &[(&str, usize, usize, usize)] = &[
+    ("%", 1, 0, 1),
+    ("\n", 1, 0, 0),
+    ("unix\n\n", 2, 5, 5),
+    ("a\nb\r\n", 2, 3, 4),
+    ("é\na", 1, 0, 2),
+    ("unix\na = \"é\" b\n%", 2, 14, 15),
+    ("k = \"é\"\nk = \"\n%", 2, 13, 14),
+];
+
 /// The error of a refused text.
 fn error_of(rt: &impl Abort, refusal: Option<ReadError>) -> ParseError {
     match refusal {
@@ -135,15 +162,30 @@ fn spans_of_conditions(rt: HostRuntime) {
     }
 }
 
+fn assert_places(rt: &impl Abort, found: Option<Range<usize>>, start: usize, end: usize) {
+    let found = found.expect(rt, "a span");
+    assert_eq!(rt; (found.start, found.end), (start, end));
+}
+
 #[test]
-fn spans_of_lines(rt: HostRuntime) {
-    match read_facts(rt.alloc(), "unix\na = \"é\" b\n%") {
-        Err(FactsError::Line { number, error }) => {
-            assert_eq!(rt; number, 2);
-            assert_span(&rt, &error, "a = \"é\" b", 9, 10);
-        }
-        Err(FactsError::Memory(_)) => panic!(rt; "memory"),
-        Ok(_) => panic!(rt; "a line was read that has to be refused"),
+fn spans_in_keys(rt: HostRuntime) {
+    for (key, start, end) in KEYS {
+        let error = error_of(&rt, Platform::from_str(rt.alloc(), key).err());
+        assert_places(&rt, error.span_in(key), *start, *end);
+        assert!(rt; error.span_in("cfg(a)").is_none(), "{key}");
+    }
+}
+
+#[test]
+fn spans_in_texts_of_facts(rt: HostRuntime) {
+    for (text, line, start, end) in FACT_TEXTS {
+        let refusal = read_facts(rt.alloc(), text).err().expect(&rt, "refused");
+        assert_places(&rt, refusal.span_in(text), *start, *end);
+        assert!(rt; refusal.span_in("a\n").is_none(), "{text}");
+        let FactsError::Line { number, error: _ } = refusal else {
+            panic!(rt; "memory")
+        };
+        assert_eq!(rt; number, *line, "{text}");
     }
 }
 
@@ -151,7 +193,7 @@ fn spans_of_lines(rt: HostRuntime) {
 fn an_error_made_by_hand_has_no_span(rt: HostRuntime) {
     let error = ParseError::new(rt.alloc(), "a", ParseErrorKind::UnterminatedString);
     let error = error.expect(&rt, "memory");
-    assert!(rt; error.span().is_none());
+    assert!(rt; error.span().is_none() && error.span_in("cfg(a)").is_none());
     let snippet = error.snippet(rt.alloc()).expect(&rt, "memory");
     assert!(rt; snippet.is_none());
 }
@@ -218,6 +260,21 @@ fn snippets_of_expressions(rt: HostRuntime) {
         let snippet = snippet.expect(&rt, "no span");
         assert_eq!(rt; snippet.as_str(), *wanted, "{text}");
     }
+}
+
+#[test]
+fn the_snippet_of_a_key_shows_the_key(rt: HostRuntime) {
+    let key = "cfg(all(unix, any(windows target_os = \"linux\")))";
+    let error = error_of(&rt, Platform::from_str(rt.alloc(), key).err());
+    let snippet = error.snippet_in(rt.alloc(), key).expect(&rt, "memory");
+    let snippet = snippet.expect(&rt, "no span");
+    assert_eq!(rt;
+        snippet.as_str(),
+        "cfg(all(unix, any(windows target_os = \"linux\")))\n                          ^^^^^^^^^ expect\
+        ed `)`, found an identifier"
+    );
+    let snippet = error.snippet_in(rt.alloc(), "unix").expect(&rt, "memory");
+    assert!(rt; snippet.is_none());
 }
 
 #[test]

@@ -1,5 +1,5 @@
 -- Conditions that are one key of a map.
-use Rattle.std.proofs.Common.{◌≡◌, ◌∙◌, refl, sym, ap, Bool, true, cond, Option}
+use Rattle.std.proofs.Common.{◌≡◌, ◌∙◌, refl, sym, ap, Bool, true, false, cond, Option}
 use Rattle.std.specs.Prelude.{IsTrue, ◌↔◌}
 use Rattle.std.specs.declared.cmp.Ordering.{Ordering}
 use Rattle.std.specs.declared.cmp.Ordering.TheVariants.{Less, Equal, Greater}
@@ -18,3 +18,10 @@ told_by_order answer o is law = ((λ yes. law.0 (tied o (sym is ∙ yes))), λ p
 pub put_there : {X : Type 0} (o : Ordering) (put kept found : Option X) → o ≡ Equal → found ≡ cond (is_eq o) put kept
     → found ≡ put
 put_there o put kept found same is = is ∙ ap (λ x. cond (is_eq x) put kept) same
+
+-- and at one that is not tied the value that was kept
+pub kept_there : {X : Type 0} (o : Ordering) (put kept found : Option X) → (o ≡ Equal → ⊥)
+    → found ≡ cond (is_eq o) put kept → found ≡ kept
+kept_there Less put kept found apart is = is
+kept_there Equal put kept found apart is = absurd (apart refl)
+kept_there Greater put kept found apart is = is

@@ -17,7 +17,33 @@ abbrev pub HasLicenceWhere : Platform → String Global → ordered.BTreeMap Pla
 HasLicenceWhere p licence m =
     (q : Platform) → IsOneKey p q → ordered.get (on condition_of condition_cmp) m q ≡ Some licence
 
+-- each other condition has what it had, a licence or none
+abbrev pub KeepsOtherLicences : Platform → ordered.BTreeMap Platform (String Global)
+    → ordered.BTreeMap Platform (String Global) → Type 0
+KeepsOtherLicences p old new =
+    (q : Platform) → (IsOneKey p q → ⊥)
+    → ordered.get (on condition_of condition_cmp) new q ≡ ordered.get (on condition_of condition_cmp) old q
+
+-- each condition has what it had
+abbrev pub HasAsBefore : ordered.BTreeMap Platform (String Global) → ordered.BTreeMap Platform (String Global) → Type 0
+HasAsBefore old new =
+    (q : Platform) → ordered.get (on condition_of condition_cmp) new q
+    ≡ ordered.get (on condition_of condition_cmp) old q
+
+-- the same of a map by hashes
 abbrev pub HasHashedLicenceWhere : {S : Type 0} → Platform → String Global → hashed.HashMap Platform (String Global) S
     → Type 0
 HasHashedLicenceWhere p licence m =
     (q : Platform) → IsOneKey p q → hashed.get (on condition_of (eq_by_cmp condition_cmp)) m q ≡ Some licence
+
+abbrev pub KeepsOtherHashedLicences : {S : Type 0} → Platform → hashed.HashMap Platform (String Global) S
+    → hashed.HashMap Platform (String Global) S → Type 0
+KeepsOtherHashedLicences p old new =
+    (q : Platform) → (IsOneKey p q → ⊥) → hashed.get (on condition_of (eq_by_cmp condition_cmp)) new q
+    ≡ hashed.get (on condition_of (eq_by_cmp condition_cmp)) old q
+
+abbrev pub HasHashedAsBefore : {S : Type 0} → hashed.HashMap Platform (String Global) S
+    → hashed.HashMap Platform (String Global) S → Type 0
+HasHashedAsBefore old new =
+    (q : Platform) → hashed.get (on condition_of (eq_by_cmp condition_cmp)) new q
+    ≡ hashed.get (on condition_of (eq_by_cmp condition_cmp)) old q

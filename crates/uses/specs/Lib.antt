@@ -1,3 +1,4 @@
 pub mod Audit
 pub mod OwnError
 pub mod Reports
+pub mod Underline

@@ -12,3 +12,4 @@ pub mod printed_facts;
 pub mod selected;
 #[cfg(test)]
 mod tests;
+pub mod underline;

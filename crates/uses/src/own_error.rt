@@ -24,6 +24,10 @@ pub enum ManifestError {
 }
 
 impl fmt::Display for ManifestError {
+    ghost use Rattle.uses.specs.OwnError.{print_manifest_error};
+
+    ghost output = { λ e. print_manifest_error e };
+
     fn fmt<W: fmt::Write>(&self, f: &mut fmt::Formatter<W>) -> fmt::Result {
         match self {
             ManifestError::Key { line, error } => write!(f, "Cargo.toml:{line}: {error}"),

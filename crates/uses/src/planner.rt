@@ -1,21 +1,38 @@
-//! A build planner: many conditions over the facts of one target.
+//! A build planner: many keys over the name and the facts of one target.
 
 ghost use Rattle.std.specs.Prelude.{◌≡◌, IfOk, map};
-ghost use Rattle.cargo_platform.specs.Trees.{tree_of, value_of};
-ghost use Rattle.cargo_platform.specs.Facts.{fact_set, truth};
+ghost use Rattle.cargo_platform.specs.Trees.{value_of, condition_of};
+ghost use Rattle.cargo_platform.specs.Facts.{fact_set, truth_of_condition};
 
-use cargo_platform::{Cfg, CfgExpr, FactIndex};
+use cargo_platform::{Cfg, FactIndex, Facts, Platform};
 use std::alloc::{AllocError, Global};
 
-/// Whether each condition is true over the facts, in the order of the conditions. The facts are put in order once.
-pub fn plan(alloc: Global, facts: &[Cfg], conditions: &[CfgExpr]) -> Result<Vec<bool>, AllocError>
+/// Whether each condition applies to the target of this name and these facts, in the order of the conditions. The facts
+/// are put in order once.
+pub fn plan(
+    alloc: Global,
+    target: &str,
+    facts: &[Cfg],
+    conditions: &[Platform],
+) -> Result<Vec<bool>, AllocError>
     ensures { IfOk result (λ plan. plan.items
-        ≡ map (λ e. truth (fact_set (map value_of facts.now)) (tree_of e)) conditions.now) }
+        ≡ map (λ p. truth_of_condition target.now (fact_set (map value_of facts.now)) (condition_of p))
+        conditions.now) }
 {
     let index = FactIndex::new(alloc, facts)?;
     let mut plan = Vec::new(alloc);
     for condition in conditions {
-        plan.push(condition.matches_in(&index))?;
+        plan.push(applies(condition, target, &index))?;
     }
     Ok(plan)
+}
+
+/// Whether the condition applies to the target.
+fn applies<F: Facts>(condition: &Platform, target: &str, facts: &F) -> bool
+    ensures { result ≡ truth_of_condition target.now (F.meant facts.now) (condition_of condition.now) }
+{
+    match condition {
+        Platform::Name(name) => name.as_str() == target,
+        Platform::Cfg(expression) => expression.matches_in(facts),
+    }
 }

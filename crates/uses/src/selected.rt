@@ -2,9 +2,9 @@
 
 ghost use Rattle.std.specs.Prelude.{◌↔◌, IsTrue, IfOk, map};
 ghost use Rattle.cargo_platform.specs.Trees.{Condition, condition_of, value_of};
-ghost use Rattle.cargo_platform.specs.Platforms.{IsConditionText};
+ghost use Rattle.cargo_platform.specs.Platforms.{IsConditionText, IsRefusedCondition};
 ghost use Rattle.cargo_platform.specs.Facts.{fact_set, IsTrueCondition};
-ghost use Rattle.cargo_platform.specs.Errors.{IfParse};
+ghost use Rattle.cargo_platform.specs.Errors.{IfParse, orig_of, fault_in};
 
 use cargo_platform::{Cfg, Platform, ReadError};
 use std::alloc::Global;
@@ -13,6 +13,7 @@ use std::alloc::Global;
 pub fn is_selected(alloc: Global, key: &str, target: &str, facts: &[Cfg]) -> Result<bool, ReadError>
     ensures selected { IfOk result (λ yes. (p : Condition) × IsConditionText key.now p
         × (IsTrue yes ↔ IsTrueCondition target.now (fact_set (map value_of facts.now)) p)) }
+    ensures fault { IfParse result (λ e. IsRefusedCondition key.now (orig_of e) (fault_in e)) }
     ensures refused { IfParse result (λ _. (p : Condition) → IsConditionText key.now p → ⊥) }
 {
     match Platform::from_str(alloc, key) {

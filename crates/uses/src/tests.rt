@@ -7,6 +7,7 @@ use crate::own_facts::System;
 use crate::planner::plan;
 use crate::printed_facts::holds_for;
 use crate::selected::is_selected;
+use crate::underline::underlined;
 use cargo_platform::{Cfg, CfgExpr, Platform, read_facts};
 use std::alloc::Global;
 use std::collections::{BTreeMap, HashMap};
@@ -27,6 +28,10 @@ fn expression(rt: &impl Abort, alloc: Global, text: &str) -> CfgExpr {
 
 fn platform(rt: &impl Abort, alloc: Global, text: &str) -> Platform {
     Platform::from_str(alloc, text).expect(rt, text)
+}
+
+fn text(rt: &impl Abort, alloc: Global, text: &str) -> String {
+    String::from_str(alloc, text).expect(rt, "memory")
 }
 
 /// Asserts what was answered to a question.
@@ -70,10 +75,10 @@ fn printed_facts_are_asked(rt: HostRuntime) {
     assert_answer(&rt, "is it refused?", refused.is_err(), true);
 }
 
-fn expressions(rt: &impl Abort, alloc: Global, lines: &str) -> Vec<CfgExpr> {
+fn platforms(rt: &impl Abort, alloc: Global, lines: &str) -> Vec<Platform> {
     let mut all = Vec::new(alloc);
     for line in lines.lines() {
-        all.push(expression(rt, alloc, line)).expect(rt, "memory");
+        all.push(platform(rt, alloc, line)).expect(rt, "memory");
     }
     all
 }
@@ -81,13 +86,16 @@ fn expressions(rt: &impl Abort, alloc: Global, lines: &str) -> Vec<CfgExpr> {
 #[test]
 fn conditions_are_planned(rt: HostRuntime) {
     let facts = facts(&rt, rt.alloc(), LINUX);
-    let conditions = expressions(
+    let keys = platforms(
         &rt,
         rt.alloc(),
-        "unix\nwindows\ntarget_env = \"gnu\"\nany()",
+        "cfg(unix)\nx86_64-pc-windows-msvc\ncfg(target_env = \"gnu\")\ncfg(any())\nx86_64-unknown-linux-gnu",
     );
-    let planned = plan(rt.alloc(), &facts, &conditions).expect(&rt, "memory");
-    assert_eq!(rt; planned.as_slice(), [true, false, true, false].as_slice());
+    let planned = plan(rt.alloc(), LINUX_TARGET, &facts, &keys).expect(&rt, "memory");
+    assert_eq!(rt;
+        planned.as_slice(),
+        [true, false, true, false, true].as_slice()
+    );
 }
 
 /// Asserts the report on a key.
@@ -121,22 +129,41 @@ fn keys_are_linted(rt: HostRuntime) {
     );
 }
 
-/// Asserts whether what is noted under one key, in a map by order, stands under the other.
-fn assert_noted(rt: &impl Abort, alloc: Global, a: &Platform, b: &Platform, wanted: bool) {
+/// Asserts what is noted under a key. The word `none` stands for nothing.
+fn assert_licence(rt: &impl Abort, licence: Option<&String>, wanted: &str) {
+    match licence {
+        Some(licence) => assert_text(rt, licence, wanted),
+        None => assert_text(rt, "none", wanted),
+    }
+}
+
+fn copy(rt: &impl Abort, alloc: Global, platform: &Platform) -> Platform {
+    platform.clone(alloc).expect(rt, "memory")
+}
+
+/// Asserts what stands under the second key, in a map by order that has a licence under another one, once `MIT` is
+/// noted under the first. The other licence stays.
+fn assert_noted(rt: &impl Abort, alloc: Global, a: &Platform, b: &Platform, wanted: &str) {
     let mut licences = BTreeMap::new(alloc);
-    let key = a.clone(alloc).expect(rt, "memory");
-    let licence = String::from_str(alloc, "MIT").expect(rt, "memory");
-    note(&mut licences, key, licence).expect(rt, "memory");
-    assert_answer(rt, "is it noted?", licences.get(b).is_some(), wanted);
+    let other = platform(rt, alloc, "cfg(other)");
+    for (key, licence) in [(&other, "Zlib"), (a, "MIT")] {
+        let key = copy(rt, alloc, key);
+        note(&mut licences, key, text(rt, alloc, licence)).expect(rt, "memory");
+    }
+    assert_licence(rt, licences.get(b), wanted);
+    assert_licence(rt, licences.get(&other), "Zlib");
 }
 
 /// The same in a map by hashes.
-fn assert_noted_hashed(rt: &impl Abort, alloc: Global, a: &Platform, b: &Platform, wanted: bool) {
+fn assert_noted_hashed(rt: &impl Abort, alloc: Global, a: &Platform, b: &Platform, wanted: &str) {
     let mut licences = HashMap::new(alloc);
-    let key = a.clone(alloc).expect(rt, "memory");
-    let licence = String::from_str(alloc, "MIT").expect(rt, "memory");
-    note_hashed(&mut licences, key, licence).expect(rt, "memory");
-    assert_answer(rt, "is it noted?", licences.get(b).is_some(), wanted);
+    let other = platform(rt, alloc, "cfg(other)");
+    for (key, licence) in [(&other, "Zlib"), (a, "MIT")] {
+        let key = copy(rt, alloc, key);
+        note_hashed(&mut licences, key, text(rt, alloc, licence)).expect(rt, "memory");
+    }
+    assert_licence(rt, licences.get(b), wanted);
+    assert_licence(rt, licences.get(&other), "Zlib");
 }
 
 /// Asserts whether two keys are one.
@@ -144,8 +171,9 @@ fn assert_one(rt: &impl Abort, alloc: Global, a: &str, b: &str, wanted: bool) {
     let a = platform(rt, alloc, a);
     let b = platform(rt, alloc, b);
     assert_answer(rt, "is it one key?", is_one_key(&a, &b), wanted);
-    assert_noted(rt, alloc, &a, &b, wanted);
-    assert_noted_hashed(rt, alloc, &a, &b, wanted);
+    let noted = if wanted { "MIT" } else { "none" };
+    assert_noted(rt, alloc, &a, &b, noted);
+    assert_noted_hashed(rt, alloc, &a, &b, noted);
 }
 
 #[test]
@@ -155,6 +183,8 @@ fn conditions_are_keys(rt: HostRuntime) {
     assert_one(&rt, rt.alloc(), "a", "cfg(a)", false);
     let text = canonical(rt.alloc(), "cfg( all( r#a,b, ) )").expect(&rt, "a key");
     assert_text(&rt, &text, "cfg(all(r#a, b))");
+    let text = canonical(rt.alloc(), "x86_64-apple-darwin").expect(&rt, "a key");
+    assert_text(&rt, &text, "x86_64-apple-darwin");
 }
 
 /// Asserts whether the fixed key applies to a target with these facts.
@@ -206,7 +236,7 @@ fn assert_true_for(rt: &impl Abort, alloc: Global, system: &System, text: &str, 
 #[test]
 fn a_system_is_asked(rt: HostRuntime) {
     let system = System {
-        name: String::from_str(rt.alloc(), "linux").expect(&rt, "memory"),
+        name: text(&rt, rt.alloc(), "linux"),
         is_unix: true,
     };
     assert_true_for(&rt, rt.alloc(), &system, "unix", true);
@@ -246,4 +276,14 @@ fn keys_are_described(rt: HostRuntime) {
         "cfg(all(unix windows))",
         "failed to parse `all(unix windows)` as a cfg expression: expected `)`, found an identifier",
     );
+}
+
+#[test]
+fn refused_keys_are_underlined(rt: HostRuntime) {
+    let lines = underlined(rt.alloc(), "cfg(all(unix windows))").expect(&rt, "memory");
+    let lines = lines.expect(&rt, "a fault");
+    let wanted = "cfg(all(unix windows))\n             ^^^^^^^ expected `)`, found an identifier";
+    assert_eq!(rt; lines.as_str(), wanted);
+    let lines = underlined(rt.alloc(), "cfg(unix)").expect(&rt, "memory");
+    assert!(rt; lines.is_none());
 }

@@ -1,13 +1,21 @@
-use Rattle.std.proofs.Common.{◌≡◌, sym, subst, string_bytes}
+use Rattle.std.proofs.Common.{◌≡◌, ◌∙◌, sym, ap, subst, string_bytes}
 use Rattle.std.proofs.lemmas.Result.{IfOk-weaker}
 use Rattle.cargo_platform.specs.Trees.{Tree, tree_of}
 use Rattle.cargo_platform.specs.Facts.{FactSet, truth}
 use Rattle.cargo_platform.specs.Spelling.{IsTreeText}
 use Rattle.cargo_platform.specs.Print.{print}
+use Rattle.partial_facts.specs.Residual.{residual_tree}
 use Rattle.partial_facts_tests.proofs.planner.plan.Goals as goal
 
-pub returns : goal.returns
-returns g c =
+pub returns-clause-stored : goal.returns-clause-stored
+returns-clause-stored g c =
+    let d : Tree = tree_of c.in_ok-left.left in
+    let left : Tree = residual_tree (g.K.Knowledge.told c.args.known.now) (tree_of c.args.e.now) in
+    IfOk-weaker c.text_of.result (λ text. string_bytes text ≡ print d) (λ text. string_bytes text ≡ print left)
+    (λ text is. is ∙ ap print c.in_ok-left.ensures.exact) c.text_of.ensures
+
+pub returns-clause-asks_the_same : goal.returns-clause-asks_the_same
+returns-clause-asks_the_same g c =
     let d : Tree = tree_of c.in_ok-left.left in
     let e : Tree = tree_of c.args.e.now in
     let spelled : IsTreeText (print d) d =

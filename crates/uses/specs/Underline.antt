@@ -1,0 +1,16 @@
+-- What is shown of a key.
+use Rattle.std.specs.Prelude.{◌≡◌, ℕ, List, Option, Some, None, String, string_bytes}
+use Rattle.std.specs.declared.alloc.Global.{Global}
+use Rattle.std.specs.declared.ops.Range.{Range}
+use Rattle.cargo_platform.specs.Trees.{Condition}
+use Rattle.cargo_platform.specs.Faults.{Fault}
+use Rattle.cargo_platform.specs.FaultLaws.{IsSpanIn}
+use Rattle.cargo_platform.specs.Platforms.{IsConditionText, IsRefusedCondition}
+use Rattle.cargo_platform.specs.Snippets.{lines}
+
+-- nothing of a key that spells a condition, and of any other the two lines of its fault, with a span that lies in it
+abbrev pub IsUnderlined : List ℕ → Option (String Global) → Type 0
+IsUnderlined key None = (p : Condition) × IsConditionText key p
+IsUnderlined key (Some shown) =
+    (orig : List ℕ) × (fault : Fault) × (span : Range ℕ) × IsRefusedCondition key orig fault × IsSpanIn key span
+    × (string_bytes shown ≡ lines key span fault)
