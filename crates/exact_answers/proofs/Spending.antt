@@ -168,26 +168,26 @@ AreAsked es [] = Unit {0}
 AreAsked es (d ∷ ds) = (some_asks es d.pair ≡ true) × AreAsked es ds
 
 module _ (k : Base) (ps : List Pair) where
-  -- one split for a pair that is taken as a fact; for one that is taken as none also all those where it was a fact
+  -- one split for a pair that is taken as none; for one that is taken as a fact also all those where it was none
   abbrev pub spent : List Turn → ℕ
   spent [] = 0
-  spent (d ∷ ds) = spent ds + (if d.holds then 1 else 2 ^ open_on k (record d { holds = true } ∷ ds) ps)
+  spent (d ∷ ds) = spent ds + (if d.holds then 2 ^ open_on k (record d { holds = false } ∷ ds) ps else 1)
 
   module _ (es : Trees) (all : HasAll es ps) where
     both_less : (d : Turn) (ds : List Turn) → told_on k ds d.pair ≡ None → some_asks es d.pair ≡ true
-        → 2 ^ open_on k (record d { holds = true } ∷ ds) ps + 2 ^ open_on k (d ∷ ds) ps
+        → 2 ^ open_on k (record d { holds = false } ∷ ds) ps + 2 ^ open_on k (d ∷ ds) ps
         ≤ 2 ^ open_on k ds ps
     both_less d ds was asked =
         let n = open_on k ds ps in
-        let one = fewer_open k (record d { holds = true }) ds ps was (all d.pair asked) in
+        let one = fewer_open k (record d { holds = false }) ds ps was (all d.pair asked) in
         let two = fewer_open k d ds ps was (all d.pair asked) in
-        let double_one = doubled (open_on k (record d { holds = true } ∷ ds) ps) n one in
+        let double_one = doubled (open_on k (record d { holds = false } ∷ ds) ps) n one in
         let double_two = doubled (open_on k (d ∷ ds) ps) n two in
         omega (arith, double_one, double_two)
 
-    by_turn : (h : Bool) (a : ℕ) → 1 ≤ a → (if h then 1 else a) ≤ a
-    by_turn true a h = h
-    by_turn false a h = omega arith
+    by_turn : (h : Bool) (a : ℕ) → 1 ≤ a → (if h then a else 1) ≤ a
+    by_turn true a h = omega arith
+    by_turn false a h = h
 
     -- what is spent, and what the open pairs may still take
     pub within : (ds : List Turn) → WereOpen k ds → AreAsked es ds
@@ -196,30 +196,30 @@ module _ (k : Base) (ps : List Pair) where
     within (d ∷ ds) were asked =
         let older = within ds were.1 asked.1 in
         let both = both_less d ds were.0 asked.0 in
-        let turn = by_turn d.holds (2 ^ open_on k (record d { holds = true } ∷ ds) ps)
-        (at_least_one (open_on k (record d { holds = true } ∷ ds) ps)) in
+        let turn = by_turn d.holds (2 ^ open_on k (record d { holds = false } ∷ ds) ps)
+        (at_least_one (open_on k (record d { holds = false } ∷ ds) ps)) in
         omega (arith, older, both, turn)
 
     turned_by : (h : Bool) (d : Turn) (ds ts : List Turn) (used : ℕ) → h ≡ d.holds
-        → (if h then Some (record d { holds = false } ∷ ds) else turned ds) ≡ Some ts
+        → (if h then turned ds else Some (record d { holds = true } ∷ ds)) ≡ Some ts
         → told_on k ds d.pair ≡ None → some_asks es d.pair ≡ true
         → used + 1 ≤ spent (d ∷ ds) + 2 ^ open_on k (d ∷ ds) ps
         → (turned ds ≡ Some ts → used + 1 ≤ spent ds + 2 ^ open_on k ds ps → used ≤ spent ts)
         → used ≤ spent ts
-    turned_by true d ds ts used is h was asked low older =
-        let e : (record d { holds = false } ∷ ds) ≡ ts = cc in
-        let same_turn : 2 ^ open_on k (d ∷ ds) ps ≡ 2 ^ open_on k (record d { holds = true } ∷ ds) ps =
+    turned_by false d ds ts used is h was asked low older =
+        let e : (record d { holds = true } ∷ ds) ≡ ts = cc in
+        let same_turn : 2 ^ open_on k (d ∷ ds) ps ≡ 2 ^ open_on k (record d { holds = false } ∷ ds) ps =
         ap (λ b. 2 ^ open_on k (record d { holds = b } ∷ ds) ps) (sym is) in
-        let one : (if d.holds then 1 else 2 ^ open_on k (record d { holds = true } ∷ ds) ps) ≡ 1 =
-        ap (λ b. if b then 1 else 2 ^ open_on k (record d { holds = true } ∷ ds) ps) (sym is) in
-        let now : used ≤ spent ds + 2 ^ open_on k (record d { holds = true } ∷ ds) ps =
+        let one : (if d.holds then 2 ^ open_on k (record d { holds = false } ∷ ds) ps else 1) ≡ 1 =
+        ap (λ b. if b then 2 ^ open_on k (record d { holds = false } ∷ ds) ps else 1) (sym is) in
+        let now : used ≤ spent ds + 2 ^ open_on k (record d { holds = false } ∷ ds) ps =
         omega (arith, low, same_turn, one) in
         subst (λ xs. used ≤ spent xs) e now
-    turned_by false d ds ts used is h was asked low older =
+    turned_by true d ds ts used is h was asked low older =
         let both = both_less d ds was asked in
-        let two : (if d.holds then 1 else 2 ^ open_on k (record d { holds = true } ∷ ds) ps)
-        ≡ 2 ^ open_on k (record d { holds = true } ∷ ds) ps =
-        ap (λ b. if b then 1 else 2 ^ open_on k (record d { holds = true } ∷ ds) ps) (sym is) in
+        let two : (if d.holds then 2 ^ open_on k (record d { holds = false } ∷ ds) ps else 1)
+        ≡ 2 ^ open_on k (record d { holds = false } ∷ ds) ps =
+        ap (λ b. if b then 2 ^ open_on k (record d { holds = false } ∷ ds) ps else 1) (sym is) in
         older h (omega (arith, low, both, two))
 
     turned_spends : (ds ts : List Turn) (used : ℕ) → turned ds ≡ Some ts → WereOpen k ds → AreAsked es ds
@@ -245,12 +245,12 @@ module _ (k : Base) (ps : List Pair) where
         omega (arith, bound, up, low)
 
 pub turned_asked_by : (es : Trees) (h : Bool) (d : Turn) (ds ts : List Turn)
-    → (if h then Some (record d { holds = false } ∷ ds) else turned ds) ≡ Some ts
+    → (if h then turned ds else Some (record d { holds = true } ∷ ds)) ≡ Some ts
     → AreAsked es (d ∷ ds) → (turned ds ≡ Some ts → AreAsked es ts) → AreAsked es ts
-turned_asked_by es true d ds ts h asked older =
-    let e : (record d { holds = false } ∷ ds) ≡ ts = cc in
+turned_asked_by es false d ds ts h asked older =
+    let e : (record d { holds = true } ∷ ds) ≡ ts = cc in
     subst (AreAsked es) e asked
-turned_asked_by es false d ds ts h asked older = older h
+turned_asked_by es true d ds ts h asked older = older h
 
 pub turned_asked : (es : Trees) (ds ts : List Turn) → turned ds ≡ Some ts → AreAsked es ds → AreAsked es ts
 turned_asked es [] ts h asked = cc

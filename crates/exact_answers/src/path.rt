@@ -140,27 +140,27 @@ impl<'a> Path<'a> {
         takes_value(&self.splits, key) || has_value(self.known.facts, key)
     }
 
-    /// Takes an open pair as a fact.
+    /// Takes an open pair as none.
     pub fn split(&mut self, fact: &'a Cfg) -> Result<(), AllocError>
         ensures known { self.new.known.now ≡ self.old.known.now }
         ensures split { OnOk result (turns self.new
-            ≡ record { pair = pair_of (value_of fact.now); holds = true } ∷ turns self.old) }
+            ≡ record { pair = pair_of (value_of fact.now); holds = false } ∷ turns self.old) }
     {
-        self.splits.push(Split { fact, holds: true })?;
+        self.splits.push(Split { fact, holds: false })?;
         Ok(())
     }
 
-    /// Goes back to the last pair that is taken as a fact, and takes it as none. `false` where there is no such pair.
+    /// Goes back to the last pair that is taken as none, and takes it as a fact. `false` where there is no such pair.
     pub fn turn(&mut self) -> Result<bool, AllocError>
         ensures known { self.new.known.now ≡ self.old.known.now }
         ensures turned { IfOk result (λ is_turned. MatchBool is_turned
             (turned (turns self.old) ≡ Some (turns self.new)) (turned (turns self.old) ≡ None)) }
     {
         'splits: while let Some(split) = self.splits.pop() {
-            if split.holds {
+            if !split.holds {
                 self.splits.push(Split {
                     fact: split.fact,
-                    holds: false,
+                    holds: true,
                 })?;
                 return Ok(true);
             }

@@ -45,6 +45,11 @@ abbrev pub taken : List Turn → List Pair
 taken [] = []
 taken (d ∷ ds) = if d.holds then d.pair ∷ taken ds else taken ds
 
+-- the pairs that are taken as none
+abbrev pub untaken : List Turn → List Pair
+untaken [] = []
+untaken (d ∷ ds) = if d.holds then untaken ds else d.pair ∷ untaken ds
+
 abbrev pub facts_on : Base → List Turn → List Pair
 facts_on k ds = taken ds ++ k.listed
 
@@ -79,10 +84,10 @@ abbrev pub WereOpen : Base → List Turn → Type 0
 WereOpen k [] = Unit {0}
 WereOpen k (d ∷ ds) = (told_on k ds d.pair ≡ None) × WereOpen k ds
 
--- back to the last pair that is taken as a fact, which is then taken as none
+-- back to the last pair that is taken as none, which is then taken as a fact
 abbrev pub turned : List Turn → Option (List Turn)
 turned [] = None
-turned (d ∷ ds) = if d.holds then Some (record d { holds = false } ∷ ds) else turned ds
+turned (d ∷ ds) = if d.holds then turned ds else Some (record d { holds = true } ∷ ds)
 
 -- what a value of the program stands for
 abbrev pub base_of : Known → Base
