@@ -1,0 +1,168 @@
+//! `facts`, `targets` and `match`: what is asked of one target or one key.
+
+ghost use Rattle.std.specs.Prelude.{◌↔◌, IsTrue, IfOk, map};
+ghost use Rattle.cargo_platform.specs.Trees.{value_of, condition_of};
+ghost use Rattle.cargo_platform.specs.Facts.{fact_set, IsTrueCondition};
+
+use crate::answer::{Answer, Status};
+use crate::conditions::{Unread, read_key};
+use crate::printing::{fact_lines, refused_cfg, refused_fact, shown_name};
+use cargo_platform::{Cfg, FactIndex, FactsError, Platform, ReadError, read_facts};
+use known_targets::{COUNT, KnownTarget, RUSTC_VERSION, TargetSet, matching};
+use serde_json::Value;
+use std::alloc::{AllocError, Global};
+
+/// What is said of a name that no known target has.
+pub fn unknown_name(alloc: Global, name: &str) -> Result<String, AllocError> {
+    let name = shown_name(alloc, name)?;
+    format!(in alloc; "error: no target that rustc {RUSTC_VERSION} knows is named {name}\n")
+}
+
+/// The facts of the target with this name.
+pub fn facts(alloc: Global, name: &str) -> Result<Answer, AllocError> {
+    match KnownTarget::by_name(name) {
+        Some(target) => {
+            let facts = target.facts(alloc)?;
+            let text = fact_lines(alloc, &facts)?;
+            Ok(Answer::of(alloc, text, Status::Fine))
+        }
+        None => Ok(Answer::unusable(alloc, unknown_name(alloc, name)?)),
+    }
+}
+
+/// The names of the targets, one a line.
+fn name_lines(alloc: Global, targets: TargetSet) -> Result<String, AllocError> {
+    let mut text = String::new(alloc);
+    for target in targets.iter() {
+        text.push_str(target.name())?;
+        text.push_str("\n")?;
+    }
+    Ok(text)
+}
+
+/// The names of the targets, as one array.
+fn name_array(alloc: Global, targets: TargetSet) -> Result<String, AllocError> {
+    let mut names = Vec::new(alloc);
+    for target in targets.iter() {
+        names.push(Value::String(String::from_str(alloc, target.name())?))?;
+    }
+    let mut text = Value::Array(names).to_string(alloc)?;
+    text.push_str("\n")?;
+    Ok(text)
+}
+
+/// The known targets at which the key holds.
+pub fn targets(alloc: Global, key: &str, json: bool) -> Result<Answer, AllocError> {
+    let condition = match read_key(alloc, key) {
+        Ok(condition) => condition,
+        Err(Unread::Refused(answer)) => return Ok(answer),
+        Err(Unread::Memory(refused)) => return Err(refused),
+    };
+    let targets = matching(alloc, &condition.platform)?;
+    if json {
+        let text = name_array(alloc, targets)?;
+        return Ok(Answer::of(alloc, text, Status::Fine));
+    }
+    let output = name_lines(alloc, targets)?;
+    let count = targets.len();
+    let mut errors = format!(in alloc; "{count} of {COUNT} known targets\n")?;
+    if let Platform::Name(name) = &condition.platform {
+        if KnownTarget::by_name(name.as_str()).is_none() {
+            let name = shown_name(alloc, name.as_str())?;
+            let note = format!(in alloc;
+                "note: no target that rustc {RUSTC_VERSION} knows is named {name}\n"
+            )?;
+            errors.push_str(note.as_str())?;
+        }
+    }
+    Ok(Answer {
+        output,
+        errors,
+        status: Status::Fine,
+    })
+}
+
+/// The facts of a target: those of the lines where there are some, else those of the table. An `Err` is what is to be
+/// said.
+pub fn table_or_lines(
+    alloc: Global,
+    name: &str,
+    lines: Option<&str>,
+) -> Result<Result<Vec<Cfg>, Answer>, AllocError> {
+    match lines {
+        Some(lines) => match read_facts(alloc, lines) {
+            Ok(facts) => Ok(Ok(facts)),
+            Err(FactsError::Memory(refused)) => Err(refused),
+            Err(FactsError::Line { number, error }) => {
+                let text = refused_fact(alloc, number, &error)?;
+                Ok(Err(Answer::unusable(alloc, text)))
+            }
+        },
+        None => match KnownTarget::by_name(name) {
+            Some(target) => Ok(Ok(target.facts(alloc)?)),
+            None => Ok(Err(Answer::unusable(alloc, unknown_name(alloc, name)?))),
+        },
+    }
+}
+
+/// The facts that arguments spell. An `Err` is what is to be said.
+pub fn added_facts(alloc: Global, texts: &[&str]) -> Result<Result<Vec<Cfg>, Answer>, AllocError> {
+    let mut facts = Vec::new(alloc);
+    for text in texts {
+        match Cfg::from_str(alloc, text) {
+            Ok(fact) => facts.push(fact)?,
+            Err(ReadError::Memory(refused)) => return Err(refused),
+            Err(ReadError::Parse(error)) => {
+                let text = refused_cfg(alloc, &error)?;
+                return Ok(Err(Answer::unusable(alloc, text)));
+            }
+        }
+    }
+    Ok(Ok(facts))
+}
+
+/// Whether the condition holds for a target with this name and these facts.
+fn holds(alloc: Global, platform: &Platform, name: &str, facts: &[Cfg]) -> Result<bool, AllocError>
+    ensures { IfOk result (λ b. IsTrue b
+        ↔ IsTrueCondition name.now (fact_set (map value_of facts.now)) (condition_of platform.now)) }
+{
+    match platform {
+        Platform::Cfg(expression) => {
+            let index = FactIndex::new(alloc, facts)?;
+            Ok(expression.matches_in(&index))
+        }
+        Platform::Name(_) => Ok(platform.matches(name, &[])),
+    }
+}
+
+/// Whether the key applies to the target with this name, whose facts are those of `lines` where these are given.
+pub fn applies(
+    alloc: Global,
+    key: &str,
+    name: &str,
+    lines: Option<&str>,
+    added: &[&str],
+) -> Result<Answer, AllocError> {
+    let condition = match read_key(alloc, key) {
+        Ok(condition) => condition,
+        Err(Unread::Refused(answer)) => return Ok(answer),
+        Err(Unread::Memory(refused)) => return Err(refused),
+    };
+    let mut facts = match table_or_lines(alloc, name, lines)? {
+        Ok(facts) => facts,
+        Err(answer) => return Ok(answer),
+    };
+    match added_facts(alloc, added)? {
+        Ok(added) => {
+            for fact in added {
+                facts.push(fact)?;
+            }
+        }
+        Err(answer) => return Ok(answer),
+    }
+    if holds(alloc, &condition.platform, name, &facts)? {
+        Ok(Answer::of(alloc, String::from_str(alloc, "yes\n")?, Status::Fine))
+    } else {
+        Ok(Answer::of(alloc, String::from_str(alloc, "no\n")?, Status::Found))
+    }
+}

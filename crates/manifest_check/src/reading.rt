@@ -1,0 +1,117 @@
+//! Manifests, read from files, folders and standard input.
+
+use cargo_platform::shown_text;
+use std::alloc::{AllocError, Global};
+use std::rt::Files;
+use std::{fs, io};
+use toml::{Table, table_from_str};
+
+/// What stands for standard input.
+const INPUT: &str = "-";
+
+/// A manifest that is read.
+#[derive(Drop)]
+pub struct Manifest {
+    /// The path as it is shown: of a folder that of its `Cargo.toml`.
+    pub path: String,
+    pub text: String,
+    pub table: Table,
+}
+
+/// Why a manifest gives nothing.
+#[derive(Drop)]
+pub enum ReadError {
+    /// This line is to be told on standard error.
+    Unusable(String),
+    Memory(AllocError),
+}
+
+impl From<AllocError> for ReadError {
+    fn from(refused: AllocError) -> ReadError {
+        ReadError::Memory(refused)
+    }
+}
+
+/// The file that a path names: of a folder its `Cargo.toml`.
+fn file_at<R: Files + AllocGlobal>(rt: &R, path: &str) -> Result<String, AllocError> {
+    let alloc = rt.alloc();
+    if path != INPUT {
+        if let Ok(found) = fs::metadata(rt, path) {
+            if found.is_dir() {
+                let path = path.strip_suffix("/").unwrap_or(path);
+                return format!(in alloc; "{path}/Cargo.toml");
+            }
+        }
+    }
+    String::from_str(alloc, path)
+}
+
+/// The text of a file, or of standard input.
+fn text_at<R: Files + Input + AllocGlobal>(rt: &R, file: &str) -> io::Result<String> {
+    if file == INPUT {
+        io::read_to_string(rt.alloc(), rt.reader())
+    } else {
+        fs::read_to_string(rt, file)
+    }
+}
+
+/// The text without a mark of the byte order, as Cargo reads it.
+fn without_mark(text: &str) -> &str {
+    text.strip_prefix("\u{FEFF}").unwrap_or(text)
+}
+
+/// What is told of a manifest that can't be used.
+fn unusable(alloc: Global, path: &str, reason: &str) -> ReadError {
+    match format!(in alloc; "{path}: error: {reason}\n") {
+        Ok(line) => ReadError::Unusable(line),
+        Err(refused) => ReadError::Memory(refused),
+    }
+}
+
+/// What is told of a text that is no TOML, on one line.
+fn no_toml(alloc: Global, path: &str, error: &toml::de::Error) -> ReadError {
+    if error.is_memory() {
+        return ReadError::Memory(AllocError);
+    }
+    match joined_lines(alloc, error) {
+        Ok(reason) => unusable(alloc, path, reason.as_str()),
+        Err(refused) => ReadError::Memory(refused),
+    }
+}
+
+fn joined_lines(alloc: Global, error: &toml::de::Error) -> Result<String, AllocError> {
+    let lines = format!(in alloc; "{error}")?;
+    let mut joined = String::new(alloc);
+    for line in lines.lines() {
+        if !joined.is_empty() {
+            joined.push_str(": ")?;
+        }
+        joined.push_str(line)?;
+    }
+    shown_text(alloc, joined.as_str())
+}
+
+/// Reads the manifest that an argument names.
+pub fn read_manifest<R: Files + Input + AllocGlobal>(
+    rt: &R,
+    path: &str,
+) -> Result<Manifest, ReadError> {
+    let alloc = rt.alloc();
+    let file = file_at(rt, path)?;
+    let shown = shown_text(alloc, file.as_str())?;
+    let text = match text_at(rt, file.as_str()) {
+        Ok(text) => text,
+        Err(error) => {
+            let reason = format!(in alloc; "{error}")?;
+            return Err(unusable(alloc, shown.as_str(), reason.as_str()));
+        }
+    };
+    match table_from_str(alloc, without_mark(text.as_str())) {
+        Ok(table) => Ok(Manifest {
+            path: shown,
+            text,
+            table,
+        }),
+        Err(error) => Err(no_toml(alloc, shown.as_str(), &error)),
+    }
+}
