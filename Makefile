@@ -1,17 +1,21 @@
 # make run    builds the program and runs it on its sample input
-# make build  leaves the program, and says where
+# make build  leaves both programs, and says where
+# make install PREFIX=..  puts both programs into PREFIX/bin, and manifest_check as cargo-manifest-check too
 # make test   proves everything from nothing, and runs all tests and programs
 # make gate   what decides whether a change lands: make test, and the mutants
 # make quick  the checks alone, over the cache
 # make mutants    the mutants of crates/*/mutants alone, over the cache where there is some
 # make refusals   each allocation refused in turn, in each call and in the program
 # make statuses   the program where reading or writing fails
+# make manifests  the program manifest_check over questions whose answers are known, and hostile input
 # make depths     the programs on the deepest conditions that their inputs hold
 # make targets    asks the rustc at hand for its targets, and writes the table of crates/known_targets anew
 # make fmt    lays out the files
-.PHONY: run build test gate mutants refusals statuses depths quick targets fmt rt
+.PHONY: run build install test gate mutants refusals statuses manifests depths quick targets fmt rt
 
 PROGRAM := crates/platform_check
+CHECK := crates/manifest_check
+PREFIX ?= /usr/local
 
 rt:
 	@command -v rt >/dev/null || { echo "make: rt, Rattle's command, is not on the PATH" >&2; exit 1; }
@@ -22,8 +26,14 @@ run: rt
 	cd $(PROGRAM) && out/platform_check < stdin
 
 build: rt
-	@.ci/build
-	@echo "the program is $(PROGRAM)/out/platform_check"
+	@.ci/build platform_check
+	@.ci/build manifest_check
+	@echo "the programs are $(PROGRAM)/out/platform_check and $(CHECK)/out/manifest_check"
+
+install: build
+	install -d "$(DESTDIR)$(PREFIX)/bin"
+	install $(PROGRAM)/out/platform_check $(CHECK)/out/manifest_check "$(DESTDIR)$(PREFIX)/bin"
+	ln -sf manifest_check "$(DESTDIR)$(PREFIX)/bin/cargo-manifest-check"
 
 test: rt
 	@.ci/test
@@ -39,6 +49,9 @@ refusals: rt
 
 statuses: rt
 	.ci/statuses
+
+manifests: rt
+	.ci/manifests
 
 depths: rt
 	.ci/depths
