@@ -1,6 +1,7 @@
 # make run    builds the program and runs it on its sample input
 # make build  leaves both programs, and says where
 # make install PREFIX=..  puts both programs into PREFIX/bin, and manifest_check as cargo-manifest-check too
+# make take INTO=FOLDER CRATES=".."  copies crates into another repository, with those that they stand on
 # make test   proves everything from nothing, and runs all tests and programs
 # make gate   what decides whether a change lands: make test, and the mutants
 # make quick  the checks alone, over the cache
@@ -11,7 +12,7 @@
 # make depths     the programs on the deepest conditions that their inputs hold
 # make targets    asks the rustc at hand for its targets, and writes the table of crates/known_targets anew
 # make fmt    lays out the files
-.PHONY: run build install test gate mutants refusals statuses manifests depths quick targets fmt rt
+.PHONY: run build install take test gate mutants refusals statuses manifests depths quick targets fmt rt
 
 PROGRAM := crates/platform_check
 CHECK := crates/manifest_check
@@ -34,6 +35,10 @@ install: build
 	install -d "$(DESTDIR)$(PREFIX)/bin"
 	install $(PROGRAM)/out/platform_check $(CHECK)/out/manifest_check "$(DESTDIR)$(PREFIX)/bin"
 	ln -sf manifest_check "$(DESTDIR)$(PREFIX)/bin/cargo-manifest-check"
+
+# With CACHE=yes the proofs' cache goes along: 1.2 GB for the library, once it was proved here.
+take:
+	@.ci/take $(if $(CACHE),--cache) $(INTO) $(CRATES)
 
 test: rt
 	@.ci/test
