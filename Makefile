@@ -9,10 +9,11 @@
 # make refusals   each allocation refused in turn, in each call and in the program
 # make statuses   the program where reading or writing fails
 # make manifests  the program manifest_check over questions whose answers are known, and hostile input
+# make pages      what the pages say, beside what it is said of
 # make depths     the programs on the deepest conditions that their inputs hold
 # make targets    asks the rustc at hand for its targets, and writes the table of crates/known_targets anew
 # make fmt    lays out the files
-.PHONY: run build install take test gate mutants refusals statuses manifests depths quick targets fmt rt
+.PHONY: run build install take test gate mutants refusals statuses manifests pages depths quick targets fmt rt
 
 PROGRAM := crates/platform_check
 CHECK := crates/manifest_check
@@ -57,6 +58,9 @@ statuses: rt
 
 manifests: rt
 	.ci/manifests
+
+pages: rt
+	.ci/pages
 
 depths: rt
 	.ci/depths
