@@ -1,11 +1,9 @@
 -- Where the text of an error stands in a key.
-use Rattle.std.proofs.Common.{◌≡◌, sym, ◌∙◌, subst, true≢false, ℕ, false, List, Option, Some, None, inl, inr}
+use Rattle.std.proofs.Common.{◌≡◌, sym, ◌∙◌, true≢false, ℕ, false, List, Option, Some, None, inl, inr}
 use Rattle.std.specs.declared.ops.Range.{Range}
-use Rattle.std.proofs.lemmas.Option.{same_Some}
 use Rattle.cargo_platform.specs.Faults.{Fault}
-use Rattle.cargo_platform.specs.FaultLaws.{IsSpanIn}
 use Rattle.cargo_platform.specs.Platforms.{IsCfgOf}
-use Rattle.cargo_platform.specs.KeySpans.{is_of_name, IsSpanBy, IsNotIn, IsSpanInKey}
+use Rattle.cargo_platform.specs.KeySpans.{is_of_name, IsNotIn, IsSpanInKey}
 use Rattle.cargo_platform.proofs.Conditions.{one_inner}
 
 -- what is no target name's stands in no key around another text
@@ -20,10 +18,3 @@ pub stands_nowhere : (key text : List ℕ) (fault : Fault) (span : Option (Range
 stands_nowhere key text fault None at found is none not = none
 stands_nowhere key text fault (Some span) at None is none not = λ h. not
 stands_nowhere key text fault (Some span) at (Some other) is none not = absurd cc
-
--- a span that does not lie in its text is asked for nothing
-pub lies_nowhere : (Begins : ℕ → Type 0) (text : List ℕ) (span : Option (Range ℕ)) (at : Range ℕ)
-    (found : Option (Range ℕ)) → span ≡ Some at → (IsSpanIn text at → ⊥) → IsSpanBy Begins text span found
-lies_nowhere Begins text None at found is out = absurd cc
-lies_nowhere Begins text (Some span) at found is out = λ within.
-    absurd (out (subst (IsSpanIn text) (same_Some _ _ is) within))

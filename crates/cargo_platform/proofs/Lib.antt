@@ -21,6 +21,7 @@ pub mod Spans
 pub mod Snippets
 pub mod KeySpans
 pub mod FoundInKeys
+pub mod FoundInFacts
 pub mod AroundSpans
 pub mod SomeFault
 pub mod PrintedSpells

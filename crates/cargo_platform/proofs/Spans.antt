@@ -33,7 +33,7 @@ use Rattle.cargo_platform.proofs.OneFault.{one_place}
 
 -- ---- the character that begins no token
 
-first_byte : (text rest : List ℕ) (at b : ℕ) → drop at text ≡ b ∷ rest → slice_index text at ≡ b
+pub first_byte : (text rest : List ℕ) (at b : ℕ) → drop at text ≡ b ∷ rest → slice_index text at ≡ b
 first_byte [] rest zero b h = absurd cc
 first_byte (c ∷ text) rest zero b h = let same : c ≡ b = cc in same
 first_byte [] rest (suc at) b h = absurd cc

@@ -43,7 +43,7 @@ front_of : (front : List (List ℕ)) (last : List ℕ) → AllByRecursion IsUnbr
 front_of [] last u = (tt, u.0)
 front_of (l ∷ front) last u = let others = front_of front last u.1 in ((u.0, others.0), others.1)
 
-abbrev Parts : List ℕ → List (List ℕ) → Type 0
+abbrev pub Parts : List ℕ → List (List ℕ) → Type 0
 Parts text ls = (text ≡ ended ls)
     ⊎ ((front : List (List ℕ)) × (last : List ℕ) × (ls ≡ front ++ last ∷ []) × (last ≢ [])
     × (text ≡ ended front ++ last))

@@ -28,6 +28,7 @@ pub mod Hashing
 pub mod FactLaws
 pub mod Lines
 pub mod FactLines
+pub mod SpanLaws
 pub mod Holders
 pub mod Warnings
 pub mod Earlier

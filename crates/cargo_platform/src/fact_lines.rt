@@ -15,6 +15,7 @@ ghost use Rattle.cargo_platform.specs.Inside.LineStarts.{IsBehind, IsFirstLine, 
 
 use crate::cfg::Cfg;
 use crate::error::{ParseError, ReadError};
+use crate::in_key::further;
 use std::alloc::{AllocError, Global};
 use std::fmt;
 use std::ops::Range;
@@ -104,9 +105,7 @@ impl FactsError {
         };
         let span = error.span()?;
         let place = line_place(text, *number, error.orig())?;
-        let start = span.start.checked_add(place)?;
-        let end = span.end.checked_add(place)?;
-        Some(start..end)
+        further(span, place)
     }
 }
 

@@ -3,6 +3,8 @@
 ghost use Rattle.std.specs.Prelude.{◌≡◌, IfOk, MatchOption};
 ghost use Rattle.cargo_platform.specs.Errors.{fault_in, fault_meant, orig_of, span_in};
 ghost use Rattle.cargo_platform.specs.KeySpans.{is_of_name, BeginsIn, IsNotIn, IsSpanInKey, IsSnippetOfKey};
+ghost use Rattle.cargo_platform.specs.KeySpans.{further};
+ghost use Rattle.cargo_platform.specs.Inside.FurtherSpans.{IsTooFar};
 
 use crate::error::{ParseError, ParseErrorKind};
 use crate::platforms::inside_cfg;
@@ -21,9 +23,7 @@ impl ParseError {
     {
         let span = self.span()?;
         let place = place_in(key, self.orig(), self.kind())?;
-        let start = span.start.checked_add(place)?;
-        let end = span.end.checked_add(place)?;
-        Some(start..end)
+        further(span, place)
     }
 
     /// Two lines for people as those of `snippet`, which show the key of a manifest and the span in it. Where `span_in`
@@ -50,6 +50,15 @@ fn place_in(key: &str, text: &str, kind: &ParseErrorKind) -> Option<usize>
     }
     let inner = inside_cfg(key)?;
     if inner == text { Some(4) } else { None }
+}
+
+/// The span so many bytes further, where its places can be counted.
+pub(crate) fn further(span: Range<usize>, place: usize) -> Option<Range<usize>>
+    ensures { MatchOption result (IsTooFar place span) (λ found. found ≡ further place span) }
+{
+    let start = span.start.checked_add(place)?;
+    let end = span.end.checked_add(place)?;
+    Some(start..end)
 }
 
 /// Whether errors of the kind are of target names.

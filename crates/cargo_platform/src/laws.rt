@@ -23,6 +23,8 @@ ghost use Rattle.cargo_platform.specs.Print.{print_value, print, print_condition
 ghost use Rattle.cargo_platform.specs.Platforms.{IsConditionText, IsConditionRefusal, IsPlacedConditionRefusal};
 ghost use Rattle.cargo_platform.specs.Platforms.{IsConditionPlacedWithin, IsBehindName};
 ghost use Rattle.cargo_platform.specs.KeySpans.{IsFoundInKey};
+ghost use Rattle.cargo_platform.specs.SpanLaws.{IsCutBefore, IsFoundInFacts};
+ghost use Rattle.cargo_platform.specs.declared.fact_lines.FactsError.{FactsError};
 ghost use Rattle.cargo_platform.specs.ChangeLaws.{SpelledReleased, IsAcceptedAsReleased, IsRefusedAsReleased};
 ghost use Rattle.cargo_platform.specs.ChangeLaws.{IsTreeTextAsReleased, KeepsTree, IsConditionTextAsReleased};
 ghost use Rattle.cargo_platform.specs.ChangeLaws.{KeepsCondition, SpelledTransitional, IsRefusedForLiteralKeys};
@@ -147,12 +149,14 @@ pub fn faults_are_placed()
         → IsConditionPlacedWithin text orig fault span }
 {}
 
-/// The span of what is left behind a whole value or expression is that of its text. Before the span of any fault stand
-/// the tokens of the fault prefix, and the next token begins with it. Before that of a refused target name stands a
-/// target name, where it does not begin with `cfg(`.
+/// The span of what is left behind a whole value or expression is that of its text. The text before the span of any
+/// fault is cut into the tokens of the fault prefix, and nothing of it is left but the mark `r#` of a lexical fault; the
+/// next token begins with the span. Before the span of a refused target name stands a target name, where it does not
+/// begin with `cfg(`.
 pub fn around_spans()
     ensures surplus { (g : Grammar) (text rest : List ℕ) → IsSurplusAt g text rest }
     ensures prefix { (g : Grammar) (text : List ℕ) (fault : Fault) (r : IsRefused g text fault) → IsBehindPrefix r }
+    ensures before { (g : Grammar) (text : List ℕ) (fault : Fault) (r : IsRefused g text fault) → IsCutBefore r }
     ensures name { (text : List ℕ) (span : Range ℕ) → IsBehindName text span }
 {}
 
@@ -161,6 +165,13 @@ pub fn around_spans()
 pub fn faults_are_in_keys()
     ensures { (key text : List ℕ) (fault : Fault) (span : Range ℕ) (found : Option (Range ℕ)) → IsUtf8 key
         → IsFoundInKey key text fault span found }
+{}
+
+/// Where a text of facts is refused, what `FactsError::span_in` answers lies in the whole text, in order, and begins and
+/// ends at characters.
+pub fn faults_are_in_facts()
+    ensures { (text : List ℕ) (error : FactsError) (found : Option (Range ℕ)) → IsUtf8 text
+        → IsFoundInFacts text error found }
 {}
 
 /// A text spells a name or a pair, or has a fault as one. So it is with expressions and conditions.
