@@ -1,7 +1,8 @@
 #!/usr/bin/env python3
 """A second telling of the spans in `../src/spans.rt`'s tables: a scan from the left, in characters.
 
-It reads the tables of `../src/spans.rt`, tells the span of each text on its own, and compares. `make test` runs it.
+It reads the tables of `../src/spans.rt`, tells the span of each text on its own, and compares. Each text that the tables
+of the crate `reading_tests` hold as a refused one has to stand there too. `make test` runs it.
 Run: python3 crates/span_tests/spans/compare.py
 """
 import ast
@@ -9,6 +10,8 @@ import pathlib
 import re
 import sys
 import unicodedata
+
+CRATES = pathlib.Path(__file__).resolve().parent.parent.parent
 
 START = "abcdefghijklmnopqrstuvwxyzABCDEFGHIJKLMNOPQRSTUVWXYZ_"
 REST = START + "0123456789"
@@ -137,14 +140,42 @@ def in_bytes(text, span):
     return span and (width(text[: span[0]]), width(text[: span[1]]))
 
 
+def value_of(text):
+    """The value of literals as Rust writes them."""
+    return ast.literal_eval(re.sub(r"\\u\{(\w+)\}", lambda code: "\\U" + code[1].zfill(8), text))
+
+
+def table(source, name):
+    return re.search(r"const %s: .*?= &\[\n(.*?)\n\];" % name, source, re.S).group(1)
+
+
 def rows(source, name):
-    table = re.search(r"const %s: .*?= &\[\n(.*?)\n\];" % name, source, re.S).group(1)
-    kept = "\n".join(line for line in table.splitlines() if not line.strip().startswith("//"))
-    return ast.literal_eval("[" + kept + "]")
+    kept = "\n".join(line for line in table(source, name).splitlines() if not line.strip().startswith("//"))
+    return value_of("[" + kept + "]")
+
+
+def refused(file, name):
+    """The texts of a table of refused texts of the crate `reading_tests`."""
+    source = (CRATES / "reading_tests" / "src" / file).read_text()
+    return [value_of(text) for text in re.findall(r'^    \(\s*("(?:[^"\\]|\\.)*")', table(source, name), re.M)]
+
+
+def missing(source):
+    """How many refused texts `reading_tests` has, and those that have no row."""
+    keys = refused("platforms.rt", "BAD_NAMES") + [f"cfg({text})" for text in refused("platforms.rt", "BAD_EXPRESSIONS")]
+    wanted = [
+        ("EXPRESSIONS", refused("expressions.rt", "REFUSED")),
+        ("FACTS", refused("names_and_pairs.rt", "REFUSED")),
+        ("FACT_TEXTS", refused("facts.rt", "REFUSED")),
+        ("CONDITIONS", keys),
+    ]
+    found = {name: {row[0] for row in rows(source, name)} for name, _ in wanted}
+    lacking = [(name, text) for name, texts in wanted for text in texts if text not in found[name]]
+    return sum(len(texts) for _, texts in wanted), lacking
 
 
 def main():
-    source = (pathlib.Path(__file__).parent.parent / "src" / "spans.rt").read_text()
+    source = (CRATES / "span_tests" / "src" / "spans.rt").read_text()
     told = [(t, t, t, (s, e), span_of(t, True)) for t, s, e in rows(source, "EXPRESSIONS")]
     told += [(t, t, t, (s, e), span_of(t, False)) for t, s, e in rows(source, "FACTS")]
     told += [(k, o, *condition_span(k)[:1], (s, e), condition_span(k)[1]) for k, o, s, e in rows(source, "CONDITIONS")]
@@ -154,8 +185,11 @@ def main():
     differ = [r for r in told if r[1] != r[2] or in_bytes(r[1], r[4]) != r[3]]
     for row in differ:
         print("differs:", row)
-    print(f"{len(told)} rows, {len(differ)} differ")
-    return 1 if differ else 0
+    many, lacking = missing(source)
+    for name, text in lacking:
+        print(f"no row in {name}: {text!r}")
+    print(f"{len(told)} rows, {len(differ)} differ; of {many} refused texts {len(lacking)} have no row")
+    return 1 if differ or lacking else 0
 
 
 sys.exit(main())
