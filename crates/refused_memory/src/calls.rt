@@ -30,6 +30,9 @@ pub enum Call {
     ConditionLeft,
     ExampleOf,
     CounterexampleOf,
+    SnippetOf,
+    SnippetIn,
+    Shown,
 }
 
 const WARNED: &str = "cfg(any(not(feature = \"w\"), r#test, r#true = \"x\", true))";
@@ -42,6 +45,11 @@ const GROUP_CONDITION: &str = "cfg(any( a ,b = \"1\", ))";
 /// More groups in one another, each with members left behind the next, than a list has room for at first.
 const DEEP: &str =
     "cfg(all(a, all(a, all(a, all(a, all(a, all(a, feature = \"w\", b), b), b), b), b), b))";
+
+/// An expression of 112 characters that is refused at its third one.
+const LONG: &str =
+    "a bbbbbbbbbbbbbbbbbbbbbbbbbbbbbbbbbbbbbbbbbbbbbbbbbbbbbbbbbbbbbbbbbbbbbbbbbbbbbbbb\
+    bbbbbbbbbbbbbbbbbbbbbbbbbbbbbb";
 
 /// Each name, and what it stands for.
 pub const CALLS: &[(&str, Call, &str)] = &[
@@ -142,4 +150,13 @@ pub const CALLS: &[(&str, Call, &str)] = &[
     ("exact_named", Call::CounterexampleOf, "x -> cfg(a)"),
     ("exact_unnamed", Call::CounterexampleOf, "cfg(a) -> x"),
     ("exact_implied", Call::CounterexampleOf, "x -> x"),
+    ("snippet", Call::SnippetOf, "all(a b)"),
+    ("snippet_end", Call::SnippetOf, "all("),
+    ("snippet_hidden", Call::SnippetOf, "a\tb"),
+    ("snippet_cut", Call::SnippetOf, LONG),
+    ("snippet_key", Call::SnippetIn, "cfg(all(a b))"),
+    ("snippet_name", Call::SnippetIn, "a€b"),
+    ("snippet_open", Call::SnippetIn, "cfg(unix"),
+    ("shown", Call::Shown, "a\tb\u{202E}"),
+    ("shown_cut", Call::Shown, LONG),
 ];

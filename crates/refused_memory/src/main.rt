@@ -9,6 +9,7 @@
 mod calls;
 mod exact;
 mod known_in_part;
+mod snippets;
 
 use calls::{CALLS, Call};
 use cargo_platform::{
@@ -148,6 +149,9 @@ fn make(alloc: Global, call: Call, text: &str) -> Result<String, Fault> {
         Call::ConditionLeft => known_in_part::condition_left(alloc, text),
         Call::ExampleOf => exact::example_of(alloc, text),
         Call::CounterexampleOf => exact::counterexample_of(alloc, text),
+        Call::SnippetOf => snippets::snippet_of(alloc, text),
+        Call::SnippetIn => snippets::snippet_in(alloc, text),
+        Call::Shown => snippets::shown(alloc, text),
     }
 }
 
