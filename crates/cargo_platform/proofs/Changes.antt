@@ -1,6 +1,6 @@
 -- What the grammar of expressions changed.
 use Rattle.std.proofs.Common.{◌≡◌, refl, sym, ap, subst, ◌∙◌, ℕ, Bool, true, false, not, ◌&&◌, ◌||◌, true≢false, List}
-use Rattle.std.proofs.Common.{[], ◌∷◌, ◌++◌, codes}
+use Rattle.std.proofs.Common.{[], ◌∷◌, ◌++◌, codes, inl, inr}
 use Rattle.std.specs.Prelude.{◌↔◌, IsFalse, bytes_eq, if◌then◌else◌}
 use Rattle.std.specs.List.{list_any, flat_map}
 use Rattle.std.proofs.lemmas.Grind.{flat_map-append}
@@ -23,7 +23,9 @@ use Rattle.cargo_platform.specs.Warnings.{keyword_warning_of}
 use Rattle.cargo_platform.specs.ChangeLaws.{is_marked_literal, SpelledReleased, IsAcceptedAsReleased}
 use Rattle.cargo_platform.specs.ChangeLaws.{IsRefusedAsReleased, IsTreeTextAsReleased, KeepsTree}
 use Rattle.cargo_platform.specs.ChangeLaws.{IsConditionTextAsReleased, KeepsCondition, is_literal_key}
+use Rattle.cargo_platform.specs.Platforms.{IsRefusedConditionBy}
 use Rattle.cargo_platform.specs.ChangeLaws.{IsRefusedForLiteralKeys, WasWellFormedWithoutMarkedLiterals}
+use Rattle.cargo_platform.specs.ChangeLaws.{IsConditionRefusedAsReleased}
 use Rattle.cargo_platform.specs.ChangeLaws.{IsWellFormedWithoutLiteralKeys, GivesNoKeyword}
 use Rattle.cargo_platform.proofs.OneCut.{one_cut_from}
 use Rattle.cargo_platform.proofs.Building.{one_built}
@@ -120,7 +122,7 @@ abbrev SpelledNow : Tree → List Lexeme → Type 0
 SpelledNow d s = (e : Tree) × SpellsTransitional e s × (released e ≡ d)
 
 mutual
-  from_released : (d : Tree) (s : List Lexeme) → SpellsReleased d s → SpelledNow d s
+  pub from_released : (d : Tree) (s : List Lexeme) → SpellsReleased d s → SpelledNow d s
   from_released (Not d) s p = let r = from_released d p.0 p.1 in (Not r.0, (p.0, r.1, p.2), ap Not r.2)
   from_released (All ds) s p = let r = each_from_released ds p.0 p.2 in (All r.0, (p.0, p.1, r.1, p.3, p.4), ap All r.2)
   from_released (Any ds) s p = let r = each_from_released ds p.0 p.2 in (Any r.0, (p.0, p.1, r.1, p.3, p.4), ap Any r.2)
@@ -246,6 +248,20 @@ keeps_condition text (Expression d) (Target n) p q h = absurd (q.1 p.0 p.1)
 keeps_condition text (Expression d) (Expression e) p q h =
     let S : List ℕ → Type 0 = λ z. IsReleasedTreeText z d in
     ap Expression (keeps_tree q.0 d e (subst S (one_inner text p.0 q.0 p.1 q.1) p.2) q.2 h)
+
+-- And it is refused as one where it was before, with the fault of before.
+pub condition_refused_as_released : (text orig : List ℕ) (fault : Fault) → IsConditionRefusedAsReleased text orig fault
+condition_refused_as_released text orig fault = (λ r. on r, λ r. back r)
+  where
+    on : IsRefusedConditionBy (IsRefusedBy IsAcceptedTransitional Expressions) text orig fault
+        → IsRefusedConditionBy (IsRefusedBy IsAcceptedReleased Expressions) text orig fault
+    on (inl r) = inl (r.0, (refused_as_released orig fault).0 r.1)
+    on (inr r) = inr r
+
+    back : IsRefusedConditionBy (IsRefusedBy IsAcceptedReleased Expressions) text orig fault
+        → IsRefusedConditionBy (IsRefusedBy IsAcceptedTransitional Expressions) text orig fault
+    back (inl r) = inl (r.0, (refused_as_released orig fault).1 r.1)
+    back (inr r) = inr r
 
 -- ---- keys
 

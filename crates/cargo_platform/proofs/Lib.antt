@@ -45,6 +45,7 @@ pub mod LastMembers
 pub mod TargetNames
 pub mod Conditions
 pub mod Changes
+pub mod ToToday
 pub mod ConditionFaults
 pub mod ConditionSpans
 pub mod TextLaws

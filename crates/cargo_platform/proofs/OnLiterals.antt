@@ -85,7 +85,7 @@ nothing_left : (text : List ℕ) → drop (length text) text ≡ []
 nothing_left [] = refl
 nothing_left (c ∷ cs) = nothing_left cs
 
-cut_whole : (text : List ℕ) → is_cut_whole text ≡ true → IsCut text (tokens_in text) (length text)
+pub cut_whole : (text : List ℕ) → is_cut_whole text ≡ true → IsCut text (tokens_in text) (length text)
 cut_whole text h = cut_by text (tokens_in text) (length text) h (inl (nothing_left text))
 
 -- ---- what a text spells

@@ -15,3 +15,4 @@ mod Warnings
 mod Reading
 mod Lines
 mod Holders
+mod Earlier

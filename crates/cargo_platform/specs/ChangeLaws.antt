@@ -1,13 +1,14 @@
 -- Laws of the changes of the grammar of expressions: from the released one to the transitional, and from that to
 -- today's.
-use Rattle.std.specs.Prelude.{◌≡◌, ◌↔◌, ◌&&◌, ℕ, Bool, false, List, [], IsTrue, IsFalse}
+use Rattle.std.specs.Prelude.{◌≡◌, ◌↔◌, ◌&&◌, ◌≤◌, ℕ, Bool, false, List, [], IsTrue, IsFalse, length}
 use Rattle.std.specs.List.{list_any}
 use Rattle.cargo_platform.specs.Tokens.{Lexeme}
 use Rattle.cargo_platform.specs.Trees.{CfgValue, Alone, KeyPair, Tree, Condition}
-use Rattle.cargo_platform.specs.Spelling.{is_literal_word, Spells, Expressions, IsAccepted}
-use Rattle.cargo_platform.specs.Faults.{Fault, IsRefusedBy}
+use Rattle.cargo_platform.specs.Cut.{lexemes}
+use Rattle.cargo_platform.specs.Spelling.{is_literal_word, Spells, Expressions, IsAccepted, IsTreeText}
+use Rattle.cargo_platform.specs.Faults.{Fault, IsRefusedBy, IsRefused, IsCompletable}
 use Rattle.cargo_platform.specs.WellFormed.{IsWellFormed}
-use Rattle.cargo_platform.specs.Platforms.{IsConditionText}
+use Rattle.cargo_platform.specs.Platforms.{IsConditionText, IsRefusedConditionBy}
 use Rattle.cargo_platform.specs.Earlier.{is_literal_name, released, SpellsReleased, IsAcceptedReleased}
 use Rattle.cargo_platform.specs.Earlier.{IsReleasedTreeText, IsReleasedConditionText, IsWellFormedReleased}
 use Rattle.cargo_platform.specs.Earlier.{SpellsTransitional, IsAcceptedTransitional, IsTransitionalTreeText}
@@ -55,6 +56,12 @@ KeepsCondition text =
     (p q : Condition) → IsReleasedConditionText text p → IsTransitionalConditionText text q
     → IsFalse (list_any is_marked_literal (condition_values q)) → q ≡ p
 
+-- the same texts are refused as conditions, with the same faults of the same texts
+abbrev pub IsConditionRefusedAsReleased : List ℕ → List ℕ → Fault → Type 0
+IsConditionRefusedAsReleased text orig fault =
+    IsRefusedConditionBy (IsRefusedBy IsAcceptedTransitional Expressions) text orig fault
+    ↔ IsRefusedConditionBy (IsRefusedBy IsAcceptedReleased Expressions) text orig fault
+
 -- ---- unmarked `true` and `false` stopped being keys
 
 -- unmarked `true` or `false` as a key
@@ -71,6 +78,30 @@ abbrev pub IsRefusedForLiteralKeys : List Lexeme → Type 0
 IsRefusedForLiteralKeys ts =
     (e : Tree) → SpellsTransitional e ts
     → ((IsAccepted Expressions ts → ⊥) ↔ IsTrue (list_any is_literal_key (values e)))
+
+-- ---- both changes at once: from the released grammar to today's
+
+-- what a text spelled is the tree that it spells, with literals in the place of marked ones, and no other
+abbrev pub SpelledReleasedText : List ℕ → Type 0
+SpelledReleasedText text = (d e : Tree) → IsTreeText text e → (IsReleasedTreeText text d ↔ (d ≡ released e))
+
+-- a text that spelled a tree spells none today exactly where a literal is a key in it, at any depth
+abbrev pub IsTextRefusedForLiteralKeys : List ℕ → Type 0
+IsTextRefusedForLiteralKeys text =
+    (d : Tree) → IsReleasedTreeText text d
+    → (((e : Tree) → IsTreeText text e → ⊥) ↔ IsTrue (list_any is_literal_key (values d)))
+
+-- a fault stays, where what stands before it can still be completed
+abbrev pub KeepsFault : List ℕ → Fault → Type 0
+KeepsFault text fault =
+    (r : IsRefusedBy IsAcceptedReleased Expressions text fault) → IsCompletable Expressions (lexemes r.prefix)
+    → IsRefused Expressions text fault
+
+-- no more tokens stand before the fault of today than before that of then
+abbrev pub ComesNoLater : List ℕ → Fault → Fault → Type 0
+ComesNoLater text before now =
+    (r : IsRefusedBy IsAcceptedReleased Expressions text before) (q : IsRefused Expressions text now)
+    → length q.prefix ≤ length r.prefix
 
 -- ---- well-formed trees, and warnings
 

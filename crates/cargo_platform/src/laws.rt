@@ -29,7 +29,8 @@ ghost use Rattle.cargo_platform.specs.ChangeLaws.{SpelledReleased, IsAcceptedAsR
 ghost use Rattle.cargo_platform.specs.ChangeLaws.{IsTreeTextAsReleased, KeepsTree, IsConditionTextAsReleased};
 ghost use Rattle.cargo_platform.specs.ChangeLaws.{KeepsCondition, SpelledTransitional, IsRefusedForLiteralKeys};
 ghost use Rattle.cargo_platform.specs.ChangeLaws.{WasWellFormedWithoutMarkedLiterals, IsWellFormedWithoutLiteralKeys};
-ghost use Rattle.cargo_platform.specs.ChangeLaws.{GivesNoKeyword};
+ghost use Rattle.cargo_platform.specs.ChangeLaws.{GivesNoKeyword, IsConditionRefusedAsReleased, SpelledReleasedText};
+ghost use Rattle.cargo_platform.specs.ChangeLaws.{IsTextRefusedForLiteralKeys, KeepsFault, ComesNoLater};
 ghost use Rattle.cargo_platform.specs.ViewLaws.{IsNotOf, IsAllOf, IsAnyOf, IsValueOf, AreLiterals};
 ghost use Rattle.cargo_platform.specs.Sizes.{size, depth};
 ghost use Rattle.cargo_platform.specs.Facts.{Pair, pair_cmp, FactSet, fact_set, truth};
@@ -219,10 +220,11 @@ pub fn expressions_as_released()
 {}
 
 /// Whether marked `true` and `false` alone are names or literals, the same texts spell a condition, and the same one if
-/// none of them stands in it.
+/// none of them stands in it. The other texts have the same faults.
 pub fn conditions_as_released()
     ensures accepted { (text : List ℕ) → IsConditionTextAsReleased text }
     ensures kept { (text : List ℕ) → KeepsCondition text }
+    ensures refused { (text orig : List ℕ) (fault : Fault) → IsConditionRefusedAsReleased text orig fault }
 {}
 
 /// Unmarked `true` and `false` are no keys in an expression; in the transitional grammar they are. What is spelled was
@@ -230,6 +232,16 @@ pub fn conditions_as_released()
 pub fn literals_are_no_keys()
     ensures spelled { (ts : List Lexeme) → SpelledTransitional ts }
     ensures refused { (ts : List Lexeme) → IsRefusedForLiteralKeys ts }
+{}
+
+/// From the Rust crate's grammar of expressions to today's. What a text spelled there is told by what it spells, and it
+/// spells nothing exactly where an unmarked `true` or `false` is a key. A text that was refused there is refused, at the
+/// same token or an earlier one, and with the same fault where what stands before it can still be completed.
+pub fn texts_as_released()
+    ensures spelled { (text : List ℕ) → SpelledReleasedText text }
+    ensures refused { (text : List ℕ) → IsTextRefusedForLiteralKeys text }
+    ensures fault { (text : List ℕ) (fault : Fault) → KeepsFault text fault }
+    ensures no_later { (text : List ℕ) (before now : Fault) → ComesNoLater text before now }
 {}
 
 /// Which trees are well-formed in the Rust crate's grammar, in the transitional one, and today: the first without

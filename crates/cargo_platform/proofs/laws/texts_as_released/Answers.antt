@@ -1,0 +1,14 @@
+use Rattle.cargo_platform.proofs.ToToday.{spelled_text, text_refused, keeps_fault, comes_no_later}
+use Rattle.cargo_platform.proofs.laws.texts_as_released.Goals as goal
+
+pub returns-clause-spelled : goal.returns-clause-spelled
+returns-clause-spelled c = λ text. spelled_text text
+
+pub returns-clause-refused : goal.returns-clause-refused
+returns-clause-refused c = λ text. text_refused text
+
+pub returns-clause-fault : goal.returns-clause-fault
+returns-clause-fault c = λ text fault. keeps_fault text fault
+
+pub returns-clause-no_later : goal.returns-clause-no_later
+returns-clause-no_later c = λ text before now. comes_no_later text before now
