@@ -5,9 +5,9 @@ use Rattle.std.specs.Prelude.{bytes_eq, if◌then◌else◌}
 use Rattle.std.specs.List.{list_any}
 use Rattle.std.proofs.lemmas.List.Folds.{list_any-append}
 use Rattle.std.proofs.lemmas.Option.{same_Some}
-use Rattle.cargo_platform.specs.Tokens.{Lexeme, LeftParen, RightParen, Ident, Comma, Equals, String, Placed}
+use Rattle.cargo_platform.specs.Tokens.{Lexeme, LeftParen, RightParen, Ident, Equals, String, Placed}
 use Rattle.cargo_platform.specs.Cut.{lexemes}
-use Rattle.cargo_platform.specs.Trees.{Name, CfgValue, Alone, KeyPair, Tree, Not, All, Any, Value, True, False, Trees}
+use Rattle.cargo_platform.specs.Trees.{Name, Alone, KeyPair, Tree, Not, All, Any, Value, True, False, Trees}
 use Rattle.cargo_platform.specs.Trees.{none, tree}
 use Rattle.cargo_platform.specs.Spelling.{Expressions, IsAccepted, Spells}
 use Rattle.cargo_platform.specs.Faults.{Fault, IsCompletable, IsCompletableBy}
@@ -15,12 +15,12 @@ use Rattle.cargo_platform.specs.Walk.{is_whole}
 use Rattle.cargo_platform.specs.Inside.Parsing.{Opening, Negated, Listed, is_lone}
 use Rattle.cargo_platform.specs.Earlier.{IsAcceptedReleased, SpellsReleased, released, released_members}
 use Rattle.cargo_platform.specs.Warnings.{values, members_values}
-use Rattle.cargo_platform.specs.ChangeLaws.{is_literal_key, SpelledReleasedText, IsTextRefusedForLiteralKeys, KeepsFault}
-use Rattle.cargo_platform.specs.ChangeLaws.{ComesNoLater}
+use Rattle.cargo_platform.specs.ChangeLaws.{is_literal_key, SpelledReleasedText, IsTextRefusedForLiteralKeys}
+use Rattle.cargo_platform.specs.ChangeLaws.{KeepsFault, ComesNoLater}
 use Rattle.cargo_platform.proofs.OneCut.{one_cut_from}
 use Rattle.cargo_platform.proofs.Walk.{none_some}
-use Rattle.cargo_platform.proofs.Building.{Position, Wanting, WithWord, WithKey, WithTree, key_of, at_key, lead, lead_from}
-use Rattle.cargo_platform.proofs.Building.{state_of, state_at, walk_state, whole_leads, completable_walks}
+use Rattle.cargo_platform.proofs.Building.{Position, Wanting, WithWord, WithKey, WithTree, key_of, at_key, lead}
+use Rattle.cargo_platform.proofs.Building.{lead_from, state_of, state_at, walk_state, whole_leads, completable_walks}
 use Rattle.cargo_platform.proofs.Completing.{ends_whole, whole_accepted}
 use Rattle.cargo_platform.proofs.Changes.{was_spelled, from_released, spelled_released, accepted_as_released}
 use Rattle.cargo_platform.proofs.Changes.{refused_for_literal_keys}
