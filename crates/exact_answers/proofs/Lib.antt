@@ -6,3 +6,5 @@ pub mod Searching
 pub mod Answering
 pub mod Spending
 pub mod Targets
+pub mod Ahead
+pub mod Adding

@@ -15,7 +15,7 @@ use Rattle.exact_answers.specs.Possible.{is_single}
 use Rattle.exact_answers.specs.Asking.{is_pair}
 use Rattle.exact_answers.specs.Possible.{is_value, has_value}
 use Rattle.exact_answers.specs.Inside.Paths.{Turn, Base, IsOver, takes, refuses, taken}
-use Rattle.exact_answers.specs.Inside.Paths.{facts_on, set_on, rules_out, is_refuted, told_on, IsAsTold}
+use Rattle.exact_answers.specs.Inside.Paths.{facts_on, set_on, rules_out, is_refuted, told_on, IsAsTold, Agrees}
 
 pub or_cases : (P : Type 0) (a b : Bool) → (a || b) ≡ true → (a ≡ true → P) → (b ≡ true → P) → P
 or_cases P true b h f g = f refl
@@ -83,10 +83,6 @@ on_path k ds p =
     ∙ ap (λ b. takes (is_pair p) ds || b) (sym (among k.listed p))
 
 -- ---- sets that agree with the splits
-
-abbrev pub Agrees : FactSet → List Turn → Type 0
-Agrees s [] = Unit {0}
-Agrees s (d ∷ ds) = (contains s d.pair ≡ d.holds) × Agrees s ds
 
 not_true : (b : Bool) → not b ≡ true → b ≡ false
 not_true true h = absurd (true≢false (sym h))

@@ -1,4 +1,5 @@
 -- What the contracts of private functions and types cite, and no promise rests on.
 pub mod Paths
 pub mod Goals
+pub mod Ahead
 pub mod Targets

@@ -9,6 +9,7 @@
 mod answers;
 mod known;
 mod opening;
+mod outlook;
 mod path;
 mod platforms;
 mod search;

@@ -1,10 +1,11 @@
 -- Expressions with the truths that are wanted of them, and the search for a set over which they have these.
 use Rattle.std.specs.Prelude.{◌≡◌, ℕ, ◌+◌, ◌^◌, ◌<◌, Bool, true, false, not, ◌&&◌, ◌||◌, List, [], ◌∷◌, map}
 use Rattle.std.specs.Prelude.{Option, Some, None, is_none}
+use Rattle.std.specs.Bool.{MatchBool}
 use Rattle.cargo_platform.specs.Trees.{Trees, none, tree, tree_of, value_of}
 use Rattle.cargo_platform.specs.Facts.{Pair, FactSet, pair_of, fact_set, truth}
 use Rattle.partial_facts.specs.Kleene.{kleene, kleene_not, kleene_and}
-use Rattle.exact_answers.specs.Inside.Paths.{Base, IsOver, Turn, told_on}
+use Rattle.exact_answers.specs.Inside.Paths.{Base, IsOver, Turn, told_on, Agrees}
 use Rattle.exact_answers.specs.Asking.{some_asks, one_if, HasAll}
 use Rattle.exact_answers.specs.declared.search.Goal.{Goal}
 use Rattle.exact_answers.specs.declared.search.Found.{Found}
@@ -44,6 +45,16 @@ abbrev pub SaysStep : Step → (Pair → Option Bool) → List Goal → Type 0
 SaysStep (step.Decided b) told gs = goals_known told gs ≡ Some b
 SaysStep (step.Open c) told gs =
     (told (pair_of (value_of c.now)) ≡ None) × (some_asks (goal_trees gs) (pair_of (value_of c.now)) ≡ true)
+
+-- no possible set that agrees with the splits meets the goals
+abbrev pub AreMissed : Base → List Goal → List Turn → Type 0
+AreMissed k gs ds = (s : FactSet) → IsOver k s → Agrees s ds → goals_true s gs ≡ false
+
+-- what a step says, with a look ahead
+abbrev pub SaysStepOn : Step → Base → List Goal → List Turn → Type 0
+SaysStepOn (step.Decided b) k gs ds = MatchBool b (goals_known (told_on k ds) gs ≡ Some true) (AreMissed k gs ds)
+SaysStepOn (step.Open c) k gs ds =
+    (told_on k ds (pair_of (value_of c.now)) ≡ None) × (some_asks (goal_trees gs) (pair_of (value_of c.now)) ≡ true)
 
 -- what holds of the facts that are found, what holds where there are none, and what where the splits are used up
 abbrev pub SaysFound : Found → (FactSet → Type 0) → Type 0 → Type 0 → Type 0

@@ -71,6 +71,11 @@ told_on k ds p = told_by (contains (set_on k ds) p) (is_refuted k ds p)
 abbrev pub IsAsTold : (Pair → Option Bool) → FactSet → Type 0
 IsAsTold told s = (p : Pair) → IfSome (told p) (λ b. contains s p ≡ b)
 
+-- the splits are so in the set
+abbrev pub Agrees : FactSet → List Turn → Type 0
+Agrees s [] = Unit {0}
+Agrees s (d ∷ ds) = (contains s d.pair ≡ d.holds) × Agrees s ds
+
 as_told_by : (l n : Bool) → IfSome (told_by l n) (λ b. l ≡ b)
 as_told_by true n = refl
 as_told_by false true = refl

@@ -1,0 +1,87 @@
+-- Goals that are worked out operation by operation, over one set of facts and over 64 at once.
+use Rattle.std.specs.Prelude.{◌≡◌, ℕ, zero, suc, ◌<◌, Bool, true, false, ◌&&◌, ◌||◌, Option, IfSome}
+use Rattle.std.specs.Prelude.{List, [], ◌∷◌, ◌++◌, map, reverse, drop, sum}
+use Rattle.std.specs.Int.{bit_at}
+use Rattle.std.specs.List.{All}
+use Rattle.std.specs.FinSet.{contains}
+use Rattle.cargo_platform.specs.Trees.{tree_of, value_of}
+use Rattle.cargo_platform.specs.Facts.{Pair, FactSet, pair_of, truth}
+use Rattle.cargo_platform.specs.ExpressionSizes.{node_count}
+use Rattle.exact_answers.specs.Inside.Goals.{true_as_wanted, goals_true}
+use Rattle.exact_answers.specs.declared.search.Goal.{Goal}
+use Rattle.exact_answers.specs.declared.outlook.Words.{Words}
+use Rattle.exact_answers.specs.declared.outlook.Outlook.{Outlook}
+use Rattle.exact_answers.specs.declared.outlook.Operation.{Operation}
+use Rattle.exact_answers.specs.declared.outlook.Operation.TheVariants as operation
+
+abbrev pub both : Bool → Bool → Bool → Bool
+both true a b = a && b
+both false a b = a || b
+
+-- whether each of the first n holds, or one
+abbrev pub gathered : Bool → ℕ → List Bool → Bool
+gathered each zero bs = each
+gathered each (suc n) [] = each
+gathered each (suc n) (b ∷ bs) = both each b (gathered each n bs)
+
+abbrev pub meets : FactSet → Goal → Bool
+meets s g = true_as_wanted g.wanted (truth s (tree_of g.e.now))
+
+-- an operation, on what is worked out so far, the last one first
+abbrev pub done : FactSet → Operation → List Bool → List Bool
+done s (operation.Pair c wanted place) bs = true_as_wanted wanted (contains s (pair_of (value_of c.now))) ∷ bs
+done s (operation.Is b) bs = b ∷ bs
+done s (operation.Group each n) bs = gathered each n bs ∷ drop n bs
+
+abbrev pub worked_out : FactSet → List Operation → List Bool → List Bool
+worked_out s [] bs = bs
+worked_out s (o ∷ os) bs = worked_out s os (done s o bs)
+
+-- what the operations give, the last one first, once the goals that are left are worked out
+abbrev pub outcome : FactSet → Outlook → List Goal → List Bool
+outcome s outlook left = worked_out s (reverse outlook.operations.items) (map (meets s) left)
+
+-- they give whether all goals are met
+abbrev pub IsOutlook : Outlook → List Goal → Type 0
+IsOutlook outlook gs = (s : FactSet) → worked_out s outlook.operations.items [] ≡ goals_true s gs ∷ []
+
+abbrev pub goals_size : List Goal → ℕ
+goals_size gs = sum (map (λ g. node_count g.e.now) gs)
+
+-- the set of facts s agrees with the set l of the 64 in a pair
+abbrev pub Fits : FactSet → ℕ → Words → Type 0
+Fits s l w = (contains s (pair_of (value_of w.pair.now)) ≡ true → bit_at w.with l ≡ 1)
+    × (contains s (pair_of (value_of w.pair.now)) ≡ false → bit_at w.without l ≡ 1)
+
+-- a word has the set l where what it stands for holds
+abbrev pub Covers : ℕ → List ℕ → List Bool → Type 0
+Covers l [] [] = Unit {0}
+Covers l [] (b ∷ bs) = ⊥
+Covers l (w ∷ ws) [] = ⊥
+Covers l (w ∷ ws) (b ∷ bs) = (b ≡ true → bit_at w l ≡ 1) × Covers l ws bs
+
+-- the sets that have the first pair, the second one, and so on
+abbrev pub patterns : List ℕ
+patterns =
+    12297829382473034410 ∷ 14757395258967641292 ∷ 17361641481138401520 ∷ 18374966859414961920 ∷ 18446462603027742720
+    ∷ 18446744069414584320 ∷ []
+
+-- the set l is among those of a word, or it is not
+abbrev pub IsSo : ℕ → ℕ → Bool → Type 0
+IsSo l w b = (b ≡ true → bit_at w l ≡ 1) × (b ≡ false → bit_at w l ≡ 0)
+
+abbrev pub AllSo : ℕ → List (ℕ × Bool) → Type 0
+AllSo l [] = Unit {0}
+AllSo l (c ∷ cs) = IsSo l c.0 c.1 × AllSo l cs
+
+-- with some choice among the patterns that are used up, each of the 64 sets that agrees with it fits the words
+abbrev pub AreChosen : FactSet → List ℕ → List Words → Type 0
+AreChosen s left ws =
+    (cs : List (ℕ × Bool)) × (map (λ c. c.0) cs ++ left ≡ patterns)
+    × ((l : ℕ) → l < 64 → AllSo l cs → All (Fits s l) ws)
+
+-- the words of a further pair, and the patterns that are left then
+abbrev pub IsNext : Pair → Option Bool → List ℕ → Words → List ℕ → Type 0
+IsNext p tells left w others =
+    (s : FactSet) (ws : List Words) → IfSome tells (λ b. contains s p ≡ b) → AreChosen s left ws
+    → AreChosen s others (ws ++ w ∷ [])
