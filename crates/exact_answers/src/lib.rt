@@ -15,7 +15,8 @@ mod platforms;
 mod search;
 
 pub use answers::{CanHold, MustHold, always, can_be_met, can_hold, equivalent, exclude, implies};
-pub use known::{FAMILY_RULE, Known, ONE_VALUED};
+pub use known::{FAMILY_RULE, Known};
+pub use partial_facts::ONE_VALUED;
 pub use platforms::{
     CanSelect, MustSelect, PossibleTarget, always_platform, can_hold_platform, equivalent_platform,
     exclude_platform, implies_platform,

@@ -12,9 +12,10 @@ ghost use Rattle.exact_answers.specs.Inside.Paths.{base_of, turn_of, turns, turn
 ghost use Rattle.exact_answers.specs.Inside.Paths.{unmarked};
 ghost use Rattle.std.specs.FinSet.{contains};
 
-use crate::known::{Known, has_value, is_named, is_value};
+use crate::known::Known;
 use cargo_platform::{Cfg, Facts, Ident, Listed};
 use partial_facts::Knowledge;
+use partial_facts::names::{has_value, is_named, is_value};
 use std::alloc::{AllocError, Global};
 
 /// A pair that was open, and whether it is taken as a fact.

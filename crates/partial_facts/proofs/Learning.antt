@@ -32,7 +32,7 @@ condition_in_steps None y told more (Target t) learns grows = refl
 condition_in_steps x y told more (Expression e) learns grows = ap Expression (in_steps told more grows e)
 
 -- whether a pair is listed and its name complete, first and later
-more_by : (l n m k b : Bool) → (l ≡ true → m ≡ true) → (n ≡ true → m ≡ true → l ≡ true) → (n ≡ true → k ≡ true)
+pub more_by : (l n m k b : Bool) → (l ≡ true → m ≡ true) → (n ≡ true → m ≡ true → l ≡ true) → (n ≡ true → k ≡ true)
     → told_by l n ≡ Some b → told_by m k ≡ Some b
 more_by true n m k b has no_other names h = ap (λ z. told_by z k) (has refl) ∙ h
 more_by false true true k b has no_other names h = absurd (true≢false (sym (no_other refl refl)))

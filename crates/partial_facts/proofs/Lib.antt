@@ -9,3 +9,4 @@ pub mod Reducing
 pub mod Naming
 pub mod Steps
 pub mod Learning
+pub mod SingleValues

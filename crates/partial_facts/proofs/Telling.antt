@@ -29,7 +29,7 @@ allowed listed complete s = (
   },
 )
 
-untold : (l n : Bool) → told_by l n ≡ None → (l ≡ false) × (n ≡ false)
+pub untold : (l n : Bool) → told_by l n ≡ None → (l ≡ false) × (n ≡ false)
 untold true n h = cc
 untold false true h = cc
 untold false false h = (refl, refl)

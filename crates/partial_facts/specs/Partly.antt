@@ -32,7 +32,8 @@ partly_told listed complete p = told_by (contains listed p) (is_named p.name com
 pub partly_possible : (listed : FactSet) (complete : List (List ℕ)) → IsPartlyKnown listed complete listed
 partly_possible listed complete = record { has = λ p h. h; no_other = λ p n h. h }
 
-sound_by : (l n c : Bool) → (l ≡ true → c ≡ true) → (n ≡ true → c ≡ true → l ≡ true) → IfSome (told_by l n) (λ b. c ≡ b)
+pub sound_by : (l n c : Bool) → (l ≡ true → c ≡ true) → (n ≡ true → c ≡ true → l ≡ true)
+    → IfSome (told_by l n) (λ b. c ≡ b)
 sound_by true n c h k = h refl
 sound_by false true true h k = absurd (true≢false (sym (k refl refl)))
 sound_by false true false h k = refl

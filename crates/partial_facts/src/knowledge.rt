@@ -5,7 +5,8 @@ ghost use Rattle.std.specs.FinSet.{contains};
 ghost use Rattle.cargo_platform.specs.Trees.{value_of};
 ghost use Rattle.cargo_platform.specs.Facts.{Pair, FactSet, pair_of};
 
-use cargo_platform::{Cfg, Facts, Ident, Listed};
+use crate::names::is_named;
+use cargo_platform::{Cfg, Facts, Listed};
 
 /// What is known of a set of facts.
 pub trait Knowledge {
@@ -64,23 +65,6 @@ pub struct Partial<'a> {
     pub complete: &'a [&'a str],
 }
 
-impl<'a> Partial<'a> {
-    ghost use Rattle.std.specs.Prelude.{string_bytes, map};
-    ghost use Rattle.partial_facts.specs.Partly.{is_named};
-
-    // Whether all facts of this name or key are listed.
-    fn is_complete(&self, name: &Ident) -> bool
-        ensures { result ≡ is_named (string_bytes name.now.name) (map (λ t. t.now) self.now.complete.now) }
-    {
-        for text in self.complete {
-            if name.as_str() == *text {
-                return true;
-            }
-        }
-        false
-    }
-}
-
 impl<'a> Knowledge for Partial<'a> {
     ghost use Rattle.std.specs.Prelude.{map};
     ghost use Rattle.cargo_platform.specs.Facts.{fact_set};
@@ -98,7 +82,7 @@ impl<'a> Knowledge for Partial<'a> {
         }
         match c {
             Cfg::Name(name) | Cfg::KeyPair(name, _) => {
-                if self.is_complete(name) {
+                if is_named(name, self.complete) {
                     Some(false)
                 } else {
                     None

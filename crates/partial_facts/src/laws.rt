@@ -9,6 +9,7 @@ ghost use Rattle.partial_facts.specs.KleeneLaws.{TellsMore, LearnsName};
 ghost use Rattle.partial_facts.specs.Conditions.{kleene_condition, residual_condition};
 ghost use Rattle.partial_facts.specs.Residual.{residual_tree};
 ghost use Rattle.partial_facts.specs.Partly.{partly_told, IsPartlyKnown, KeepsNames, IsAllowedByTold, IsLeftOpen};
+ghost use Rattle.partial_facts.specs.OneValued.{one_valued_told, IsOneValued, IsOpenOneValued};
 
 use crate::knowledge::Knowledge;
 
@@ -64,3 +65,20 @@ pub fn partial_is_tight()
 {
     cargo_platform::laws::facts_are_pairs_of_members();
 }
+
+/// A `OneValued` tells more with more names complete, more keys with one value, and a list that was possible before. So
+/// does a `OneValued` over a list that was possible to a `Partial`.
+pub fn one_valued_tells_more()
+    ensures kept { (cs ds : List CfgValue) (complete names single keys : List (List ℕ))
+        → IsOneValued (fact_set cs) complete single (fact_set ds) → KeepsNames complete names → KeepsNames single keys
+        → TellsMore (one_valued_told cs complete single) (one_valued_told ds names keys) }
+    ensures beside_partial { (cs ds : List CfgValue) (complete names single : List (List ℕ))
+        → IsPartlyKnown (fact_set cs) complete (fact_set ds) → KeepsNames complete names
+        → TellsMore (partly_told (fact_set cs) complete) (one_valued_told ds names single) }
+{}
+
+/// What a `OneValued` does not tell is open: a pair of which it tells nothing is in one allowed set and not in another.
+pub fn one_valued_is_tight()
+    ensures { (cs : List CfgValue) (complete single : List (List ℕ)) (c : CfgValue)
+        → one_valued_told cs complete single (pair_of c) ≡ None → IsOpenOneValued cs complete single c }
+{}

@@ -8,12 +8,15 @@
 
 mod knowledge;
 pub mod laws;
+pub mod names;
+mod one_valued;
 mod open_groups;
 mod platforms;
 mod residuals;
 mod three_valued;
 
 pub use knowledge::{Complete, Knowledge, Partial};
+pub use one_valued::{ONE_VALUED, OneValued};
 pub use platforms::{decide_platform, residual_platform};
 pub use residuals::residual;
 pub use three_valued::decide;

@@ -7,6 +7,7 @@ pub mod audit;
 mod completions;
 #[cfg(test)]
 mod deep;
+pub mod flags;
 pub mod planner;
 #[cfg(test)]
 mod residuals;

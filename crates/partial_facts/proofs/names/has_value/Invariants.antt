@@ -1,8 +1,8 @@
 use Rattle.std.proofs.Common.{◌≡◌, drop, map, string_bytes}
 use Rattle.cargo_platform.specs.Trees.{value_of}
 use Rattle.cargo_platform.specs.Facts.{pair_of}
-use Rattle.exact_answers.specs.Possible.{has_value}
-use Rattle.exact_answers.proofs.known.has_value.Given as goal
+use Rattle.partial_facts.specs.OneValued.{has_value}
+use Rattle.partial_facts.proofs.names.has_value.Given as goal
 
 -- the answer hangs on the facts that are left
 abbrev pub invariant-loop-fact : goal.invariant-loop-fact

@@ -1,0 +1,43 @@
+//! Names and keys among texts and facts, for holders of what is known.
+
+ghost use Rattle.std.specs.Prelude.{◌≡◌, map, string_bytes};
+ghost use Rattle.cargo_platform.specs.Trees.{value_of};
+ghost use Rattle.cargo_platform.specs.Facts.{pair_of};
+ghost use Rattle.partial_facts.specs.Partly.{is_named};
+ghost use Rattle.partial_facts.specs.OneValued.{is_value, has_value};
+
+use cargo_platform::{Cfg, Ident};
+
+/// Whether the name or key is among the texts. Its raw mark plays no part.
+pub fn is_named(name: &Ident, texts: &[&str]) -> bool
+    ensures { result ≡ is_named (string_bytes name.now.name) (map (λ t. t.now) texts.now) }
+{
+    for text in texts {
+        if name.as_str() == *text {
+            return true;
+        }
+    }
+    false
+}
+
+/// Whether the fact is the key with some value. Raw marks play no part.
+pub fn is_value(fact: &Cfg, key: &Ident) -> bool
+    ensures { result ≡ is_value (string_bytes key.now.name) (pair_of (value_of fact.now)) }
+{
+    match fact {
+        Cfg::Name(_) => false,
+        Cfg::KeyPair(other, _) => other.as_str() == key.as_str(),
+    }
+}
+
+/// Whether some fact is the key with some value. Raw marks play no part.
+pub fn has_value(facts: &[Cfg], key: &Ident) -> bool
+    ensures { result ≡ has_value (string_bytes key.now.name) (map pair_of (map value_of facts.now)) }
+{
+    for fact in facts {
+        if is_value(fact, key) {
+            return true;
+        }
+    }
+    false
+}

@@ -1,0 +1,27 @@
+//! What follows from the flags of a command line.
+
+ghost use Rattle.std.specs.Prelude.{◌≡◌, [], IfSome, map};
+ghost use Rattle.cargo_platform.specs.Trees.{tree_of, value_of};
+ghost use Rattle.cargo_platform.specs.Facts.{FactSet, fact_set, truth};
+ghost use Rattle.partial_facts.specs.Kleene.{kleene};
+ghost use Rattle.partial_facts.specs.OneValued.{IsOneValued, one_valued_told};
+
+use cargo_platform::{Cfg, CfgExpr};
+use partial_facts::{OneValued, decide};
+
+/// What the condition is for each target that has the facts of the flags, as `target_os = "linux"`, and of each key in
+/// `single` no value beside those.
+pub fn by_flags(e: &CfgExpr, flags: &[Cfg], single: &[&str]) -> Option<bool>
+    ensures exact { result
+        ≡ kleene (one_valued_told (map value_of flags.now) [] (map (λ t. t.now) single.now)) (tree_of e.now) }
+    ensures sound { (s : FactSet)
+        → IsOneValued (fact_set (map value_of flags.now)) [] (map (λ t. t.now) single.now) s
+        → IfSome result (λ b. truth s (tree_of e.now) ≡ b) }
+{
+    let known = OneValued {
+        facts: flags,
+        complete: &[],
+        single,
+    };
+    decide(e, &known)
+}
