@@ -1,6 +1,6 @@
 -- Where the lines of a text begin.
-use Rattle.std.proofs.Common.{◌≡◌, ◌≢◌, ◌<◌, ◌≤◌, ◌+◌, ◌-◌, ◌∙◌, ℕ, List, [], ◌∷◌, ◌++◌, length, get_or, take, refl, sym}
-use Rattle.std.proofs.Common.{ap, lit<, arith, append_assoc, length-append, Option, Some, None, Bor}
+use Rattle.std.proofs.Common.{◌≡◌, ◌≢◌, ◌<◌, ◌≤◌, ◌+◌, ◌-◌, ◌∙◌, ℕ, List, [], ◌∷◌, ◌++◌, length, get_or, take, refl}
+use Rattle.std.proofs.Common.{sym, ap, lit<, arith, append_assoc, length-append, Option, Some, None, Bor}
 use Rattle.std.specs.Prelude.{◌==◌, not, slice_index_or}
 use Rattle.std.specs.Option.{MatchOption}
 use Rattle.std.specs.List.{AllByRecursion}
@@ -43,7 +43,8 @@ all_and_one : (ls : List (List ℕ)) (l : List ℕ) → AllByRecursion IsUnbroke
 all_and_one [] l us u = (u, tt)
 all_and_one (m ∷ ls) l us u = (us.0, all_and_one ls l us.1 u)
 
-ended_and_one : (ls : List (List ℕ)) (l behind : List ℕ) → ended (ls ++ l ∷ []) ++ behind ≡ ended ls ++ (line l ++ behind)
+ended_and_one : (ls : List (List ℕ)) (l behind : List ℕ)
+    → ended (ls ++ l ∷ []) ++ behind ≡ ended ls ++ (line l ++ behind)
 ended_and_one [] l behind = append_assoc (line l) [] behind
 ended_and_one (m ∷ ls) l behind =
     append_assoc (line m) (ended (ls ++ l ∷ [])) behind ∙ ap (λ z. line m ++ z) (ended_and_one ls l behind)
@@ -93,7 +94,8 @@ none_left text rest line number many place b empty sum h =
       h.1,
     )
 
-at_seam : (ls : List (List ℕ)) (l : List ℕ) (others : List (List ℕ)) → slice_index_or (ls ++ l ∷ others) (length ls) [] ≡ l
+at_seam : (ls : List (List ℕ)) (l : List ℕ) (others : List (List ℕ))
+    → slice_index_or (ls ++ l ∷ others) (length ls) [] ≡ l
 at_seam [] l others = refl
 at_seam (m ∷ ls) l others = at_seam ls l others
 

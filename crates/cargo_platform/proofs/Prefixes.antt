@@ -84,7 +84,8 @@ refused_walked_at g text ts prefix behind tail s next fault cut parts walked sto
     place = comes.0;
     follows = comes.1;
     accepted = is_whole s;
-    is_accepted = (λ h. whole_accepted g s (lexemes prefix) h walked, λ p. accepted_whole g s (lexemes prefix) walked p);
+    is_accepted =
+        (λ h. whole_accepted g s (lexemes prefix) h walked, λ p. accepted_whole g s (lexemes prefix) walked p);
     is_fault = table;
   },
   refl,

@@ -131,7 +131,8 @@ skip_token Comma rest w u = (ascii_sides 0x2C (0x2C ∷ rest) [] rest (lit≤ tt
 skip_token Equals rest w u = (ascii_sides 0x3D (0x3D ∷ rest) [] rest (lit≤ tt) u refl).1
 skip_token (Ident false name) rest w u = skip_name name rest w u
 skip_token (Ident true name) rest w u =
-    skip_name name rest w (ascii_sides 0x23 (codes "r#" ++ (name ++ rest)) (0x72 ∷ []) (name ++ rest) (lit≤ tt) u refl).1
+    let sides = ascii_sides 0x23 (codes "r#" ++ (name ++ rest)) (0x72 ∷ []) (name ++ rest) (lit≤ tt) u refl in
+    skip_name name rest w sides.1
 skip_token (String value) rest w u =
     (ascii_sides 0x22 (written (String value) ++ rest) (0x22 ∷ value) rest (lit≤ tt) u
     (ap (λ (z : List ℕ). 0x22 ∷ z) (append_assoc value (codes "\"") rest))).1

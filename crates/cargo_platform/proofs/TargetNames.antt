@@ -236,7 +236,8 @@ one_front : (c : ℕ) (fs gs after others : List ℕ) → IsTrue (list_all (λ d
     → encode_utf8_all fs ≡ encode_utf8_all gs
 one_front c [] [] after others p q e = refl
 one_front c [] (g ∷ gs) after others p q e =
-    let same = encode_same c g after _ (e ∙ append_assoc (encode_utf8 g) (encode_utf8_all gs) (encode_utf8 c ++ others)) in
+    let around = append_assoc (encode_utf8 g) (encode_utf8_all gs) (encode_utf8 c ++ others) in
+    let same = encode_same c g after _ (e ∙ around) in
     absurd (true≢false (sym (and_parts _ _ q).0 ∙ ap not (eq-eqb g c (sym same.0))))
 one_front c (f ∷ fs) [] after others p q e =
     let same = encode_same c f others _

@@ -6,7 +6,6 @@ pub mod Looking
 pub mod Scanning
 pub mod Ahead
 pub mod Parsing
-pub mod Pending
 pub mod Asking
 pub mod Copying
 pub mod Printing

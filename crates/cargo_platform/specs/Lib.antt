@@ -34,4 +34,5 @@ pub mod Warnings
 pub mod Earlier
 pub mod ChangeLaws
 pub mod ExpressionSizes
+pub mod Parts
 pub mod Inside

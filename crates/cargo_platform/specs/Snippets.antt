@@ -56,7 +56,8 @@ first_shown size before = if nat_le size 100 then 0 else before - 40
 
 abbrev pub end_shown : ℕ → ℕ → ℕ → ℕ
 end_shown size before inside =
-    if nat_le size 100 then size else (if nat_lt 40 inside then min size (before + 40) else min size (before - 40 + 100))
+    if nat_le size 100 then size
+    else (if nat_lt 40 inside then min size (before + 40) else min size (before - 40 + 100))
 
 -- `..` where something is cut
 abbrev pub dots : Bool → List ℕ

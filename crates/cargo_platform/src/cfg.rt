@@ -11,6 +11,7 @@ pub use crate::facts::{FactIndex, Facts, Listed};
 use crate::reader::Reader;
 use crate::{Looks, parser};
 use std::alloc::Global;
+use std::mem;
 
 /// An identifier. Of those that are read the name is one `_` or ASCII letter, and such characters or ASCII digits
 /// behind it. Equality, order and hash see the name alone; printing and copies keep the raw mark.
@@ -31,8 +32,8 @@ pub enum Cfg {
     KeyPair(Ident, String),
 }
 
-/// An expression over facts.
-#[derive(Debug, Drop)]
+/// An expression over facts. It is let go without recursion, however deep it is and wherever that happens. So a pattern
+/// moves nothing out of it; `into_parts` takes it apart.
 pub enum CfgExpr {
     /// True where the expression inside is false.
     Not(Box<CfgExpr>),
@@ -45,6 +46,23 @@ pub enum CfgExpr {
     /// The literal `true`.
     True,
     /// The literal `false`.
+    False,
+}
+
+/// What stands in an expression, one level down.
+#[derive(Debug, Drop)]
+pub enum CfgExprParts {
+    /// What a negation negates.
+    Not(Box<CfgExpr>),
+    /// The members of an `all`.
+    All(Vec<CfgExpr>),
+    /// The members of an `any`.
+    Any(Vec<CfgExpr>),
+    /// A name or a pair.
+    Value(Cfg),
+    /// The literal `true` has no parts.
+    True,
+    /// The literal `false` has no parts.
     False,
 }
 
@@ -103,6 +121,50 @@ impl Cfg {
     }
 }
 
+impl Drop for CfgExpr {
+    /// Drops the expression in a loop, with no stack for its depth and no memory but its own.
+    ///
+    /// One list and one expression are at hand at a time. The list gives up its last member. Where that has members of
+    /// its own, the first of these is taken out, the list at hand is put into its place, and these members become the
+    /// list at hand. No list is let go before it is empty.
+    fn drop(mut self) {
+        let mut left = 'negations: loop {
+            match self {
+                CfgExpr::Not(negated) => self = Box::into_inner(negated),
+                CfgExpr::All(members) | CfgExpr::Any(members) => break members,
+                CfgExpr::Value(_value) => return,
+                CfgExpr::True | CfgExpr::False => return,
+            }
+        };
+        'members: while let Some(last) = left.pop() {
+            self = last;
+            'levels: loop {
+                let mut members = match self {
+                    CfgExpr::Not(negated) => {
+                        self = Box::into_inner(negated);
+                        continue;
+                    }
+                    CfgExpr::All(members) | CfgExpr::Any(members) => members,
+                    CfgExpr::Value(_value) => continue 'members,
+                    CfgExpr::True | CfgExpr::False => continue 'members,
+                };
+                if members.is_empty() {
+                    members.destroy_empty();
+                    continue 'members;
+                }
+                if left.is_empty() {
+                    left.destroy_empty();
+                    left = members;
+                    continue 'members;
+                }
+                self = mem::replace(&mut members[0], CfgExpr::All(left));
+                left = members;
+            }
+        }
+        left.destroy_empty();
+    }
+}
+
 impl CfgExpr {
     ghost use Rattle.std.specs.Prelude.{◌≡◌, ◌≤◌, ◌+◌, ◌*◌, length, IfOk, OnOk};
     ghost use Rattle.std.specs.Str.{chars};
@@ -112,6 +174,7 @@ impl CfgExpr {
     ghost use Rattle.cargo_platform.specs.Faults.{IsRefused, IsRefusedAt};
     ghost use Rattle.cargo_platform.specs.Print.{print};
     ghost use Rattle.cargo_platform.specs.Errors.{IfParse, orig_of, fault_in, span_in};
+    ghost use Rattle.cargo_platform.specs.Parts.{joined};
 
     /// Reads an expression: a name, a pair, a literal, or `all(..)`, `any(..)` or `not(..)` of expressions, to any
     /// depth. Unmarked `all`, `any`, `not`, `true` and `false` are words of the language, and no names or keys. A raw
@@ -161,5 +224,22 @@ impl CfgExpr {
             Err(refusal) => Err(refusal.into_error(alloc, s)),
         };
         (read, reader.spend())
+    }
+
+    /// Takes the expression apart, one level down: its parts are handed out as they are. Nothing is allocated, and
+    /// nothing refused.
+    #[inline(always)]
+    pub fn into_parts(self) -> CfgExprParts
+        // Put together again, the parts are the expression.
+        ensures { joined result ≡ self }
+    {
+        match self {
+            CfgExpr::Not(negated) => CfgExprParts::Not(negated),
+            CfgExpr::All(members) => CfgExprParts::All(members),
+            CfgExpr::Any(members) => CfgExprParts::Any(members),
+            CfgExpr::Value(value) => CfgExprParts::Value(value),
+            CfgExpr::True => CfgExprParts::True,
+            CfgExpr::False => CfgExprParts::False,
+        }
     }
 }

@@ -8,7 +8,6 @@ ghost use Rattle.cargo_platform.specs.Inside.Copying.{around, whole, left_in, wo
 
 use crate::Platform;
 use crate::cfg::{Cfg, CfgExpr, Ident};
-use crate::iterative_drop::drop_members;
 use crate::parser::{Listing, close_list, negation, push_member};
 use std::alloc::{AllocError, Global};
 
@@ -75,6 +74,7 @@ enum CopiedGroup<'a> {
 }
 
 /// The groups that are being copied, the innermost last.
+#[derive(Drop)]
 struct CopiedGroups<'a> {
     groups: Vec<CopiedGroup<'a>>,
 }
@@ -94,13 +94,8 @@ impl<'a> CopiedGroups<'a> {
         ensures whole { OnOk result ((e : Tree) → whole self.new e ≡ whole self.old (around group.entry e)) }
         ensures work { OnOk result (work self.new ≡ work self.old + left_in group.entry) }
     {
-        match self.groups.push(group) {
-            Ok(()) => Ok(()),
-            Err(refused) => {
-                drop_group(refused.value);
-                Err(AllocError)
-            }
-        }
+        self.groups.push(group)?;
+        Ok(())
     }
 
     /// Takes the innermost group.
@@ -111,24 +106,6 @@ impl<'a> CopiedGroups<'a> {
         ensures work { IfSome result (λ group. work self.old ≡ work self.new + left_in group) }
     {
         self.groups.pop()
-    }
-}
-
-impl<'a> Drop for CopiedGroups<'a> {
-    /// Without recursion over the depth of the copies.
-    fn drop(self) {
-        let CopiedGroups { mut groups } = self;
-        'groups: while let Some(group) = groups.pop() {
-            drop_group(group);
-        }
-    }
-}
-
-/// Drops a group without recursion over the depth of its copies.
-fn drop_group(group: CopiedGroup<'_>) {
-    match group {
-        CopiedGroup::Not => {}
-        CopiedGroup::List(_word, copies, _left) => drop_members(copies),
     }
 }
 
@@ -221,14 +198,7 @@ fn copy_members<'a>(
         (λ next. work groups.new + 2 * node_count next.now ≤ work groups.old + 2 * node_counts members.now + 1)
         (λ _. work groups.new ≡ work groups.old)) }
 {
-    let left = match copy_values(alloc, members, &mut copies) {
-        Ok(left) => left,
-        Err(refused) => {
-            drop_members(copies);
-            return Err(refused);
-        }
-    };
-    match left.split_first() {
+    match copy_values(alloc, members, &mut copies)?.split_first() {
         Some((next, left)) => {
             groups.push(CopiedGroup::List(word, copies, left))?;
             Ok(Ok(next))

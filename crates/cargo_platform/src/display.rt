@@ -52,6 +52,19 @@ impl fmt::Display for CfgExpr {
     }
 }
 
+impl fmt::Debug for CfgExpr {
+    ghost use Rattle.std.specs.Prelude.{Some};
+    ghost use Rattle.cargo_platform.specs.Trees.{tree_of};
+    ghost use Rattle.cargo_platform.specs.Print.{print};
+
+    ghost debug_output = { λ e. Some (print (tree_of e)) };
+
+    // As it prints, since the derived text takes stack for each level.
+    fn fmt<W: fmt::Write>(&self, f: &mut fmt::Formatter<W>) -> fmt::Result {
+        write_expression(self, f)
+    }
+}
+
 ghost use Rattle.std.specs.Prelude.{◌≡◌, ◌≢◌, ◌≤◌, ◌+◌, ◌++◌, ◌&&◌, ◌==◌, suc, not, true, false, map, length, codes};
 ghost use Rattle.std.specs.Prelude.{OnOk, IfSome, MatchOption};
 ghost use Rattle.std.specs.Fmt.{WritesOnOk, IsPlainFormatter};

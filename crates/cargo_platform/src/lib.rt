@@ -14,7 +14,6 @@ pub mod error;
 mod fact_lines;
 mod facts;
 mod in_key;
-mod iterative_drop;
 mod json;
 pub mod laws;
 mod order;
@@ -26,7 +25,7 @@ mod source;
 pub mod tokens;
 mod warnings;
 
-pub use cfg::{Cfg, CfgExpr, FactIndex, Facts, Ident, Listed};
+pub use cfg::{Cfg, CfgExpr, CfgExprParts, FactIndex, Facts, Ident, Listed};
 pub use error::{ParseError, ParseErrorKind, ReadError};
 pub use fact_lines::{FactsError, read_facts};
 pub use json::JsonError;

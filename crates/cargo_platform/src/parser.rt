@@ -15,7 +15,6 @@ ghost use Rattle.cargo_platform.specs.Inside.Parsing.{HasWord, Stands, Reads, St
 ghost use Rattle.cargo_platform.specs.Inside.Parsing.{opening_word, kinds, is_list, openings, with_last};
 
 use crate::cfg::{Cfg, CfgExpr, Ident};
-use crate::iterative_drop::drop_members;
 use crate::reader::{Punctuation, Reader, Refusal, expect_end, refuse};
 use std::alloc::{AllocError, Global};
 use std::mem;
@@ -56,6 +55,7 @@ impl Opened {
 }
 
 /// The open groups. One group alone asks for no memory.
+#[derive(Drop)]
 struct OpenGroups {
     alloc: Global,
     opened: Option<Opened>,
@@ -83,16 +83,10 @@ impl OpenGroups {
             });
             return Ok(());
         };
-        match opened
+        opened
             .outer
-            .push(mem::replace(&mut opened.innermost, group))
-        {
-            Ok(()) => Ok(()),
-            Err(refused) => {
-                drop_group(refused.value);
-                Err(AllocError)
-            }
-        }
+            .push(mem::replace(&mut opened.innermost, group))?;
+        Ok(())
     }
 
     /// Takes the innermost group.
@@ -139,34 +133,6 @@ impl OpenGroups {
             unreachable!()
         };
         opened.add(member)
-    }
-}
-
-impl Drop for OpenGroups {
-    /// Without recursion over the depth of the members.
-    fn drop(self) {
-        let OpenGroups { alloc: _, opened } = self;
-        let Some(
-            Opened {
-                innermost,
-                mut outer,
-            },
-        ) = opened
-        else {
-            return;
-        };
-        drop_group(innermost);
-        'groups: while let Some(group) = outer.pop() {
-            drop_group(group);
-        }
-    }
-}
-
-/// Drops a group without recursion over the depth of its members.
-fn drop_group(group: Group) {
-    match group {
-        Group::Not => {}
-        Group::List(_word, members) => drop_members(members),
     }
 }
 
@@ -300,7 +266,6 @@ fn end_list(reader: &mut Reader<'_>, groups: &mut OpenGroups) -> Option<CfgExpr>
     match groups.pop() {
         Some(Group::List(word, members)) => {
             if !reader.eat(Punctuation::RightParen) {
-                drop_members(members);
                 return None;
             }
             Some(close_list(word, members))
@@ -347,39 +312,23 @@ pub(crate) fn close_list(word: Listing, members: Vec<CfgExpr>) -> CfgExpr
 pub(crate) fn negation(alloc: Global, negated: CfgExpr) -> Result<CfgExpr, AllocError>
     ensures { IfOk result (λ e. tree_of e ≡ Not (tree_of negated)) }
 {
-    match Box::new(alloc, negated) {
-        Ok(inner) => Ok(CfgExpr::Not(inner)),
-        Err(refused) => {
-            refused.value.drop_iteratively(alloc);
-            Err(AllocError)
-        }
-    }
+    Ok(CfgExpr::Not(Box::new(alloc, negated)?))
 }
 
 /// Appends a member, which is dropped where memory is refused.
 pub(crate) fn push_member(members: &mut Vec<CfgExpr>, member: CfgExpr) -> Result<(), AllocError>
     ensures { OnOk result (map tree_of members.new.items ≡ map tree_of members.old.items ++ tree_of member ∷ []) }
 {
-    match members.push(member) {
-        Ok(()) => Ok(()),
-        Err(refused) => {
-            refused.value.drop_iteratively(*members.allocator());
-            Err(AllocError)
-        }
-    }
+    members.push(member)?;
+    Ok(())
 }
 
 /// Members with one more behind them.
 fn with_member(mut members: Vec<CfgExpr>, member: CfgExpr) -> Result<Vec<CfgExpr>, AllocError>
     ensures { IfOk result (λ more. map tree_of more.items ≡ map tree_of members.items ++ tree_of member ∷ []) }
 {
-    match push_member(&mut members, member) {
-        Ok(()) => Ok(members),
-        Err(refused) => {
-            drop_members(members);
-            Err(refused)
-        }
-    }
+    push_member(&mut members, member)?;
+    Ok(members)
 }
 
 /// Takes the comma behind a member of a list.
@@ -415,8 +364,6 @@ fn close_group<'a>(
     ensures shorter { OnOk result (bytes_left reader.new < bytes_left reader.old) }
 {
     if !reader.eat(Punctuation::RightParen) {
-        last.drop_iteratively(alloc);
-        drop_group(group);
         return Err(refuse(reader, "`)`", "`)`"));
     }
     match group {
@@ -448,11 +395,8 @@ pub(crate) fn read_expression<'a>(
             continue;
         }
         let Some(group) = groups.pop() else {
-            let Err(refusal) = expect_end(reader) else {
-                return Ok(e);
-            };
-            e.drop_iteratively(alloc);
-            return Err(refusal);
+            expect_end(reader)?;
+            return Ok(e);
         };
         done = Some(close_group(alloc, reader, group, e)?);
     }

@@ -99,11 +99,7 @@ impl CfgExpr {
             → truth (fact_set (map value_of cfg.now)) e ≡ false) }
     {
         match Platform::from_str(alloc, key) {
-            Ok(Platform::Cfg(expression)) => {
-                let is_true = expression.matches(cfg);
-                expression.drop_iteratively(alloc);
-                Ok(is_true)
-            }
+            Ok(Platform::Cfg(expression)) => Ok(expression.matches(cfg)),
             Ok(Platform::Name(_)) => Ok(false),
             Err(ReadError::Parse(_)) => Ok(false),
             Err(ReadError::Memory(error)) => Err(error),

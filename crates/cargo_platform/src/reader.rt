@@ -1,6 +1,7 @@
 //! The tokens of a text, each taken where it is wanted: what the parsers read from.
 
-ghost use Rattle.std.specs.Prelude.{◌≡◌, ◌≤◌, ◌+◌, length, [], ◌∷◌, IsTrue, IsFalse, IfSome, IfNone, IfErr, OnOk, MatchOption};
+ghost use Rattle.std.specs.Prelude.{◌≡◌, ◌≤◌, ◌+◌, length, [], ◌∷◌, IsTrue, IsFalse, IfSome, IfNone, IfErr, OnOk};
+ghost use Rattle.std.specs.Prelude.{MatchOption};
 ghost use Rattle.cargo_platform.specs.declared.source.Look.TheVariants.{Ascii};
 ghost use Rattle.cargo_platform.specs.Tokens.{Ident as ident_token, String as string_token, Placed, lexeme, written};
 ghost use Rattle.cargo_platform.specs.Reading.{characters_from};
@@ -134,8 +135,8 @@ impl<'a> Reader<'a> {
         Some(value)
     }
 
-    /// Takes the next token, whatever it is, with its span. Where none is next it gives the fault, which begins here, or
-    /// nothing at the end of the text.
+    /// Takes the next token, whatever it is, with its span. Where none is next it gives the fault, which begins here,
+    /// or nothing at the end of the text.
     #[inline(never)]
     fn take(&mut self) -> Option<Result<Spanned<'a>, TokenFaultKind>>
         ensures same_text { self.new.text ≡ self.old.text }

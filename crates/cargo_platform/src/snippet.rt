@@ -42,8 +42,8 @@ impl ParseError {
     }
 }
 
-/// The text as snippets show it, in whole: a character is shown as U+FFFD that is neither the space U+0020 nor in one of
-/// the general categories L, N, P and S. So a printed text forges no line.
+/// The text as snippets show it, in whole: a character is shown as U+FFFD that is neither the space U+0020 nor in one
+/// of the general categories L, N, P and S. So a printed text forges no line.
 pub fn shown_text(alloc: Global, text: &str) -> Result<String, AllocError>
     ensures { IfOk result (λ s. string_bytes s ≡ encode_utf8_all (map shown (chars text.now))) }
 {

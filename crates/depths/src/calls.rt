@@ -80,10 +80,6 @@ impl Nest {
         })
     }
 
-    pub fn drop_iteratively(self, alloc: Global) {
-        self.platform.drop_iteratively(alloc);
-    }
-
     /// Whether the call answers what is known of the nest.
     pub fn is_right(&self, alloc: Global, call: Call) -> Result<bool, AllocError> {
         match call {
@@ -113,10 +109,7 @@ impl Nest {
     /// Whether the text with this behind it is read, or refused.
     fn reads(&self, alloc: Global, behind: &str, is_condition: bool) -> Result<bool, AllocError> {
         match Platform::from_str(alloc, &self.text(alloc, behind)?) {
-            Ok(platform) => {
-                platform.drop_iteratively(alloc);
-                Ok(is_condition)
-            }
+            Ok(_) => Ok(is_condition),
             Err(ReadError::Parse(_)) => Ok(!is_condition),
             Err(ReadError::Memory(error)) => Err(error),
         }
@@ -140,14 +133,13 @@ impl Nest {
 
     fn clones(&self, alloc: Global) -> Result<bool, AllocError> {
         let copy = self.platform.clone(alloc)?;
-        Ok(is_dropped_condition(alloc, copy, self.form, self.levels))
+        Ok(is_condition(&copy, self.form, self.levels, LEAF))
     }
 
     fn warns_of_keyword(&self, alloc: Global) -> Result<bool, AllocError> {
         let mut warnings = Vec::new(alloc);
         let keyword = condition(alloc, self.form, self.levels, KEYWORD)?;
         keyword.check_cfg_keywords(alloc, &mut warnings, "Cargo.toml")?;
-        keyword.drop_iteratively(alloc);
         Ok(warnings.len() == 1)
     }
 
@@ -191,7 +183,7 @@ impl Nest {
             Form::Last | Form::First => 0,
         };
         let left = self.left(alloc, &[])?;
-        Ok(is_dropped_condition(alloc, left, self.form, levels))
+        Ok(is_condition(&left, self.form, levels, LEAF))
     }
 
     fn leaves_false(&self, alloc: Global) -> Result<bool, AllocError> {
@@ -203,28 +195,19 @@ impl Nest {
     fn compares(&self, alloc: Global, call: Call) -> Result<bool, AllocError> {
         let later = condition(alloc, self.form, self.levels, LATER)?;
         let platform = &self.platform;
-        let is_right = match call {
+        Ok(match call {
             Call::Equal => platform == platform && *platform != later,
             Call::Order => {
                 platform.cmp(platform) == Ordering::Equal && platform.cmp(&later) == Ordering::Less
             }
             _ => hash_of(platform) == hash_of(platform) && hash_of(platform) != hash_of(&later),
-        };
-        later.drop_iteratively(alloc);
-        Ok(is_right)
+        })
     }
 }
 
 /// The name inside, as a fact.
 fn facts(alloc: Global) -> Result<Vec<Cfg>, AllocError> {
     vec![in alloc; name(alloc, LEAF)?].map_err(AllocError::from)
-}
-
-/// Whether the condition is so many levels around the name inside. It is dropped.
-fn is_dropped_condition(alloc: Global, platform: Platform, form: Form, levels: u32) -> bool {
-    let is_right = is_condition(&platform, form, levels, LEAF);
-    platform.drop_iteratively(alloc);
-    is_right
 }
 
 fn warns_of_attribute(alloc: Global, platform: &Platform) -> Result<bool, AllocError> {

@@ -59,8 +59,8 @@ fn make(
         println!(rt; "{levels} levels of {pattern}, {name}: {said}")?;
         are_right = are_right && is_right;
     }
-    nest.drop_iteratively(rt.alloc());
-    println!(rt; "{levels} levels of {pattern}, drop_iteratively: done")?;
+    drop(nest);
+    println!(rt; "{levels} levels of {pattern}, drop: done")?;
     Ok(are_right)
 }
 

@@ -250,5 +250,5 @@ pub fn compare(
             return Ok(Answer::unusable(alloc, text));
         }
     };
-    compared(alloc, &a.platform, &b.platform, &rule, budget, json)
+    compared(alloc, &a, &b, &rule, budget, json)
 }

@@ -58,7 +58,7 @@ pub fn targets(alloc: Global, key: &str, json: bool) -> Result<Answer, AllocErro
         Err(Unread::Refused(answer)) => return Ok(answer),
         Err(Unread::Memory(refused)) => return Err(refused),
     };
-    let targets = matching(alloc, &condition.platform)?;
+    let targets = matching(alloc, &condition)?;
     if json {
         let text = name_array(alloc, targets)?;
         return Ok(Answer::of(alloc, text, Status::Fine));
@@ -66,7 +66,7 @@ pub fn targets(alloc: Global, key: &str, json: bool) -> Result<Answer, AllocErro
     let output = name_lines(alloc, targets)?;
     let count = targets.len();
     let mut errors = format!(in alloc; "{count} of {COUNT} known targets\n")?;
-    if let Platform::Name(name) = &condition.platform {
+    if let Platform::Name(name) = &condition {
         if KnownTarget::by_name(name.as_str()).is_none() {
             let name = shown_name(alloc, name.as_str())?;
             let note = format!(in alloc;
@@ -160,7 +160,7 @@ pub fn applies(
         }
         Err(answer) => return Ok(answer),
     }
-    if holds(alloc, &condition.platform, name, &facts)? {
+    if holds(alloc, &condition, name, &facts)? {
         Ok(Answer::of(alloc, String::from_str(alloc, "yes\n")?, Status::Fine))
     } else {
         Ok(Answer::of(alloc, String::from_str(alloc, "no\n")?, Status::Found))

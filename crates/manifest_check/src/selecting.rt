@@ -22,10 +22,7 @@ fn choice_word(choice: &Choice) -> &'static str {
 /// The condition that is left to ask, as a key.
 fn residual(alloc: Global, choice: &Choice) -> Result<Option<String>, AllocError> {
     match choice {
-        Choice::Open(condition) => {
-            let platform = condition.platform();
-            Ok(Some(format!(in alloc; "{platform}")?))
-        }
+        Choice::Open(condition) => Ok(Some(condition.to_string(alloc)?)),
         Choice::Selected | Choice::LeftOut => Ok(None),
     }
 }

@@ -5,7 +5,6 @@ ghost use Rattle.cargo_platform.specs.Trees.{condition_of};
 ghost use Rattle.partial_facts.specs.Conditions.{kleene_condition};
 ghost use Rattle.manifests.specs.Choosing.{choice_of};
 
-use crate::condition::Condition;
 use crate::tables::{Dependency, Kind, TargetKey, Targets, dependencies, target_keys};
 use cargo_platform::{Cfg, Facts, Ident, Listed, ParseError, Platform, ReadError};
 use known_targets::KnownTarget;
@@ -33,7 +32,7 @@ pub enum Choice {
     /// Its condition does not hold.
     LeftOut,
     /// It is not known whether this condition holds, which is what is left of its own.
-    Open(Condition),
+    Open(Platform),
 }
 
 /// A dependency, and whether it is selected.
@@ -79,7 +78,7 @@ pub fn choose<K: Knowledge>(
         Some(false) => Ok(Choice::LeftOut),
         None => {
             let left = residual_platform(alloc, platform, Some(name), known)?;
-            Ok(Choice::Open(Condition::new(alloc, left)))
+            Ok(Choice::Open(left))
         }
     }
 }
@@ -144,7 +143,7 @@ fn choose_for_host(
 ) -> Result<Choice, AllocError> {
     match host {
         Some(host) => choose(alloc, platform, host.name(), &Complete(&host)),
-        None => Ok(Choice::Open(Condition::new(alloc, platform.clone(alloc)?))),
+        None => Ok(Choice::Open(platform.clone(alloc)?)),
     }
 }
 
@@ -188,7 +187,7 @@ fn add_rows<'a>(
     rows: &mut Vec<Row<'a>>,
 ) -> Result<(), SelectError<'a>> {
     let condition = match Platform::from_str(alloc, key.key) {
-        Ok(platform) => Condition::new(alloc, platform),
+        Ok(condition) => condition,
         Err(ReadError::Parse(error)) => return Err(SelectError::Refused(key.key, error)),
         Err(ReadError::Memory(error)) => return Err(SelectError::Memory(error)),
     };
@@ -197,9 +196,9 @@ fn add_rows<'a>(
     };
     for dependency in &dependencies(alloc, table, Some(key.key))? {
         let choice = if dependency.kind == Kind::Build {
-            choose_for_host(alloc, condition.platform(), host)?
+            choose_for_host(alloc, &condition, host)?
         } else {
-            choose(alloc, condition.platform(), target, known)?
+            choose(alloc, &condition, target, known)?
         };
         rows.push(Row {
             dependency: *dependency,

@@ -39,7 +39,6 @@ impl<'a> OpenList<'a> {
             None => with_member(left, part)?,
             Some(truth) => {
                 if truth != neutral {
-                    drop_members(left);
                     return Ok(Err(truth));
                 }
                 left
@@ -68,20 +67,8 @@ fn literal_truth(e: &CfgExpr) -> Option<bool>
 fn with_member(mut members: Vec<CfgExpr>, member: CfgExpr) -> Result<Vec<CfgExpr>, AllocError>
     ensures { IfOk result (λ more. map tree_of more.items ≡ map tree_of members.items ++ tree_of member ∷ []) }
 {
-    match members.push(member) {
-        Ok(()) => Ok(members),
-        Err(refused) => {
-            refused.value.drop_iteratively(*members.allocator());
-            drop_members(members);
-            Err(AllocError)
-        }
-    }
-}
-
-/// Drops members without recursion over their depth.
-fn drop_members(members: Vec<CfgExpr>) {
-    let alloc = *members.allocator();
-    CfgExpr::All(members).drop_iteratively(alloc);
+    members.push(member)?;
+    Ok(members)
 }
 
 /// A group around the expression that is gone through.
@@ -91,17 +78,8 @@ pub enum OpenGroup<'a> {
     List(OpenList<'a>),
 }
 
-impl<'a> OpenGroup<'a> {
-    /// Drops the group without recursion over the depth of what is left in it.
-    fn drop_iteratively(self) {
-        match self {
-            OpenGroup::Not => {}
-            OpenGroup::List(list) => drop_members(list.left),
-        }
-    }
-}
-
 /// The groups around the expression that is gone through, the innermost last.
+#[derive(Drop)]
 pub struct OpenGroups<'a> {
     groups: Vec<OpenGroup<'a>>,
 }
@@ -122,13 +100,8 @@ impl<'a> OpenGroups<'a> {
             → whole told self.new t ≡ whole told self.old (around told group.entry t)) }
         ensures work { OnOk result (work self.new ≡ work self.old + left_in group.entry) }
     {
-        match self.groups.push(group) {
-            Ok(()) => Ok(()),
-            Err(refused) => {
-                refused.value.drop_iteratively();
-                Err(AllocError)
-            }
-        }
+        self.groups.push(group)?;
+        Ok(())
     }
 
     /// Takes the innermost group.
@@ -140,15 +113,5 @@ impl<'a> OpenGroups<'a> {
         ensures work { IfSome result (λ group. work self.old ≡ work self.new + left_in group) }
     {
         self.groups.pop()
-    }
-}
-
-impl<'a> Drop for OpenGroups<'a> {
-    /// Without recursion over the depth of what is left in the groups.
-    fn drop(self) {
-        let OpenGroups { mut groups } = self;
-        'groups: while let Some(group) = groups.pop() {
-            group.drop_iteratively();
-        }
     }
 }

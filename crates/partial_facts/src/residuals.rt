@@ -156,13 +156,7 @@ fn negated(alloc: Global, e: CfgExpr) -> Result<CfgExpr, AllocError>
     match e {
         CfgExpr::True => Ok(CfgExpr::False),
         CfgExpr::False => Ok(CfgExpr::True),
-        unknown => match Box::new(alloc, unknown) {
-            Ok(inner) => Ok(CfgExpr::Not(inner)),
-            Err(refused) => {
-                refused.value.drop_iteratively(alloc);
-                Err(AllocError)
-            }
-        },
+        unknown => Ok(CfgExpr::Not(Box::new(alloc, unknown)?)),
     }
 }
 

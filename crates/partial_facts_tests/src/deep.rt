@@ -84,8 +84,6 @@ fn first_members_of_300_000_levels_are_left(rt: HostRuntime) {
     let text = nest(&rt, alloc, "any({all(a, loom)}, unix, loom)", 300_000);
     let e = expression(&rt, alloc, &text);
     let asked = left(&rt, alloc, &e, &first);
-    e.drop_iteratively(alloc);
     let answered = left(&rt, alloc, &asked, &later);
-    asked.drop_iteratively(alloc);
     assert_prints(&rt, alloc, &answered, "false");
 }

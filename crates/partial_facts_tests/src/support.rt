@@ -63,9 +63,7 @@ pub fn assert_decides_and_leaves<K: Knowledge>(
     let e = expression(rt, alloc, text);
     assert_decision(rt, text, decided(&e, known), wanted);
     let left = left(rt, alloc, &e, known);
-    e.drop_iteratively(alloc);
     assert_prints(rt, alloc, &left, asked);
-    left.drop_iteratively(alloc);
 }
 
 /// What a word of a table says: that all is decided, or that something is open.

@@ -36,22 +36,11 @@ pub struct Answer {
 }
 
 /// What the lines ask: whether a target with this name and these facts meets the condition.
+#[derive(Drop)]
 struct Query<'a> {
     platform: Platform,
     target: &'a str,
     facts: Vec<Cfg>,
-}
-
-impl<'a> Drop for Query<'a> {
-    /// Without recursion over the depth of the condition.
-    fn drop(self) {
-        let Query {
-            platform,
-            target: _,
-            facts,
-        } = self;
-        platform.drop_iteratively(*facts.allocator());
-    }
 }
 
 /// Why the lines ask nothing.
@@ -118,14 +107,13 @@ fn read_query(alloc: Global, text: &str) -> Result<Query<'_>, Refusal>
 {
     let (first, others) = split_line(text);
     let (target, fact_lines) = split_line(others);
-    let mut query = Query {
-        platform: read_condition(alloc, first)?,
-        target,
-        facts: Vec::new(alloc),
-    };
+    let platform = read_condition(alloc, first)?;
     let facts = read_fact_lines(alloc, fact_lines)?;
-    query.facts = facts;
-    Ok(query)
+    Ok(Query {
+        platform,
+        target,
+        facts,
+    })
 }
 
 /// The answer that is this one line, for an input that asks nothing.

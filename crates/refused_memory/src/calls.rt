@@ -25,7 +25,6 @@ pub enum Call {
     JsonText,
     ReadJson,
     Print,
-    DropIteratively,
     ExpressionLeft,
     ConditionLeft,
     ExampleOf,
@@ -107,8 +106,7 @@ pub const CALLS: &[(&str, Call, &str)] = &[
     ("target_json", Call::JsonText, "a"),
     ("refused_json", Call::ReadJson, "!foo"),
     ("refused_condition_json", Call::ReadJson, "cfg(a b)"),
-    ("deep_kept", Call::Print, DEEP),
-    ("deep_dropped", Call::DropIteratively, DEEP),
+    ("deep_print", Call::Print, DEEP),
     ("residual_name", Call::ExpressionLeft, "r#a"),
     ("residual_pair", Call::ExpressionLeft, "a = \"1\""),
     (

@@ -144,7 +144,6 @@ fn make(alloc: Global, call: Call, text: &str) -> Result<String, Fault> {
         Call::JsonText => json_text(alloc, &json(alloc, text)?),
         Call::ReadJson => read_json(alloc, &Value::String(String::from_str(alloc, text)?)),
         Call::Print => printed(alloc, &platform(alloc, text)?),
-        Call::DropIteratively => dropped(alloc, text),
         Call::ExpressionLeft => known_in_part::expression_left(alloc, text),
         Call::ConditionLeft => known_in_part::condition_left(alloc, text),
         Call::ExampleOf => exact::example_of(alloc, text),
@@ -298,13 +297,6 @@ fn read_json(alloc: Global, value: &Value) -> Result<String, Fault> {
         Err(JsonError::NotText) => Err(Fault::Unknown),
         Err(JsonError::Memory(_)) => Err(Fault::Memory),
     }
-}
-
-fn dropped(alloc: Global, text: &str) -> Result<String, Fault> {
-    let deep = platform(alloc, text)?;
-    let text = printed(alloc, &deep);
-    deep.drop_iteratively(alloc);
-    text
 }
 
 fn main(rt: HostRuntime) -> io::Result<ExitCode> {

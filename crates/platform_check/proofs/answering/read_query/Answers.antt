@@ -9,11 +9,11 @@ use Rattle.platform_check.proofs.answering.read_query.Goals as goal
 pub returns-in_err-facts-clause-refused : goal.returns-in_err-facts-clause-refused
 returns-in_err-facts-clause-refused c =
     let ls = lines_of c.args.text.now in
-    let p = condition_of c.in_ok-read_condition.field-0 in
+    let p = condition_of c.in_ok-platform.field-0 in
     let facts = behind_two ls _ _ c.split_line.ensures.behind c.split_line-2.ensures.behind in
     passed_on
     (λ r. IfLine r (λ n orig fault. IsLeast (IsRefusedLine ls) n × IsLineFault ls n orig fault))
     _ c.in_err-facts.field-0.0 c.from_residual-in_err-facts.ensures.1
     (after_first _ ls p
-    (subst (λ t. IsConditionText t p) c.split_line.ensures.line c.in_ok-read_condition.ensures.condition)
+    (subst (λ t. IsConditionText t p) c.split_line.ensures.line c.in_ok-platform.ensures.condition)
     (first_fact_of _ ls _ facts c.in_err-facts.ensures.refused))
