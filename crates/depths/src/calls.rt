@@ -188,7 +188,7 @@ impl Nest {
 
     fn leaves_false(&self, alloc: Global) -> Result<bool, AllocError> {
         let left = self.left(alloc, &[LEAF])?;
-        Ok(matches!(left, Platform::Cfg(CfgExpr::False)))
+        Ok(matches!(&left, Platform::Cfg(CfgExpr::False)))
     }
 
     /// The nest is compared with itself, and with one around a later name.

@@ -1,16 +1,28 @@
 //! Makes each call of the library on conditions of many levels, and prints a line for each call that answered.
 //!
 //! A call that took stack for each level of such a condition would end the program. The status is 0 where each call
-//! answered what is known of the condition without it, and 1 otherwise.
+//! answered what is known of the condition without it, and 1 otherwise. Arguments ask for something else:
+//!
+//! - `drops NUMBER LEVELS`: nests of this shape are let go at each place;
+//! - `again NUMBER LEVELS TIMES`: that is done so many times, so that what is not let go shows in the memory;
+//! - `copies NUMBER LEVELS`: a nest is copied until memory is refused;
+//! - `describe`, `is_selected` or `lint`: that caller is asked about a key from standard input.
 #![tactic(auto)]
 
+mod callers;
 mod calls;
+mod drops;
 mod nests;
+mod shapes;
 
+use callers::Caller;
 use calls::{Call, Nest};
+use drops::PLACES;
 use nests::Form;
-use std::io;
+use shapes::{SHAPES, Shape};
 use std::process::ExitCode;
+use std::rt::Env;
+use std::{env, io};
 
 /// The levels of calls that go down the last members in a loop, and of calls that keep the open groups in a list.
 const DEEP: u32 = 2_000_000;
@@ -64,7 +76,8 @@ fn make(
     Ok(are_right)
 }
 
-fn main(rt: HostRuntime) -> io::Result<ExitCode> {
+/// Makes each call on its nests.
+fn make_each(rt: &(impl Print + AllocGlobal)) -> io::Result<bool> {
     let mut are_right = true;
     for (calls, form, levels) in [
         (LISTING, Form::Not, DEEP),
@@ -74,8 +87,108 @@ fn main(rt: HostRuntime) -> io::Result<ExitCode> {
         (LISTING, Form::First, DEEP),
         (OTHERS, Form::First, RECURSING),
     ] {
-        let is_right = make(&rt, calls, form, levels)?;
+        let is_right = make(rt, calls, form, levels)?;
         are_right = are_right && is_right;
     }
-    Ok(ExitCode::from(if are_right { 0 } else { 1 }))
+    Ok(are_right)
+}
+
+/// Lets nests of the shape go at each place, and prints a line for each.
+fn drop_at_each(rt: &(impl Print + AllocGlobal), shape: Shape, levels: usize) -> io::Result<bool> {
+    let pattern = shape.pattern(rt.alloc())?;
+    let mut are_right = true;
+    for place in PLACES {
+        let is_right = drops::is_let_go(rt.alloc(), shape, levels, *place)?;
+        let said = if is_right { "let go" } else { "wrong" };
+        let name = place.name();
+        println!(rt; "{levels} levels of {pattern}, {name}: {said}")?;
+        are_right = are_right && is_right;
+    }
+    Ok(are_right)
+}
+
+/// Lets nests of the shape go at each place, so many times.
+fn drop_again(
+    rt: &(impl Print + AllocGlobal),
+    shape: Shape,
+    levels: usize,
+    times: u32,
+) -> io::Result<bool> {
+    let mut are_right = true;
+    for _ in 0..times {
+        for place in PLACES {
+            let is_right = drops::is_let_go(rt.alloc(), shape, levels, *place)?;
+            are_right = are_right && is_right;
+        }
+    }
+    let pattern = shape.pattern(rt.alloc())?;
+    println!(rt; "{levels} levels of {pattern}, {times} times: let go")?;
+    Ok(are_right)
+}
+
+/// Copies a nest of the shape until memory is refused.
+fn copy_until_refused(
+    rt: &(impl Print + AllocGlobal),
+    shape: Shape,
+    levels: usize,
+) -> io::Result<bool> {
+    let copies = drops::copies(rt.alloc(), shape, levels)?;
+    let pattern = shape.pattern(rt.alloc())?;
+    println!(rt; "{levels} levels of {pattern}, copies before one was refused: {copies}")?;
+    Ok(true)
+}
+
+/// Does what the words ask for. Nothing where they ask for nothing that is known.
+fn ask(rt: &(impl Print + Input + AllocGlobal), words: &[String]) -> io::Result<Option<bool>> {
+    match words {
+        [] => Ok(Some(make_each(rt)?)),
+        [caller] => match Caller::named(caller.as_str()) {
+            Some(caller) => {
+                let key = io::read_to_string(rt.alloc(), rt.reader())?;
+                let answer = caller.answer(rt.alloc(), key.as_str())?;
+                print!(rt; "{answer}")?;
+                Ok(Some(true))
+            }
+            None => Ok(None),
+        },
+        [what, shape, levels] => {
+            let Some((shape, levels)) = asked(shape.as_str(), levels.as_str()) else {
+                return Ok(None);
+            };
+            match what.as_str() {
+                "drops" => Ok(Some(drop_at_each(rt, shape, levels)?)),
+                "copies" => Ok(Some(copy_until_refused(rt, shape, levels)?)),
+                _ => Ok(None),
+            }
+        }
+        [_again, shape, levels, times] => {
+            let Some((shape, levels)) = asked(shape.as_str(), levels.as_str()) else {
+                return Ok(None);
+            };
+            match times.parse::<u32>() {
+                Ok(times) => Ok(Some(drop_again(rt, shape, levels, times)?)),
+                Err(_) => Ok(None),
+            }
+        }
+        _ => Ok(None),
+    }
+}
+
+/// The shape of this number, and the number of levels.
+fn asked(number: &str, levels: &str) -> Option<(Shape, usize)> {
+    let number = number.parse::<usize>().ok()?;
+    let shape = SHAPES.get(number)?;
+    Some((*shape, levels.parse::<usize>().ok()?))
+}
+
+fn main(rt: HostRuntime) -> io::Result<ExitCode> {
+    let mut words = Vec::new(rt.alloc());
+    for word in env::args(&rt)?.skip(1) {
+        words.push(word)?;
+    }
+    Ok(ExitCode::from(match ask(&rt, &words)? {
+        Some(true) => 0,
+        Some(false) => 1,
+        None => 2,
+    }))
 }

@@ -153,10 +153,10 @@ pub fn literal(truth: bool) -> CfgExpr
 fn negated(alloc: Global, e: CfgExpr) -> Result<CfgExpr, AllocError>
     ensures { IfOk result (λ r. tree_of r ≡ negation (tree_of e)) }
 {
-    match e {
+    match &e {
         CfgExpr::True => Ok(CfgExpr::False),
         CfgExpr::False => Ok(CfgExpr::True),
-        unknown => Ok(CfgExpr::Not(Box::new(alloc, unknown)?)),
+        _ => Ok(CfgExpr::Not(Box::new(alloc, e)?)),
     }
 }
 

@@ -1,0 +1,172 @@
+//! Where conditions are let go.
+
+use crate::shapes::Shape;
+use cargo_platform::{CfgExpr, Platform, ReadError};
+use std::alloc::{AllocError, Global};
+use std::collections::BTreeMap;
+
+/// Where a condition is let go.
+#[derive(Clone, Copy)]
+pub enum Place {
+    Scope,
+    Assignment,
+    List,
+    Map,
+    QuestionMark,
+    Error,
+}
+
+/// Each of them.
+pub const PLACES: &[Place] = &[
+    Place::Scope,
+    Place::Assignment,
+    Place::List,
+    Place::Map,
+    Place::QuestionMark,
+    Place::Error,
+];
+
+/// Why something was not done, with the condition that it was not done to.
+#[derive(Drop)]
+enum Undone {
+    Kept(Platform),
+    Memory(AllocError),
+}
+
+impl From<AllocError> for Undone {
+    fn from(error: AllocError) -> Undone {
+        Undone::Memory(error)
+    }
+}
+
+/// What is left of `Undone` where a caller wants no condition.
+#[derive(Drop)]
+enum Told {
+    Kept,
+    Memory(AllocError),
+}
+
+impl From<Undone> for Told {
+    fn from(undone: Undone) -> Told {
+        match undone {
+            Undone::Kept(_) => Told::Kept,
+            Undone::Memory(error) => Told::Memory(error),
+        }
+    }
+}
+
+impl Place {
+    pub fn name(self) -> &'static str {
+        match self {
+            Place::Scope => "at the end of a scope",
+            Place::Assignment => "by an assignment",
+            Place::List => "in a list",
+            Place::Map => "in a map",
+            Place::QuestionMark => "by a question mark",
+            Place::Error => "in an error",
+        }
+    }
+
+    /// Lets two conditions go there. The answer is whether what is seen of it is right.
+    pub fn lets_go(self, alloc: Global, a: Platform, b: Platform) -> Result<bool, AllocError> {
+        match self {
+            Place::Scope => {
+                let held = a;
+                Ok(is_group(&held) && is_group(&b))
+            }
+            Place::Assignment => {
+                let mut held = a;
+                let first = is_group(&held);
+                held = b;
+                let second = is_group(&held);
+                held = Platform::Cfg(CfgExpr::True);
+                Ok(first && second && !is_group(&held))
+            }
+            Place::List => {
+                let mut list = Vec::new(alloc);
+                list.push(a)?;
+                list.push(b)?;
+                list.clear();
+                Ok(list.is_empty())
+            }
+            Place::Map => {
+                let mut map = BTreeMap::new(alloc);
+                map.insert(1u8, a)?;
+                let replaced = map.insert(1u8, b)?;
+                Ok(replaced.is_some() && map.len() == 1)
+            }
+            Place::QuestionMark => match passed_on(a, b) {
+                Ok(_) => Ok(false),
+                Err(_) => Ok(true),
+            },
+            Place::Error => match told(alloc, a, b) {
+                Ok(()) => Ok(false),
+                Err(Told::Kept) => Ok(true),
+                Err(Told::Memory(error)) => Err(error),
+            },
+        }
+    }
+}
+
+/// Whether the condition is a group or a negation.
+fn is_group(platform: &Platform) -> bool {
+    match platform {
+        Platform::Cfg(CfgExpr::Not(_) | CfgExpr::All(_) | CfgExpr::Any(_)) => true,
+        Platform::Cfg(_) | Platform::Name(_) => false,
+    }
+}
+
+/// Want of memory, which a `?` passes on while two conditions are at hand.
+fn passed_on(a: Platform, b: Platform) -> Result<(Platform, Platform), AllocError> {
+    let held = a;
+    refused()?;
+    Ok((held, b))
+}
+
+fn refused() -> Result<(), AllocError> {
+    Err(AllocError)
+}
+
+/// An error with a condition, of which a `?` makes one without.
+fn told(alloc: Global, a: Platform, b: Platform) -> Result<(), Told> {
+    let _held = b;
+    kept(alloc, a)?;
+    Ok(())
+}
+
+fn kept(alloc: Global, a: Platform) -> Result<(), Undone> {
+    let _room = Box::new(alloc, 0u8).map_err(AllocError::from)?;
+    Err(Undone::Kept(a))
+}
+
+/// The condition of so many levels, read from text. Nothing where the text is refused.
+fn read(alloc: Global, shape: Shape, levels: usize) -> Result<Option<Platform>, AllocError> {
+    match Platform::from_str(alloc, &shape.key(alloc, levels)?) {
+        Ok(platform) => Ok(Some(platform)),
+        Err(ReadError::Parse(_)) => Ok(None),
+        Err(ReadError::Memory(error)) => Err(error),
+    }
+}
+
+/// Makes a condition by hand, reads it from text, and lets both go at this place.
+pub fn is_let_go(alloc: Global, shape: Shape, levels: usize, place: Place) -> Result<bool, AllocError> {
+    let made = shape.made(alloc, levels)?;
+    match read(alloc, shape, levels)? {
+        Some(read) => place.lets_go(alloc, made, read),
+        None => Ok(false),
+    }
+}
+
+/// Copies a condition until memory is refused, and lets the copies go, and the part of one that was made by then. The
+/// answer is how many copies were whole.
+pub fn copies(alloc: Global, shape: Shape, levels: usize) -> Result<usize, AllocError> {
+    let original = shape.made(alloc, levels)?;
+    let mut copies = Vec::with_capacity(alloc, 1_000)?;
+    for _ in 0..1_000 {
+        match original.clone(alloc) {
+            Ok(copy) => copies.push(copy)?,
+            Err(_) => return Ok(copies.len()),
+        }
+    }
+    Ok(copies.len())
+}

@@ -1,0 +1,142 @@
+//! Shapes of nests: how the levels stand in one another.
+
+use crate::nests::name;
+use cargo_platform::{CfgExpr, Platform};
+use std::alloc::{AllocError, Global};
+
+/// A level: a negation, or a group with a name before and behind what it holds, or with none there.
+#[derive(Clone, Copy)]
+enum Level {
+    Not,
+    All(bool, bool),
+    Any(bool, bool),
+}
+
+/// The levels of a shape, which go round from the innermost on.
+pub const SHAPES: &[Shape] = &[
+    Shape(&[Level::Not]),
+    Shape(&[Level::All(false, false)]),
+    Shape(&[Level::Any(false, false)]),
+    Shape(&[Level::All(true, false)]),
+    Shape(&[Level::Any(true, false)]),
+    Shape(&[Level::All(false, true)]),
+    Shape(&[Level::Any(false, true)]),
+    Shape(&[Level::All(true, true)]),
+    Shape(&[Level::Any(true, true)]),
+    Shape(&[Level::All(false, true), Level::Not]),
+    Shape(&[Level::Any(true, false), Level::All(false, true)]),
+    Shape(&[
+        Level::Any(false, false),
+        Level::All(true, true),
+        Level::Not,
+        Level::Any(true, false),
+        Level::All(false, true),
+    ]),
+];
+
+/// The name that stands before and behind what a level holds.
+const BESIDE: &str = "a";
+
+/// The name inside.
+const LEAF: &str = "unix";
+
+/// Some levels.
+#[derive(Clone, Copy)]
+pub struct Shape(&'static [Level]);
+
+impl Level {
+    fn opening(self) -> &'static str {
+        match self {
+            Level::Not => "not(",
+            Level::All(false, _) => "all(",
+            Level::All(true, _) => "all(a, ",
+            Level::Any(false, _) => "any(",
+            Level::Any(true, _) => "any(a, ",
+        }
+    }
+
+    fn closing(self) -> &'static str {
+        match self {
+            Level::Not | Level::All(_, false) | Level::Any(_, false) => ")",
+            Level::All(_, true) | Level::Any(_, true) => ", a)",
+        }
+    }
+
+    /// The level around an expression.
+    fn around(self, alloc: Global, inner: CfgExpr) -> Result<CfgExpr, AllocError> {
+        match self {
+            Level::Not => Ok(CfgExpr::Not(Box::new(alloc, inner)?)),
+            Level::All(before, behind) => Ok(CfgExpr::All(members(alloc, before, inner, behind)?)),
+            Level::Any(before, behind) => Ok(CfgExpr::Any(members(alloc, before, inner, behind)?)),
+        }
+    }
+}
+
+/// The members of a group, with a name before and behind the one that goes on where that is wanted.
+fn members(
+    alloc: Global,
+    before: bool,
+    inner: CfgExpr,
+    behind: bool,
+) -> Result<Vec<CfgExpr>, AllocError> {
+    let mut members = Vec::with_capacity(alloc, 3)?;
+    if before {
+        members.push(CfgExpr::Value(name(alloc, BESIDE)?))?;
+    }
+    members.push(inner)?;
+    if behind {
+        members.push(CfgExpr::Value(name(alloc, BESIDE)?))?;
+    }
+    Ok(members)
+}
+
+impl Shape {
+    /// The level at this height over the innermost, if the shape has levels.
+    fn level(self, height: usize) -> Option<Level> {
+        if self.0.is_empty() {
+            return None;
+        }
+        Some(self.0[height % self.0.len()])
+    }
+
+    /// The levels, the outermost first, with `..` for what the innermost holds.
+    pub fn pattern(self, alloc: Global) -> Result<String, AllocError> {
+        self.text(alloc, self.0.len(), "..")
+    }
+
+    /// So many levels, made by hand.
+    pub fn made(self, alloc: Global, levels: usize) -> Result<Platform, AllocError> {
+        let mut expression = CfgExpr::Value(name(alloc, LEAF)?);
+        for height in 0..levels {
+            if let Some(level) = self.level(height) {
+                expression = level.around(alloc, expression)?;
+            }
+        }
+        Ok(Platform::Cfg(expression))
+    }
+
+    /// The text of so many levels.
+    pub fn key(self, alloc: Global, levels: usize) -> Result<String, AllocError> {
+        let mut text = String::from_str(alloc, "cfg(")?;
+        text.push_str(&self.text(alloc, levels, LEAF)?)?;
+        text.push_str(")")?;
+        Ok(text)
+    }
+
+    /// The text of so many levels around another.
+    fn text(self, alloc: Global, levels: usize, inside: &str) -> Result<String, AllocError> {
+        let mut text = String::new(alloc);
+        for height in (0..levels).rev() {
+            if let Some(level) = self.level(height) {
+                text.push_str(level.opening())?;
+            }
+        }
+        text.push_str(inside)?;
+        for height in 0..levels {
+            if let Some(level) = self.level(height) {
+                text.push_str(level.closing())?;
+            }
+        }
+        Ok(text)
+    }
+}
