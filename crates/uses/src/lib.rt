@@ -5,6 +5,7 @@ pub mod audit;
 pub mod describe;
 pub mod fixed_key;
 pub mod linter;
+pub mod members;
 pub mod own_error;
 pub mod own_facts;
 pub mod planner;

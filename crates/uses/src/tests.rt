@@ -2,6 +2,7 @@ use crate::audit::{canonical, is_one_key, note, note_hashed};
 use crate::describe::describe;
 use crate::fixed_key::is_unix;
 use crate::linter::lint;
+use crate::members::members_of_all;
 use crate::own_error::{ManifestError, read_key};
 use crate::own_facts::System;
 use crate::planner::plan;
@@ -47,6 +48,21 @@ fn assert_text(rt: &impl Abort, text: &str, wanted: &str) {
 fn assert_selects(rt: &impl Abort, alloc: Global, facts: &[Cfg], key: &str, wanted: bool) {
     let selected = is_selected(alloc, key, LINUX_TARGET, facts).expect(rt, key);
     assert_answer(rt, key, selected, wanted);
+}
+
+#[test]
+fn an_all_is_taken_apart(rt: HostRuntime) {
+    let alloc = rt.alloc();
+    let Some(members) = members_of_all(expression(&rt, alloc, "all(unix, not(all(a)))")) else {
+        panic!(rt; "no members");
+    };
+    assert_eq!(rt; members.len(), 2);
+    assert_text(&rt, &members[0].to_string(alloc).expect(&rt, "memory"), "unix");
+    assert_text(&rt, &members[1].to_string(alloc).expect(&rt, "memory"), "not(all(a))");
+    for other in ["any(unix)", "not(all(unix))", "unix", "true", "false"] {
+        let answer = members_of_all(expression(&rt, alloc, other)).is_none();
+        assert_answer(&rt, other, answer, true);
+    }
 }
 
 #[test]

@@ -1,0 +1,19 @@
+//! An expression taken apart, as a tool wants it that goes on with the conditions in it one by one.
+
+ghost use Rattle.std.specs.Prelude.{◌≡◌, MatchOption, map};
+ghost use Rattle.cargo_platform.specs.Trees.{All, Trees, tree_of, trees_of};
+
+use cargo_platform::{CfgExpr, CfgExprParts};
+
+/// The members of an `all`, moved out of it. Any other expression has none.
+pub fn members_of_all(expression: CfgExpr) -> Option<Vec<CfgExpr>>
+    ensures { MatchOption result
+        ((es : Trees) → tree_of expression ≡ All es → ⊥)
+        (λ members. tree_of expression ≡ All (trees_of (map tree_of members.items))) }
+{
+    match expression.into_parts() {
+        CfgExprParts::All(members) => Some(members),
+        CfgExprParts::Not(_) | CfgExprParts::Any(_) | CfgExprParts::Value(_) => None,
+        CfgExprParts::True | CfgExprParts::False => None,
+    }
+}
