@@ -104,21 +104,24 @@ returns-in_err-close_group-clause-refused c =
     (subst R (sym n.0) (subst G c.in-Some-pop.ensures (subst D c.in-Some.is c.groups.invariant.reads)))
     (c.in_err-close_group.ensures.refused (stack c.pop.new.self)))
 
-pub returns-in_default-pop-clause-refused : goal.returns-in_default-pop-clause-refused
-returns-in_default-pop-clause-refused c =
+pub returns-in_err-expect_end-clause-refused : goal.returns-in_err-expect_end-clause-refused
+returns-in_err-expect_end-clause-refused c =
     let a = c.args.reader.now in
     let l = c.groups.reader in
     let k = c.eat_comma.new.reader in
     let gs = stack c.groups.groups in
     let e = tree_of c.in-Some.e in
-    let r = c.in-Err.refusal in
+    let r = c.in_err-expect_end.field-0.0 in
     let D : Option CfgExpr → Type 0 = λ z. Reads a l Nothing (Stands gs z l) in
     let G : List Opening → Type 0 = λ z. Reads a l Nothing (Has z e l) in
     let R : Ahead → Type 0 = λ z. Reads a z Nothing (Has [] e z) in
-    stops_then Expressions a k Nothing (Has [] e k) r
+    let p = err_from_is_err_and c.from_residual-in_err-expect_end.result
+    c.from_residual-in_err-expect_end.ensures.1 in
+    rw (p.1, p.2)
+    (stops_then Expressions a k Nothing (Has [] e k) r
     (subst R (sym (c.eat_comma.ensures.not_taken c.if-eat_comma.false).0)
     (subst G c.in_default-pop.ensures.0 (subst D c.in-Some.is c.groups.invariant.reads)))
-    (stops_behind k (Has [] e k) r c.in-Err.ensures.more (λ ts p. tree_whole k e ts p))
+    (stops_behind k (Has [] e k) r c.in_err-expect_end.ensures.more (λ ts p. tree_whole k e ts p)))
 
 list_alone : (w : Word) (ws : List Word) → is_list (w ∷ []) ≡ true → is_list (w ∷ ws) ≡ true
 list_alone Several ws h = refl

@@ -8,9 +8,9 @@ use Rattle.cargo_platform.proofs.cfg.CfgExpr.matches_key.Goals as goal
 pub returns-in-Ok-Cfg-clause-otherwise : goal.returns-in-Ok-Cfg-clause-otherwise
 returns-in-Ok-Cfg-clause-otherwise c =
     none_true c.args.key.now (fact_set (map value_of c.args.cfg.now))
-    (tree_of c.in-Ok-Cfg.expression) c.matches-is_true.result
+    (tree_of c.in-Ok-Cfg.expression) c.matches.result
     (read_expression c.args.key.now c.in-Ok-Cfg.field-0 c.in-Ok-Cfg.expression c.in-Ok-Cfg.field-0-is
-    c.in-Ok-Cfg.ensures.condition) c.matches-is_true.ensures
+    c.in-Ok-Cfg.ensures.condition) c.matches.ensures
 
 pub returns-in-Ok-Name-clause-otherwise : goal.returns-in-Ok-Name-clause-otherwise
 returns-in-Ok-Name-clause-otherwise c = λ no_truth e q.
