@@ -2,7 +2,9 @@
 
 use crate::nests::name;
 use std::alloc::{AllocError, Global};
-use uses::{describe::describe, linter::lint, selected::is_selected};
+use uses::describe::describe;
+use uses::linter::lint;
+use uses::selected::is_selected;
 
 /// A caller.
 #[derive(Clone, Copy)]

@@ -99,7 +99,7 @@ impl Place {
                 Ok(_) => Ok(false),
                 Err(_) => Ok(true),
             },
-            Place::Error => match told(alloc, a, b) {
+            Place::Error => match tell(alloc, a, b) {
                 Ok(()) => Ok(false),
                 Err(Told::Kept) => Ok(true),
                 Err(Told::Memory(error)) => Err(error),
@@ -128,7 +128,7 @@ fn refused() -> Result<(), AllocError> {
 }
 
 /// An error with a condition, of which a `?` makes one without.
-fn told(alloc: Global, a: Platform, b: Platform) -> Result<(), Told> {
+fn tell(alloc: Global, a: Platform, b: Platform) -> Result<(), Told> {
     let _held = b;
     kept(alloc, a)?;
     Ok(())
@@ -149,7 +149,12 @@ fn read(alloc: Global, shape: Shape, levels: usize) -> Result<Option<Platform>, 
 }
 
 /// Makes a condition by hand, reads it from text, and lets both go at this place.
-pub fn is_let_go(alloc: Global, shape: Shape, levels: usize, place: Place) -> Result<bool, AllocError> {
+pub fn is_let_go(
+    alloc: Global,
+    shape: Shape,
+    levels: usize,
+    place: Place,
+) -> Result<bool, AllocError> {
     let made = shape.made(alloc, levels)?;
     match read(alloc, shape, levels)? {
         Some(read) => place.lets_go(alloc, made, read),

@@ -9,7 +9,7 @@ use Rattle.platform_check.proofs.answering.read_query.Goals as goal
 pub returns-in_err-facts-clause-refused : goal.returns-in_err-facts-clause-refused
 returns-in_err-facts-clause-refused c =
     let ls = lines_of c.args.text.now in
-    let p = condition_of c.in_ok-platform.field-0 in
+    let p = condition_of c.in_ok-platform.platform in
     let facts = behind_two ls _ _ c.split_line.ensures.behind c.split_line-2.ensures.behind in
     passed_on
     (λ r. IfLine r (λ n orig fault. IsLeast (IsRefusedLine ls) n × IsLineFault ls n orig fault))
