@@ -1,57 +1,127 @@
-pub mod OneCut
-pub mod SomeCut
+-- The lemmas by subject. Each subject stands on those before it. Answers to the goals of a function lie in the folder of
+-- its source file.
+
+-- ---- text and tokens
+-- Looking: the character at a place
 pub mod Looking
+-- Scanning: from bytes to the words of the cut
 pub mod Scanning
+-- Lanes: sixteen bytes at once
 pub mod Lanes
+-- Runs: calls of `next` give the cut
 pub mod Runs
-pub mod Roles
-pub mod Walk
-pub mod Building
-pub mod TreeViews
-pub mod OneText
-pub mod WellFormedness
-pub mod Positions
-pub mod Completing
-pub mod Prefixes
-pub mod Refused
-pub mod Completable
-pub mod Expecting
-pub mod OneFault
-pub mod Spans
-pub mod Snippets
-pub mod KeySpans
-pub mod FoundInKeys
-pub mod FoundInFacts
-pub mod AroundSpans
-pub mod SomeFault
-pub mod PrintedSpells
-pub mod Printing
-pub mod Coming
-pub mod Paths
-pub mod Parsing
-pub mod Refusing
-pub mod ReaderAnswers
+-- OneCut: a text has at most one cut
+pub mod OneCut
+-- SomeCut: each text has one
+pub mod SomeCut
+-- CutTests: a test of cuts that computes, for worked rows
 mod CutTests
-pub mod FactSets
-pub mod FactTruths
-pub mod LengthOrder
-pub mod FactIndexes
-pub mod Members
-pub mod Lines
-pub mod TextLines
-pub mod LineStarts
-pub mod FactLines
-pub mod LastMembers
-pub mod TargetNames
-pub mod Conditions
-pub mod Changes
-pub mod ToToday
-pub mod ConditionFaults
-pub mod ConditionSpans
+-- ---- grammar
+-- Roles: what an identifier is in an expression
+pub mod Roles
+-- TreeViews: a value, form by form
+pub mod TreeViews
+-- Walk: where tokens lead
+pub mod Walk
+-- Building: the tree that is built on the way
+pub mod Building
+-- Positions: where a reader can stand, one token at a time
+pub mod Positions
+-- OneText: tokens spell at most one thing
+pub mod OneText
+-- WellFormedness: and only well-formed ones
+pub mod WellFormedness
+-- ---- faults
+-- Completing: what is walked can be completed
+pub mod Completing
+-- Completable: lists that can be completed
+pub mod Completable
+-- Prefixes: the longest such prefix
+pub mod Prefixes
+-- Expecting: what is expected after it
+pub mod Expecting
+-- Refused: a text with a fault spells nothing
+pub mod Refused
+-- OneFault: it has at most one
+pub mod OneFault
+-- SomeFault: and one if it spells nothing
+pub mod SomeFault
+-- Spans: where faults lie
+pub mod Spans
+-- AroundSpans: what stands around a span
+pub mod AroundSpans
+-- Snippets: the lines of a snippet
+pub mod Snippets
+-- KeySpans: where an error's text stands in a key
+pub mod KeySpans
+-- FoundInKeys: the span lies in the key
+pub mod FoundInKeys
+-- ---- the readers
+-- Coming: what comes, from the bytes at a place
+pub mod Coming
+-- Paths: what comes ahead is what the cut has next
+pub mod Paths
+-- Parsing: a reader of expressions, step by step
+pub mod Parsing
+-- Refusing: where it stops is the first fault
+pub mod Refusing
+-- ReaderAnswers: what it answers
+pub mod ReaderAnswers
+-- TextLaws: the laws of texts, for each grammar
 pub mod TextLaws
+-- ---- printing
+-- Printing: a print grows piece by piece
+pub mod Printing
+-- PrintedSpells: the print of a well-formed tree spells it
+pub mod PrintedSpells
+-- ---- conditions
+-- TargetNames: what a target's name holds
+pub mod TargetNames
+-- Conditions: a text spells at most one condition
+pub mod Conditions
+-- ConditionFaults: or it has one fault
+pub mod ConditionFaults
+-- ConditionSpans: and where
+pub mod ConditionSpans
+-- ConditionAnswers: what is answered, case by case
 pub mod ConditionAnswers
-pub mod WarningWalks
-pub mod Texts
-pub mod OnLiterals
+-- Changes: what the grammar changed
+pub mod Changes
+-- ToToday: from the Rust crate's grammar to today's
+pub mod ToToday
+-- ---- facts
+-- FactSets: the set that a list means
+pub mod FactSets
+-- FactTruths: truth as facts change
+pub mod FactTruths
+-- Members: the members of a group as a list
+pub mod Members
+-- LastMembers: what hangs on the last one alone
+pub mod LastMembers
+-- Lines: lines, and the parts between newlines
+pub mod Lines
+-- TextLines: one is the other
+pub mod TextLines
+-- LineStarts: where lines begin
+pub mod LineStarts
+-- FactLines: lines that spell facts
+pub mod FactLines
+-- FoundInFacts: the span of a refused line lies in the text
+pub mod FoundInFacts
+-- LengthOrder: the order of an index is total
+pub mod LengthOrder
+-- FactIndexes: an index means what its list meant
+pub mod FactIndexes
+-- Holders: sets of holders of one's own
 pub mod Holders
+-- ---- values and warnings
+-- Texts: equality of texts beside their order
+pub mod Texts
+-- WarningWalks: warnings grow, and are taken back
+pub mod WarningWalks
+-- ---- for callers
+-- OnLiterals: what a text that is written out spells, or why it is refused
+pub mod OnLiterals
+-- ---- worked rows
+-- Rows: definitions on single cases; no proof rests on them
 mod Rows

@@ -1,38 +1,88 @@
+-- The definitions, in the order in which a reader needs them. For `CfgExpr::from_str` read Chars, Tokens, Cut, Trees,
+-- Spelling, WellFormed and Faults; for `matches` Trees and Facts; for a print Trees and Print.
+
+-- ---- text and tokens
+-- Chars: classes of characters
 pub mod Chars
+-- Tokens: the tokens, and how each is written
 pub mod Tokens
+-- Cut: how a text is cut into tokens, and what is left
 pub mod Cut
+-- Reading: one call of `next` after another
 pub mod Reading
+-- CutLaws: each text has one cut, and the tokenizer gives it
 pub mod CutLaws
+-- ---- trees
+-- Trees: names, pairs, expressions and conditions, apart from memory
 pub mod Trees
+-- ViewLaws: a value of the program is seen form by form
 pub mod ViewLaws
+-- Sizes: how large and how deep a tree is
 pub mod Sizes
-pub mod Snippets
-pub mod KeySpans
-pub mod Spelling
-pub mod WellFormed
-pub mod GrammarLaws
-pub mod Faults
-pub mod Walk
-pub mod FaultLaws
-pub mod Print
-pub mod TextLaws
-pub mod Platforms
-pub mod Errors
-pub mod Json
-pub mod Facts
-pub mod FactIndexes
-pub mod Key
-pub mod LengthOrder
-pub mod OrderLaws
-pub mod Hashing
-pub mod FactLaws
-pub mod Lines
-pub mod FactLines
-pub mod SpanLaws
-pub mod Holders
-pub mod Warnings
-pub mod Earlier
-pub mod ChangeLaws
+-- ExpressionSizes: how many expressions stand in an expression
 pub mod ExpressionSizes
+-- Parts: the expression that its parts make
 pub mod Parts
+-- ---- grammar
+-- Spelling: which tokens spell which tree
+pub mod Spelling
+-- WellFormed: the values that a text can spell
+pub mod WellFormed
+-- Platforms: target names, and the text of a condition
+pub mod Platforms
+-- GrammarLaws: tokens spell at most one thing
+pub mod GrammarLaws
+-- Earlier: the earlier grammars
+pub mod Earlier
+-- ChangeLaws: what the grammar changed
+pub mod ChangeLaws
+-- ---- faults
+-- Faults: why a text is refused, and where
+pub mod Faults
+-- Errors: what an error says, apart from memory
+pub mod Errors
+-- Walk: the automaton that tells which tokens may come next, for proofs
+pub mod Walk
+-- FaultLaws: laws of completion and of the fault prefix
+pub mod FaultLaws
+-- SpanLaws: laws of what stands around a span
+pub mod SpanLaws
+-- Snippets: two lines that show the place of a fault
+pub mod Snippets
+-- KeySpans: that place in the key of a manifest
+pub mod KeySpans
+-- TextLaws: a text spells something or has a fault, and one of them
+pub mod TextLaws
+-- ---- printing
+-- Print: what is printed, of every tree and fault
+pub mod Print
+-- Json: conditions as JSON texts
+pub mod Json
+-- ---- matching
+-- Facts: sets of facts, and the truth over one
+pub mod Facts
+-- FactLaws: what truth rests on
+pub mod FactLaws
+-- Lines: the lines of a text
+pub mod Lines
+-- FactLines: facts, one a line
+pub mod FactLines
+-- Holders: words for the sets that holders of one's own mean
+pub mod Holders
+-- FactIndexes: what an index keeps
+pub mod FactIndexes
+-- LengthOrder: the order in which it keeps it
+pub mod LengthOrder
+-- ---- equality, order and hash
+-- Key: what they see of a value: all but the raw marks
+pub mod Key
+-- OrderLaws: the order of keys is total
+pub mod OrderLaws
+-- Hashing: what a hasher is fed
+pub mod Hashing
+-- ---- warnings
+-- Warnings: the values of a tree, and the warnings on them
+pub mod Warnings
+-- ---- for private functions
+-- Inside: what their contracts cite, and no promise rests on
 pub mod Inside
