@@ -8,6 +8,8 @@ mod completions;
 #[cfg(test)]
 mod deep;
 pub mod flags;
+#[cfg(test)]
+mod one_valued;
 pub mod planner;
 #[cfg(test)]
 mod residuals;
