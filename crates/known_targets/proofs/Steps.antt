@@ -25,7 +25,8 @@ use Rattle.cargo_platform.specs.Facts.{Pair, pair_of}
 use Rattle.partial_facts.specs.Kleene.{kleene, kleene_not, kleene_and, kleene_or, kleene_all, kleene_any}
 use Rattle.cargo_platform.specs.ExpressionSizes.{node_count}
 use Rattle.known_targets.specs.Open.{taken_as}
-use Rattle.known_targets.specs.Groups.{both, grouped, taken, members_taken, with_members}
+use Rattle.known_targets.specs.Groups.{both, taken, members_taken, with_members}
+use Rattle.partial_facts.specs.Inside.Groups.{grouped}
 
 not_taken : (u : Bool) (x : Option Bool) → not (taken_as (not u) x) ≡ taken_as u (kleene_not x)
 not_taken u (Some b) = refl

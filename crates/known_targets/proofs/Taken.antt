@@ -1,17 +1,24 @@
 -- What a truth says in which each fact that is not known is taken as the one that turns the whole.
 use Rattle.std.proofs.Common.{◌≡◌, ◌∙◌, refl, sym, ap, ℕ, Bool, true, false, List, [], Option, Some, None, true≢false}
 use Rattle.std.proofs.Common.{IfSome}
-use Rattle.std.specs.Prelude.{◌↔◌, IsTrue, bytes_eq}
-use Rattle.std.specs.FinSet.{contains}
+use Rattle.std.specs.Prelude.{◌↔◌, ◌||◌, ◌&&◌, not, IsTrue, bytes_eq}
+use Rattle.std.specs.declared.cmp.Ordering.{Ordering}
+use Rattle.std.specs.declared.cmp.Ordering.TheVariants.{Less, Equal, Greater}
+use Rattle.std.specs.Ordering.{ordering_then, nat_cmp, is_eq, eq_by_cmp}
+use Rattle.std.specs.Cmp.{tied_itself}
+use Rattle.std.specs.Cmp.Lexicographic.{slice_cmp}
+use Rattle.std.specs.FinSet.{contains, contains-insert, contains-remove}
+use Rattle.std.proofs.lemmas.Map.Text.{is_eq-slice_cmp}
 use Rattle.std.proofs.lemmas.Slice.Eq.{bytes_eq-Decides}
 use Rattle.cargo_platform.specs.Trees.{Condition, Target, Expression}
-use Rattle.cargo_platform.specs.Facts.{Pair, FactSet, truth, IsTrueCondition}
+use Rattle.cargo_platform.specs.Facts.{Pair, FactSet, pair_cmp, truth, IsTrueCondition}
+use Rattle.cargo_platform.proofs.FactSets.{pairs_total}
 use Rattle.partial_facts.specs.Kleene.{kleene}
 use Rattle.partial_facts.specs.Conditions.{kleene_condition}
 use Rattle.partial_facts.proofs.Refining.{all_known}
 use Rattle.partial_facts.proofs.Naming.{condition_sound}
 use Rattle.partial_facts.specs.Partly.{is_named}
-use Rattle.known_targets.specs.Open.{unless_open, open_told, taken_as, IsSameButOpen, open_sound}
+use Rattle.known_targets.specs.Open.{unless_open, open_told, taken_as, IsSameButOpen, IsLeftOpen, open_sound}
 
 -- with nothing open
 pub closed : (name : List ℕ) (s : FactSet) (c : Condition)
@@ -68,3 +75,43 @@ allowed facts keys s = (
   λ same p. open_sound facts keys s p same,
   λ told p. closed_fact (is_named p.name keys) (contains facts p) (contains s p) (told p),
 )
+
+-- ---- what is not told
+
+named : (o t : Bool) → unless_open o t ≡ None → o ≡ true
+named true t h = refl
+named false t h = cc
+
+first_tied : (a b : Ordering) → is_eq (ordering_then a b) ≡ true → is_eq a ≡ true
+first_tied Less b h = h
+first_tied Equal b h = refl
+first_tied Greater b h = h
+
+-- a pair of another name is another pair
+apart : (keys : List (List ℕ)) (p q : Pair) → is_named p.name keys ≡ true → is_named q.name keys ≡ false
+    → eq_by_cmp pair_cmp q p ≡ false
+apart keys p q is other = elim (eq_by_cmp pair_cmp q p) as (λ b. eq_by_cmp pair_cmp q p ≡ b → b ≡ false) [
+  | false ↦ λ e. refl
+  | true ↦
+      λ e.
+      let tied : is_eq (slice_cmp nat_cmp q.name p.name) ≡ true = first_tied (slice_cmp nat_cmp q.name p.name) _ e in
+      let same : q.name ≡ p.name = (bytes_eq-Decides q.name p.name).0
+      (sym (is_eq-slice_cmp q.name p.name) ∙ tied) in
+      absurd (true≢false (sym is ∙ sym (ap (λ n. is_named n keys) same) ∙ other))
+] refl
+
+itself : (p : Pair) → eq_by_cmp pair_cmp p p ≡ true
+itself p = ap is_eq (tied_itself pairs_total p)
+
+pub left_open : (facts : FactSet) (keys : List (List ℕ)) (p : Pair) → open_told facts keys p ≡ None
+    → IsLeftOpen facts keys p
+left_open facts keys p h =
+    let is : is_named p.name keys ≡ true = named (is_named p.name keys) (contains facts p) h in
+    record {
+      may_be = λ q other.
+          contains-insert pairs_total facts p q ∙ ap (λ b. b || contains facts q) (apart keys p q is other);
+      is_in = contains-insert pairs_total facts p p ∙ ap (λ b. b || contains facts p) (itself p);
+      need_not_be = λ q other.
+          contains-remove pairs_total facts p q ∙ ap (λ b. not b && contains facts q) (apart keys p q is other);
+      is_out = contains-remove pairs_total facts p p ∙ ap (λ b. not b && contains facts p) (itself p);
+    }

@@ -1,10 +1,11 @@
 -- What the groups around an expression make of its truth at one target, while their members are gone through. What is
 -- not known is taken as a truth that each group states, since a negation turns it around.
 use Rattle.std.specs.Prelude.{ℕ, ◌+◌, ◌*◌, Bool, true, false, not, ◌&&◌, ◌||◌, Option, List, [], ◌∷◌, map, reverse, sum}
-use Rattle.cargo_platform.specs.Trees.{Tree, All, Any, Trees, tree_of, trees_of}
+use Rattle.cargo_platform.specs.Trees.{Tree, Trees, tree_of, trees_of}
 use Rattle.cargo_platform.specs.Facts.{Pair, fact_set}
 use Rattle.cargo_platform.specs.ExpressionSizes.{node_counts}
-use Rattle.partial_facts.specs.Kleene.{kleene, kleene_all, kleene_any}
+use Rattle.partial_facts.specs.Kleene.{kleene}
+use Rattle.partial_facts.specs.Inside.Groups.{members_known}
 use Rattle.known_targets.specs.Bits.{has}
 use Rattle.known_targets.specs.Rows.{Keys, facts_in}
 use Rattle.known_targets.specs.Open.{open_told, taken_as}
@@ -27,12 +28,7 @@ both true a b = a && b
 both false a b = a || b
 
 abbrev pub members_taken : Bool → Bool → (Pair → Option Bool) → Trees → Bool
-members_taken true u told es = taken_as u (kleene_all told es)
-members_taken false u told es = taken_as u (kleene_any told es)
-
-abbrev pub grouped : Bool → Trees → Tree
-grouped true = All
-grouped false = Any
+members_taken neutral u told es = taken_as u (members_known neutral told es)
 
 -- the truth of a group, by that of its members so far
 abbrev pub with_members : Bool → Bool → (Pair → Option Bool) → Bool → Trees → Bool

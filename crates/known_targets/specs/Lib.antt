@@ -4,3 +4,4 @@ pub mod Table
 pub mod Groups
 pub mod Open
 pub mod Sets
+pub mod Listed

@@ -1,6 +1,6 @@
 -- What is known of a target where the facts of some names and keys are open, and a truth by what is known.
-use Rattle.std.specs.Prelude.{◌≡◌, ◌↔◌, ℕ, Bool, true, false, List, [], ◌∷◌, Option, Some, None, IfSome}
-use Rattle.std.specs.FinSet.{contains}
+use Rattle.std.specs.Prelude.{◌≡◌, ◌↔◌, ℕ, Bool, true, false, IsTrue, List, [], ◌∷◌, Option, Some, None, IfSome}
+use Rattle.std.specs.FinSet.{contains, insert, remove}
 use Rattle.std.proofs.Common.{refl}
 use Rattle.cargo_platform.specs.Facts.{Pair, FactSet}
 use Rattle.partial_facts.specs.Partly.{is_named}
@@ -33,3 +33,10 @@ pub open_sound : (facts : FactSet) (open_keys : List (List ℕ)) (s : FactSet) (
     → IsSameButOpen facts open_keys s
     → IfSome (open_told facts open_keys p) (λ b. contains s p ≡ b)
 open_sound facts open_keys s p is = sound_by (is_named p.name open_keys) (contains facts p) (contains s p) (is p)
+
+-- two sets that are the target's but for open facts: one with the pair, and one without it
+pub record IsLeftOpen (facts : FactSet) (open_keys : List (List ℕ)) (p : Pair) : Type 0 where
+  pub may_be : IsSameButOpen facts open_keys (insert facts p)
+  pub is_in : IsTrue (contains (insert facts p) p)
+  pub need_not_be : IsSameButOpen facts open_keys (remove facts p)
+  pub is_out : contains (remove facts p) p ≡ false

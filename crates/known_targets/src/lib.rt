@@ -6,6 +6,7 @@
 
 mod conditions;
 mod known;
+mod known_facts;
 pub mod laws;
 mod listing;
 mod members;
@@ -19,6 +20,7 @@ mod walk;
 
 pub use conditions::{certainly_matching, having, matching, possibly_matching};
 pub use known::KnownTarget;
+pub use known_facts::{KnownFact, all_facts};
 pub use members::Targets;
 pub use open_target::OpenTarget;
 pub use table::{COUNT, RUSTC_VERSION};

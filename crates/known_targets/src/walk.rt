@@ -4,11 +4,12 @@ ghost use Rattle.std.specs.Prelude.{◌≡◌, ◌≤◌, ◌<◌, ◌+◌, ◌*
 ghost use Rattle.cargo_platform.specs.Trees.{value_of, tree_of, trees_of};
 ghost use Rattle.cargo_platform.specs.Facts.{Pair, pair_of};
 ghost use Rattle.cargo_platform.specs.ExpressionSizes.{node_count, node_counts};
+ghost use Rattle.partial_facts.specs.Inside.Groups.{grouped};
 ghost use Rattle.partial_facts.specs.Partly.{is_named};
 ghost use Rattle.known_targets.specs.Bits.{has};
 ghost use Rattle.known_targets.specs.Rows.{keys_of, names_of};
 ghost use Rattle.known_targets.specs.Open.{taken_as};
-ghost use Rattle.known_targets.specs.Groups.{told_in, taken, grouped, both, list_truth, whole, work};
+ghost use Rattle.known_targets.specs.Groups.{told_in, taken, both, list_truth, whole, work};
 
 use crate::open_groups::{OpenGroup, OpenGroups, OpenList};
 use crate::rows::{Key, targets_with};

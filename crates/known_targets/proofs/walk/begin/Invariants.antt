@@ -3,11 +3,12 @@ use Rattle.cargo_platform.specs.Trees.{tree_of}
 use Rattle.cargo_platform.specs.ExpressionSizes.{node_count}
 use Rattle.known_targets.specs.Rows.{keys_of, names_of}
 use Rattle.known_targets.specs.Groups.{told_in, taken, whole, work}
+use Rattle.known_targets.specs.declared.table.TheConstants.{COUNT}
 use Rattle.known_targets.proofs.walk.begin.Given as goal
 
 abbrev pub invariant-negations : goal.invariant-negations
 invariant-negations l = record {
-  whole : (k : ℕ) → k < 320
+  whole : (k : ℕ) → k < COUNT
       → whole k (told_in k (keys_of l.keys) (names_of l.open_keys)) l.groups
       (taken l.unknown (told_in k (keys_of l.keys) (names_of l.open_keys)) (tree_of l.e))
       ≡ whole k (told_in k (keys_of l.keys) (names_of l.open_keys)) l.fn.groups
