@@ -33,19 +33,23 @@ up_at_zero n count = if n == 0 then up count else count
 
 -- no read was asked for
 abbrev pub no_reads : ReadCounts
-no_reads = record { reads = 0; interrupted_reads = 0; failed_reads = 0; bytes = 0; ends = 0 }
+no_reads = record { reads = 0; room = 0; interrupted_reads = 0; failed_reads = 0; bytes = 0; ends = 0 }
+
+-- after a read with room for so many bytes, however it went
+abbrev pub after_asking : ℕ → ReadCounts → ReadCounts
+after_asking room c = record c { reads = up c.reads; room = up_by room c.room }
 
 -- after a read that brought n bytes, at the end none
-abbrev pub after_read : ℕ → ReadCounts → ReadCounts
-after_read n c = record c { reads = up c.reads; bytes = up_by n c.bytes; ends = up_at_zero n c.ends }
+abbrev pub after_read : ℕ → ℕ → ReadCounts → ReadCounts
+after_read room n c = record (after_asking room c) { bytes = up_by n c.bytes; ends = up_at_zero n c.ends }
 
 -- after a read that was interrupted
-abbrev pub after_interrupted_read : ReadCounts → ReadCounts
-after_interrupted_read c = record c { reads = up c.reads; interrupted_reads = up c.interrupted_reads }
+abbrev pub after_interrupted_read : ℕ → ReadCounts → ReadCounts
+after_interrupted_read room c = record (after_asking room c) { interrupted_reads = up c.interrupted_reads }
 
 -- after a read that failed otherwise
-abbrev pub after_failed_read : ReadCounts → ReadCounts
-after_failed_read c = record c { reads = up c.reads; failed_reads = up c.failed_reads }
+abbrev pub after_failed_read : ℕ → ReadCounts → ReadCounts
+after_failed_read room c = record (after_asking room c) { failed_reads = up c.failed_reads }
 
 -- neither a write nor a flush was asked for
 abbrev pub no_writes : WriteCounts

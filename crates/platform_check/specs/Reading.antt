@@ -1,5 +1,5 @@
 -- What the reading of the whole input answers.
-use Rattle.std.specs.Prelude.{ℕ, ◌≡◌, ◌≤◌, ◌<◌, ◌⊎◌, Option, List, length}
+use Rattle.std.specs.Prelude.{ℕ, ◌≡◌, ◌≤◌, ◌<◌, ◌*◌, ◌⊎◌, Option, List, length}
 use Rattle.std.specs.Io.KnownBytes.{Consumes, IsAtEnd}
 use Rattle.platform_check.specs.declared.counted.ReadCounts.{ReadCounts}
 use Rattle.platform_check.specs.declared.reading.Gathered.{Gathered}
@@ -29,3 +29,11 @@ abbrev pub HasReadFault : ReadCounts → Type 0
 HasReadFault c =
     (c.ends ≡ 0) × (c.bytes ≤ 1_048_576)
     × ((c.failed_reads ≡ 1) ⊎ ((c.failed_reads ≡ 0) × (c.reads ≡ 1_048_578)))
+
+-- no read failed, and the end was met or some byte came
+abbrev pub MayWantMemory : ReadCounts → Type 0
+MayWantMemory c = (c.failed_reads ≡ 0) × ((c.ends ≡ 1) ⊎ (0 < c.bytes))
+
+-- each read had room for 4,096 bytes
+abbrev pub HadWholeRoom : ReadCounts → Type 0
+HadWholeRoom c = c.room ≡ 4096 * c.reads

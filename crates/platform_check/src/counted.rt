@@ -19,6 +19,8 @@ use std::io::{ErrorKind, Read, Write};
 pub struct ReadCounts {
     /// The reads that were asked for.
     pub reads: u64,
+    /// The bytes that the reads had room for.
+    pub room: u64,
     /// The reads that were interrupted.
     pub interrupted_reads: u64,
     /// The reads that failed otherwise.
@@ -81,6 +83,7 @@ impl<R> Input<R> {
             reader,
             counts: ReadCounts {
                 reads: 0,
+                room: 0,
                 interrupted_reads: 0,
                 failed_reads: 0,
                 bytes: 0,
@@ -94,6 +97,13 @@ impl<R> Input<R> {
         ensures { result ≡ (read_counts self.now).reads }
     {
         self.counts.reads
+    }
+
+    /// The bytes that the reads had room for.
+    pub fn room(&self) -> u64
+        ensures { result ≡ (read_counts self.now).room }
+    {
+        self.counts.room
     }
 
     /// The reads that were interrupted.
@@ -126,24 +136,27 @@ impl<R> Input<R> {
 }
 
 impl<R: Read> Input<R> {
-    /// Reads into the piece, which is not empty, and counts one read. The answer is how many bytes it brought, and 0 at
-    /// the end. An error is counted by its kind.
+    /// Reads into the piece, which is not empty, and counts one read and its room. The answer is how many bytes it
+    /// brought, and 0 at the end. An error is counted by its kind.
     pub fn read(&mut self, piece: &mut [u8]) -> io::Result<usize>
         requires { 0 < length piece.old }
         ensures bound { ReadsAtMost result piece.new }
         ensures bytes { ReadConsumes (R.remaining (reader_of self.old))
             (R.remaining (reader_of self.new)) result piece.new }
-        ensures ok { IfOk result (λ n. read_counts self.new ≡ after_read n (read_counts self.old)) }
+        ensures ok { IfOk result (λ n. read_counts self.new
+            ≡ after_read (length piece.old) n (read_counts self.old)) }
         ensures interrupted { IfErr result
             (λ e. error_kind e ≡ ErrorKind.Interrupted
-            → read_counts self.new ≡ after_interrupted_read (read_counts self.old)) }
+            → read_counts self.new ≡ after_interrupted_read (length piece.old) (read_counts self.old)) }
         ensures failed { IfErr result
             (λ e. error_kind e ≢ ErrorKind.Interrupted
-            → read_counts self.new ≡ after_failed_read (read_counts self.old)) }
+            → read_counts self.new ≡ after_failed_read (length piece.old) (read_counts self.old)) }
     {
+        let room = piece.len() as u64;
         let outcome = self.reader.read(piece);
         let counts = &mut self.counts;
         counts.reads = counts.reads.saturating_add(1);
+        counts.room = counts.room.saturating_add(room);
         match outcome {
             Ok(n) => {
                 counts.bytes = counts.bytes.saturating_add(n as u64);

@@ -3,7 +3,7 @@
 
 ghost use Rattle.std.specs.Prelude.{◌≡◌, ◌≤◌, ℕ, List, IfOk, IsErrOf};
 ghost use Rattle.platform_check.specs.Counts.{reader_of, read_counts, writer_of, write_counts, no_reads, no_writes};
-ghost use Rattle.platform_check.specs.Reading.{IsInput, HasReadFault};
+ghost use Rattle.platform_check.specs.Reading.{IsInput, HasReadFault, MayWantMemory, HadWholeRoom};
 ghost use Rattle.platform_check.specs.Running.{Answers, BreaksOff};
 
 pub mod answering;
@@ -41,10 +41,10 @@ pub enum RunError {
 /// it is too long, no UTF-8, or has a line that can't be read, it is one line that says why; the first such line
 /// counts.
 ///
-/// An interrupted read or write is asked again. `RunError::Read`: a read failed otherwise, or 1,048,578 reads brought
+/// Each read has room for 4,096 bytes. An interrupted read or write is asked again. `RunError::Read`: a read failed otherwise, or 1,048,578 reads brought
 /// neither the end nor a byte too many. `RunError::Write`: a write failed otherwise or took nothing, one write more
-/// than the output has bytes did not take all of it, or the flush failed. `RunError::Memory`: memory was wanted. After
-/// `Read` and `Memory` nothing was written, and after `Write` a beginning of the output.
+/// than the output has bytes did not take all of it, or the flush failed. `RunError::Memory`: memory was wanted for
+/// what had come, or once the end was met. After `Read` and `Memory` nothing was written, and after `Write` a beginning of the output.
 pub fn run<R: Read, W: Write>(
     alloc: Global,
     input: &mut counted::Input<R>,
@@ -63,7 +63,8 @@ pub fn run<R: Read, W: Write>(
     ensures read { IsErrOf result RunError.Read → HasReadFault (read_counts input.new) }
     ensures within { (read_counts input.new).reads ≤ 1_048_578 }
     ensures read_silent { IsErrOf result RunError.Read → output.new ≡ output.old }
-    ensures memory { IsErrOf result RunError.Memory → (read_counts input.new).failed_reads ≡ 0 }
+    ensures room { HadWholeRoom (read_counts input.new) }
+    ensures memory { IsErrOf result RunError.Memory → MayWantMemory (read_counts input.new) }
     ensures memory_silent { IsErrOf result RunError.Memory → output.new ≡ output.old }
 {
     let gathered = reading::gather(alloc, input)?;

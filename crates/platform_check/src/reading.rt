@@ -1,7 +1,7 @@
 //! The whole input, read within the limits.
 ghost use Rattle.std.specs.Prelude.{◌≡◌, ◌≤◌, ℕ, List, IfOk, IsErrOf};
 ghost use Rattle.platform_check.specs.Counts.{reader_of, read_counts, no_reads};
-ghost use Rattle.platform_check.specs.Reading.{IsGathered, IsInput, HasReadFault};
+ghost use Rattle.platform_check.specs.Reading.{IsGathered, IsInput, HasReadFault, MayWantMemory, HadWholeRoom};
 
 use crate::counted::is_interrupted;
 use crate::{RunError, counted};
@@ -26,7 +26,8 @@ pub enum Gathered {
     TooLong,
 }
 
-/// Reads to the end, or until the input is known to be too long. An interrupted read is asked again.
+/// Reads to the end, or until the input is known to be too long, with room for 4,096 bytes each time. An interrupted
+/// read is asked again.
 ///
 /// `RunError::Read`: a read failed otherwise, or all reads that may be made brought neither the end nor a byte too
 /// many. `RunError::Memory`: the bytes found no memory.
@@ -36,7 +37,8 @@ pub fn gather<R: Read>(alloc: Global, input: &mut counted::Input<R>) -> Result<G
         × IsInput (R.remaining (reader_of input.old)) (R.remaining (reader_of input.new)) (read_counts input.new) bs) }
     ensures read { IsErrOf result RunError.Read → HasReadFault (read_counts input.new) }
     ensures within { (read_counts input.new).reads ≤ 1_048_578 }
-    ensures memory { IsErrOf result RunError.Memory → (read_counts input.new).failed_reads ≡ 0 }
+    ensures memory { IsErrOf result RunError.Memory → MayWantMemory (read_counts input.new) }
+    ensures room { HadWholeRoom (read_counts input.new) }
     ensures no_write { IsErrOf result RunError.Write → ⊥ }
 {
     let mut bytes = Vec::new(alloc);

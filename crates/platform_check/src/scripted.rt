@@ -33,6 +33,7 @@ impl Calls {
 pub fn reads_of<R>(input: &Input<R>) -> ReadCounts {
     ReadCounts {
         reads: input.reads(),
+        room: input.room(),
         interrupted_reads: input.interrupted_reads(),
         failed_reads: input.failed_reads(),
         bytes: input.bytes(),
@@ -105,6 +106,7 @@ impl<'a> Read for ScriptedReader<'a> {
     fn read(&mut self, buf: &mut [u8]) -> io::Result<usize> {
         let counts = &mut self.counts;
         counts.reads = counts.reads.saturating_add(1);
+        counts.room = counts.room.saturating_add(buf.len() as u64);
         if buf.is_empty() {
             self.empty_pieces = self.empty_pieces.saturating_add(1);
         }

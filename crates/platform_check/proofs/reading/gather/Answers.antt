@@ -36,6 +36,7 @@ loop-turn-preserved g c = elim c.match-read.branch [
       let counted = w.in-Ok.ensures.ok in
       record {
         reads = grind (arith, counted);
+        room = grind (arith, counted);
         failed = search rules;
         ends = grind (arith, counted);
         bytes = grind (arith, counted, longer);
@@ -47,6 +48,7 @@ loop-turn-preserved g c = elim c.match-read.branch [
       let counted = w.in-Err.ensures.interrupted (search rules) in
       record {
         reads = grind (arith, counted);
+        room = grind (arith, counted);
         failed = grind (arith, counted);
         ends = grind (arith, counted);
         bytes = grind (arith, counted, same);

@@ -1,5 +1,5 @@
 -- No read failed, none met the end, and the bytes so far are those that the reader gave.
-use Rattle.std.proofs.Common.{◌≡◌, ◌≤◌, length}
+use Rattle.std.proofs.Common.{◌≡◌, ◌≤◌, ◌*◌, length}
 use Rattle.std.specs.Io.KnownBytes.{Consumes}
 use Rattle.platform_check.specs.Counts.{read_counts, reader_of}
 use Rattle.platform_check.proofs.reading.gather.Given as goal
@@ -7,6 +7,7 @@ use Rattle.platform_check.proofs.reading.gather.Given as goal
 abbrev pub invariant-loop-turn : goal.invariant-loop-turn
 invariant-loop-turn g l = record {
   reads : (read_counts l.input).reads ≡ l._turn;
+  room : (read_counts l.input).room ≡ 4096 * l._turn;
   failed : (read_counts l.input).failed_reads ≡ 0;
   ends : (read_counts l.input).ends ≡ 0;
   bytes : (read_counts l.input).bytes ≡ length l.bytes.items;
