@@ -57,8 +57,16 @@ fn an_all_is_taken_apart(rt: HostRuntime) {
         panic!(rt; "no members");
     };
     assert_eq!(rt; members.len(), 2);
-    assert_text(&rt, &members[0].to_string(alloc).expect(&rt, "memory"), "unix");
-    assert_text(&rt, &members[1].to_string(alloc).expect(&rt, "memory"), "not(all(a))");
+    assert_text(
+        &rt,
+        &members[0].to_string(alloc).expect(&rt, "memory"),
+        "unix",
+    );
+    assert_text(
+        &rt,
+        &members[1].to_string(alloc).expect(&rt, "memory"),
+        "not(all(a))",
+    );
     for other in ["any(unix)", "not(all(unix))", "unix", "true", "false"] {
         let answer = members_of_all(expression(&rt, alloc, other)).is_none();
         assert_answer(&rt, other, answer, true);
