@@ -1,3 +1,4 @@
+# make lint MANIFEST=path  tells what is wrong or odd about the keys of `target` in a manifest
 # make run    builds the program and runs it on its sample input
 # make build  leaves both programs, and says where
 # make install PREFIX=..  puts both programs into PREFIX/bin, and manifest_check as cargo-manifest-check too
@@ -13,14 +14,20 @@
 # make depths     the programs on the deepest conditions that their inputs hold
 # make targets    asks the rustc at hand for its targets, and writes the table of crates/known_targets anew
 # make fmt    lays out the files
-.PHONY: run build install take test gate mutants refusals statuses manifests pages depths quick targets fmt rt
+.PHONY: lint run build install take test gate mutants refusals statuses manifests pages depths quick targets fmt rt
 
 PROGRAM := crates/platform_check
 CHECK := crates/manifest_check
 PREFIX ?= /usr/local
+MANIFEST ?= Cargo.toml
 
 rt:
 	@command -v rt >/dev/null || { echo "make: rt, Rattle's command, is not on the PATH" >&2; exit 1; }
+
+# The status is the program's own: 1 where there is an error or a warning.
+lint: rt
+	@.ci/build manifest_check
+	@$(CHECK)/out/manifest_check lint $(MANIFEST)
 
 # The status is the program's own: 0 where the condition matches.
 run: rt

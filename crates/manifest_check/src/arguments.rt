@@ -7,6 +7,9 @@ use std::alloc::{AllocError, Global};
 /// How many splits each line of `compare` may take, unless `--budget` says another number.
 const BUDGET: &str = "65536";
 
+/// What `--deny` may name.
+const DENIED: &[&str] = &["notes"];
+
 /// What Cargo hands over as the first argument of `cargo manifest-check ..`.
 const CARGO_NAME: &str = "manifest-check";
 
@@ -29,6 +32,7 @@ pub fn command<'a>(alloc: Global, version: &'a str) -> Result<Command<'a>, Alloc
         .version(version)
         .subcommand_required(true)
         .arg_required_else_help(true)
+        .subcommand(lint_command(alloc)?)?
         .subcommand(select_command(alloc)?)?
         .subcommand(match_command(alloc)?)?
         .subcommand(targets_command(alloc)?)?
@@ -84,6 +88,25 @@ fn manifests<'a>(alloc: Global) -> Arg<'a> {
         .num_args(1..)
         .action(ArgAction::Append)
         .help("A manifest, a folder that holds Cargo.toml, or - for standard input")
+}
+
+fn lint_command<'a>(alloc: Global) -> Result<Command<'a>, AllocError> {
+    let deny = Arg::new(alloc, "deny")
+        .long("deny")
+        .value_name("LEVEL")
+        .action(ArgAction::Set)
+        .value_parser(DENIED)
+        .help("With notes: notes count for the status too");
+    Command::new(alloc, "lint")
+        .about("Tells what is wrong or odd about the keys of `target` in manifests")
+        .after_help(
+            "Example: manifest_check lint Cargo.toml\n\n\
+             The status is 0 where nothing is found but notes, 1 where an error or a warning is, and 2 where the \
+             input can't be used.",
+        )
+        .arg(json(alloc))?
+        .arg(deny)?
+        .arg(manifests(alloc))
 }
 
 fn select_command<'a>(alloc: Global) -> Result<Command<'a>, AllocError> {

@@ -5,6 +5,8 @@ mod answer;
 mod arguments;
 mod comparing;
 mod conditions;
+mod lines;
+mod linting;
 mod printing;
 mod questions;
 mod reading;
@@ -14,10 +16,12 @@ use answer::{Answer, Status};
 use anyhow::{Context, Result};
 use clap::ArgMatches;
 use known_targets::KnownTarget;
-use manifests::Asked;
+use linting::{Counts, Style, lint_manifest};
+use manifests::{Asked, Words};
 use reading::{ReadError, read_manifest};
 use selecting::select_manifest;
 use std::alloc::Global;
+use std::io::IsTerminal;
 use std::process::ExitCode;
 use std::rt::{Env, Files};
 use std::{env, fs};
@@ -112,9 +116,63 @@ fn select_answer<R: Files + Input + AllocGlobal>(
     select_each(rt, matches, &known, host)
 }
 
-/// Answers the subcommand that was asked.
-fn answer_to<R: Files + Input + AllocGlobal>(rt: &R, matches: &ArgMatches<'_>) -> Result<Answer> {
+/// Which outputs are terminals.
+#[derive(Clone, Copy, Drop)]
+struct Terminals {
+    output: bool,
+    errors: bool,
+}
+
+/// Whether `NO_COLOR` is set to anything.
+fn has_no_color<R: Env + AllocGlobal>(rt: &R) -> bool {
+    match env::var(rt, "NO_COLOR") {
+        Ok(value) => !value.is_empty(),
+        Err(env::VarError::NotPresent) => false,
+        Err(_) => true,
+    }
+}
+
+/// Answers `lint`. A manifest that can't be used does not stop the others.
+fn lint_answer<R: Files + Input + Env + AllocGlobal>(
+    rt: &R,
+    matches: &ArgMatches<'_>,
+    terminals: Terminals,
+) -> Result<Answer> {
     let alloc = rt.alloc();
+    let json = matches.get_flag("json");
+    let style = Style {
+        json,
+        colours: terminals.output && !json && !has_no_color(rt),
+        deny_notes: matches.get_str("deny").is_some(),
+    };
+    let words = Words::new(alloc)?;
+    let mut counts = Counts::none();
+    let mut whole = Answer::of(alloc, String::new(alloc), Status::Fine);
+    for path in matches.get_strs("manifest").unwrap_or(&[]) {
+        let answer = match read_manifest(rt, path) {
+            Ok(manifest) => lint_manifest(alloc, &manifest, &words, style, &mut counts)?,
+            Err(ReadError::Unusable(line)) => Answer::unusable(alloc, line),
+            Err(ReadError::Memory(refused)) => return Err(refused.into()),
+        };
+        whole.append(answer)?;
+    }
+    if terminals.errors {
+        let line = counts.line(alloc)?;
+        whole.errors.push_str(line.as_str())?;
+    }
+    Ok(whole)
+}
+
+/// Answers the subcommand that was asked.
+fn answer_to<R: Files + Input + Env + AllocGlobal>(
+    rt: &R,
+    matches: &ArgMatches<'_>,
+    terminals: Terminals,
+) -> Result<Answer> {
+    let alloc = rt.alloc();
+    if let Some(m) = matches.subcommand_matches("lint") {
+        return lint_answer(rt, m, terminals);
+    }
     if let Some(m) = matches.subcommand_matches("select") {
         return select_answer(rt, m);
     }
@@ -142,7 +200,10 @@ fn answer_to<R: Files + Input + AllocGlobal>(rt: &R, matches: &ArgMatches<'_>) -
 }
 
 /// Answers the words of the command line, and prints the answer.
-fn run<R: Print + Eprint + Input + Env + Files + AllocGlobal>(rt: &R) -> Result<Status> {
+fn run<R: Print + Eprint + Input + Env + Files + AllocGlobal>(
+    rt: &R,
+    terminals: Terminals,
+) -> Result<Status> {
     let alloc = rt.alloc();
     let mut words: Vec<String> = env::args(rt)?.collect(alloc)?;
     arguments::without_cargo_name(&mut words);
@@ -159,14 +220,18 @@ fn run<R: Print + Eprint + Input + Env + Files + AllocGlobal>(rt: &R) -> Result<
             });
         }
     };
-    let answer = answer_to(rt, &matches)?;
+    let answer = answer_to(rt, &matches, terminals)?;
     rt.print(&answer.output)?;
     rt.eprint(&answer.errors)?;
     Ok(answer.status)
 }
 
 fn main(rt: HostRuntime) -> ExitCode {
-    ExitCode::from(match run(&rt) {
+    let terminals = Terminals {
+        output: rt.stdout().is_terminal(),
+        errors: rt.stderr().is_terminal(),
+    };
+    ExitCode::from(match run(&rt, terminals) {
         Ok(status) => status.code(),
         Err(error) => {
             let _ = rt.eprintln(format_args!("error: {error}"));

@@ -9,13 +9,48 @@ use crate::conditions::{Unread, read_key};
 use crate::printing::{fact_lines, refused_cfg, refused_fact, shown_name};
 use cargo_platform::{Cfg, FactIndex, FactsError, Platform, ReadError, read_facts};
 use known_targets::{COUNT, KnownTarget, RUSTC_VERSION, TargetSet, matching};
+use manifests::{Code, TargetKey, Words, lint, nearest_target};
 use serde_json::Value;
 use std::alloc::{AllocError, Global};
 
-/// What is said of a name that no known target has.
+/// What is said of a name that no known target has, with the nearest one that some target has.
 pub fn unknown_name(alloc: Global, name: &str) -> Result<String, AllocError> {
-    let name = shown_name(alloc, name)?;
-    format!(in alloc; "error: no target that rustc {RUSTC_VERSION} knows is named {name}\n")
+    let shown = shown_name(alloc, name)?;
+    match nearest_target(alloc, name)? {
+        Some(nearest) => format!(in alloc;
+            "error: no target that rustc {RUSTC_VERSION} knows is named {shown}; perhaps {nearest} is meant\n"
+        ),
+        None => {
+            format!(in alloc;
+                "error: no target that rustc {RUSTC_VERSION} knows is named {shown}\n"
+            )
+        }
+    }
+}
+
+/// What there is to tell of the names and facts of a key that no known target has. What only `--cfg` sets is left out
+/// where facts are given.
+fn unknown_in(alloc: Global, key: &str, has_facts: bool) -> Result<String, AllocError> {
+    let value = toml::Value::Table(toml::Table::new(alloc));
+    let keys = [TargetKey { key, value: &value }];
+    let words = Words::new(alloc)?;
+    let report = lint(alloc, &toml::Table::new(alloc), &keys, &words)?;
+    let mut text = String::new(alloc);
+    for finding in &report.findings {
+        let is_told = match finding.code {
+            Code::UnknownTarget | Code::UnknownFact => true,
+            Code::Custom => !has_facts,
+            _ => false,
+        };
+        if is_told {
+            let level = finding.level.word();
+            let code = finding.code.word();
+            let message = finding.message.as_str();
+            let line = format!(in alloc; "{level}[{code}]: {message}\n")?;
+            text.push_str(line.as_str())?;
+        }
+    }
+    Ok(text)
 }
 
 /// The facts of the target with this name.
@@ -160,9 +195,14 @@ pub fn applies(
         }
         Err(answer) => return Ok(answer),
     }
-    if holds(alloc, &condition, name, &facts)? {
-        Ok(Answer::of(alloc, String::from_str(alloc, "yes\n")?, Status::Fine))
+    let (word, status) = if holds(alloc, &condition, name, &facts)? {
+        ("yes\n", Status::Fine)
     } else {
-        Ok(Answer::of(alloc, String::from_str(alloc, "no\n")?, Status::Found))
-    }
+        ("no\n", Status::Found)
+    };
+    Ok(Answer {
+        output: String::from_str(alloc, word)?,
+        errors: unknown_in(alloc, key, lines.is_some() || !added.is_empty())?,
+        status,
+    })
 }

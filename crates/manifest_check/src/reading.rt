@@ -56,7 +56,7 @@ fn text_at<R: Files + Input + AllocGlobal>(rt: &R, file: &str) -> io::Result<Str
 }
 
 /// The text without a mark of the byte order, as Cargo reads it.
-fn without_mark(text: &str) -> &str {
+pub fn without_mark(text: &str) -> &str {
     text.strip_prefix("\u{FEFF}").unwrap_or(text)
 }
 

@@ -1,3 +1,5 @@
 pub mod Asking
 pub mod Tables
 pub mod Choosing
+pub mod Truths
+pub mod Hiding

@@ -2,11 +2,22 @@
 #![tactic(auto)]
 
 pub mod declared;
+mod earlier;
 pub mod findings;
+mod hiding;
+mod linting;
+mod nearest;
 pub mod selection;
+mod spelled;
+mod standing;
 pub mod tables;
+mod telling;
+mod values;
 
 pub use declared::Declared;
 pub use findings::{Code, Finding, Level, Report};
+pub use linting::lint;
+pub use nearest::{Words, nearest_target};
 pub use selection::{Asked, Choice, Row, SelectError, select};
 pub use tables::{Dependency, Kind, TargetKey, Targets};
+pub use values::values_of;

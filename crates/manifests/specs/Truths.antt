@@ -1,0 +1,36 @@
+-- What it is for a condition to be never, always, nowhere and everywhere true.
+use Rattle.std.specs.Prelude.{◌≡◌, ◌<◌, ℕ, Bool, true, false, List, Option, Some}
+use Rattle.cargo_platform.specs.Trees.{Condition}
+use Rattle.cargo_platform.specs.Facts.{FactSet, IsTrueCondition}
+use Rattle.partial_facts.specs.Conditions.{kleene_condition}
+use Rattle.exact_answers.specs.declared.known.Known.{Known}
+use Rattle.exact_answers.specs.Possible.{IsAllowed}
+use Rattle.known_targets.specs.Open.{open_told}
+use Rattle.known_targets.specs.Table.{target_name, target_facts}
+use Rattle.known_targets.specs.declared.table.TheConstants.{COUNT}
+use Rattle.manifests.specs.declared.linting.Decided.{Decided}
+use Rattle.manifests.specs.declared.linting.Decided.TheVariants as decided
+
+-- it holds for no target that is possible
+abbrev pub IsNever : Known → Condition → Type 0
+IsNever k c = (name : List ℕ) (s : FactSet) → IsAllowed k s → IsTrueCondition name s c → ⊥
+
+-- it holds for each target that is possible
+abbrev pub IsAlways : Known → Condition → Type 0
+IsAlways k c = (name : List ℕ) (s : FactSet) → IsAllowed k s → IsTrueCondition name s c
+
+-- what holds where something is said to be
+abbrev pub IfYes : Decided → Type 0 → Type 0
+IfYes decided.Yes P = P
+IfYes decided.No P = Unit {0}
+IfYes decided.Unknown P = Unit {0}
+
+-- whether it holds at a known target, where that does not hang on the facts of open names and keys
+abbrev pub at_target : List (List ℕ) → Condition → ℕ → Option Bool
+at_target open_keys c k = kleene_condition (Some (target_name k)) (open_told (target_facts k) open_keys) c
+
+abbrev pub IsNowhere : List (List ℕ) → Condition → Type 0
+IsNowhere open_keys c = (k : ℕ) → k < COUNT → at_target open_keys c k ≡ Some false
+
+abbrev pub IsEverywhere : List (List ℕ) → Condition → Type 0
+IsEverywhere open_keys c = (k : ℕ) → k < COUNT → at_target open_keys c k ≡ Some true

@@ -1,0 +1,184 @@
+//! Keys as they are read, here and by Cargo of today.
+
+use crate::standing::pair;
+use crate::telling::TOLD;
+use cargo_platform::{Cfg, CfgExpr, ParseError, Platform, ReadError, Token, Tokenizer};
+use std::alloc::{AllocError, Global};
+use std::collections::BTreeSet;
+
+/// What a key spells.
+#[derive(Drop)]
+pub enum Spelled {
+    /// This condition.
+    Condition(Platform),
+    /// None here. Cargo of today reads it, with these warnings; this key means the same to both.
+    ByCargo {
+        /// Cargo's first warnings, each on one line.
+        warnings: Vec<String>,
+        /// How many different ones there are.
+        count: usize,
+        /// The key with raw marks.
+        marked: String,
+    },
+    /// None, for this fault.
+    Refused(ParseError),
+}
+
+impl Spelled {
+    /// The condition.
+    pub fn platform(&self) -> Option<&Platform> {
+        match self {
+            Spelled::Condition(platform) => Some(platform),
+            Spelled::ByCargo { .. } | Spelled::Refused(_) => None,
+        }
+    }
+}
+
+/// Reads a key.
+pub fn read_key(alloc: Global, key: &str) -> Result<Spelled, AllocError> {
+    let error = match Platform::from_str(alloc, key) {
+        Ok(platform) => return Ok(Spelled::Condition(platform)),
+        Err(ReadError::Memory(refused)) => return Err(refused),
+        Err(ReadError::Parse(error)) => error,
+    };
+    match read_by_cargo(alloc, key)? {
+        Some(spelled) => Ok(spelled),
+        None => Ok(Spelled::Refused(error)),
+    }
+}
+
+/// The text between `cfg(` and `)`.
+pub fn inner(key: &str) -> Option<&str> {
+    key.strip_prefix("cfg(")?.strip_suffix(")")
+}
+
+/// What Cargo makes of a key that is refused here: it takes unmarked `true` and `false` as the keys of pairs.
+fn read_by_cargo(alloc: Global, key: &str) -> Result<Option<Spelled>, AllocError> {
+    let Some(text) = inner(key) else {
+        return Ok(None);
+    };
+    let mut marked = String::from_str(alloc, "cfg(")?;
+    let mut warnings = Vec::new(alloc);
+    let mut pairs: BTreeSet<Cfg> = BTreeSet::new(alloc);
+    let mut tokens = Tokenizer::new(text);
+    let mut copied = 0;
+    // The word that may be a key, and where it stands.
+    let mut word: Option<(&str, usize)> = None;
+    let mut keyed: Option<&str> = None;
+    'tokens: for _ in 0..text.len() {
+        let Some(Ok(spanned)) = tokens.next() else {
+            break;
+        };
+        match spanned.token {
+            Token::Ident(false, name) if name == "true" || name == "false" => {
+                word = Some((name, spanned.start));
+                keyed = None;
+            }
+            Token::Equals => {
+                if let Some((name, start)) = word {
+                    if let Some(before) = text.get(copied..start) {
+                        marked.push_str(before)?;
+                        marked.push_str("r#")?;
+                        copied = start;
+                        keyed = Some(name);
+                    }
+                }
+                word = None;
+            }
+            Token::String(value) => {
+                if let Some(name) = keyed {
+                    if pairs.insert(pair(alloc, name, value)?)? && pairs.len() <= TOLD {
+                        warnings.push(warning_on(alloc, name, value)?)?;
+                    }
+                }
+                keyed = None;
+                word = None;
+            }
+            _ => {
+                keyed = None;
+                word = None;
+            }
+        }
+    }
+    if warnings.is_empty() {
+        return Ok(None);
+    }
+    marked.push_str(text.get(copied..).unwrap_or(""))?;
+    marked.push_str(")")?;
+    match Platform::from_str(alloc, marked.as_str()) {
+        Ok(_platform) => {
+            let count = pairs.len();
+            Ok(Some(Spelled::ByCargo {
+                warnings,
+                count,
+                marked,
+            }))
+        }
+        Err(ReadError::Parse(_error)) => Ok(None),
+        Err(ReadError::Memory(refused)) => Err(refused),
+    }
+}
+
+/// Cargo's warning on a pair, on one line.
+fn warning_on(alloc: Global, word: &str, value: &str) -> Result<String, AllocError> {
+    let pair = pair(alloc, word, value)?;
+    let mut texts = Vec::new(alloc);
+    Platform::Cfg(CfgExpr::Value(pair)).check_cfg_keywords(alloc, &mut texts, "")?;
+    let mut line = String::new(alloc);
+    for text in &texts {
+        let text = text.as_str();
+        for part in text.strip_prefix("[] ").unwrap_or(text).lines() {
+            line.push_str(part)?;
+        }
+    }
+    Ok(line)
+}
+
+/// The members of a group that was opened and not closed: how many levels stand in one that others follow, and the same
+/// of the last one.
+#[derive(Clone, Copy, Drop)]
+struct Level {
+    followed: usize,
+    last: Option<usize>,
+}
+
+/// How many groups, each a member that others follow, stand in one another at most in an expression's text.
+pub fn followed_levels(alloc: Global, text: &str) -> Result<usize, AllocError> {
+    let mut around = Vec::new(alloc);
+    let mut level = Level {
+        followed: 0,
+        last: None,
+    };
+    let mut tokens = Tokenizer::new(text);
+    'tokens: for _ in 0..text.len() {
+        let Some(Ok(spanned)) = tokens.next() else {
+            break;
+        };
+        match spanned.token {
+            Token::Ident(_, _) => {
+                if let Some(last) = level.last {
+                    level.followed = level.followed.max(last.saturating_add(1));
+                }
+                level.last = Some(0);
+            }
+            Token::LeftParen => {
+                around.push(level)?;
+                level = Level {
+                    followed: 0,
+                    last: None,
+                };
+            }
+            Token::RightParen => {
+                let inside = level.followed.max(level.last.unwrap_or(0));
+                if let Some(outer) = around.pop() {
+                    level = Level {
+                        followed: outer.followed,
+                        last: Some(inside),
+                    };
+                }
+            }
+            _ => {}
+        }
+    }
+    Ok(level.followed.max(level.last.unwrap_or(0)))
+}

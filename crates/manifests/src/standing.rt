@@ -1,0 +1,210 @@
+//! What a name or pair that a condition asks for is to rustc: one of its own, a mistake, or a custom one.
+
+use cargo_platform::{Cfg, Ident};
+use known_targets::having;
+use std::alloc::{AllocError, Global};
+use strsim::osa_distance;
+
+/// The keys that rustc sets with a value, whatever the flags are.
+pub const VALUED: [&str; 9] = [
+    "target_abi",
+    "target_arch",
+    "target_endian",
+    "target_env",
+    "target_family",
+    "target_has_atomic",
+    "target_os",
+    "target_pointer_width",
+    "target_vendor",
+];
+
+/// The keys of which flags and profiles change the values.
+pub const FLAGGED: [&str; 2] = ["panic", "target_feature"];
+
+/// The names that rustc sets without a value.
+pub const PLAIN: [&str; 3] = ["debug_assertions", "unix", "windows"];
+
+/// The names of which Cargo says that they don't select dependencies.
+const UNSUPPORTED: [&str; 3] = ["debug_assertions", "proc_macro", "test"];
+
+/// The keys with one value, and `target_family`, in the order in which a name is looked for among their values.
+const NAMED_BY_VALUE: [&str; 9] = [
+    "target_os",
+    "target_arch",
+    "target_family",
+    "target_env",
+    "target_vendor",
+    "target_abi",
+    "target_endian",
+    "target_pointer_width",
+    "panic",
+];
+
+/// A name of fewer characters is near to none.
+const SHORTEST: usize = 4;
+
+/// What a name or pair is.
+#[derive(Clone, Copy, Debug, PartialEq, Eq, Drop)]
+pub enum Standing {
+    /// rustc sets it at a known target, or flags may make it set it.
+    Rustc,
+    /// Cargo says that it does not select dependencies.
+    Unsupported,
+    /// A value of this key that is used as a name.
+    ValueAsName(&'static str),
+    /// A key that has a value, without one.
+    NoValue,
+    /// A name that has no value, with one.
+    WithValue,
+    /// A value that no known target has of the key.
+    OtherValue,
+    /// A value of the key `target`.
+    TargetKey,
+    /// A name or key that is one edit away from this one of rustc's.
+    Near(&'static str),
+    /// Only `--cfg` sets it.
+    Custom,
+}
+
+impl Standing {
+    /// Whether it is taken for one of rustc's, and none.
+    pub fn is_mistake(self) -> bool {
+        match self {
+            Standing::ValueAsName(_)
+            | Standing::NoValue
+            | Standing::WithValue
+            | Standing::OtherValue
+            | Standing::TargetKey
+            | Standing::Near(_) => true,
+            Standing::Rustc | Standing::Unsupported | Standing::Custom => false,
+        }
+    }
+
+    /// Whether it is open what is said of it.
+    pub fn is_open(self) -> bool {
+        matches!(self, Standing::Unsupported | Standing::Custom)
+    }
+}
+
+/// Whether the text is one of these.
+pub fn is_among(text: &str, words: &[&str]) -> bool {
+    for word in words {
+        if *word == text {
+            return true;
+        }
+    }
+    false
+}
+
+/// The pair of this key and value.
+pub fn pair(alloc: Global, key: &str, value: &str) -> Result<Cfg, AllocError> {
+    let key = Ident {
+        name: String::from_str(alloc, key)?,
+        raw: false,
+    };
+    Ok(Cfg::KeyPair(key, String::from_str(alloc, value)?))
+}
+
+/// Whether some known target has this value of the key.
+pub fn is_value_of(alloc: Global, key: &str, value: &str) -> Result<bool, AllocError> {
+    Ok(!having(&pair(alloc, key, value)?).is_empty())
+}
+
+/// The key of which a known target has this value, of the keys with one value and `target_family`.
+fn key_of_value(alloc: Global, value: &str) -> Result<Option<&'static str>, AllocError> {
+    for key in &NAMED_BY_VALUE {
+        if is_value_of(alloc, key, value)? {
+            return Ok(Some(*key));
+        }
+    }
+    Ok(None)
+}
+
+/// The first of these that is one edit away.
+fn near(
+    alloc: Global,
+    text: &str,
+    words: &[&'static str],
+) -> Result<Option<&'static str>, AllocError> {
+    for word in words {
+        if word.len().abs_diff(text.len()) <= 1 && osa_distance(alloc, text, word)? == 1 {
+            return Ok(Some(*word));
+        }
+    }
+    Ok(None)
+}
+
+/// What a name or key is that rustc does not have.
+fn other(alloc: Global, name: &str) -> Result<Standing, AllocError> {
+    if name.len() < SHORTEST {
+        return Ok(Standing::Custom);
+    }
+    if let Some(word) = near(alloc, name, &PLAIN)? {
+        return Ok(Standing::Near(word));
+    }
+    if let Some(word) = near(alloc, name, &FLAGGED)? {
+        return Ok(Standing::Near(word));
+    }
+    match near(alloc, name, &VALUED)? {
+        Some(word) => Ok(Standing::Near(word)),
+        None => Ok(Standing::Custom),
+    }
+}
+
+/// What a name alone is.
+fn standing_of_name(alloc: Global, name: &str) -> Result<Standing, AllocError> {
+    if is_among(name, &UNSUPPORTED) {
+        return Ok(Standing::Unsupported);
+    }
+    if is_among(name, &PLAIN) {
+        return Ok(Standing::Rustc);
+    }
+    if is_among(name, &VALUED) {
+        return Ok(Standing::NoValue);
+    }
+    if is_among(name, &FLAGGED) {
+        return Ok(Standing::Custom);
+    }
+    match key_of_value(alloc, name)? {
+        Some(key) => Ok(Standing::ValueAsName(key)),
+        None => other(alloc, name),
+    }
+}
+
+/// What a pair with this key is.
+fn standing_of_pair(alloc: Global, c: &Cfg, key: &str) -> Result<Standing, AllocError> {
+    if key == "feature" {
+        return Ok(Standing::Unsupported);
+    }
+    if is_among(key, &FLAGGED) {
+        return Ok(Standing::Rustc);
+    }
+    if is_among(key, &VALUED) {
+        if having(c).is_empty() {
+            return Ok(Standing::OtherValue);
+        }
+        return Ok(Standing::Rustc);
+    }
+    if is_among(key, &PLAIN) {
+        return Ok(Standing::WithValue);
+    }
+    if key == "target" {
+        return Ok(Standing::TargetKey);
+    }
+    other(alloc, key)
+}
+
+/// What a name or pair is. Raw marks play no part.
+pub fn standing_of(alloc: Global, c: &Cfg) -> Result<Standing, AllocError> {
+    match c {
+        Cfg::Name(name) => standing_of_name(alloc, name.as_str()),
+        Cfg::KeyPair(key, _) => standing_of_pair(alloc, c, key.as_str()),
+    }
+}
+
+/// The name, or the key of a pair.
+pub fn name_in(c: &Cfg) -> &str {
+    match c {
+        Cfg::Name(name) | Cfg::KeyPair(name, _) => name.as_str(),
+    }
+}
