@@ -1,9 +1,8 @@
 -- What is known of a target by its facts, by facts that are added, and by the names and keys that are open.
 use Rattle.std.specs.Prelude.{◌≡◌, ℕ, Bool, true, false, ◌||◌, List, ◌++◌, Option, Some, None, IfSome, IsTrue, map}
-use Rattle.std.specs.List.{list_any}
 use Rattle.std.specs.FinSet.{contains, contains-from_list}
 use Rattle.std.specs.Ordering.{eq_by_cmp}
-use Rattle.std.proofs.Common.{refl, sym, ◌∙◌}
+use Rattle.std.proofs.Common.{refl, ◌∙◌}
 use Rattle.std.proofs.lemmas.List.{map-append}
 use Rattle.std.proofs.lemmas.List.Folds.{list_any-append}
 use Rattle.cargo_platform.specs.Trees.{CfgValue}

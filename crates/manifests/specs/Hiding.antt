@@ -1,5 +1,5 @@
 -- Which findings there are of a key, and which of them hide which.
-use Rattle.std.specs.Prelude.{◌≡◌, Bool, true, false, List, [], ◌∷◌}
+use Rattle.std.specs.Prelude.{◌≡◌, Bool, false, List, [], ◌∷◌}
 use Rattle.manifests.specs.declared.findings.Code.{Code}
 use Rattle.manifests.specs.declared.findings.Code.TheVariants as code
 use Rattle.manifests.specs.declared.hiding.Holding.{Holding}

@@ -1,5 +1,5 @@
 -- The names of tables of dependencies, and which dependencies are optional.
-use Rattle.std.specs.Prelude.{ℕ, Bool, true, false, List, codes, Option, Some, None}
+use Rattle.std.specs.Prelude.{ℕ, Bool, false, List, codes, Option, Some, None}
 use Rattle.toml.specs.Data.{Data, get, as_bool}
 use Rattle.manifests.specs.declared.tables.Kind.{Kind}
 use Rattle.manifests.specs.declared.tables.Kind.TheVariants.{Normal, Development, Build}
