@@ -10,6 +10,7 @@ use manifests::tables::target_keys;
 use manifests::{Finding, Level, Report, TargetKey, Targets, Words, lint};
 use serde_json::{Value, json};
 use std::alloc::{AllocError, Global};
+use toml::Table;
 
 /// How findings are printed.
 #[derive(Clone, Copy, Drop)]
@@ -216,6 +217,39 @@ fn push_undecided(
     Ok(())
 }
 
+/// The keys of the manifest in the order in which they first appear, and what there is to tell of them.
+fn report_on<'a>(
+    alloc: Global,
+    table: &'a Table,
+    lines: &Lines,
+    words: &Words,
+) -> Result<(Vec<Placed<'a>>, Report), AllocError> {
+    let targets = target_keys(alloc, table)?;
+    if let Targets::Keys(found) = &targets {
+        let keys = in_order(alloc, found, lines)?;
+        let mut ordered = Vec::new(alloc);
+        for (key, _) in &keys {
+            ordered.push(*key)?;
+        }
+        let report = lint(alloc, table, &ordered, words)?;
+        return Ok((keys, report));
+    }
+    let mut findings = Vec::new(alloc);
+    if let Targets::NoTable = &targets {
+        findings.push(target_is_no_table(alloc)?)?;
+    }
+    let report = Report {
+        findings,
+        undecided: Vec::new(alloc),
+    };
+    Ok((Vec::new(alloc), report))
+}
+
+/// The key that the finding is on, if it is on one.
+fn key_of<'k, 'a>(keys: &'k [Placed<'a>], finding: &Finding) -> Option<&'k Placed<'a>> {
+    keys.get(finding.key?)
+}
+
 /// The findings on a manifest.
 pub fn lint_manifest(
     alloc: Global,
@@ -227,31 +261,9 @@ pub fn lint_manifest(
     let path = manifest.path.as_str();
     let lines = Lines::of(alloc, without_mark(manifest.text.as_str()))?;
     let mut answer = Answer::of(alloc, String::new(alloc), Status::Fine);
-    let mut keys = Vec::new(alloc);
-    let report = match target_keys(alloc, &manifest.table)? {
-        Targets::Absent => return Ok(answer),
-        Targets::NoTable => {
-            let mut findings = Vec::new(alloc);
-            findings.push(target_is_no_table(alloc)?)?;
-            Report {
-                findings,
-                undecided: Vec::new(alloc),
-            }
-        }
-        Targets::Keys(found) => {
-            keys = in_order(alloc, &found, &lines)?;
-            let mut ordered = Vec::new(alloc);
-            for (key, _) in &keys {
-                ordered.push(*key)?;
-            }
-            lint(alloc, &manifest.table, &ordered, words)?
-        }
-    };
+    let (keys, report) = report_on(alloc, &manifest.table, &lines, words)?;
     for finding in &report.findings {
-        let key = match finding.key {
-            Some(index) => keys.get(index),
-            None => None,
-        };
+        let key = key_of(&keys, finding);
         let line = match key {
             Some((_, Some(appearance))) => Some(appearance.line),
             Some((_, None)) => None,
