@@ -54,7 +54,7 @@ def note(text):
 
 
 def row(*parts):
-    """Parts one behind another."""
+    """Parts one after another."""
     width = sum(part[0] for part in parts) + GAP * (len(parts) - 1)
 
     def draw(x, y):

@@ -87,7 +87,7 @@ behind_prefix g text fault r = (
 
 -- ---- the cut of the text before the span
 
--- what a beginning of a text has behind a place
+-- what a beginning of a text has after a place
 rest_in_front : (text : List ℕ) (n i : ℕ) → i ≤ n → drop i (take n text) ≡ take (n - i) (drop i text)
 rest_in_front text n i within =
     let whole : i + (n - i) ≡ n = omega (arith, within) in
@@ -122,7 +122,7 @@ ends_in_front (Ident raw name) (b ∷ bs) zero h = (refl, nothing_follows raw (b
     nothing_follows false false = refl
 ends_in_front (Ident raw name) (b ∷ bs) (suc k) h = h
 
--- tokens that come one after another, and what is left behind them, are the cut of a beginning of the text
+-- tokens that come one after another, and what is left after them, are the cut of a beginning of the text
 cut_in_front : (text : List ℕ) (n from to tail : ℕ) (ts : List Placed) (next : Item) → tail ≤ n
     → IsTail (drop tail (take n text)) → ((f : ℕ) → Comes text f next to → AreSpaces text f tail)
     → AllByRecursion (λ t. t.end ≤ n) ts → ComesBehind text from ts next to → IsCutFrom (take n text) from ts tail
@@ -198,7 +198,8 @@ left_before text from to false (Lexical lexical.MissingIdentifier at) h =
 left_before text from to false (Lexical (lexical.UnexpectedChar c) at) h = by_character h.1
   where
     by_character : BeginsFault (drop at text) (lexical.UnexpectedChar c)
-        → IsNothingOrMark (drop at (take (character_start text at) text)) false (Lexical (lexical.UnexpectedChar c) at) at
+        → IsNothingOrMark (drop at (take (character_start text at) text)) false
+        (Lexical (lexical.UnexpectedChar c) at) at
     by_character (inl f) =
         let start : character_start text at ≡ at + 2 =
         marked_start text at (first_byte text (0x23 ∷ f.0) at 0x72 f.2) in

@@ -17,7 +17,7 @@ use Rattle.cargo_platform.specs.Inside.Parsing.{Opening, Negated, Listed, list_t
 use Rattle.cargo_platform.proofs.Roles.{IsOfRole, of_role, plain_name}
 use Rattle.cargo_platform.proofs.Walk.{none_some, walk_from-append, begins, ends, after_begins, after_end}
 
--- what was read: the groups that are open, and what stands behind them
+-- what was read: the groups that are open, and what stands after them
 pub data Position : Type 0 where
   Wanting : List Opening → Position
   WithWord : Opening → List Opening → Position
@@ -129,7 +129,7 @@ same_trees : (es : Trees) → trees_of (list_of es) ≡ es
 same_trees none = refl
 same_trees (tree e es) = ap (λ z. tree e z) (same_trees es)
 
--- from one position to another, with more tokens behind
+-- from one position to another, with more tokens after
 abbrev Leads : Bool → Position → List Lexeme → List Lexeme → Position → Type 0
 Leads keys p s x q = lead_from keys (Some p) (s ++ x) ≡ lead_from keys (Some q) x
 
@@ -153,7 +153,7 @@ after_first s (t ∷ ss) ts (inr h) =
       (r.0, ap (λ (z : List Lexeme). Comma ∷ z) r.1, r.2),
     )
 
--- the tokens of a member, and those behind it up to `)`
+-- the tokens of a member, and those after it up to `)`
 member_first : (keys : Bool) (p : Position) (i s rest x : List Lexeme) → i ≡ s ++ rest
     → lead_from keys (Some p) ((i ++ RightParen ∷ []) ++ x)
     ≡ lead_from keys (Some p) (s ++ ((rest ++ RightParen ∷ []) ++ x))
@@ -320,7 +320,7 @@ one_built keys e f ts p q = ap tree_at (sym (whole_leads keys e ts p) ∙ whole_
 
 -- ---- what is accepted is walked
 
--- what is accepted leads behind a value or an expression, with nothing open
+-- what is accepted leads after a value or an expression, with nothing open
 pub accepted_walks : (g : Grammar) (ts : List Lexeme) → IsAccepted g ts → (n : Bool) × (walk g ts ≡ Some (ends n []))
 accepted_walks Values ts (Alone n, h) = (true, ap (walk Values) h)
 accepted_walks Values ts (KeyPair k v, h) = (false, ap (walk Values) h)

@@ -21,6 +21,7 @@ use Rattle.cargo_platform.specs.Cut.{Item, Token, Lexical, Nothing, is_token}
 use Rattle.cargo_platform.specs.Faults.{from_to}
 use Rattle.cargo_platform.specs.Inside.Ahead.{Ahead, NextIs, GoesPast}
 use Rattle.cargo_platform.specs.Inside.Looking.{IsCharAt, Shows, Costs, character_of, IsFound, IsReadingAt}
+use Rattle.cargo_platform.specs.Inside.Looking.{IsSeenFault, FindsFault}
 use Rattle.cargo_platform.specs.Inside.Scanning.{IsTokenAt}
 use Rattle.cargo_platform.specs.Inside.Parsing.{TakesToken, Lacks, lexeme_of, IsIdentifier, IsSurplus}
 use Rattle.cargo_platform.specs.declared.reader.Punctuation.{Punctuation}
@@ -42,7 +43,7 @@ ahead_at text at = record { text = text; place = at }
 no_space : (text : List ℕ) (at : ℕ) → slice_index text at ≢ 0x20 → starts is_space (drop at text) ≡ false
 no_space text at past = starts_at is_space text at (ne_eqb (slice_index text at) 0x20 past)
 
--- a token is taken, and the spaces behind it
+-- a token is taken, and the spaces after it
 pub takes : (text : List ℕ) (at end to : ℕ) (t : Lexeme) → at ≤ length text → IsTokenAt text t at end
     → AreSpaces text end to → TakesToken (ahead_at text at) (ahead_at text to) t
 takes text at end to t within stands spaces = (
@@ -228,7 +229,7 @@ costs_then text from mid to beside more old between new a b = record {
       omega (arith, a.at_least still, b.at_least small);
 }
 
--- the reader goes on behind a token and the spaces behind it
+-- the reader goes on after a token and the spaces after it
 pub reads_on : (text : List ℕ) (at from end to : ℕ) (seen next : Look) (fault : Option TokenFaultKind)
     (looks mid new : ℕ) → IsReadingAt text at seen fault looks → fault ≡ None
     → characters_from text at ≡ characters_from text from + 1 → Costs text from end 1 looks mid
@@ -236,6 +237,7 @@ pub reads_on : (text : List ℕ) (at from end to : ℕ) (seen next : Look) (faul
     → IsReadingAt text to next fault new
 reads_on text at from end to seen next fault looks mid new r none one a b boundary sees past =
     let F : Option TokenFaultKind → Type 0 = λ z. IsFound (drop to text) z in
+    let S : Option TokenFaultKind → Type 0 = λ z. IsSeenFault text to z new in
     let before = r.each none in
     let most : new ≤ characters_from text 0 + 1 = omega (arith, a.at_most, b.at_most, one, before) in
     let small : new < 2 ^ 128 - 1 = omega (arith, most, r.short) in
@@ -248,14 +250,16 @@ reads_on text at from end to seen next fault looks mid new r none one a b bounda
       past = past;
       found = subst F (sym none) tt;
       each = λ _. omega (arith, a.at_most, b.at_most, a.at_least still, b.at_least small, one, before);
+      at_least = omega (arith, a.at_least still, b.at_least small, one, before);
+      seen_fault = subst S (sym none) tt;
       at_most = most;
     }
 
 -- a fault is found
 pub finds : (text : List ℕ) (at : ℕ) (seen : Look) (fault : Option TokenFaultKind) (k : TokenFaultKind) (looks new : ℕ)
     → IsReadingAt text at seen fault looks → fault ≡ None → BeginsFault (drop at text) k
-    → new ≤ looks + characters_from text at → IsReadingAt text at seen (Some k) new
-finds text at seen fault k looks new r none begins few = record {
+    → new ≤ looks + characters_from text at → FindsFault text at k 1 looks new → IsReadingAt text at seen (Some k) new
+finds text at seen fault k looks new r none begins few found = record {
   utf8 = r.utf8;
   short = r.short;
   reached = r.reached;
@@ -263,6 +267,8 @@ finds text at seen fault k looks new r none begins few = record {
   past = r.past;
   found = begins;
   each = λ h. absurd cc;
+  at_least = omega (arith, found.grows, r.each none);
+  seen_fault = omega (arith, found.at_least (omega (arith, few, r.each none, r.short)), r.each none);
   at_most = omega (arith, few, r.each none);
 }
 

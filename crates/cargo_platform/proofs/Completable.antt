@@ -214,7 +214,7 @@ value_followed (Ident raw name ∷ Equals ∷ String value ∷ []) s h refused =
     absurd (refused (KeyPair (record { raw = raw; name = name }) value, refl))
 value_followed ts s h refused = none_some h
 
--- what is expected behind a list that is completable and not accepted can follow it
+-- what is expected after a list that is completable and not accepted can follow it
 pub expected_follows : (g : Grammar) (ts : List Lexeme) → IsCompletable g ts → (IsAccepted g ts → ⊥)
     → Follow g ts (last_or None ts)
 expected_follows Values ts p refused =

@@ -42,7 +42,7 @@ one_condition_span text o p e f s t (inr a) (inl b) = absurd (a.0 p b.0)
 one_condition_span text o p e f s t (inr a) (inr b) =
     a.3.2 ∙ ap (λ (z : Range ℕ). Some z) (one_target_span text a.3.0 b.3.0 a.3.1 b.3.1) ∙ sym b.3.2
 
--- the text before the first refused character, and behind it
+-- the text before the first refused character, and after it
 front_is : (text : List ℕ) (c : ℕ) (first : IsFirstRefused text c) → take (length first.0) text ≡ first.0
 front_is text c first = ap (take (length first.0)) first.2 ∙ take-append_seam first.0 first.1
 

@@ -1,4 +1,4 @@
--- The last token of a list that is walked tells what is expected behind it, and so does the state.
+-- The last token of a list that is walked tells what is expected after it, and so does the state.
 use Rattle.std.proofs.Common.{◌≡◌, refl, subst, ℕ, Bool, true, false, List, [], ◌∷◌, Option}
 use Rattle.std.proofs.Common.{Some, None, codes}
 use Rattle.std.specs.Prelude.{if◌then◌else◌}
@@ -23,7 +23,7 @@ like (Named ws) = Some RightParen
 like (Keyed ws) = Some Equals
 like (Ended ws) = Some RightParen
 
--- behind the last token the same is expected as in the state
+-- after the last token the same is expected as in the state
 abbrev pub Matches : Grammar → Option Lexeme → State → Type 0
 Matches g o s =
     (expected_token g o ≡ expected_token g (like s)) × (expected_end g o ≡ expected_end g (like s))

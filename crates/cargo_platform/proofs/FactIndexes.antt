@@ -30,7 +30,7 @@ use Rattle.cargo_platform.proofs.LengthOrder.{length_total, length_ties}
 abbrev pub AreKept : List Cfg → List Ident → List KeyValue → Type 0
 AreKept facts names pairs = IsPermutation (map value_of facts) (map alone names ++ map key_value pairs)
 
--- the next fact is kept behind those of its kind
+-- the next fact is kept after those of its kind
 module _ (facts : List Cfg) (i : ℕ) (fact : Cfg) (within : i < length facts) (is : fact ≡ get_or facts i fact) where
   next : (c : CfgValue) → value_of fact ≡ c
       → map value_of (take (i + 1) facts) ≡ map value_of (take i facts) ++ c ∷ []

@@ -115,7 +115,7 @@ pub record IsRefusedLine (ls : List (List ℕ)) (n : ℕ) (e : ParseError) : Typ
   pub fault : IsRefused Values (line_at ls n) (fault_in e)
   pub span : IsRefusedAt Values (line_at ls n) (fault_in e) (span_in e)
 
--- the line behind those that were read is refused
+-- the line after those that were read is refused
 refused_at : (ls : List (List ℕ)) (n : ℕ) (e : ParseError) (i : ℕ) (facts : List CfgValue) → i < length ls
     → SpellFacts (take i ls) facts → n ≡ i + 1 → SpellsNoFact (get_or ls i []) → orig_of e ≡ get_or ls i []
     → IsRefusedAt Values (get_or ls i []) (fault_in e) (span_in e) → IsRefusedLine ls n e

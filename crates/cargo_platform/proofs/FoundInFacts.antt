@@ -1,6 +1,6 @@
 -- The span of a refused line of facts lies in the whole text.
-use Rattle.std.proofs.Common.{◌≡◌, refl, ap, subst, ◌∙◌, ℕ, zero, suc, ◌-◌, ◌<◌, ◌⊎◌, List, [], ◌∷◌, ◌++◌, inl, inr, length}
-use Rattle.std.proofs.Common.{sym, take, get_or, append_assoc, append-nil, arith, lit≤, Option, IsUtf8}
+use Rattle.std.proofs.Common.{◌≡◌, refl, ap, subst, ◌∙◌, ℕ, zero, suc, ◌-◌, ◌<◌, ◌⊎◌, List, [], ◌∷◌, ◌++◌, inl, inr}
+use Rattle.std.proofs.Common.{length, sym, take, get_or, append_assoc, append-nil, arith, lit≤, Option, IsUtf8}
 use Rattle.std.specs.declared.ops.Range.{Range}
 use Rattle.cargo_platform.specs.declared.fact_lines.FactsError.{FactsError}
 use Rattle.cargo_platform.specs.declared.fact_lines.FactsError.TheVariants.{Line, Memory}
@@ -59,7 +59,7 @@ around (l ∷ ls) text (suc i) (inr (f ∷ front, last, is, some, e)) below =
     (e ∙ append_assoc (line f) (ended front) last ∙ ap (λ z. line z ++ (ended front ++ last)) same)
     (around ls (ended front ++ last) i (inr (front, last, others, some, refl)) (omega (arith, below)))
 
--- behind lines stands a text of characters
+-- after lines stands a text of characters
 utf8_behind : (ls : List (List ℕ)) (rest : List ℕ) → IsUtf8 (ended ls ++ rest) → IsUtf8 rest
 utf8_behind [] rest u = u
 utf8_behind (l ∷ ls) rest u =

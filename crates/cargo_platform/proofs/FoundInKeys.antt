@@ -32,7 +32,7 @@ no_name g text false last (Lexical (lexical.UnexpectedChar c) at) fault is = sym
 no_name g text false last (Lexical lexical.MissingIdentifier at) fault is = sym (ap is_of_name (same_Some _ _ is))
 no_name g text false last Nothing fault is = sym (ap is_of_name (same_Some _ _ is))
 
--- a place in a text is one in a larger text, which has it behind others
+-- a place in a text is one in a larger text, which has it after others
 place_behind : (key front text back : List ℕ) (at : ℕ) → key ≡ front ++ (text ++ back) → IsUtf8 text
     → IsUtf8 (text ++ back) → IsCharBoundary text at → IsCharBoundary key (at + length front)
 place_behind key front text back at parts utf8 closed b =

@@ -102,7 +102,7 @@ one_bit run few = omega (arith, mod-eq_of_lt {n = 2 ^ run} {m = 2 ^ 64} (omega (
 module _ (test : ℕ → Bool) (f : ℕ → ℕ) (agrees : agree_below (is_set f) test 256 ≡ true)
     (bytes lanes : List ℕ) (at : ℕ) (room : at + 16 ≤ length bytes) (fits : (k : ℕ) → Fits w8 (get_or bytes k 0))
     (is : lanes ≡ map f (chunk at 16 bytes)) where
-  -- those that pass from a place on are those of a chunk, and those behind it
+  -- those that pass from a place on are those of a chunk, and those after it
   behind : (run count : ℕ) → count ≡ count_by test (chunk at run bytes) →
       count_by test (drop at bytes) ≡ count + count_by test (drop (at + run) bytes)
   behind run count counted =

@@ -1,5 +1,5 @@
--- The lemmas by subject. Each subject stands on those before it. Answers to the goals of a function lie in the folder of
--- its source file.
+-- The lemmas by subject. Each subject stands on those before it. Answers to the goals of a function lie in the folder
+-- of its source file.
 
 -- ---- text and tokens
 -- Looking: the character at a place

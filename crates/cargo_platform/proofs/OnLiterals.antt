@@ -34,7 +34,7 @@ pub data Mode : Type 0 where
 abbrev pub at : Lexeme → ℕ → ℕ → Placed
 at t i j = record { token = t; start = i; end = j }
 
--- the token that a character is, if it is one, and what is being read behind it
+-- the token that a character is, if it is one, and what is being read after it
 abbrev pub begin : ℕ → ℕ → List Placed × Mode
 begin i c =
     if is_space c then ([], Between)
@@ -96,7 +96,7 @@ pub tree_on_literal : (text : List ℕ) (e : Tree) → is_cut_whole text ≡ tru
 tree_on_literal text e cut same formed =
     (tokens_in text, cut_whole text cut, subst (λ ts. Spells e ts) (sym same) (canonical_spells e formed))
 
--- The text spells the tree, by the spelling of its tokens: so it is with a comma behind the last member.
+-- The text spells the tree, by the spelling of its tokens: so it is with a comma after the last member.
 pub spelling_on_literal : (text : List ℕ) (e : Tree) → is_cut_whole text ≡ true → Spells e (lexemes (tokens_in text))
     → IsTreeText text e
 spelling_on_literal text e cut spelled = (tokens_in text, cut_whole text cut, spelled)
@@ -113,7 +113,7 @@ abbrev pub one_more : Option State → ℕ
 one_more None = 0
 one_more (Some s) = 1
 
--- how many tokens fit, one behind another
+-- how many tokens fit, one after another
 abbrev pub fitting : Grammar → Option State → List Placed → ℕ
 fitting g None ts = 0
 fitting g (Some s) [] = 0
@@ -127,7 +127,7 @@ prefix_in g text = take (fitting g (Some (Wanted [])) (tokens_in text)) (tokens_
 abbrev pub behind_in : Grammar → List ℕ → List Placed
 behind_in g text = drop (fitting g (Some (Wanted [])) (tokens_in text)) (tokens_in text)
 
--- what comes behind the prefix: what is left of the tokens, and then the tail
+-- what comes after the prefix: what is left of the tokens, and then the tail
 abbrev pub next_before : Item → List Placed → Item
 next_before last [] = last
 next_before last (t ∷ ts) = Token t

@@ -106,7 +106,7 @@ same_truth true b f g = sym (f refl)
 same_truth false true f g = g refl
 same_truth false false f g = refl
 
--- two faults of a text are behind the same prefix, which is accepted or not, and before the same item
+-- two faults of a text are after the same prefix, which is accepted or not, and before the same item
 pub one_place : (g : Grammar) (text : List ℕ) (e f : Fault) (p : IsRefused g text e) (q : IsRefused g text f)
     → (p.prefix ≡ q.prefix) × (p.accepted ≡ q.accepted) × (p.next ≡ q.next)
 one_place g text e f p q =

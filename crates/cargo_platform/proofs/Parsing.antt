@@ -241,7 +241,7 @@ after_keyed : (g : Grammar) (ws : List Word) (t : Lexeme) → ((v : List ℕ) �
 after_keyed g ws (String v) h = absurd (h v refl)
 after_keyed g ws t h = refl
 
--- behind a key and `=` no string comes
+-- after a key and `=` no string comes
 pub key_refusing : (g : Grammar) (l : Ahead) (ws : List Word) (before ts : List Lexeme) → LacksString l
     → walk g before ≡ Some (Named ws) → ts ≡ before ++ Equals ∷ []
     → Refusing g l (codes "a string") (codes "a string") ts
@@ -254,7 +254,7 @@ key_refusing g l ws before ts n h is = record {
   unfit = λ t e. after_keyed g ws t.token (λ v x. n t e (v, x));
 }
 
--- a name or a pair stands behind what was read before, where no word of the language does
+-- a name or a pair stands after what was read before, where no word of the language does
 key_is : (n : Name) (c : CfgValue) (ts : List Lexeme) → identifier n ∷ ts ≡ value_spelling c → n ≡ name_in c
 key_is n (Alone m) ts h =
     let raws : n.raw ≡ m.raw = cc in
@@ -296,7 +296,7 @@ value_stands l m gs n c may a clear = record {
       };
 }
 
--- behind a name that is no word of the language
+-- after a name that is no word of the language
 pub name_walk : (gs : List Opening) (n : Name) (ts : List Lexeme) → MayStand (Alone n) → HasName gs n.raw n.name ts
     → walk Expressions ts ≡ Some (Named (kinds gs))
 name_walk gs n ts may h = ends_walk gs (Value (Alone n)) ts (h.before, identifier n ∷ [], h.wanted, (refl, may), h.is)
@@ -364,7 +364,7 @@ close_listed gs all es e l m ts h = record {
   clear = lone_not (list_not_lone all (es ++ e ∷ []));
 }
 
--- a comma behind a member of the innermost group, which is a list
+-- a comma after a member of the innermost group, which is a list
 pub comma_taken : (gs : List Opening) (e : Tree) (l : Ahead) (ts : List Lexeme) → is_list (kinds gs) ≡ true
     → Has gs e l ts → Wants (with_last gs e) (ts ++ Comma ∷ [])
 comma_taken [] e l ts is h = absurd (true≢false (sym is))

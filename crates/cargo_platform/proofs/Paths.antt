@@ -14,7 +14,7 @@ use Rattle.cargo_platform.proofs.SomeCut.{piece_at}
 
 -- ---- what comes next, and the cut
 
--- spaces and spaces behind them
+-- spaces and spaces after them
 join : (text : List ℕ) (from mid to : ℕ) → AreSpaces text from mid → AreSpaces text mid to → AreSpaces text from to
 join text from mid to s t =
     let whole : drop from text ≡ (s.0 ++ t.0) ++ drop to text = piece_rest text from mid s.0 s.1
@@ -75,20 +75,20 @@ next_comes text from tail [] Nothing c is =
     let S : ℕ → Type 0 = λ z. AreSpaces text from z in
     (length text, (subst S is c.apart, refl))
 
--- what is left behind a token
+-- what is left after a token
 pub cut_behind : (text : List ℕ) (from tail : ℕ) (t : Placed) (ts : List Placed) → IsCutFrom text from (t ∷ ts) tail
     → IsCutFrom text t.end ts tail
 cut_behind text from tail t ts c =
     record { written = c.written.1; apart = c.apart.1; whole = c.whole.1; rest = c.rest }
 
--- what comes behind the first tokens of a cut is what the cut has there
+-- what comes after the first tokens of a cut is what the cut has there
 pub behind_is : (text : List ℕ) (from to tail : ℕ) (prefix after : List Placed) (i : Item)
     → IsCutFrom text from (prefix ++ after) tail → ComesBehind text from prefix i to → IsNext text after tail i
 behind_is text from to tail [] after i c h = next_is text from to tail i after c h
 behind_is text from to tail (t ∷ ts) after i c h =
     behind_is text t.end to tail ts after i (cut_behind text from tail t (ts ++ after) c) h.1
 
--- what the cut has there comes behind them
+-- what the cut has there comes after them
 pub comes_behind : (text : List ℕ) (from tail : ℕ) (prefix after : List Placed) (i : Item)
     → IsCutFrom text from (prefix ++ after) tail → IsNext text after tail i
     → (to : ℕ) × ComesBehind text from prefix i to
@@ -111,13 +111,13 @@ first_left text from to tail (t ∷ us) (u ∷ ts) i c h =
 
 -- ---- what is ahead of a reader
 
--- what comes behind spaces and tokens comes behind the tokens
+-- what comes after spaces and tokens comes after the tokens
 pub behind_spaces : (text : List ℕ) (from at to : ℕ) (us : List Placed) (i : Item) → AreSpaces text from at
     → ComesBehind text at us i to → ComesBehind text from us i to
 behind_spaces text from at to [] i s h = comes_from text from at to i s h
 behind_spaces text from at to (t ∷ us) i s h = (comes_from text from at t.end (cut.Token t) s h.0, h.1)
 
--- what comes next at the end of a way comes behind its tokens
+-- what comes next at the end of a way comes after its tokens
 pub path_comes : (l m : Ahead) (us : List Placed) (i : Item) (to : ℕ) → Path l us m → Comes m.text m.place i to
     → ComesBehind l.text l.place us i to
 path_comes l m [] i to p c =

@@ -32,7 +32,7 @@ finished_snoc (t ∷ ss) s =
     ap (λ (z : List Lexeme). t ++ (Comma ∷ z)) (finished_snoc ss s)
     ∙ sym (append_assoc t (Comma ∷ finished ss) (s ++ Comma ∷ []))
 
--- the members with one more, and no comma behind it
+-- the members with one more, and no comma after it
 joined_snoc : (ss : List (List Lexeme)) (s : List Lexeme) → finished ss ++ s ≡ joined (ss ++ s ∷ [])
 joined_snoc [] s = refl
 joined_snoc (t ∷ []) s = append_assoc t (Comma ∷ []) s
@@ -114,7 +114,7 @@ key_pair gs n v ts h = (
 abbrev head : Bool → List Lexeme → List Lexeme
 head all inner = plain (list_word all) ∷ LeftParen ∷ inner
 
--- `)` behind `all(` or behind a comma
+-- `)` after `all(` or after a comma
 pub members_close : (gs : List Opening) (all : Bool) (es : List Tree) (ts : List Lexeme) → Wants (Listed all es ∷ gs) ts
     → EndsWith gs (list_tree all es) (ts ++ RightParen ∷ [])
 members_close gs all es ts o = (
@@ -273,7 +273,7 @@ role_holds gs ts n LiteralWord w is =
     subst L (sym is.0) (literal_holds gs ts n.name w is.1)
 role_holds gs ts n PlainName w is = name_ends gs n ts w is
 
--- behind an expression
+-- after an expression
 tree_holds : (e : Tree) (gs : List Opening) (t : Lexeme) (q : Position) (ts : List Lexeme) → EndsWith gs e ts
     → behind_tree e gs t ≡ Some q → Holds q (ts ++ t ∷ [])
 tree_holds e (Negated ∷ gs) RightParen q ts o h = moved (WithTree (Not e) gs) q _ h (negation_close gs e ts o)

@@ -222,7 +222,7 @@ mutual
 abbrev Spelled : Tree → List Lexeme → List Lexeme → Type 0
 Spelled e ts after = (s : List Lexeme) × Spells e s × (ts ≡ s ++ after)
 
--- the further members, each behind its comma
+-- the further members, each after its comma
 abbrev behind_commas : List (List Lexeme) → List Lexeme
 behind_commas [] = []
 behind_commas (s ∷ ss) = Comma ∷ (s ++ behind_commas ss)

@@ -83,7 +83,7 @@ members_begun True (e ∷ es) leaf = refl
 members_begun False [] leaf = refl
 members_begun False (e ∷ es) leaf = refl
 
--- behind a group that others follow stands a comma
+-- after a group that others follow stands a comma
 pub group_begun : (e : Tree) (es : List CfgExpr) → 0 < length es
     → begun_members (tree e (trees_of (map tree_of es)))
     ≡ print e ++ (codes ", " ++ begun_members (trees_of (map tree_of es)))
@@ -143,7 +143,7 @@ first_smaller ls (d ∷ es) e is some =
     omega (arith, ap node_counts is, size_of_first e (d ∷ es), size_of_first d es, size_positive d)
 
 module _ {W : Type 0} (took : W → List ℕ → W → Type 0) where
-  -- a leaf and what stands behind it
+  -- a leaf and what stands after it
   pub leaf_written : (f g h k : Formatter W) (text : List ℕ) (ls es : List CfgExpr) (e : CfgExpr) → ls ≡ e ∷ es
       → is_group (tree_of e) ≡ false → HasWrittenBut took f text (begun_members (trees_of (map tree_of ls))) g
       → HasWritten took g (word (tree_of e)) h → HasWritten took h (between es) k

@@ -19,7 +19,7 @@ pub accepted_completes : (g : Grammar) (ts : List Lexeme) → IsAccepted g ts �
 accepted_completes g ts p = let A : List Lexeme
     → Type 0 = λ z. IsAccepted g z in ([], tt, subst A (sym (append-nil ts)) p)
 
--- nothing is behind a prefix that is as long as the list
+-- nothing is after a prefix that is as long as the list
 no_more : (prefix after : List Placed) → length (prefix ++ after) ≤ length prefix → after ≡ []
 no_more prefix [] h = refl
 no_more prefix (t ∷ after) h = absurd (omega (arith, length-append prefix (t ∷ after)))

@@ -9,6 +9,7 @@ mod Trees
 mod Conditions
 mod WellFormed
 mod Facts
+mod Asks
 mod Print
 mod Key
 mod Warnings

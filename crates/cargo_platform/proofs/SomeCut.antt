@@ -149,7 +149,7 @@ known_is_ascii c h =
       ]
     ]
 
--- behind `r#`
+-- after `r#`
 marked : (after : List ℕ) → IsUtf8 after → Outcome (codes "r#" ++ after)
 marked [] u = inl (inr (MissingIdentifier, refl))
 marked (d ∷ ds) u =

@@ -108,7 +108,7 @@ no_mark text at End within shows none h = absurd (omega (arith, shows, within))
 no_mark text at (Ascii b) within shows none h = none (ap Ascii (shows.1.byte (omega (arith, h)) ∙ h))
 no_mark text at (Wide c) within shows none h = absurd (omega (arith, shows.0, shows.1.byte (omega (arith, h)), h))
 
--- ---- behind tokens and spaces stands a text of characters
+-- ---- after tokens and spaces stands a text of characters
 
 skip_by : (t : ℕ → Bool) (xs ys : List ℕ) → ((b : ℕ) → t b ≡ true → b < 128) → IsTrue (list_all t xs)
     → IsUtf8 (xs ++ ys) → IsUtf8 ys
@@ -151,7 +151,7 @@ behind_token : (text : List ℕ) (t : Placed) → IsUtf8 (drop t.start text) →
 behind_token text t u w =
     skip_token t.token (drop t.end text) w.0 (subst (λ (z : List ℕ). IsUtf8 z) (written_rest text t w) u)
 
--- what comes behind tokens comes from a place with a text of characters
+-- what comes after tokens comes from a place with a text of characters
 behind : (text : List ℕ) (from to : ℕ) (ts : List Placed) (next : Item) → IsUtf8 (drop from text)
     → ComesBehind text from ts next to → (f : ℕ) × IsUtf8 (drop f text) × Comes text f next to
 behind text from to [] next u h = (from, u, h)

@@ -167,7 +167,7 @@ fails_not_all t (f ∷ fs) (d ∷ cs) after c fails all e =
     (sym (append_assoc (encode_utf8 f) (encode_utf8_all fs) (encode_utf8 c ++ after)) ∙ e) in
     fails_not_all t fs cs after c fails (and_parts _ _ all).1 same.1
 
--- the characters before the first refused one, that one, and what is behind it
+-- the characters before the first refused one, that one, and what is after it
 pub first_parts : (text : List ℕ) (c : ℕ) (r : IsFirstRefused text c)
     → text ≡ encode_utf8_all r.3.0 ++ (encode_utf8 c ++ r.4.0)
 first_parts text c r =

@@ -11,7 +11,7 @@ no_end : (t : Bool) → not t ≡ true → t ≡ false
 no_end true e = absurd (cc)
 no_end false e = refl
 
--- a line with its end is the first line of a text that goes on behind it
+-- a line with its end is the first line of a text that goes on after it
 pub first_line : (l rest : List ℕ) → IsUnbroken l → lines_of ((l ++ 10 ∷ []) ++ rest) ≡ l ∷ lines_of rest
 first_line [] rest u = refl
 first_line (b ∷ bs) rest u =

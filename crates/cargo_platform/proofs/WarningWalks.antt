@@ -113,7 +113,7 @@ pushed_warning now new s ws is warning =
     ∙ map-append (λ z. string_bytes z) now.items (s ∷ [])
     ∙ ap (λ z. texts now ++ z) (sym warning)
 
--- a list that goes on behind what was appended is longer than the old one
+-- a list that goes on after what was appended is longer than the old one
 pub longer_still : (old now new more : List (List ℕ)) → now ≡ old ++ more → IsLonger new now → IsLonger new old
 longer_still old now new more h longer =
     (more ++ longer.0, longer.1 ∙ ap (λ ws. ws ++ longer.0) h ∙ append_assoc old more longer.0)

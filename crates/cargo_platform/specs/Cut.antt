@@ -81,7 +81,7 @@ pub data Item : Type 0 where
   Lexical : (fault : TokenFaultKind) (at : ℕ) → Item
   Nothing : Item
 
--- from a place on this item comes next, and the text goes on behind it from another place
+-- from a place on this item comes next, and the text goes on after it from another place
 abbrev pub Comes : List ℕ → ℕ → Item → ℕ → Type 0
 Comes text from (Token t) to = AreSpaces text from t.start × IsWrittenAt text t × IsWhole text t × (to ≡ t.end)
 Comes text from (Lexical fault at) to = AreSpaces text from at × BeginsFault (drop at text) fault × (to ≡ at)

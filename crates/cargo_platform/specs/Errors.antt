@@ -1,5 +1,5 @@
 -- What an error says, apart from where it lies in memory.
-use Rattle.std.specs.Prelude.{ℕ, List, map, String, Vec, string_bytes, Option, Some, None, Result, Ok, Err}
+use Rattle.std.specs.Prelude.{ℕ, List, map, String, Vec, string_bytes, box_value, Option, Some, None, Result, Ok, Err}
 use Rattle.std.specs.declared.alloc.Global.{Global}
 use Rattle.std.specs.declared.ops.Range.{Range}
 use Rattle.cargo_platform.specs.declared.error.ParseErrorKind.{ParseErrorKind}
@@ -22,16 +22,16 @@ fault_meant (kind.InvalidTarget s) = InvalidTarget (string_bytes s)
 
 -- the text that the error is of, and why
 abbrev pub orig_of : ParseError → List ℕ
-orig_of e = string_bytes e.orig
+orig_of e = string_bytes (box_value e.refused).orig
 
 abbrev pub fault_in : ParseError → Fault
 fault_in e = fault_meant e.kind
 
 -- where the fault lies in that text; an error that is made by hand has no such place
 abbrev pub span_in : ParseError → Option (Range ℕ)
-span_in e = e.span
+span_in e = (box_value e.refused).span
 
--- what is said of a refusal, where it is no want of memory
+-- what is said of a refusal, where it is no allocation failure
 abbrev pub IfParse : {A : Type 0} → Result A ReadError → (ParseError → Type 0) → Type 0
 IfParse (Ok a) P = Unit {0}
 IfParse (Err (errors.Parse e)) P = P e
@@ -41,7 +41,7 @@ IfParse (Err (errors.Memory e)) P = Unit {0}
 abbrev pub texts : Vec (String Global) Global → List (List ℕ)
 texts v = map (λ s. string_bytes s) v.items
 
--- what a refusal prints: a parse error its text; of want of memory nothing is said
+-- what a refusal prints: a parse error its text; nothing of an allocation failure
 abbrev pub print_refusal : ReadError → Option (List ℕ)
 print_refusal (errors.Parse e) = Some (print_error (orig_of e) (fault_in e))
 print_refusal (errors.Memory e) = None

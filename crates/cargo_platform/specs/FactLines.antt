@@ -36,12 +36,12 @@ IfLine (Ok a) P = Unit {0}
 IfLine (Err (Line n e)) P = P n e
 IfLine (Err (Memory e)) P = Unit {0}
 
--- what an error prints: the number of the line, and the text of its fault; of want of memory nothing is said
+-- what an error prints: the number of the line, and the text of its fault; nothing of an allocation failure
 abbrev pub print_facts_error : FactsError → Option (List ℕ)
 print_facts_error (Line n e) = Some (codes "line " ++ decimal n ++ codes ": " ++ print_error (orig_of e) (fault_in e))
 print_facts_error (Memory e) = None
 
--- the line of this number begins so many bytes into the text: behind the lines before it and their ends
+-- the line of this number begins so many bytes into the text: after the lines before it and their ends
 abbrev pub BeginsLine : List ℕ → ℕ → List ℕ → ℕ → Type 0
 BeginsLine text number line place =
     (1 ≤ number) × (number ≤ length (lines_of text)) × (line_at (lines_of text) number ≡ line)

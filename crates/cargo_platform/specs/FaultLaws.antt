@@ -59,7 +59,7 @@ abbrev pub IsStoppedByNext : Grammar → List Placed → List Placed → List Pl
 IsStoppedByNext g ts prefix after = IsFaultPrefix g ts prefix after → (next : Placed) (others : List Placed)
     → after ≡ next ∷ others → IsCompletable g (lexemes (prefix ++ next ∷ [])) → ⊥
 
--- what is expected behind a fault prefix that is not accepted can follow it
+-- what is expected after a fault prefix that is not accepted can follow it
 abbrev pub IsExpectedToFollow : Grammar → List Placed → List Placed → List Placed → Type 0
 IsExpectedToFollow g ts prefix after =
     IsFaultPrefix g ts prefix after → (IsAccepted g (lexemes prefix) → ⊥) →
@@ -84,7 +84,7 @@ IsSpanIn text span = (span.start ≤ span.end) × IsCharBoundary text span.start
 abbrev pub IsPlacedWithin : Grammar → List ℕ → Fault → Range ℕ → Type 0
 IsPlacedWithin g text fault span = IsRefusedAt g text fault (Some span) → IsSpanIn text span
 
--- what is left behind a whole value or expression runs from the span's start to the end of the text
+-- what is left after a whole value or expression runs from the span's start to the end of the text
 abbrev pub IsSurplusAt : Grammar → List ℕ → List ℕ → Type 0
 IsSurplusAt g text rest = (r : IsRefused g text (UnterminatedExpression rest))
     → (drop (span_of text r.accepted r.next).start text ≡ rest)

@@ -61,6 +61,8 @@ pub mod Json
 -- ---- matching
 -- Facts: sets of facts, and the truth over one
 pub mod Facts
+-- Asks: how often a holder of them is asked
+pub mod Asks
 -- FactLaws: what truth rests on
 pub mod FactLaws
 -- Lines: the lines of a text

@@ -26,7 +26,7 @@ is_lexical (Token t) = false
 is_lexical (Lexical fault at) = true
 is_lexical Nothing = false
 
--- the item that comes next is given, and the text goes on behind it
+-- the item that comes next is given, and the text goes on after it
 pub record Gives (old new : Progress) (item : Item) : Type 0 where
   pub going : old.failed ≡ false
   pub same_text : new.text ≡ old.text
@@ -47,6 +47,10 @@ BeginsCharacter text (Some (Err f)) = IsCharBoundary text f.at
 -- how many characters stand from a place on
 abbrev pub characters_from : List ℕ → ℕ → ℕ
 characters_from text at = length (chars (drop at text))
+
+-- no fewer looks were made than characters of the text stand before the place
+abbrev pub IsLookedTo : List ℕ → ℕ → ℕ → Type 0
+IsLookedTo text to looks = characters_from text 0 ≤ looks + characters_from text to
 
 -- one call of `next`, with where it came to and how often the text was looked at so far
 pub record NextCall (old : Progress) (r : Option (Result Spanned TokenFault)) (new : Progress) : Type 0 where

@@ -1,4 +1,4 @@
--- Two lines that show where a text is refused: the text, and carets under the span with the print of the fault behind.
+-- Two lines that show where a text is refused: the text, and carets under the span with the print of the fault after.
 use Rattle.std.specs.Prelude.{◌≡◌, ℕ, ◌+◌, ◌-◌, min, max, Bool, true, false, ◌||◌, ◌==◌, nat_le, nat_lt, List, ◌++◌}
 use Rattle.std.specs.Prelude.{if◌then◌else◌, map, length, take, drop, codes, Option, None, Some, slice_range}
 use Rattle.std.specs.Prelude.{encode_utf8_all, string_bytes, String}

@@ -16,7 +16,7 @@ use Rattle.cargo_platform.specs.FactLines.{IsFirstNoFact, IsSpanInFacts}
 abbrev pub before_span : {g : Grammar} {text : List ℕ} {fault : Fault} → IsRefused g text fault → List ℕ
 before_span {text = text} r = take (span_of text r.accepted r.next).start text
 
--- nothing, or the mark `r#` of a lexical fault that comes at this place behind a prefix that is not accepted
+-- nothing, or the mark `r#` of a lexical fault that comes at this place after a prefix that is not accepted
 abbrev pub IsNothingOrMark : List ℕ → Bool → Item → ℕ → Type 0
 IsNothingOrMark left accepted next place =
     (left ≡ []) ⊎ ((left ≡ codes "r#") × IsFalse accepted × ((kind : TokenFaultKind) × (next ≡ Lexical kind place)))
@@ -27,8 +27,8 @@ IsCutBefore r =
     (tail : ℕ) × IsCut (before_span r) r.prefix tail
     × IsNothingOrMark (drop tail (before_span r)) r.accepted r.next tail
 
--- the error of a refused text of facts: it is of the first line that spells no fact, with the fault of that line and its
--- span
+-- the error of a refused text of facts: it is of the first line that spells no fact, with the fault of that line and
+-- its span
 abbrev pub IsErrorOfFacts : List ℕ → FactsError → Type 0
 IsErrorOfFacts text (Line number e) =
     IsFirstNoFact (lines_of text) number × (orig_of e ≡ line_at (lines_of text) number)

@@ -23,7 +23,7 @@ abbrev pub condition_values : Condition → List CfgValue
 condition_values (Target name) = []
 condition_values (Expression e) = values e
 
--- what the warning says behind the name
+-- what the warning says after the name
 abbrev pub unsupported_text : List ℕ
 unsupported_text =
     codes "` in `target.'cfg(...)'.dependencies`. "
@@ -76,6 +76,6 @@ attribute_warnings p = flat_map attribute_warning (condition_values p)
 abbrev pub keyword_warnings : List ℕ → Condition → List (List ℕ)
 keyword_warnings path p = flat_map (keyword_warning_of path) (condition_values p)
 
--- the second list, with more behind it
+-- the second list, with more after it
 abbrev pub IsLonger : List (List ℕ) → List (List ℕ) → Type 0
 IsLonger longer texts = (more : List (List ℕ)) × (longer ≡ texts ++ more)

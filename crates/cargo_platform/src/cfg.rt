@@ -14,7 +14,7 @@ use std::alloc::Global;
 use std::mem;
 
 /// An identifier. Of those that are read the name is one `_` or ASCII letter, and such characters or ASCII digits
-/// behind it. Equality, order and hash see the name alone; printing and copies keep the raw mark.
+/// after it. Equality, order and hash see the name alone; printing and copies keep the raw mark.
 #[derive(Debug, Drop)]
 pub struct Ident {
     /// The name, without the raw mark.
@@ -93,7 +93,7 @@ impl Cfg {
     ghost use Rattle.cargo_platform.specs.Print.{print_value};
     ghost use Rattle.cargo_platform.specs.Errors.{IfParse, orig_of, fault_in, span_in};
 
-    /// Reads a name, or a key, `=` and a string. Spaces may stand before, between and behind them; `all`, `any`, `not`,
+    /// Reads a name, or a key, `=` and a string. Spaces may stand before, between and after them; `all`, `any`, `not`,
     /// `true` and `false` are ordinary names here.
     ///
     /// Any other text is refused with `ReadError::Parse` of its first fault: what can't follow the longest prefix of
@@ -122,31 +122,53 @@ impl Cfg {
 }
 
 impl Drop for CfgExpr {
-    /// Drops the expression in a loop, with no stack for its depth and no memory but its own.
+    /// Drops the expression, with no stack for its depth and no memory but its own.
+    // Most expressions are names and pairs: no call is made for these.
+    #[inline(always)]
+    fn drop(self) {
+        match self {
+            CfgExpr::Value(_value) => {}
+            CfgExpr::True | CfgExpr::False => {}
+            CfgExpr::Not(negated) => CfgExpr::drop_negated(Box::into_inner(negated)),
+            CfgExpr::All(members) | CfgExpr::Any(members) => CfgExpr::drop_members(members),
+        }
+    }
+}
+
+impl CfgExpr {
+    /// Drops what a negation negates.
+    #[inline(never)]
+    fn drop_negated(mut self) {
+        'levels: loop {
+            match self {
+                CfgExpr::Not(negated) => self = Box::into_inner(negated),
+                CfgExpr::All(members) | CfgExpr::Any(members) => return CfgExpr::drop_members(
+                    members,
+                ),
+                CfgExpr::Value(_value) => return,
+                CfgExpr::True | CfgExpr::False => return,
+            }
+        }
+    }
+
+    /// Drops the members of a list in a loop.
     ///
     /// One list and one expression are at hand at a time. The list gives up its last member. Where that has members of
     /// its own, the first of these is taken out, the list at hand is put into its place, and these members become the
     /// list at hand. No list is let go before it is empty.
-    fn drop(mut self) {
-        let mut left = 'negations: loop {
-            match self {
-                CfgExpr::Not(negated) => self = Box::into_inner(negated),
-                CfgExpr::All(members) | CfgExpr::Any(members) => break members,
-                CfgExpr::Value(_value) => return,
-                CfgExpr::True | CfgExpr::False => return,
-            }
-        };
+    #[inline(never)]
+    fn drop_members(mut left: Vec<CfgExpr>) {
         'members: while let Some(last) = left.pop() {
-            self = last;
+            let mut e = last;
             'levels: loop {
-                let mut members = match self {
-                    CfgExpr::Not(negated) => {
-                        self = Box::into_inner(negated);
+                let mut members = match e.into_parts() {
+                    CfgExprParts::Not(negated) => {
+                        e = Box::into_inner(negated);
                         continue;
                     }
-                    CfgExpr::All(members) | CfgExpr::Any(members) => members,
-                    CfgExpr::Value(_value) => continue 'members,
-                    CfgExpr::True | CfgExpr::False => continue 'members,
+                    CfgExprParts::All(members) | CfgExprParts::Any(members) => members,
+                    CfgExprParts::Value(_value) => continue 'members,
+                    CfgExprParts::True | CfgExprParts::False => continue 'members,
                 };
                 if members.is_empty() {
                     members.destroy_empty();
@@ -157,7 +179,7 @@ impl Drop for CfgExpr {
                     left = members;
                     continue 'members;
                 }
-                self = mem::replace(&mut members[0], CfgExpr::All(left));
+                e = mem::replace(&mut members[0], CfgExpr::All(left));
                 left = members;
             }
         }
@@ -166,12 +188,13 @@ impl Drop for CfgExpr {
 }
 
 impl CfgExpr {
-    ghost use Rattle.std.specs.Prelude.{◌≡◌, ◌≤◌, ◌+◌, ◌*◌, length, IfOk, OnOk};
+    ghost use Rattle.std.specs.Prelude.{◌≡◌, ◌≤◌, ◌+◌, ◌*◌, length, IfOk, OnOk, IfSome};
     ghost use Rattle.std.specs.Str.{chars};
     ghost use Rattle.cargo_platform.specs.Trees.{Tree, tree_of};
     ghost use Rattle.cargo_platform.specs.Spelling.{Expressions, IsTreeText};
     ghost use Rattle.cargo_platform.specs.WellFormed.{IsWellFormed};
-    ghost use Rattle.cargo_platform.specs.Faults.{IsRefused, IsRefusedAt};
+    ghost use Rattle.cargo_platform.specs.Faults.{IsRefused, IsRefusedAt, looked_to};
+    ghost use Rattle.cargo_platform.specs.Reading.{IsLookedTo};
     ghost use Rattle.cargo_platform.specs.Print.{print};
     ghost use Rattle.cargo_platform.specs.Errors.{IfParse, orig_of, fault_in, span_in};
     ghost use Rattle.cargo_platform.specs.Parts.{joined};
@@ -202,7 +225,8 @@ impl CfgExpr {
 
     /// Reads an expression as `from_str` does, and tells how often the reader asked its source for a character, or
     /// whether the text ends: with an expression once for each character of the text and once for its end, and whatever
-    /// it answers never more often.
+    /// it answers never more often. It looked at a refused text up to the end of the fault's span, and where something
+    /// is left after an expression, up to that: no less often than characters stand before.
     pub fn from_str_counted(alloc: Global, s: &str) -> (Result<CfgExpr, ReadError>, Looks)
         // What `from_str` promises.
         ensures tree { IfOk result.0 (λ e. IsTreeText s.now (tree_of e)) }
@@ -217,6 +241,8 @@ impl CfgExpr {
         ensures at_most { result.1 ≤ 12 * (length (chars s.now) + 1) }
         ensures at_most_once { result.1 ≤ length (chars s.now) + 1 }
         ensures each_once { OnOk result.0 (result.1 ≡ length (chars s.now) + 1) }
+        ensures at_least { IfParse result.0
+            (λ e. IfSome (span_in e) (λ span. IsLookedTo s.now (looked_to (fault_in e) span) result.1)) }
     {
         let mut reader = Reader::new(s);
         let read = match parser::read_expression(alloc, &mut reader) {

@@ -69,7 +69,7 @@ fn copy_tree(alloc: Global, e: &CfgExpr) -> Result<CfgExpr, AllocError>
 #[derive(Drop)]
 enum CopiedGroup<'a> {
     Not,
-    /// Its word, the copies that are made, and the members behind the one that is being copied.
+    /// Its word, the copies that are made, and the members after the one that is being copied.
     List(Listing, Vec<CfgExpr>, &'a [CfgExpr]),
 }
 
@@ -208,7 +208,7 @@ fn copy_members<'a>(
 }
 
 // Most members are names and pairs. They are copied in a row, with no group pushed and popped between them.
-/// Copies the names and pairs that members begin with, and answers the members behind these.
+/// Copies the names and pairs that members begin with, and answers the members after these.
 fn copy_values<'a>(
     alloc: Global,
     members: &'a [CfgExpr],

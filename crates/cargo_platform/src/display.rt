@@ -168,7 +168,7 @@ fn write_word<W: fmt::Write>(e: &CfgExpr, f: &mut fmt::Formatter<W>) -> fmt::Res
     }
 }
 
-/// What stands behind a member, before the others.
+/// What stands after a member, before the others.
 #[inline(always)]
 fn write_between<W: fmt::Write>(others: &[CfgExpr], f: &mut fmt::Formatter<W>) -> fmt::Result
     ensures { WritesOnOk W.write_str_gives f.old result (between others.now) f.new }

@@ -21,22 +21,29 @@ pub enum ParseErrorKind {
         /// What follows.
         found: &'static str,
     },
-    /// The text ends where this was expected; or it ends with an empty `r#`, behind which an identifier was expected.
+    /// The text ends where this was expected; or it ends with an empty `r#`, after which an identifier was expected.
     IncompleteExpr(&'static str),
-    /// The prefix is a whole value or expression, and this text is left behind it.
+    /// The prefix is a whole value or expression, and this text is left after it.
     UnterminatedExpression(String),
     /// The text is no target name, which this message explains.
     InvalidTarget(String),
 }
 
 /// A text that is refused, and why.
-#[derive(Debug, Drop)]
+#[derive(Drop)]
 pub struct ParseError {
     /// Why it is refused.
     kind: ParseErrorKind,
+    /// What is refused. It lies in a box so that a reader's answer is no larger than an expression.
+    refused: Box<Refused>,
+}
+
+/// What is refused.
+#[derive(Drop)]
+struct Refused {
     /// The whole text.
     orig: String,
-    /// Where in the text, in bytes; an error that is made by hand names no place.
+    /// Where in the text the fault lies, in bytes; an error that is made by hand names no place.
     span: Option<Range<usize>>,
 }
 
@@ -64,7 +71,8 @@ impl ParseError {
         ensures place { IfOk result (λ e. span_in e ≡ span) }
     {
         let orig = String::from_str(alloc, orig)?;
-        Ok(ParseError { kind, orig, span })
+        let refused = Box::new(alloc, Refused { orig, span })?;
+        Ok(ParseError { kind, refused })
     }
 
     /// What is wrong with the text.
@@ -78,17 +86,17 @@ impl ParseError {
     pub fn orig(&self) -> &str
         ensures { result.now ≡ orig_of self.now }
     {
-        &self.orig
+        &self.refused.orig
     }
 
-    /// Where the fault lies in `orig`, in bytes: the token that does not fit; what is left behind a whole value or
+    /// Where the fault lies in `orig`, in bytes: the token that does not fit; what is left after a whole value or
     /// expression; the character that begins no token, or that no target name may hold; an open string from its quote
     /// on; and the empty span at the end where the text ends too early. An error of a reader has a span, and one that
     /// `new` made has none.
     pub fn span(&self) -> Option<Range<usize>>
         ensures { result ≡ span_in self.now }
     {
-        match &self.span {
+        match &self.refused.span {
             Some(span) => Some(span.start..span.end),
             None => None,
         }
@@ -132,6 +140,16 @@ impl fmt::Display for ParseErrorKind {
     }
 }
 
+impl fmt::Debug for ParseError {
+    fn fmt<W: fmt::Write>(&self, f: &mut fmt::Formatter<W>) -> fmt::Result {
+        f.debug_struct("ParseError")
+            .field("kind", &self.kind)
+            .field("orig", &self.refused.orig)
+            .field("span", &self.refused.span)
+            .finish()
+    }
+}
+
 impl fmt::Display for ParseError {
     ghost use Rattle.std.specs.Prelude.{Some};
     ghost use Rattle.cargo_platform.specs.Print.{print_error};
@@ -140,7 +158,7 @@ impl fmt::Display for ParseError {
     ghost output = { λ e. Some (print_error (orig_of e) (fault_in e)) };
 
     fn fmt<W: fmt::Write>(&self, f: &mut fmt::Formatter<W>) -> fmt::Result {
-        let orig = &self.orig;
+        let orig = &self.refused.orig;
         let kind = &self.kind;
         write!(f, "failed to parse `{orig}` as a cfg expression: {kind}")
     }

@@ -60,7 +60,7 @@ fn read_line(alloc: Global, number: usize, line: &str) -> Result<Cfg, FactsError
 
 /// Reads a list of facts, one a line, as `rustc --print cfg` prints them: line for line what `Cfg::from_str` reads.
 ///
-/// A line ends with `\n` and with nothing else; behind the last `\n` a line stands only where a character does. So the
+/// A line ends with `\n` and with nothing else; after the last `\n` a line stands only where a character does. So the
 /// empty text has no facts, and an empty line, or one that ends with `\r`, is refused. A text with a line that spells
 /// no fact is refused with `FactsError::Line` of the first such line. Where memory is refused the answer is
 /// `FactsError::Memory`, whatever the text.
@@ -125,7 +125,7 @@ fn line_place(text: &str, number: usize, line: &str) -> Option<usize>
     }
 }
 
-/// The text behind so many lines and their ends, where it has so many.
+/// The text after so many lines and their ends, where it has so many.
 fn behind_lines(text: &str, many: usize) -> Option<&str>
     ensures { MatchOption result (length (lines_of text.now) < many + 1) (λ rest. IsBehind text.now many rest.now) }
 {

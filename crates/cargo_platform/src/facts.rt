@@ -1,6 +1,6 @@
 //! Facts, and the truth of an expression over them.
 
-ghost use Rattle.std.specs.Prelude.{◌≡◌, ◌≤◌, map, length, IfOk, MatchResult};
+ghost use Rattle.std.specs.Prelude.{◌≡◌, ◌≤◌, ◌-◌, ◌^◌, min, map, length, IfOk, MatchResult};
 ghost use Rattle.std.proofs.Props.{props};
 ghost use Rattle.std.specs.List.Sorted.{IsSorted};
 ghost use Rattle.std.specs.Ordering.{eq_by_cmp, on};
@@ -9,8 +9,11 @@ ghost use Rattle.cargo_platform.specs.Key.{value_cmp};
 ghost use Rattle.cargo_platform.specs.LengthOrder.{length_cmp, alone, key_value};
 ghost use Rattle.cargo_platform.specs.Trees.{KeyPair, name_of, value_of, tree_of, trees_of};
 ghost use Rattle.cargo_platform.specs.Facts.{FactSet, pair_of, fact_set, truth, all_true, any_true};
+ghost use Rattle.cargo_platform.specs.Asks.{asks, asks_of_all, asks_of_any};
+ghost use Rattle.cargo_platform.specs.Inside.Asking.{Counts};
 ghost use Rattle.cargo_platform.specs.ExpressionSizes.{node_count, node_counts};
 
+use crate::asking::{Asked, Asks, Tally, Uncounted};
 use crate::cfg::{Cfg, CfgExpr, Ident};
 use std::alloc::{AllocError, Global};
 use std::cmp::Ordering;
@@ -170,14 +173,6 @@ impl Facts for FactIndex {
     }
 }
 
-/// Whether the holder has the fact.
-#[inline(never)]
-fn is_fact<F: Facts>(c: &Cfg, facts: &F) -> bool
-    ensures { result ≡ contains (F.meant facts.now) (pair_of (value_of c.now)) }
-{
-    facts.holds(c)
-}
-
 impl CfgExpr {
     /// Whether the expression is true over the facts in `cfg`.
     ///
@@ -190,13 +185,34 @@ impl CfgExpr {
         self.matches_in(&Listed(cfg))
     }
 
+    /// Whether the expression is true over the set of facts that the holder means. The holder is asked as often as
+    /// `matches_counted` tells.
+    pub fn matches_in<F: Facts>(&self, facts: &F) -> bool
+        ensures { result ≡ truth (F.meant facts.now) (tree_of self.now) }
+    {
+        self.is_true_in(facts, &mut Uncounted)
+    }
+
+    /// Whether the expression is true over the set of facts that the holder means, as `matches_in` answers, and how
+    /// often the holder was asked: for each name and pair once at most, from left to right, and for none after one
+    /// that settles its group.
+    pub fn matches_counted<F: Facts>(&self, facts: &F) -> (bool, Asks)
+        ensures truth { result.0 ≡ truth (F.meant facts.now) (tree_of self.now) }
+        ensures asks { result.1 ≡ min (asks (F.meant facts.now) (tree_of self.now)) (2 ^ 128 - 1) }
+    {
+        let mut asks = Asks::none();
+        let answer = self.is_true_in(facts, &mut asks);
+        (answer, asks)
+    }
+
     /// Whether the expression is true over the set of facts that the holder means.
     // Goes down the last members in a loop, so that what recurses are the groups that others follow. A holder is asked
     // in a function of its own, so that a level of the recursion takes few bytes.
     #[cycle(matches)]
     #[tactic(auto, using(crate::proofs::LastMembers::asked_not))]
-    pub fn matches_in<F: Facts>(&self, facts: &F) -> bool
-        ensures { result ≡ truth (F.meant facts.now) (tree_of self.now) }
+    fn is_true_in<F: Asked, T: Tally>(&self, facts: &F, tally: &mut T) -> bool
+        ensures truth { result ≡ truth (F.meant facts.now) (tree_of self.now) }
+        ensures asks { Counts (asks (F.meant facts.now) (tree_of self.now)) 0 (T.asks tally.old) (T.asks tally.new) }
     {
         let mut e = self;
         let mut is_asked = true;
@@ -207,9 +223,9 @@ impl CfgExpr {
                     e = inner;
                     continue;
                 }
-                CfgExpr::All(members) => CfgExpr::all_but_last(members, facts),
-                CfgExpr::Any(members) => CfgExpr::any_but_last(members, facts),
-                CfgExpr::Value(c) => Err(is_fact(c, facts)),
+                CfgExpr::All(members) => CfgExpr::all_but_last(members, facts, tally),
+                CfgExpr::Any(members) => CfgExpr::any_but_last(members, facts, tally),
+                CfgExpr::Value(c) => Err(facts.ask(tally, c)),
                 CfgExpr::True => Err(true),
                 CfgExpr::False => Err(false),
             };
@@ -223,12 +239,13 @@ impl CfgExpr {
     /// Without recursion where it is a name or a pair.
     #[cycle(matches)]
     #[inline(always)]
-    fn is_true_member<F: Facts>(&self, facts: &F) -> bool
-        ensures { result ≡ truth (F.meant facts.now) (tree_of self.now) }
+    fn is_true_member<F: Asked, T: Tally>(&self, facts: &F, tally: &mut T) -> bool
+        ensures truth { result ≡ truth (F.meant facts.now) (tree_of self.now) }
+        ensures asks { Counts (asks (F.meant facts.now) (tree_of self.now)) 0 (T.asks tally.old) (T.asks tally.new) }
     {
         match self {
-            CfgExpr::Value(c) => is_fact(c, facts),
-            other => other.matches_in(facts),
+            CfgExpr::Value(c) => facts.ask(tally, c),
+            other => other.is_true_in(facts, tally),
         }
     }
 
@@ -236,11 +253,20 @@ impl CfgExpr {
     #[cycle(matches)]
     #[inline(always)]
     #[tactic(auto, using(crate::proofs::LastMembers::and_true))]
-    fn all_but_last<'a, F: Facts>(members: &'a [CfgExpr], facts: &F) -> Result<&'a CfgExpr, bool>
+    fn all_but_last<'a, F: Asked, T: Tally>(
+        members: &'a [CfgExpr],
+        facts: &F,
+        tally: &mut T,
+    ) -> Result<&'a CfgExpr, bool>
         ensures truth { MatchResult result
             (λ last. truth (F.meant facts.now) (tree_of last.now)
             ≡ all_true (F.meant facts.now) (trees_of (map tree_of members.now)))
             (λ is_true. is_true ≡ all_true (F.meant facts.now) (trees_of (map tree_of members.now))) }
+        ensures asks { MatchResult result
+            (λ last. Counts (asks_of_all (F.meant facts.now) (trees_of (map tree_of members.now)))
+            (asks (F.meant facts.now) (tree_of last.now)) (T.asks tally.old) (T.asks tally.new))
+            (λ is_true. Counts (asks_of_all (F.meant facts.now) (trees_of (map tree_of members.now))) 0
+            (T.asks tally.old) (T.asks tally.new)) }
         ensures size { IfOk result (λ last. node_count last.now ≤ node_counts members.now) }
     {
         let mut left = members;
@@ -248,7 +274,7 @@ impl CfgExpr {
             if others.is_empty() {
                 return Ok(first);
             }
-            if !first.is_true_member(facts) {
+            if !first.is_true_member(facts, tally) {
                 return Err(false);
             }
             left = others;
@@ -260,11 +286,20 @@ impl CfgExpr {
     #[cycle(matches)]
     #[inline(always)]
     #[tactic(auto, using(crate::proofs::LastMembers::or_false))]
-    fn any_but_last<'a, F: Facts>(members: &'a [CfgExpr], facts: &F) -> Result<&'a CfgExpr, bool>
+    fn any_but_last<'a, F: Asked, T: Tally>(
+        members: &'a [CfgExpr],
+        facts: &F,
+        tally: &mut T,
+    ) -> Result<&'a CfgExpr, bool>
         ensures truth { MatchResult result
             (λ last. truth (F.meant facts.now) (tree_of last.now)
             ≡ any_true (F.meant facts.now) (trees_of (map tree_of members.now)))
             (λ is_true. is_true ≡ any_true (F.meant facts.now) (trees_of (map tree_of members.now))) }
+        ensures asks { MatchResult result
+            (λ last. Counts (asks_of_any (F.meant facts.now) (trees_of (map tree_of members.now)))
+            (asks (F.meant facts.now) (tree_of last.now)) (T.asks tally.old) (T.asks tally.new))
+            (λ is_true. Counts (asks_of_any (F.meant facts.now) (trees_of (map tree_of members.now))) 0
+            (T.asks tally.old) (T.asks tally.new)) }
         ensures size { IfOk result (λ last. node_count last.now ≤ node_counts members.now) }
     {
         let mut left = members;
@@ -272,7 +307,7 @@ impl CfgExpr {
             if others.is_empty() {
                 return Ok(first);
             }
-            if first.is_true_member(facts) {
+            if first.is_true_member(facts, tally) {
                 return Err(true);
             }
             left = others;

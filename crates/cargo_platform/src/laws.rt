@@ -1,6 +1,6 @@
 //! Laws over the definitions. The functions do nothing: each contract is a law.
 
-ghost use Rattle.std.specs.Prelude.{◌≡◌, ◌≤◌, true, false, ℕ, List, [], Option, IsUtf8, Box, Vec};
+ghost use Rattle.std.specs.Prelude.{◌≡◌, ◌≤◌, true, false, ℕ, List, [], length, Option, IsUtf8, Box, Vec};
 ghost use Rattle.std.specs.declared.alloc.Global.{Global};
 ghost use Rattle.std.specs.declared.ops.Range.{Range};
 ghost use Rattle.cargo_platform.specs.declared.cfg.Cfg.{Cfg};
@@ -34,6 +34,8 @@ ghost use Rattle.cargo_platform.specs.ChangeLaws.{IsTextRefusedForLiteralKeys, K
 ghost use Rattle.cargo_platform.specs.ViewLaws.{IsNotOf, IsAllOf, IsAnyOf, IsValueOf, AreLiterals};
 ghost use Rattle.cargo_platform.specs.Sizes.{size, depth};
 ghost use Rattle.cargo_platform.specs.Facts.{Pair, pair_cmp, FactSet, fact_set, truth};
+ghost use Rattle.cargo_platform.specs.Asks.{asks};
+ghost use Rattle.cargo_platform.specs.Warnings.{values};
 ghost use Rattle.cargo_platform.specs.FactLaws.{IsInWhereListed, HaveSamePairs, HaveSameFacts, IsMonotone};
 ghost use Rattle.cargo_platform.specs.FactLaws.{IsNotAllAnyNot, IsOrderOfKeys, IsTruthOfCondition};
 ghost use Rattle.cargo_platform.specs.Lines.{lines_of, AreLines};
@@ -150,10 +152,10 @@ pub fn faults_are_placed()
         → IsConditionPlacedWithin text orig fault span }
 {}
 
-/// The span of what is left behind a whole value or expression is that of its text. The text before the span of any
-/// fault is cut into the tokens of the fault prefix, and nothing of it is left but the mark `r#` of a lexical fault; the
-/// next token begins with the span. Before the span of a refused target name stands a target name, where it does not
-/// begin with `cfg(`.
+/// The span of what is left after a whole value or expression is that of its text. The text before the span of any
+/// fault is cut into the tokens of the fault prefix, and nothing of it is left but the mark `r#` of a lexical fault.
+/// The next token begins with the span. Before the span of a refused target name stands a target name, where it does
+/// not begin with `cfg(`.
 pub fn around_spans()
     ensures surplus { (g : Grammar) (text rest : List ℕ) → IsSurplusAt g text rest }
     ensures prefix { (g : Grammar) (text : List ℕ) (fault : Fault) (r : IsRefused g text fault) → IsBehindPrefix r }
@@ -168,7 +170,7 @@ pub fn faults_are_in_keys()
         → IsFoundInKey key text fault span found }
 {}
 
-/// Where a text of facts is refused, what `FactsError::span_in` answers lies in the whole text, in order, and begins and
+/// Where a text of facts is refused, what `FactsError::span_in` answers lies in the whole text, in order. It begins and
 /// ends at characters.
 pub fn faults_are_in_facts()
     ensures { (text : List ℕ) (error : FactsError) (found : Option (Range ℕ)) → IsUtf8 text
@@ -234,9 +236,9 @@ pub fn literals_are_no_keys()
     ensures refused { (ts : List Lexeme) → IsRefusedForLiteralKeys ts }
 {}
 
-/// From the Rust crate's grammar of expressions to today's. What a text spelled there is told by what it spells, and it
-/// spells nothing exactly where an unmarked `true` or `false` is a key. A text that was refused there is refused, at the
-/// same token or an earlier one, and with the same fault where what stands before it can still be completed.
+/// From the Rust crate's grammar of expressions to today's. What a text spelled there is told by what it spells now. It
+/// spells nothing now exactly where an unmarked `true` or `false` is a key. A text that was refused there is refused, at
+/// the same token or an earlier one, and with the same fault where what stands before it can still be completed.
 pub fn texts_as_released()
     ensures spelled { (text : List ℕ) → SpelledReleasedText text }
     ensures refused { (text : List ℕ) → IsTextRefusedForLiteralKeys text }
@@ -271,6 +273,11 @@ pub fn truth_is_of_facts()
 /// The truth of a condition as a function, by which `Platform::matches` answers, says which conditions are true.
 pub fn truth_of_conditions()
     ensures { (target : List ℕ) (facts : FactSet) (p : Condition) → IsTruthOfCondition target facts p }
+{}
+
+/// A holder is asked no more often than the tree has names and pairs.
+pub fn asks_within_values()
+    ensures { (facts : FactSet) (e : Tree) → asks facts e ≤ length (values e) }
 {}
 
 /// In a tree with no `Not`, more facts never turn truth into falsehood.

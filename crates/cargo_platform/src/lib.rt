@@ -6,6 +6,7 @@
 //! and answers a `Result`.
 #![tactic(auto)]
 
+mod asking;
 pub mod cfg;
 mod classes;
 mod clone;
@@ -25,6 +26,7 @@ mod source;
 pub mod tokens;
 mod warnings;
 
+pub use asking::Asks;
 pub use cfg::{Cfg, CfgExpr, CfgExprParts, FactIndex, Facts, Ident, Listed};
 pub use error::{ParseError, ParseErrorKind, ReadError};
 pub use fact_lines::{FactsError, read_facts};

@@ -12,7 +12,7 @@ ghost use Rattle.cargo_platform.specs.Walk.{Word, Named, walk};
 ghost use Rattle.cargo_platform.specs.Inside.Parsing.{LacksPunctuation, Opening, Negated, Listed, opening, stack};
 ghost use Rattle.cargo_platform.specs.Inside.Parsing.{IsFresh, is_all, list_tree, is_lone, Wants, Has, HasName};
 ghost use Rattle.cargo_platform.specs.Inside.Parsing.{HasWord, Stands, Reads, Stops, HasRead, ClearBehind, TakesToken};
-ghost use Rattle.cargo_platform.specs.Inside.Parsing.{opening_word, kinds, is_list, openings, with_last};
+ghost use Rattle.cargo_platform.specs.Inside.Parsing.{opening_word, kinds, is_list, openings, with_last, HasLooked};
 
 use crate::cfg::{Cfg, CfgExpr, Ident};
 use crate::reader::{Punctuation, Reader, Refusal, expect_end, refuse};
@@ -188,13 +188,14 @@ fn read_value<'a>(
     raw: bool,
     name: &str,
 ) -> Result<Cfg, Refusal<'a>>
-    ensures same_text { reader.new.text ≡ reader.old.text }
+    ensures same_text { reader.new.ahead.text ≡ reader.old.ahead.text }
     ensures value { IfOk result
-        (λ c. Reads reader.old reader.new (λ ts. ts ≡ ident_token raw name.now ∷ [])
+        (λ c. Reads reader.old.ahead reader.new.ahead (λ ts. ts ≡ ident_token raw name.now ∷ [])
         (λ ts. ts ≡ value_spelling (value_of c))) }
-    ensures clear { IfOk result (λ c. ClearBehind (value_of c) reader.new) }
+    ensures clear { IfOk result (λ c. ClearBehind (value_of c) reader.new.ahead) }
     ensures refused { IfErr result
-        (λ r. (g : Grammar) (ws : List Word) → Stops g reader.old (λ ts. walk g ts ≡ Some (Named ws)) r) }
+        (λ r. (g : Grammar) (ws : List Word) → Stops g reader.old.ahead (λ ts. walk g ts ≡ Some (Named ws)) r) }
+    ensures looked { IfErr result (HasLooked reader.new) }
 {
     if !reader.eat(Punctuation::Equals) {
         return Ok(Cfg::Name(ident(alloc, raw, name)?));
@@ -207,17 +208,19 @@ fn read_value<'a>(
     Ok(Cfg::KeyPair(key, value))
 }
 
-/// Reads the `(` behind a group's word.
+/// Reads the `(` after a group's word.
 #[inline(always)]
 fn open_group<'a>(
     reader: &mut Reader<'a>,
     groups: &mut OpenGroups,
     group: Group,
 ) -> Result<(), Refusal<'a>>
-    ensures same_text { reader.new.text ≡ reader.old.text }
+    ensures same_text { reader.new.ahead.text ≡ reader.old.ahead.text }
     ensures opened { OnOk result
-        (Reads reader.old reader.new (HasWord (stack groups.old) (opening group)) (Wants (stack groups.new))) }
-    ensures refused { IfErr result (Stops Expressions reader.old (HasWord (stack groups.old) (opening group))) }
+        (Reads reader.old.ahead reader.new.ahead (HasWord (stack groups.old) (opening group))
+        (Wants (stack groups.new))) }
+    ensures refused { IfErr result (Stops Expressions reader.old.ahead (HasWord (stack groups.old) (opening group))) }
+    ensures looked { IfErr result (HasLooked reader.new) }
 {
     if !reader.eat(Punctuation::LeftParen) {
         return Err(refuse(reader, "`(`", "`(`"));
@@ -226,7 +229,7 @@ fn open_group<'a>(
     Ok(())
 }
 
-/// Goes on behind a name: a group is open then, or an expression ended.
+/// Goes on after a name: a group is open then, or an expression ended.
 #[inline(always)]
 fn behind_name<'a>(
     alloc: Global,
@@ -235,11 +238,12 @@ fn behind_name<'a>(
     raw: bool,
     name: &str,
 ) -> Result<Option<CfgExpr>, Refusal<'a>>
-    ensures same_text { reader.new.text ≡ reader.old.text }
+    ensures same_text { reader.new.ahead.text ≡ reader.old.ahead.text }
     ensures begun { IfOk result
-        (λ done. Reads reader.old reader.new (HasName (stack groups.old) raw name.now)
-        (Stands (stack groups.new) done reader.new)) }
-    ensures refused { IfErr result (Stops Expressions reader.old (HasName (stack groups.old) raw name.now)) }
+        (λ done. Reads reader.old.ahead reader.new.ahead (HasName (stack groups.old) raw name.now)
+        (Stands (stack groups.new) done reader.new.ahead)) }
+    ensures refused { IfErr result (Stops Expressions reader.old.ahead (HasName (stack groups.old) raw name.now)) }
+    ensures looked { IfErr result (HasLooked reader.new) }
 {
     if let Some(group) = group_named(alloc, raw, name) {
         open_group(reader, groups, group)?;
@@ -254,14 +258,14 @@ fn behind_name<'a>(
 
 /// Reads the `)` of a list that has no members yet, or ends with a comma.
 fn end_list(reader: &mut Reader<'_>, groups: &mut OpenGroups) -> Option<CfgExpr>
-    ensures same_text { reader.new.text ≡ reader.old.text }
+    ensures same_text { reader.new.ahead.text ≡ reader.old.ahead.text }
     ensures closed { IfSome result
-        (λ e. Reads reader.old reader.new (Wants (stack groups.old))
-        (Has (stack groups.new) (tree_of e) reader.new)) }
-    ensures shorter { IfSome result (λ e. bytes_left reader.new < bytes_left reader.old) }
+        (λ e. Reads reader.old.ahead reader.new.ahead (Wants (stack groups.old))
+        (Has (stack groups.new) (tree_of e) reader.new.ahead)) }
+    ensures shorter { IfSome result (λ e. bytes_left reader.new.ahead < bytes_left reader.old.ahead) }
     ensures not_closed { IfNone result
-        ((reader.new ≡ reader.old)
-        × (is_list (kinds (stack groups.old)) ≡ true → LacksPunctuation reader.old Punctuation.RightParen)) }
+        ((reader.new.ahead ≡ reader.old.ahead)
+        × (is_list (kinds (stack groups.old)) ≡ true → LacksPunctuation reader.old.ahead Punctuation.RightParen)) }
 {
     match groups.pop() {
         Some(Group::List(word, members)) => {
@@ -282,12 +286,13 @@ fn begin<'a>(
     reader: &mut Reader<'a>,
     groups: &mut OpenGroups,
 ) -> Result<Option<CfgExpr>, Refusal<'a>>
-    ensures same_text { reader.new.text ≡ reader.old.text }
+    ensures same_text { reader.new.ahead.text ≡ reader.old.ahead.text }
     ensures begun { IfOk result
-        (λ done. Reads reader.old reader.new (Wants (stack groups.old))
-        (Stands (stack groups.new) done reader.new)) }
-    ensures refused { IfErr result (Stops Expressions reader.old (Wants (stack groups.old))) }
-    ensures shorter { OnOk result (bytes_left reader.new < bytes_left reader.old) }
+        (λ done. Reads reader.old.ahead reader.new.ahead (Wants (stack groups.old))
+        (Stands (stack groups.new) done reader.new.ahead)) }
+    ensures refused { IfErr result (Stops Expressions reader.old.ahead (Wants (stack groups.old))) }
+    ensures looked { IfErr result (HasLooked reader.new) }
+    ensures shorter { OnOk result (bytes_left reader.new.ahead < bytes_left reader.old.ahead) }
 {
     if let Some((raw, name)) = reader.eat_name() {
         return behind_name(alloc, reader, groups, raw, name);
@@ -323,7 +328,7 @@ pub(crate) fn push_member(members: &mut Vec<CfgExpr>, member: CfgExpr) -> Result
     Ok(())
 }
 
-/// Members with one more behind them.
+/// Members with one more after them.
 fn with_member(mut members: Vec<CfgExpr>, member: CfgExpr) -> Result<Vec<CfgExpr>, AllocError>
     ensures { IfOk result (λ more. map tree_of more.items ≡ map tree_of members.items ++ tree_of member ∷ []) }
 {
@@ -331,20 +336,20 @@ fn with_member(mut members: Vec<CfgExpr>, member: CfgExpr) -> Result<Vec<CfgExpr
     Ok(members)
 }
 
-/// Takes the comma behind a member of a list.
+/// Takes the comma after a member of a list.
 #[inline(always)]
 fn eat_comma(reader: &mut Reader<'_>, groups: &OpenGroups) -> bool
-    ensures same_text { reader.new.text ≡ reader.old.text }
+    ensures same_text { reader.new.ahead.text ≡ reader.old.ahead.text }
     ensures in_list { IsTrue result → is_list (kinds (stack groups.now)) ≡ true }
-    ensures taken { IsTrue result → TakesToken reader.old reader.new Comma }
+    ensures taken { IsTrue result → TakesToken reader.old.ahead reader.new.ahead Comma }
     ensures not_taken { IsFalse result →
-        (reader.new ≡ reader.old)
-        × (is_list (kinds (stack groups.now)) ≡ true → LacksPunctuation reader.old Punctuation.Comma) }
+        (reader.new.ahead ≡ reader.old.ahead)
+        × (is_list (kinds (stack groups.now)) ≡ true → LacksPunctuation reader.old.ahead Punctuation.Comma) }
 {
     groups.is_in_list() && reader.eat(Punctuation::Comma)
 }
 
-/// Reads the `)` of a group, behind its last member.
+/// Reads the `)` of a group, after its last member.
 #[inline(always)]
 fn close_group<'a>(
     alloc: Global,
@@ -352,16 +357,17 @@ fn close_group<'a>(
     group: Group,
     last: CfgExpr,
 ) -> Result<CfgExpr, Refusal<'a>>
-    requires { is_list (kinds (opening group ∷ [])) ≡ true → LacksPunctuation reader.old Punctuation.Comma }
-    ensures same_text { reader.new.text ≡ reader.old.text }
+    requires { is_list (kinds (opening group ∷ [])) ≡ true → LacksPunctuation reader.old.ahead Punctuation.Comma }
+    ensures same_text { reader.new.ahead.text ≡ reader.old.ahead.text }
     ensures closed { IfOk result
         (λ e. (gs : List Opening)
-        → Reads reader.old reader.new (Has (opening group ∷ gs) (tree_of last) reader.old)
-        (Has gs (tree_of e) reader.new)) }
+        → Reads reader.old.ahead reader.new.ahead (Has (opening group ∷ gs) (tree_of last) reader.old.ahead)
+        (Has gs (tree_of e) reader.new.ahead)) }
     ensures refused { IfErr result
         (λ r. (gs : List Opening)
-        → Stops Expressions reader.old (Has (opening group ∷ gs) (tree_of last) reader.old) r) }
-    ensures shorter { OnOk result (bytes_left reader.new < bytes_left reader.old) }
+        → Stops Expressions reader.old.ahead (Has (opening group ∷ gs) (tree_of last) reader.old.ahead) r) }
+    ensures looked { IfErr result (HasLooked reader.new) }
+    ensures shorter { OnOk result (bytes_left reader.new.ahead < bytes_left reader.old.ahead) }
 {
     if !reader.eat(Punctuation::RightParen) {
         return Err(refuse(reader, "`)`", "`)`"));
@@ -377,10 +383,12 @@ pub(crate) fn read_expression<'a>(
     alloc: Global,
     reader: &mut Reader<'a>,
 ) -> Result<CfgExpr, Refusal<'a>>
-    ensures same_text { reader.new.text ≡ reader.old.text }
-    ensures tree { IfOk result (λ e. Reads reader.old reader.new (λ ts. ts ≡ []) (Has [] (tree_of e) reader.new)) }
-    ensures ended { OnOk result (NextIs reader.new Nothing) }
-    ensures refused { IfErr result (Stops Expressions reader.old (λ ts. ts ≡ [])) }
+    ensures same_text { reader.new.ahead.text ≡ reader.old.ahead.text }
+    ensures tree { IfOk result
+        (λ e. Reads reader.old.ahead reader.new.ahead (λ ts. ts ≡ []) (Has [] (tree_of e) reader.new.ahead)) }
+    ensures ended { OnOk result (NextIs reader.new.ahead Nothing) }
+    ensures refused { IfErr result (Stops Expressions reader.old.ahead (λ ts. ts ≡ [])) }
+    ensures looked { IfErr result (HasLooked reader.new) }
 {
     let mut groups = OpenGroups::new(alloc);
     let mut done: Option<CfgExpr> = None;
@@ -404,10 +412,11 @@ pub(crate) fn read_expression<'a>(
 
 /// Reads the name or the pair that the tokens spell.
 pub(crate) fn read_cfg<'a>(alloc: Global, reader: &mut Reader<'a>) -> Result<Cfg, Refusal<'a>>
-    ensures same_text { reader.new.text ≡ reader.old.text }
-    ensures value { IfOk result (λ c. HasRead reader.old reader.new (value_spelling (value_of c))) }
-    ensures ended { OnOk result (NextIs reader.new Nothing) }
-    ensures refused { IfErr result (Stops Values reader.old (λ ts. ts ≡ [])) }
+    ensures same_text { reader.new.ahead.text ≡ reader.old.ahead.text }
+    ensures value { IfOk result (λ c. HasRead reader.old.ahead reader.new.ahead (value_spelling (value_of c))) }
+    ensures ended { OnOk result (NextIs reader.new.ahead Nothing) }
+    ensures refused { IfErr result (Stops Values reader.old.ahead (λ ts. ts ≡ [])) }
+    ensures looked { IfErr result (HasLooked reader.new) }
 {
     let Some((raw, name)) = reader.eat_name() else {
         return Err(refuse(reader, "identifier", "identifier"));

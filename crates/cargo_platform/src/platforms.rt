@@ -4,12 +4,13 @@
 //! "Specifying dependencies" of Cargo's reference, and "Configuration predicates" in the Rust reference's chapter on
 //! conditional compilation.
 
-ghost use Rattle.std.specs.Prelude.{◌≡◌, ◌↔◌, ◌≤◌, ◌<◌, ◌+◌, ℕ, List, true, false, IsTrue, IfOk, MatchOption, map};
-ghost use Rattle.std.specs.Prelude.{length, string_bytes, slice_index, Some};
+ghost use Rattle.std.specs.Prelude.{◌≡◌, ◌↔◌, ◌≤◌, ◌<◌, ◌+◌, ◌-◌, ◌^◌, ℕ, List, true, false, IsTrue, IfOk, map};
+ghost use Rattle.std.specs.Prelude.{length, string_bytes, slice_index, Some, min, MatchOption};
 ghost use Rattle.std.specs.declared.ops.Range.{Range};
 ghost use Rattle.unicode.specs.GeneralCategory.{general_category};
 ghost use Rattle.cargo_platform.specs.Trees.{Tree, Condition, Expression, value_of, condition_of};
 ghost use Rattle.cargo_platform.specs.Facts.{fact_set, truth, IsTrueCondition, truth_of_condition};
+ghost use Rattle.cargo_platform.specs.Asks.{asks_of_condition};
 ghost use Rattle.cargo_platform.specs.Faults.{InvalidTarget};
 ghost use Rattle.cargo_platform.specs.Platforms.{is_number_category, is_target_char, is_plain_byte, IsTargetName};
 ghost use Rattle.cargo_platform.specs.Platforms.{IsFirstRefused, IsTargetMessage, IsTargetSpan, IsCfgOf, IsBare};
@@ -19,7 +20,7 @@ ghost use Rattle.cargo_platform.specs.WellFormed.{IsWellFormedCondition};
 ghost use Rattle.cargo_platform.specs.Print.{print_condition};
 
 use crate::classes::{LANES, continues_identifier};
-use crate::{Cfg, CfgExpr, ParseError, ParseErrorKind, Platform, ReadError};
+use crate::{Asks, Cfg, CfgExpr, Facts, ParseError, ParseErrorKind, Platform, ReadError};
 use std::alloc::{AllocError, Global};
 use std::ops::Range;
 use std::simd::prelude::*;
@@ -79,6 +80,18 @@ impl Platform {
         match self {
             Platform::Name(target) => target.as_str() == name,
             Platform::Cfg(expression) => expression.matches(cfg),
+        }
+    }
+
+    /// Whether the condition holds for a target with this name and the facts of the holder, as `matches` answers, and
+    /// how often the holder was asked: for a name never, and for an expression as `CfgExpr::matches_counted` says.
+    pub fn matches_counted<F: Facts>(&self, name: &str, facts: &F) -> (bool, Asks)
+        ensures truth { result.0 ≡ truth_of_condition name.now (F.meant facts.now) (condition_of self.now) }
+        ensures asks { result.1 ≡ min (asks_of_condition (F.meant facts.now) (condition_of self.now)) (2 ^ 128 - 1) }
+    {
+        match self {
+            Platform::Name(target) => (target.as_str() == name, Asks::none()),
+            Platform::Cfg(expression) => expression.matches_counted(facts),
         }
     }
 }

@@ -8,9 +8,10 @@ ghost use Rattle.cargo_platform.specs.Reading.{characters_from};
 ghost use Rattle.cargo_platform.specs.Cut.{AreSpaces, Nothing};
 ghost use Rattle.cargo_platform.specs.Faults.{from_to, lexical_span};
 ghost use Rattle.cargo_platform.specs.Cut as cut;
-ghost use Rattle.cargo_platform.specs.Inside.Ahead.{NextIs};
+ghost use Rattle.cargo_platform.specs.Inside.Ahead.{NextIs, IsSeenTo};
 ghost use Rattle.cargo_platform.specs.Inside.Parsing.{IsIdentifier, SeesRest, Takes, TakesToken, LacksPunctuation};
 ghost use Rattle.cargo_platform.specs.Inside.Parsing.{LacksName, LacksString, lexeme_of, RefusesNext, RefusesMore};
+ghost use Rattle.cargo_platform.specs.Inside.Parsing.{SeesTaken, HasLooked};
 
 use crate::Looks;
 use crate::classes::begins_identifier;
@@ -33,12 +34,15 @@ pub(crate) struct Reader<'a> {
 }
 
 impl<'a> Model for Reader<'a> {
-    ghost use Rattle.cargo_platform.specs.Inside.Ahead.{Ahead};
+    ghost use Rattle.cargo_platform.specs.Inside.Ahead.{Standing};
     ghost use Rattle.cargo_platform.specs.Inside.Looking.{IsReadingAt};
 
-    ghost Value = { Ahead };
+    ghost Value = { Standing };
 
-    ghost view = { λ r. record { text = r.source.text.now; place = r.place } };
+    ghost view = { λ r. record {
+      ahead = record { text = r.source.text.now; place = r.place };
+      looks = r.source.looks;
+    } };
 
     ghost invariant = { λ r. IsReadingAt r.source.text.now r.place r.seen r.fault r.source.looks };
 }
@@ -47,8 +51,8 @@ impl<'a> Reader<'a> {
     /// A reader with the first item of the text ahead.
     #[inline(always)]
     pub fn new(text: &'a str) -> Reader<'a>
-        ensures text { result.text ≡ text.now }
-        ensures first { AreSpaces text.now 0 result.place }
+        ensures text { result.ahead.text ≡ text.now }
+        ensures first { AreSpaces text.now 0 result.ahead.place }
     {
         let mut source = Source::new(text);
         let first = source.look(0);
@@ -64,9 +68,10 @@ impl<'a> Reader<'a> {
     /// Takes the next token where it is this character.
     #[inline(always)]
     pub fn eat(&mut self, wanted: Punctuation) -> bool
-        ensures same_text { self.new.text ≡ self.old.text }
-        ensures taken { IsTrue result → TakesToken self.old self.new (lexeme_of wanted) }
-        ensures not_taken { IsFalse result → (self.new ≡ self.old) × LacksPunctuation self.old wanted }
+        ensures same_text { self.new.ahead.text ≡ self.old.ahead.text }
+        ensures taken { IsTrue result → TakesToken self.old.ahead self.new.ahead (lexeme_of wanted) }
+        ensures not_taken { IsFalse result →
+            (self.new.ahead ≡ self.old.ahead) × LacksPunctuation self.old.ahead wanted }
     {
         if !is_byte(self.seen, byte_of(wanted)) {
             return false;
@@ -79,9 +84,9 @@ impl<'a> Reader<'a> {
     /// Takes the next token where it is an identifier.
     #[inline(always)]
     pub fn eat_name(&mut self) -> Option<(bool, &'a str)>
-        ensures same_text { self.new.text ≡ self.old.text }
-        ensures taken { IfSome result (λ r. TakesToken self.old self.new (ident_token r.0 r.1.now)) }
-        ensures not_taken { IfNone result ((self.new ≡ self.old) × LacksName self.old) }
+        ensures same_text { self.new.ahead.text ≡ self.old.ahead.text }
+        ensures taken { IfSome result (λ r. TakesToken self.old.ahead self.new.ahead (ident_token r.0 r.1.now)) }
+        ensures not_taken { IfNone result ((self.new.ahead ≡ self.old.ahead) × LacksName self.old.ahead) }
     {
         let Look::Ascii(first) = self.seen else {
             return None;
@@ -101,10 +106,10 @@ impl<'a> Reader<'a> {
 
     /// The same where an `r` is next, which may begin a raw mark.
     fn eat_name_with_r(&mut self) -> Option<(bool, &'a str)>
-        requires { (t : Placed) → NextIs self.old (cut.Token t) → IsIdentifier t.token }
-        ensures same_text { self.new.text ≡ self.old.text }
-        ensures taken { IfSome result (λ r. TakesToken self.old self.new (ident_token r.0 r.1.now)) }
-        ensures not_taken { IfNone result ((self.new ≡ self.old) × LacksName self.old) }
+        requires { (t : Placed) → NextIs self.old.ahead (cut.Token t) → IsIdentifier t.token }
+        ensures same_text { self.new.ahead.text ≡ self.old.ahead.text }
+        ensures taken { IfSome result (λ r. TakesToken self.old.ahead self.new.ahead (ident_token r.0 r.1.now)) }
+        ensures not_taken { IfNone result ((self.new.ahead ≡ self.old.ahead) × LacksName self.old.ahead) }
     {
         match self.take()? {
             Ok(taken) => name_of(taken.token),
@@ -115,9 +120,9 @@ impl<'a> Reader<'a> {
     /// Takes the next token where it is a string.
     #[inline(always)]
     pub fn eat_string(&mut self) -> Option<&'a str>
-        ensures same_text { self.new.text ≡ self.old.text }
-        ensures taken { IfSome result (λ v. TakesToken self.old self.new (string_token v.now)) }
-        ensures not_taken { IfNone result ((self.new ≡ self.old) × LacksString self.old) }
+        ensures same_text { self.new.ahead.text ≡ self.old.ahead.text }
+        ensures taken { IfSome result (λ v. TakesToken self.old.ahead self.new.ahead (string_token v.now)) }
+        ensures not_taken { IfNone result ((self.new.ahead ≡ self.old.ahead) × LacksString self.old.ahead) }
     {
         if !is_byte(self.seen, b'"') {
             return None;
@@ -139,8 +144,9 @@ impl<'a> Reader<'a> {
     /// or nothing at the end of the text.
     #[inline(never)]
     fn take(&mut self) -> Option<Result<Spanned<'a>, TokenFaultKind>>
-        ensures same_text { self.new.text ≡ self.old.text }
-        ensures taken { Takes self.old self.new result }
+        ensures same_text { self.new.ahead.text ≡ self.old.ahead.text }
+        ensures taken { Takes self.old.ahead self.new.ahead result }
+        ensures seen { SeesTaken self.new result }
     {
         if let Some(kind) = self.fault {
             return Some(Err(kind));
@@ -168,7 +174,8 @@ impl<'a> Reader<'a> {
     /// The text from what comes next on and its span, or nothing at the end.
     #[inline(always)]
     pub fn rest(&self) -> Option<Rest<'a>>
-        ensures { SeesRest self.now result }
+        ensures rest { SeesRest self.now.ahead result }
+        ensures seen { IfSome result (λ rest. IsSeenTo self.now rest.span.start) }
     {
         match character_of(self.seen) {
             Some(_first) => Some(Rest {
@@ -181,7 +188,7 @@ impl<'a> Reader<'a> {
 
     /// The empty span at the end of the text.
     fn end_span(&self) -> Range<usize>
-        ensures { result ≡ from_to (length self.now.text) (length self.now.text) }
+        ensures { result ≡ from_to (length self.now.ahead.text) (length self.now.ahead.text) }
     {
         let end = self.source.len();
         end..end
@@ -189,8 +196,8 @@ impl<'a> Reader<'a> {
 
     /// The span of the lexical fault that begins here.
     fn fault_span(&self, kind: TokenFaultKind) -> Range<usize>
-        requires { NextIs self.now (cut.Lexical kind self.now.place) }
-        ensures { result ≡ lexical_span self.now.text self.now.place kind }
+        requires { NextIs self.now.ahead (cut.Lexical kind self.now.ahead.place) }
+        ensures { result ≡ lexical_span self.now.ahead.text self.now.ahead.place kind }
     {
         let end = self.source.len();
         match kind {
@@ -209,8 +216,9 @@ impl<'a> Reader<'a> {
     /// The looks that were made.
     #[inline(always)]
     pub fn spend(self) -> Looks
-        ensures at_most { result ≤ characters_from self.entry.text 0 + 1 }
-        ensures whole { NextIs self.entry Nothing → result ≡ characters_from self.entry.text 0 + 1 }
+        ensures looks { result ≡ self.entry.looks }
+        ensures at_most { result ≤ characters_from self.entry.ahead.text 0 + 1 }
+        ensures whole { NextIs self.entry.ahead Nothing → result ≡ characters_from self.entry.ahead.text 0 + 1 }
     {
         let Reader {
             source,
@@ -222,7 +230,7 @@ impl<'a> Reader<'a> {
     }
 }
 
-/// What is left of a text behind a whole value or expression, and its span.
+/// What is left of a text after a whole value or expression, and its span.
 pub(crate) struct Rest<'a> {
     pub text: &'a str,
     pub span: Range<usize>,
@@ -274,7 +282,7 @@ fn byte_of(wanted: Punctuation) -> u8
     }
 }
 
-/// Why nothing was read: the fault and its span, or want of memory.
+/// Why nothing was read: the fault and its span, or an allocation failure.
 #[derive(Drop)]
 pub(crate) enum Refusal<'a> {
     Unexpected {
@@ -337,7 +345,7 @@ impl<'a> From<AllocError> for Refusal<'a> {
     }
 }
 
-/// The refusal of what comes next, where nothing ended. The reader goes on behind it.
+/// The refusal of what comes next, where nothing ended. The reader goes on after it.
 #[cold]
 #[inline(never)]
 pub(crate) fn refuse<'a>(
@@ -345,8 +353,9 @@ pub(crate) fn refuse<'a>(
     expected: &'static str,
     at_end: &'static str,
 ) -> Refusal<'a>
-    ensures same_text { reader.new.text ≡ reader.old.text }
-    ensures refused { RefusesNext reader.old expected.now at_end.now result }
+    ensures same_text { reader.new.ahead.text ≡ reader.old.ahead.text }
+    ensures refused { RefusesNext reader.old.ahead expected.now at_end.now result }
+    ensures looked { HasLooked reader.new result }
 {
     match reader.take() {
         Some(Ok(taken)) => Refusal::Unexpected {
@@ -359,11 +368,12 @@ pub(crate) fn refuse<'a>(
     }
 }
 
-/// Refuses what is left behind a whole value or expression.
+/// Refuses what is left after a whole value or expression.
 #[inline(always)]
 pub(crate) fn expect_end<'a>(reader: &Reader<'a>) -> Result<(), Refusal<'a>>
-    ensures end { OnOk result (NextIs reader.now Nothing) }
-    ensures more { IfErr result (RefusesMore reader.now) }
+    ensures end { OnOk result (NextIs reader.now.ahead Nothing) }
+    ensures more { IfErr result (RefusesMore reader.now.ahead) }
+    ensures looked { IfErr result (HasLooked reader.now) }
 {
     match reader.rest() {
         Some(Rest { text, span }) => Err(Refusal::Unterminated(text, span)),

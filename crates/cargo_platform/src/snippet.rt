@@ -23,8 +23,8 @@ const WIDTH: usize = 100;
 const PART: usize = 40;
 
 impl ParseError {
-    /// Two lines for people, with a line end between them and none behind: `orig`, and carets under the span of the
-    /// fault, one for each character and at least one, with a space and the print of the kind behind. There are none
+    /// Two lines for people, with a line end between them and none after: `orig`, and carets under the span of the
+    /// fault, one for each character and at least one, with a space and the print of the kind after. There are none
     /// where the error has no span.
     ///
     /// A character is shown as U+FFFD that is neither the space U+0020 nor in one of the general categories L, N, P and
@@ -51,7 +51,7 @@ pub fn shown_text(alloc: Global, text: &str) -> Result<String, AllocError>
 }
 
 /// The text as snippets show one that is their fault's: as `shown_text`, and of more than 100 characters the first 100
-/// with `..` behind.
+/// with `..` after.
 pub fn shown_start(alloc: Global, text: &str) -> Result<String, AllocError>
     ensures { IfOk result (λ s. string_bytes s ≡ shown_line (chars text.now) 0 0) }
 {
@@ -115,7 +115,7 @@ fn first_shown(size: usize, before: usize) -> usize
     }
 }
 
-/// The number of the character behind the last one that is shown.
+/// The number of the character after the last one that is shown.
 fn end_shown(size: usize, before: usize, inside: usize) -> usize
     ensures { result ≡ end_shown size before inside }
 {

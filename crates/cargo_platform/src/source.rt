@@ -2,7 +2,9 @@
 //!
 //! A look asks what is at one place: a character, or the end of the text. `Source` keeps its text to itself. Its calls
 //! that tell of characters are `look` and the three scans, and each counts its looks; `spend` gives the count. A scan
-//! goes over bytes, counts once, and hands on what ended it, so that nobody need look there again.
+//! goes over bytes, counts once, and hands on what ended it, so that nobody need look there again. `slice` hands out
+//! text before which as many looks were made. Uncounted are `text_from`, for the error of a text with something left
+//! over, and `rest_from`, for `Tokenizer::rest`.
 
 ghost use Rattle.std.specs.Prelude.{◌≡◌, ◌≢◌, ℕ, ◌+◌, ◌-◌, ◌^◌, ◌<◌, ◌≤◌, true, false, length, drop, slice_index};
 ghost use Rattle.std.specs.Prelude.{slice_range, IfSome, IfNone, MatchOption, IsFalse};
@@ -12,6 +14,7 @@ ghost use Rattle.cargo_platform.specs.Cut.{AreSpaces};
 ghost use Rattle.cargo_platform.specs.Reading.{IsRestFrom, characters_from};
 ghost use Rattle.std.specs.List.{count_by};
 ghost use Rattle.cargo_platform.specs.Inside.Looking.{IsCharAt, Shows, Costs, IsFirstQuote, IsRun, is_no_quote};
+ghost use Rattle.cargo_platform.specs.Inside.Looking.{IsCountedTo};
 
 use crate::classes::{LANES, continues_identifier, identifier_run};
 use std::marker::Model;
@@ -160,12 +163,13 @@ impl<'a> Source<'a> {
         }
     }
 
-    /// The text between two byte places.
+    /// The text between two byte places, where as many looks were made as characters stand before its end.
     #[inline(always)]
     pub fn slice(&self, from: usize, to: usize) -> &'a str
         requires order { from ≤ to }
         requires begin { IsCharBoundary self.now.text.now from }
         requires end { IsCharBoundary self.now.text.now to }
+        requires looked { IsCountedTo self.now.text.now to self.now.looks }
         ensures { result.now ≡ slice_range self.now.text.now from to }
     {
         let text: &'a str = self.text;

@@ -13,6 +13,7 @@ ghost use Rattle.cargo_platform.specs.Tokens.{lexeme, called};
 ghost use Rattle.cargo_platform.specs.Cut.{AreSpaces, BeginsFault};
 ghost use Rattle.cargo_platform.specs.Reading.{IsRestFrom, characters_from};
 ghost use Rattle.cargo_platform.specs.Inside.Looking.{IsCharAt, Shows, Costs, ShowedBefore, unseen, character_of};
+ghost use Rattle.cargo_platform.specs.Inside.Looking.{FindsFault, IsCountedTo};
 ghost use Rattle.cargo_platform.specs.Inside.Scanning.{IsTokenAt, IsCutAt};
 
 use crate::classes::begins_identifier;
@@ -54,7 +55,7 @@ impl<'a> Token<'a> {
 }
 
 /// A token, and the places in bytes at which its written form begins and ends. The written form has the raw mark and
-/// the quotes; `end` is the place behind it.
+/// the quotes; `end` is the place after it.
 #[derive(Clone, Copy, Debug, PartialEq, Eq)]
 pub struct Spanned<'a> {
     /// The token.
@@ -70,7 +71,7 @@ pub struct Spanned<'a> {
 pub enum TokenFaultKind {
     /// A `"` that no second `"` follows.
     UnterminatedString,
-    /// A character that begins no token, or that stands behind `r#` and is no identifier start.
+    /// A character that begins no token, or that stands after `r#` and is no identifier start.
     UnexpectedChar(char),
     /// `r#` at the end of the text.
     MissingIdentifier,
@@ -234,6 +235,7 @@ pub(crate) fn token_at<'a>(
     requires begin { IsCharBoundary source.old.text.now start }
     requires there { IsCharAt source.old.text.now start first }
     requires past { first ≢ 0x20 }
+    requires counted { IsCountedTo source.old.text.now start source.old.looks }
     ensures same { source.new.text ≡ source.old.text }
     ensures token { IfOk result (λ cut. IsCutAt source.old.text.now start cut) }
     ensures fault { IfErr result (λ kind. BeginsFault (drop start source.old.text.now) kind) }
@@ -241,6 +243,8 @@ pub(crate) fn token_at<'a>(
         Costs source.old.text.now (start + 1) cut.end 1 source.old.looks source.new.looks) }
     ensures cost_of_fault { OnErr result
         (source.new.looks ≤ source.old.looks + characters_from source.old.text.now start) }
+    ensures finds { IfErr result
+        (λ kind. FindsFault source.old.text.now start kind 1 source.old.looks source.new.looks) }
     ensures one { OnOk result
         (characters_from source.old.text.now start ≡ characters_from source.old.text.now (start + 1) + 1) }
 {
@@ -284,6 +288,7 @@ fn mark_at<'a>(source: &mut Source<'a>, start: usize, token: Token<'a>) -> Cut<'
 fn string_at<'a>(source: &mut Source<'a>, start: usize) -> Result<Cut<'a>, TokenFaultKind>
     requires begin { IsCharBoundary source.old.text.now start }
     requires there { IsCharAt source.old.text.now start 0x22 }
+    requires counted { IsCountedTo source.old.text.now start source.old.looks }
     ensures same { source.new.text ≡ source.old.text }
     ensures token { IfOk result (λ cut. IsCutAt source.old.text.now start cut) }
     ensures fault { IfErr result (λ kind. BeginsFault (drop start source.old.text.now) kind) }
@@ -291,6 +296,8 @@ fn string_at<'a>(source: &mut Source<'a>, start: usize) -> Result<Cut<'a>, Token
         Costs source.old.text.now (start + 1) cut.end 1 source.old.looks source.new.looks) }
     ensures cost_of_fault { OnErr result
         (source.new.looks ≤ source.old.looks + characters_from source.old.text.now start) }
+    ensures finds { IfErr result
+        (λ kind. FindsFault source.old.text.now start kind 1 source.old.looks source.new.looks) }
 {
     match source.closing_quote(start + 1) {
         Some(quote) => {
@@ -305,7 +312,7 @@ fn string_at<'a>(source: &mut Source<'a>, start: usize) -> Result<Cut<'a>, Token
     }
 }
 
-/// The unmarked identifier that begins at a place. `second` is what is behind its first character.
+/// The unmarked identifier that begins at a place. `second` is what is after its first character.
 #[inline(always)]
 fn identifier_at<'a>(source: &mut Source<'a>, start: usize, second: Look) -> Cut<'a>
     requires begin { IsCharBoundary source.old.text.now start }
@@ -313,6 +320,7 @@ fn identifier_at<'a>(source: &mut Source<'a>, start: usize, second: Look) -> Cut
     requires first { is_identifier_start (slice_index source.old.text.now start) ≡ true }
     requires seen { Shows source.old.text.now (start + 1) second }
     requires plain { slice_index source.old.text.now start ≡ 0x72 → slice_index source.old.text.now (start + 1) ≢ 0x23 }
+    requires counted { IsCountedTo source.old.text.now (start + 1) source.old.looks }
     ensures same { source.new.text ≡ source.old.text }
     ensures token { IsCutAt source.old.text.now start result }
     ensures cost { Costs source.old.text.now (start + 1) result.end 0 source.old.looks source.new.looks }
@@ -331,6 +339,7 @@ fn marked_at<'a>(source: &mut Source<'a>, start: usize) -> Result<Cut<'a>, Token
     requires begin { IsCharBoundary source.old.text.now start }
     requires there { IsCharAt source.old.text.now start 0x72 }
     requires number_sign { IsCharAt source.old.text.now (start + 1) 0x23 }
+    requires counted { IsCountedTo source.old.text.now (start + 1) source.old.looks }
     ensures same { source.new.text ≡ source.old.text }
     ensures token { IfOk result (λ cut. IsCutAt source.old.text.now start cut) }
     ensures fault { IfErr result (λ kind. BeginsFault (drop start source.old.text.now) kind) }
@@ -338,6 +347,8 @@ fn marked_at<'a>(source: &mut Source<'a>, start: usize) -> Result<Cut<'a>, Token
         Costs source.old.text.now (start + 2) cut.end 1 source.old.looks source.new.looks) }
     ensures cost_of_fault { OnErr result
         (source.new.looks + 1 ≤ source.old.looks + characters_from source.old.text.now start) }
+    ensures finds { IfErr result
+        (λ kind. FindsFault source.old.text.now start kind 2 source.old.looks source.new.looks) }
 {
     let third = source.look(start + 2);
     match third {

@@ -10,7 +10,7 @@ use std::hash::{DefaultHasher, Hash, Hasher};
 /// The name inside, which the walk for attributes warns of.
 const LEAF: &str = "test";
 
-/// A name that comes behind it.
+/// A name that comes after it.
 const LATER: &str = "unix";
 
 /// A name that the walk for keywords warns of.
@@ -23,6 +23,7 @@ pub enum Call {
     RefuseOpen,
     MatchesKey,
     Print,
+    Debug,
     ToJson,
     Clone,
     Attributes,
@@ -44,6 +45,7 @@ impl Call {
             Call::RefuseOpen => "from_str, refused for an open group",
             Call::MatchesKey => "matches_key",
             Call::Print => "print",
+            Call::Debug => "print by {:?}",
             Call::ToJson => "to_json",
             Call::Clone => "clone",
             Call::Attributes => "check_cfg_attributes",
@@ -88,6 +90,7 @@ impl Nest {
             Call::RefuseOpen => self.reads(alloc, "", false),
             Call::MatchesKey => self.matches_key(alloc),
             Call::Print => self.prints(alloc),
+            Call::Debug => self.debugs(alloc),
             Call::ToJson => self.is_json(alloc),
             Call::Clone => self.clones(alloc),
             Call::Attributes => warns_of_attribute(alloc, &self.platform),
@@ -100,15 +103,15 @@ impl Nest {
         }
     }
 
-    fn text(&self, alloc: Global, behind: &str) -> Result<String, AllocError> {
+    fn text(&self, alloc: Global, after: &str) -> Result<String, AllocError> {
         let mut text = String::from_str(alloc, &self.open_text)?;
-        text.push_str(behind)?;
+        text.push_str(after)?;
         Ok(text)
     }
 
-    /// Whether the text with this behind it is read, or refused.
-    fn reads(&self, alloc: Global, behind: &str, is_condition: bool) -> Result<bool, AllocError> {
-        match Platform::from_str(alloc, &self.text(alloc, behind)?) {
+    /// Whether the text with this after it is read, or refused.
+    fn reads(&self, alloc: Global, after: &str, is_condition: bool) -> Result<bool, AllocError> {
+        match Platform::from_str(alloc, &self.text(alloc, after)?) {
             Ok(_) => Ok(is_condition),
             Err(ReadError::Parse(_)) => Ok(!is_condition),
             Err(ReadError::Memory(error)) => Err(error),
@@ -123,6 +126,15 @@ impl Nest {
     fn prints(&self, alloc: Global) -> Result<bool, AllocError> {
         let platform = &self.platform;
         let text = format!(in alloc; "{platform}")?;
+        Ok(text == self.text(alloc, ")")?)
+    }
+
+    /// Whether the expression prints so too as `{:?}` has it.
+    fn debugs(&self, alloc: Global) -> Result<bool, AllocError> {
+        let Platform::Cfg(expression) = &self.platform else {
+            return Ok(false);
+        };
+        let text = format!(in alloc; "cfg({expression:?})")?;
         Ok(text == self.text(alloc, ")")?)
     }
 

@@ -116,7 +116,7 @@ fn is_group(platform: &Platform) -> bool {
     }
 }
 
-/// Want of memory, which a `?` passes on while two conditions are at hand.
+/// An allocation failure, which a `?` passes on while two conditions are at hand.
 fn passed_on(a: Platform, b: Platform) -> Result<(Platform, Platform), AllocError> {
     let held = a;
     refused()?;

@@ -3,6 +3,7 @@
 //! A call that took stack for each level of such a condition would end the program. The status is 0 where each call
 //! answered what is known of the condition without it, and 1 otherwise. Arguments ask for something else:
 //!
+//! - `loops`: the calls are made on those conditions that they need no stack for;
 //! - `drops NUMBER LEVELS`: nests of this shape are let go at each place;
 //! - `again NUMBER LEVELS TIMES`: that is done so many times, so that what is not let go shows in the memory;
 //! - `copies NUMBER LEVELS`: a nest is copied until memory is refused;
@@ -45,6 +46,7 @@ const LISTING: &[Call] = &[
 const OTHERS: &[Call] = &[
     Call::MatchesKey,
     Call::Print,
+    Call::Debug,
     Call::ToJson,
     Call::Matches,
     Call::MatchesIn,
@@ -76,21 +78,27 @@ fn make(
     Ok(are_right)
 }
 
-/// Makes each call on its nests.
-fn make_each(rt: &(impl Print + AllocGlobal)) -> io::Result<bool> {
+/// Makes the calls that need no stack for their nests.
+fn make_loops(rt: &(impl Print + AllocGlobal)) -> io::Result<bool> {
     let mut are_right = true;
-    for (calls, form, levels) in [
-        (LISTING, Form::Not, DEEP),
-        (OTHERS, Form::Not, DEEP),
-        (LISTING, Form::Last, DEEP),
-        (OTHERS, Form::Last, DEEP),
-        (LISTING, Form::First, DEEP),
-        (OTHERS, Form::First, RECURSING),
+    for (calls, form) in [
+        (LISTING, Form::Not),
+        (OTHERS, Form::Not),
+        (LISTING, Form::Last),
+        (OTHERS, Form::Last),
+        (LISTING, Form::First),
     ] {
-        let is_right = make(rt, calls, form, levels)?;
+        let is_right = make(rt, calls, form, DEEP)?;
         are_right = are_right && is_right;
     }
     Ok(are_right)
+}
+
+/// Makes each call on its nests.
+fn make_each(rt: &(impl Print + AllocGlobal)) -> io::Result<bool> {
+    let are_right = make_loops(rt)?;
+    let is_right = make(rt, OTHERS, Form::First, RECURSING)?;
+    Ok(are_right && is_right)
 }
 
 /// Lets nests of the shape go at each place, and prints a line for each.
@@ -142,6 +150,7 @@ fn copy_until_refused(
 fn ask(rt: &(impl Print + Input + AllocGlobal), words: &[String]) -> io::Result<Option<bool>> {
     match words {
         [] => Ok(Some(make_each(rt)?)),
+        [word] if word.as_str() == "loops" => Ok(Some(make_loops(rt)?)),
         [caller] => match Caller::named(caller.as_str()) {
             Some(caller) => {
                 let key = io::read_to_string(rt.alloc(), rt.reader())?;

@@ -95,7 +95,7 @@ pub fn is_condition(platform: &Platform, form: Form, levels: u32, leaf: &str) ->
     }
 }
 
-/// The text of so many levels around a name, behind `cfg(` and without its last parenthesis.
+/// The text of so many levels around a name, after `cfg(` and without its last parenthesis.
 pub fn open_text(alloc: Global, form: Form, levels: u32, leaf: &str) -> Result<String, AllocError> {
     let mut text = String::from_str(alloc, "cfg(")?;
     for _ in 0..levels {

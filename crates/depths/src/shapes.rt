@@ -4,7 +4,7 @@ use crate::nests::name;
 use cargo_platform::{CfgExpr, Platform};
 use std::alloc::{AllocError, Global};
 
-/// A level: a negation, or a group with a name before and behind what it holds, or with none there.
+/// A level: a negation, or a group with a name before and after what it holds, or with none there.
 #[derive(Clone, Copy)]
 enum Level {
     Not,
@@ -34,7 +34,7 @@ pub const SHAPES: &[Shape] = &[
     ]),
 ];
 
-/// The name that stands before and behind what a level holds.
+/// The name that stands before and after what a level holds.
 const BESIDE: &str = "a";
 
 /// The name inside.
@@ -66,25 +66,25 @@ impl Level {
     fn around(self, alloc: Global, inner: CfgExpr) -> Result<CfgExpr, AllocError> {
         match self {
             Level::Not => Ok(CfgExpr::Not(Box::new(alloc, inner)?)),
-            Level::All(before, behind) => Ok(CfgExpr::All(members(alloc, before, inner, behind)?)),
-            Level::Any(before, behind) => Ok(CfgExpr::Any(members(alloc, before, inner, behind)?)),
+            Level::All(before, after) => Ok(CfgExpr::All(members(alloc, before, inner, after)?)),
+            Level::Any(before, after) => Ok(CfgExpr::Any(members(alloc, before, inner, after)?)),
         }
     }
 }
 
-/// The members of a group, with a name before and behind the one that goes on where that is wanted.
+/// The members of a group, with a name before and after the one that goes on where that is wanted.
 fn members(
     alloc: Global,
     before: bool,
     inner: CfgExpr,
-    behind: bool,
+    after: bool,
 ) -> Result<Vec<CfgExpr>, AllocError> {
     let mut members = Vec::with_capacity(alloc, 3)?;
     if before {
         members.push(CfgExpr::Value(name(alloc, BESIDE)?))?;
     }
     members.push(inner)?;
-    if behind {
+    if after {
         members.push(CfgExpr::Value(name(alloc, BESIDE)?))?;
     }
     Ok(members)

@@ -5,6 +5,8 @@ pub mod Possible
 pub mod Searching
 pub mod Answering
 pub mod Spending
+pub mod Asked
 pub mod Targets
 pub mod Ahead
 pub mod Adding
+pub mod Families

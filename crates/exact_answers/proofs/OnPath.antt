@@ -1,11 +1,16 @@
 -- What the code asks of the splits in their order, in the words of a path.
-use Rattle.std.proofs.Common.{◌≡◌, ◌∙◌, refl, sym, ap, Bool, true, false, ◌||◌, List, reverse, Some, None}
-use Rattle.std.specs.List.{list_any}
+use Rattle.std.proofs.Common.{◌≡◌, ◌∙◌, refl, sym, ap, subst, Bool, true, false, ◌||◌, List, [], ◌∷◌, ◌++◌}
+use Rattle.std.proofs.Common.{map, reverse, Some, None, arith}
+use Rattle.std.specs.List.{list_any, All}
+use Rattle.std.proofs.lemmas.List.{map-append}
+use Rattle.std.proofs.lemmas.List.Elements.{All-append, All-map}
+use Rattle.cargo_platform.specs.declared.cfg.Cfg.{Cfg}
 use Rattle.std.specs.FinSet.{contains, from_list}
 use Rattle.std.proofs.lemmas.List.Sorted.{list_any-IsPermutation, IsPermutation-reverse}
-use Rattle.cargo_platform.specs.Trees.{CfgValue, Alone, KeyPair}
+use Rattle.cargo_platform.specs.Trees.{CfgValue, Alone, KeyPair, value_of}
 use Rattle.cargo_platform.specs.Facts.{Pair, pair_of, pair_cmp}
 use Rattle.partial_facts.specs.Partly.{told_by}
+use Rattle.exact_answers.specs.Answers.{IsUnmarked}
 use Rattle.exact_answers.specs.Asking.{is_pair}
 use Rattle.exact_answers.specs.Inside.Paths.{Turn, Base, takes, refuses, facts_on, set_on, rules_out}
 use Rattle.exact_answers.specs.Inside.Paths.{is_refuted, unmarked}
@@ -79,7 +84,43 @@ told_open true n h k = cc
 told_open false true h k = cc
 told_open false false h k = refl
 
+-- ---- without marks
+
 -- a mark is no part of the pair
 pub unmarked_pair : (c : CfgValue) → pair_of (unmarked c) ≡ pair_of c
 unmarked_pair (Alone n) = refl
 unmarked_pair (KeyPair k v) = refl
+
+unmarked_pairs : (cs : List CfgValue) → map pair_of (map unmarked cs) ≡ map pair_of cs
+unmarked_pairs [] = refl
+unmarked_pairs (c ∷ cs) =
+    ap (λ p. p ∷ map pair_of (map unmarked cs)) (unmarked_pair c) ∙ ap (λ ps. pair_of c ∷ ps) (unmarked_pairs cs)
+
+is_unmarked : (c : CfgValue) → IsUnmarked (unmarked c)
+is_unmarked (Alone n) = refl
+is_unmarked (KeyPair k v) = refl
+
+are_unmarked : (cs : List CfgValue) → All IsUnmarked (map unmarked cs)
+are_unmarked cs = All-map IsUnmarked unmarked cs (λ k d short. is_unmarked _)
+
+pub none_unmarked : All IsUnmarked []
+none_unmarked = λ k d short. absurd (omega (arith, short))
+
+-- one fact more
+pub one_more_unmarked : (old new : List Cfg) (c : Cfg) (d : CfgValue) → new ≡ old ++ c ∷ [] → value_of c ≡ unmarked d
+    → All IsUnmarked (map value_of old) → All IsUnmarked (map value_of new)
+one_more_unmarked old new c d is e h =
+    subst (All IsUnmarked) (sym (ap (map value_of) is ∙ map-append value_of old (c ∷ []) ∙ ap (λ x. map value_of old ++ x ∷ []) e))
+    (All-append IsUnmarked (map value_of old) (unmarked d ∷ []) h (are_unmarked (d ∷ [])))
+
+-- the taken facts and the listed ones
+pub all_pairs : (all taken listed : List CfgValue) → all ≡ taken ++ map unmarked listed
+    → map pair_of all ≡ map pair_of taken ++ map pair_of listed
+all_pairs all taken listed is =
+    ap (map pair_of) is ∙ map-append pair_of taken (map unmarked listed)
+    ∙ ap (λ ps. map pair_of taken ++ ps) (unmarked_pairs listed)
+
+pub all_unmarked : (all taken listed : List CfgValue) → all ≡ taken ++ map unmarked listed
+    → All IsUnmarked taken → All IsUnmarked all
+all_unmarked all taken listed is h =
+    subst (All IsUnmarked) (sym is) (All-append IsUnmarked taken (map unmarked listed) h (are_unmarked listed))

@@ -1,5 +1,6 @@
 pub mod Possible
-pub mod Answers
+pub mod Families
 pub mod Asking
-pub mod Inside
+pub mod Answers
 pub mod Targets
+pub mod Inside

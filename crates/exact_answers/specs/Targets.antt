@@ -1,8 +1,11 @@
 -- Conditions over possible targets. A target has one name, and facts, of which the name says nothing.
 use Rattle.std.specs.Prelude.{◌≡◌, ℕ, List, [], ◌∷◌, Option, Some, None, String, map, string_bytes}
 use Rattle.std.specs.declared.alloc.Global.{Global}
-use Rattle.cargo_platform.specs.Trees.{Tree, True, Condition, Target, Expression, value_of}
-use Rattle.cargo_platform.specs.Facts.{FactSet, fact_set}
+use Rattle.cargo_platform.specs.Trees.{Tree, True, Trees, none, tree, Condition, Target, Expression, value_of}
+use Rattle.cargo_platform.specs.Facts.{FactSet}
+use Rattle.exact_answers.specs.Asking.{NeedsMore}
+use Rattle.exact_answers.specs.Answers.{AreExample, OverEach}
+use Rattle.exact_answers.specs.declared.known.Known.{Known}
 use Rattle.exact_answers.specs.declared.platforms.PossibleTarget.{PossibleTarget}
 use Rattle.exact_answers.specs.declared.platforms.CanSelect.{CanSelect}
 use Rattle.exact_answers.specs.declared.platforms.CanSelect.TheVariants as can
@@ -20,23 +23,37 @@ abbrev pub MayHaveName : Option (String Global) → List Condition → List ℕ 
 MayHaveName (Some own) cs name = name ≡ string_bytes own
 MayHaveName None cs name = IsOtherName cs name
 
--- what holds of the example by each name that it may have
-abbrev pub IsExample : PossibleTarget → List Condition → (List ℕ → FactSet → Type 0) → Type 0
-IsExample t cs P = (name : List ℕ) → MayHaveName t.name cs name → P name (fact_set (map value_of t.facts.items))
-
 -- a name asks for no pair
 abbrev pub asked_tree : Condition → Tree
 asked_tree (Target own) = True
 asked_tree (Expression e) = e
 
--- what holds of the example, what holds where there is none, and what where the splits are used up
-abbrev pub SaysCanSelect : CanSelect → List Condition → (List ℕ → FactSet → Type 0) → Type 0 → Type 0 → Type 0
-SaysCanSelect (can.Yes t) cs P Q R = IsExample t cs P
-SaysCanSelect can.No cs P Q R = Q
-SaysCanSelect can.Undecided cs P Q R = R
+abbrev pub asked_trees : List Condition → Trees
+asked_trees [] = none
+asked_trees (c ∷ cs) = tree (asked_tree c) (asked_trees cs)
 
--- what holds of the counterexample, what holds where there is none, and what where the splits are used up
-abbrev pub SaysMustSelect : MustSelect → List Condition → (List ℕ → FactSet → Type 0) → Type 0 → Type 0 → Type 0
-SaysMustSelect must.Yes cs P Q R = Q
-SaysMustSelect (must.No t) cs P Q R = IsExample t cs P
-SaysMustSelect must.Undecided cs P Q R = R
+-- an example of a target on the conditions cs: P holds for it by each name that it may have
+abbrev pub IsExample : PossibleTarget → Known → List Condition → (List ℕ → FactSet → Type 0) → Type 0
+IsExample t k cs P =
+    AreExample k (asked_trees cs) (λ s. (name : List ℕ) → MayHaveName t.name cs name → P name s)
+    (map value_of t.facts.items)
+
+-- Q holds for each possible target: by each name, over each possible set
+abbrev pub ForEach : Known → (List ℕ → FactSet → Type 0) → Type 0
+ForEach k Q = (name : List ℕ) → OverEach k (λ s. Q name s)
+
+-- an answer on the conditions cs: P holds for the example; where there is none, Q holds for each possible target; or
+-- the budget is too small
+abbrev pub SaysCanSelect : CanSelect → Known → List Condition → ℕ → (List ℕ → FactSet → Type 0)
+    → (List ℕ → FactSet → Type 0) → Type 0
+SaysCanSelect (can.Yes t) k cs budget P Q = IsExample t k cs P
+SaysCanSelect can.No k cs budget P Q = ForEach k Q
+SaysCanSelect can.Undecided k cs budget P Q = NeedsMore k (asked_trees cs) budget
+
+-- an answer on the conditions cs: P holds for the counterexample; where there is none, Q holds for each possible
+-- target; or the budget is too small
+abbrev pub SaysMustSelect : MustSelect → Known → List Condition → ℕ → (List ℕ → FactSet → Type 0)
+    → (List ℕ → FactSet → Type 0) → Type 0
+SaysMustSelect must.Yes k cs budget P Q = ForEach k Q
+SaysMustSelect (must.No t) k cs budget P Q = IsExample t k cs P
+SaysMustSelect must.Undecided k cs budget P Q = NeedsMore k (asked_trees cs) budget

@@ -2,10 +2,8 @@
 
 ghost use Rattle.std.specs.Prelude.{◌≡◌, true, false, not, IfOk};
 ghost use Rattle.cargo_platform.specs.Trees.{tree_of, tree, none};
-ghost use Rattle.cargo_platform.specs.Facts.{FactSet, truth};
-ghost use Rattle.exact_answers.specs.Possible.{IsAllowed};
+ghost use Rattle.cargo_platform.specs.Facts.{truth};
 ghost use Rattle.exact_answers.specs.Answers.{SaysCan, SaysMust};
-ghost use Rattle.exact_answers.specs.Asking.{NeedsMore};
 ghost use Rattle.exact_answers.specs.Inside.Goals.{SaysFound};
 
 use crate::known::Known;
@@ -43,10 +41,7 @@ pub fn can_be_met<'a>(
     known: &'a Known<'a>,
     budget: u64,
 ) -> Result<CanHold, AllocError>
-    ensures { IfOk result (λ r. SaysCan r
-        (λ s. IsAllowed known.now s)
-        ((s : FactSet) → IsAllowed known.now s → ⊥)
-        (NeedsMore known.now none budget)) }
+    ensures { IfOk result (λ r. SaysCan r known.now none budget (λ s. Unit {0}) (λ s. ⊥)) }
 {
     match search_any(alloc, known, budget)? {
         Found::Facts(facts) => Ok(CanHold::Yes(facts)),
@@ -62,10 +57,9 @@ pub fn can_hold<'a>(
     known: &'a Known<'a>,
     budget: u64,
 ) -> Result<CanHold, AllocError>
-    ensures { IfOk result (λ r. SaysCan r
-        (λ s. IsAllowed known.now s × (truth s (tree_of e.now) ≡ true))
-        ((s : FactSet) → IsAllowed known.now s → truth s (tree_of e.now) ≡ false)
-        (NeedsMore known.now (tree (tree_of e.now) none) budget)) }
+    ensures { IfOk result (λ r. SaysCan r known.now (tree (tree_of e.now) none) budget
+        (λ s. truth s (tree_of e.now) ≡ true)
+        (λ s. truth s (tree_of e.now) ≡ false)) }
 {
     match search_one(alloc, e, true, known, budget)? {
         Found::Facts(facts) => Ok(CanHold::Yes(facts)),
@@ -81,10 +75,9 @@ pub fn always<'a>(
     known: &'a Known<'a>,
     budget: u64,
 ) -> Result<MustHold, AllocError>
-    ensures { IfOk result (λ r. SaysMust r
-        (λ s. IsAllowed known.now s × (truth s (tree_of e.now) ≡ false))
-        ((s : FactSet) → IsAllowed known.now s → truth s (tree_of e.now) ≡ true)
-        (NeedsMore known.now (tree (tree_of e.now) none) budget)) }
+    ensures { IfOk result (λ r. SaysMust r known.now (tree (tree_of e.now) none) budget
+        (λ s. truth s (tree_of e.now) ≡ false)
+        (λ s. truth s (tree_of e.now) ≡ true)) }
 {
     match search_one(alloc, e, false, known, budget)? {
         Found::Facts(facts) => Ok(MustHold::No(facts)),
@@ -101,10 +94,9 @@ pub fn implies<'a>(
     known: &'a Known<'a>,
     budget: u64,
 ) -> Result<MustHold, AllocError>
-    ensures { IfOk result (λ r. SaysMust r
-        (λ s. IsAllowed known.now s × ((truth s (tree_of a.now) ≡ true) × (truth s (tree_of b.now) ≡ false)))
-        ((s : FactSet) → IsAllowed known.now s → truth s (tree_of a.now) ≡ true → truth s (tree_of b.now) ≡ true)
-        (NeedsMore known.now (tree (tree_of a.now) (tree (tree_of b.now) none)) budget)) }
+    ensures { IfOk result (λ r. SaysMust r known.now (tree (tree_of a.now) (tree (tree_of b.now) none)) budget
+        (λ s. (truth s (tree_of a.now) ≡ true) × (truth s (tree_of b.now) ≡ false))
+        (λ s. truth s (tree_of a.now) ≡ true → truth s (tree_of b.now) ≡ true)) }
 {
     match search_both(alloc, a, true, b, false, known, budget)? {
         Found::Facts(facts) => Ok(MustHold::No(facts)),
@@ -121,10 +113,9 @@ pub fn exclude<'a>(
     known: &'a Known<'a>,
     budget: u64,
 ) -> Result<MustHold, AllocError>
-    ensures { IfOk result (λ r. SaysMust r
-        (λ s. IsAllowed known.now s × ((truth s (tree_of a.now) ≡ true) × (truth s (tree_of b.now) ≡ true)))
-        ((s : FactSet) → IsAllowed known.now s → truth s (tree_of a.now) ≡ true → truth s (tree_of b.now) ≡ false)
-        (NeedsMore known.now (tree (tree_of a.now) (tree (tree_of b.now) none)) budget)) }
+    ensures { IfOk result (λ r. SaysMust r known.now (tree (tree_of a.now) (tree (tree_of b.now) none)) budget
+        (λ s. (truth s (tree_of a.now) ≡ true) × (truth s (tree_of b.now) ≡ true))
+        (λ s. truth s (tree_of a.now) ≡ true → truth s (tree_of b.now) ≡ false)) }
 {
     match search_both(alloc, a, true, b, true, known, budget)? {
         Found::Facts(facts) => Ok(MustHold::No(facts)),
@@ -135,7 +126,7 @@ pub fn exclude<'a>(
 
 /// Whether `a` and `b` are as true as each other over each possible set of facts. Each of the two implications has the
 /// budget.
-#[tactic(auto, using(crate::proofs::Answering::one_way, crate::proofs::Answering::other_way, crate::proofs::Answering::both_ways_same, crate::proofs::Spending::other_order))]
+#[tactic(auto, using(crate::proofs::Answering::one_example, crate::proofs::Answering::other_example, crate::proofs::Answering::both_ways_same, crate::proofs::Spending::other_order))]
 pub fn equivalent<'a>(
     alloc: Global,
     a: &'a CfgExpr,
@@ -143,10 +134,9 @@ pub fn equivalent<'a>(
     known: &'a Known<'a>,
     budget: u64,
 ) -> Result<MustHold, AllocError>
-    ensures { IfOk result (λ r. SaysMust r
-        (λ s. IsAllowed known.now s × (truth s (tree_of a.now) ≡ not (truth s (tree_of b.now))))
-        ((s : FactSet) → IsAllowed known.now s → truth s (tree_of a.now) ≡ truth s (tree_of b.now))
-        (NeedsMore known.now (tree (tree_of a.now) (tree (tree_of b.now) none)) budget)) }
+    ensures { IfOk result (λ r. SaysMust r known.now (tree (tree_of a.now) (tree (tree_of b.now) none)) budget
+        (λ s. truth s (tree_of a.now) ≡ not (truth s (tree_of b.now)))
+        (λ s. truth s (tree_of a.now) ≡ truth s (tree_of b.now))) }
 {
     match search_both(alloc, a, true, b, false, known, budget)? {
         Found::Facts(facts) => Ok(MustHold::No(facts)),
@@ -164,10 +154,7 @@ pub fn equivalent<'a>(
 
 /// Searches for a possible set of facts.
 fn search_any<'a>(alloc: Global, known: &'a Known<'a>, budget: u64) -> Result<Found, AllocError>
-    ensures { IfOk result (λ r. SaysFound r
-        (λ s. IsAllowed known.now s)
-        ((s : FactSet) → IsAllowed known.now s → ⊥)
-        (NeedsMore known.now none budget)) }
+    ensures { IfOk result (λ r. SaysFound r known.now none budget (λ s. Unit {0}) (λ s. ⊥)) }
 {
     let goals = [Goal {
         e: known.assumed,
@@ -184,10 +171,9 @@ fn search_one<'a>(
     known: &'a Known<'a>,
     budget: u64,
 ) -> Result<Found, AllocError>
-    ensures { IfOk result (λ r. SaysFound r
-        (λ s. IsAllowed known.now s × (truth s (tree_of e.now) ≡ wanted))
-        ((s : FactSet) → IsAllowed known.now s → truth s (tree_of e.now) ≡ not wanted)
-        (NeedsMore known.now (tree (tree_of e.now) none) budget)) }
+    ensures { IfOk result (λ r. SaysFound r known.now (tree (tree_of e.now) none) budget
+        (λ s. truth s (tree_of e.now) ≡ wanted)
+        (λ s. truth s (tree_of e.now) ≡ not wanted)) }
 {
     let goals = [
         Goal {
@@ -209,11 +195,9 @@ pub fn search_both<'a>(
     known: &'a Known<'a>,
     budget: u64,
 ) -> Result<Found, AllocError>
-    ensures { IfOk result (λ r. SaysFound r
-        (λ s. IsAllowed known.now s × ((truth s (tree_of a.now) ≡ a_wanted) × (truth s (tree_of b.now) ≡ b_wanted)))
-        ((s : FactSet) → IsAllowed known.now s → truth s (tree_of a.now) ≡ a_wanted
-        → truth s (tree_of b.now) ≡ not b_wanted)
-        (NeedsMore known.now (tree (tree_of a.now) (tree (tree_of b.now) none)) budget)) }
+    ensures { IfOk result (λ r. SaysFound r known.now (tree (tree_of a.now) (tree (tree_of b.now) none)) budget
+        (λ s. (truth s (tree_of a.now) ≡ a_wanted) × (truth s (tree_of b.now) ≡ b_wanted))
+        (λ s. truth s (tree_of a.now) ≡ a_wanted → truth s (tree_of b.now) ≡ not b_wanted)) }
 {
     let goals = [
         Goal {

@@ -1,13 +1,33 @@
 //! What is known of the facts of a target.
 
-use cargo_platform::{Cfg, CfgExpr};
+ghost use Rattle.std.specs.Prelude.{◌≡◌, ◌↔◌, true, IfOk};
+ghost use Rattle.cargo_platform.specs.Trees.{tree_of};
+ghost use Rattle.cargo_platform.specs.Facts.{FactSet, truth};
+ghost use Rattle.cargo_platform.specs.Spelling.{IsTreeText};
+ghost use Rattle.exact_answers.specs.Families.{KeepsFamilyRule};
 
-/// The rule by which rustc sets `unix` and `windows`, as an expression that a caller reads and assumes: each is a fact
-/// exactly where the pair of `target_family` is. The Rust reference states it in its chapter on conditional
-/// compilation.
+use cargo_platform::{Cfg, CfgExpr, ReadError};
+use std::alloc::{AllocError, Global};
+
+/// The rule by which rustc sets `unix` and `windows`, as the text of an expression: each is a fact exactly where the
+/// pair of `target_family` is. The Rust reference states it in its chapter on conditional compilation. `family_rule`
+/// reads it.
 pub const FAMILY_RULE: &str = "all(\
     any(all(unix, target_family = \"unix\"), not(any(unix, target_family = \"unix\"))), \
     any(all(windows, target_family = \"windows\"), not(any(windows, target_family = \"windows\"))))";
+
+/// The rule of `FAMILY_RULE`, for a caller that assumes it.
+pub fn family_rule(alloc: Global) -> Result<CfgExpr, AllocError>
+    ensures text { IfOk result (λ rule. IsTreeText FAMILY_RULE.now (tree_of rule)) }
+    ensures sets { IfOk result (λ rule. (s : FactSet)
+        → (truth s (tree_of rule) ≡ true) ↔ KeepsFamilyRule s) }
+{
+    match CfgExpr::from_str(alloc, FAMILY_RULE) {
+        Ok(rule) => Ok(rule),
+        Err(ReadError::Memory(refused)) => Err(refused),
+        Err(ReadError::Parse(_)) => unreachable!(),
+    }
+}
 
 /// What is known of the facts of a target. A set of facts is possible where
 ///

@@ -15,7 +15,7 @@ mod platforms;
 mod search;
 
 pub use answers::{CanHold, MustHold, always, can_be_met, can_hold, equivalent, exclude, implies};
-pub use known::{FAMILY_RULE, Known};
+pub use known::{FAMILY_RULE, Known, family_rule};
 pub use partial_facts::ONE_VALUED;
 pub use platforms::{
     CanSelect, MustSelect, PossibleTarget, always_platform, can_hold_platform, equivalent_platform,

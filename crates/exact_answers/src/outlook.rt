@@ -152,7 +152,7 @@ fn add_members<'a>(
     Ok(())
 }
 
-/// The place of the pair among those that have words, or behind them. No more is promised: whoever looks there compares
+/// The place of the pair among those that have words, or after them. No more is promised: whoever looks there compares
 /// the pairs.
 fn place_of<'a>(pairs: &mut Vec<&'a Cfg>, c: &'a Cfg) -> Result<usize, AllocError> {
     for (place, pair) in pairs.iter().enumerate() {

@@ -3,8 +3,10 @@
 ghost use Rattle.std.specs.Prelude.{◌≡◌, ◌++◌, ◌∷◌, [], true, false, Some, None, map, reverse, string_bytes};
 ghost use Rattle.std.specs.Prelude.{IfOk, OnOk};
 ghost use Rattle.std.specs.Bool.{MatchBool};
+ghost use Rattle.std.specs.List.{All};
 ghost use Rattle.cargo_platform.specs.Trees.{name_of, value_of};
 ghost use Rattle.cargo_platform.specs.Facts.{pair_of};
+ghost use Rattle.exact_answers.specs.Answers.{IsUnmarked};
 ghost use Rattle.exact_answers.specs.Asking.{is_pair};
 ghost use Rattle.exact_answers.specs.Possible.{is_value, has_value};
 ghost use Rattle.exact_answers.specs.Inside.Paths.{takes, refuses, facts_on, rules_out};
@@ -169,10 +171,11 @@ impl<'a> Path<'a> {
         Ok(false)
     }
 
-    /// The pairs that are taken as facts, the last one first, and the facts that are listed.
+    /// The pairs that are taken as facts, the last one first, and the facts that are listed, all without marks.
     pub fn facts(self, alloc: Global) -> Result<Vec<Cfg>, AllocError>
-        ensures { IfOk result (λ facts. map pair_of (map value_of facts.items)
+        ensures pairs { IfOk result (λ facts. map pair_of (map value_of facts.items)
             ≡ facts_on (base_of self.entry.known.now) (turns self.entry)) }
+        ensures unmarked { IfOk result (λ facts. All IsUnmarked (map value_of facts.items)) }
     {
         let Path { known, splits } = self;
         let taken = taken_facts(alloc, splits)?;
@@ -181,10 +184,11 @@ impl<'a> Path<'a> {
 }
 
 /// The pairs that are taken as facts, the last one first, without marks.
-#[tactic(auto, using(crate::proofs::OnPath::unmarked_pair))]
+#[tactic(auto, using(crate::proofs::OnPath::unmarked_pair, crate::proofs::OnPath::none_unmarked, crate::proofs::OnPath::one_more_unmarked))]
 fn taken_facts(alloc: Global, splits: Vec<Split<'_>>) -> Result<Vec<Cfg>, AllocError>
-    ensures { IfOk result (λ facts. map pair_of (map value_of facts.items)
+    ensures pairs { IfOk result (λ facts. map pair_of (map value_of facts.items)
         ≡ taken (reverse (map turn_of splits.entry.items))) }
+    ensures unmarked { IfOk result (λ facts. All IsUnmarked (map value_of facts.items)) }
 {
     let mut left = splits;
     let mut facts = Vec::new(alloc);
@@ -196,11 +200,10 @@ fn taken_facts(alloc: Global, splits: Vec<Split<'_>>) -> Result<Vec<Cfg>, AllocE
     Ok(facts)
 }
 
-/// The facts, and others behind them, without marks.
-#[tactic(auto, using(crate::proofs::OnPath::unmarked_pair))]
+/// The facts, and others after them. The others lose their marks.
 fn with_copies(alloc: Global, mut facts: Vec<Cfg>, others: &[Cfg]) -> Result<Vec<Cfg>, AllocError>
-    ensures { IfOk result (λ all. map pair_of (map value_of all.items)
-        ≡ map pair_of (map value_of facts.items) ++ map pair_of (map value_of others.now)) }
+    ensures { IfOk result (λ all. map value_of all.items
+        ≡ map value_of facts.items ++ map unmarked (map value_of others.now)) }
 {
     for other in others {
         facts.push(unmarked(alloc, other)?)?;

@@ -1,15 +1,11 @@
 //! The questions on conditions: the name of a target, or an expression.
 
-ghost use Rattle.std.specs.Prelude.{◌≡◌, ◌↔◌, true, false, not, [], ◌∷◌, List, ℕ, Some, string_bytes, IfOk};
+ghost use Rattle.std.specs.Prelude.{◌≡◌, ◌↔◌, true, false, not, [], ◌∷◌, string_bytes, IfOk};
 ghost use Rattle.std.specs.Option.{option_copied};
-ghost use Rattle.cargo_platform.specs.Trees.{Tree, True, False, Expression, tree_of, condition_of, tree, none};
-ghost use Rattle.cargo_platform.specs.Facts.{FactSet, truth, IsTrueCondition};
-ghost use Rattle.exact_answers.specs.Possible.{IsAllowed};
-ghost use Rattle.exact_answers.specs.Asking.{NeedsMore};
-ghost use Rattle.exact_answers.specs.Targets.{asked_tree, SaysCanSelect, SaysMustSelect};
-ghost use Rattle.exact_answers.specs.Inside.Goals.{SaysFound};
-ghost use Rattle.exact_answers.specs.Inside.Targets.{tree_under, is_name_of, wants, MetUnder, MissedUnder};
-ghost use Rattle.exact_answers.specs.Inside.Targets.{NeedsMoreFor};
+ghost use Rattle.cargo_platform.specs.Trees.{True, False, Expression, tree_of, condition_of};
+ghost use Rattle.cargo_platform.specs.Facts.{IsTrueCondition};
+ghost use Rattle.exact_answers.specs.Targets.{SaysCanSelect, SaysMustSelect};
+ghost use Rattle.exact_answers.specs.Inside.Targets.{tree_under, is_name_of, wants, wanted_of, SaysFoundUnder};
 ghost use Rattle.exact_answers.specs.Inside.Targets.{with_name, or_undecided, as_can, as_must, SaysTarget};
 
 use crate::answers::search_both;
@@ -49,6 +45,16 @@ pub enum MustSelect {
     Undecided,
 }
 
+/// Which targets are looked for: the possible ones for which both conditions are as true as wanted.
+#[derive(Clone, Copy)]
+struct Question<'a> {
+    known: &'a Known<'a>,
+    first: &'a Platform,
+    first_wanted: bool,
+    second: &'a Platform,
+    second_wanted: bool,
+}
+
 /// What became of a search for a target.
 #[derive(Drop)]
 enum FoundTarget {
@@ -65,10 +71,9 @@ pub fn can_hold_platform<'a>(
     known: &'a Known<'a>,
     budget: u64,
 ) -> Result<CanSelect, AllocError>
-    ensures { IfOk result (λ r. SaysCanSelect r (condition_of platform.now ∷ [])
-        (λ name s. IsAllowed known.now s × IsTrueCondition name s (condition_of platform.now))
-        ((name : List ℕ) (s : FactSet) → IsAllowed known.now s → IsTrueCondition name s (condition_of platform.now) → ⊥)
-        (NeedsMore known.now (tree (asked_tree (condition_of platform.now)) none) budget)) }
+    ensures { IfOk result (λ r. SaysCanSelect r known.now (condition_of platform.now ∷ []) budget
+        (λ name s. IsTrueCondition name s (condition_of platform.now))
+        (λ name s. IsTrueCondition name s (condition_of platform.now) → ⊥)) }
 {
     let found = search_one_target(alloc, platform, true, known, budget)?;
     Ok(as_can(found))
@@ -81,10 +86,9 @@ pub fn always_platform<'a>(
     known: &'a Known<'a>,
     budget: u64,
 ) -> Result<MustSelect, AllocError>
-    ensures { IfOk result (λ r. SaysMustSelect r (condition_of platform.now ∷ [])
-        (λ name s. IsAllowed known.now s × (IsTrueCondition name s (condition_of platform.now) → ⊥))
-        ((name : List ℕ) (s : FactSet) → IsAllowed known.now s → IsTrueCondition name s (condition_of platform.now))
-        (NeedsMore known.now (tree (asked_tree (condition_of platform.now)) none) budget)) }
+    ensures { IfOk result (λ r. SaysMustSelect r known.now (condition_of platform.now ∷ []) budget
+        (λ name s. IsTrueCondition name s (condition_of platform.now) → ⊥)
+        (λ name s. IsTrueCondition name s (condition_of platform.now))) }
 {
     let found = search_one_target(alloc, platform, false, known, budget)?;
     Ok(as_must(found))
@@ -98,15 +102,18 @@ pub fn implies_platform<'a>(
     known: &'a Known<'a>,
     budget: u64,
 ) -> Result<MustSelect, AllocError>
-    ensures { IfOk result (λ r. SaysMustSelect r (condition_of a.now ∷ condition_of b.now ∷ [])
-        (λ name s. IsAllowed known.now s × (IsTrueCondition name s (condition_of a.now)
-        × (IsTrueCondition name s (condition_of b.now) → ⊥)))
-        ((name : List ℕ) (s : FactSet) → IsAllowed known.now s → IsTrueCondition name s (condition_of a.now)
-        → IsTrueCondition name s (condition_of b.now))
-        (NeedsMore known.now (tree (asked_tree (condition_of a.now)) (tree (asked_tree (condition_of b.now)) none))
-        budget)) }
+    ensures { IfOk result (λ r. SaysMustSelect r known.now (condition_of a.now ∷ condition_of b.now ∷ []) budget
+        (λ name s. IsTrueCondition name s (condition_of a.now) × (IsTrueCondition name s (condition_of b.now) → ⊥))
+        (λ name s. IsTrueCondition name s (condition_of a.now) → IsTrueCondition name s (condition_of b.now))) }
 {
-    let found = search_targets(alloc, a, true, b, false, known, budget)?;
+    let question = Question {
+        known,
+        first: a,
+        first_wanted: true,
+        second: b,
+        second_wanted: false,
+    };
+    let found = search_targets(alloc, &question, budget)?;
     Ok(as_must(found))
 }
 
@@ -118,15 +125,18 @@ pub fn exclude_platform<'a>(
     known: &'a Known<'a>,
     budget: u64,
 ) -> Result<MustSelect, AllocError>
-    ensures { IfOk result (λ r. SaysMustSelect r (condition_of a.now ∷ condition_of b.now ∷ [])
-        (λ name s. IsAllowed known.now s × (IsTrueCondition name s (condition_of a.now)
-        × IsTrueCondition name s (condition_of b.now)))
-        ((name : List ℕ) (s : FactSet) → IsAllowed known.now s → IsTrueCondition name s (condition_of a.now)
-        → IsTrueCondition name s (condition_of b.now) → ⊥)
-        (NeedsMore known.now (tree (asked_tree (condition_of a.now)) (tree (asked_tree (condition_of b.now)) none))
-        budget)) }
+    ensures { IfOk result (λ r. SaysMustSelect r known.now (condition_of a.now ∷ condition_of b.now ∷ []) budget
+        (λ name s. IsTrueCondition name s (condition_of a.now) × IsTrueCondition name s (condition_of b.now))
+        (λ name s. IsTrueCondition name s (condition_of a.now) → IsTrueCondition name s (condition_of b.now) → ⊥)) }
 {
-    let found = search_targets(alloc, a, true, b, true, known, budget)?;
+    let question = Question {
+        known,
+        first: a,
+        first_wanted: true,
+        second: b,
+        second_wanted: true,
+    };
+    let found = search_targets(alloc, &question, budget)?;
     Ok(as_must(found))
 }
 
@@ -138,22 +148,32 @@ pub fn equivalent_platform<'a>(
     known: &'a Known<'a>,
     budget: u64,
 ) -> Result<MustSelect, AllocError>
-    ensures { IfOk result (λ r. SaysMustSelect r (condition_of a.now ∷ condition_of b.now ∷ [])
-        (λ name s. IsAllowed known.now s
-        × ((IsTrueCondition name s (condition_of a.now) ↔ IsTrueCondition name s (condition_of b.now)) → ⊥))
-        ((name : List ℕ) (s : FactSet) → IsAllowed known.now s
-        → (IsTrueCondition name s (condition_of a.now) ↔ IsTrueCondition name s (condition_of b.now)))
-        (NeedsMore known.now (tree (asked_tree (condition_of a.now)) (tree (asked_tree (condition_of b.now)) none))
-        budget)) }
+    ensures { IfOk result (λ r. SaysMustSelect r known.now (condition_of a.now ∷ condition_of b.now ∷ []) budget
+        (λ name s. (IsTrueCondition name s (condition_of a.now) ↔ IsTrueCondition name s (condition_of b.now)) → ⊥)
+        (λ name s. IsTrueCondition name s (condition_of a.now) ↔ IsTrueCondition name s (condition_of b.now))) }
 {
-    match search_targets(alloc, a, true, b, false, known, budget)? {
+    let first = Question {
+        known,
+        first: a,
+        first_wanted: true,
+        second: b,
+        second_wanted: false,
+    };
+    let second = Question {
+        known,
+        first: a,
+        first_wanted: false,
+        second: b,
+        second_wanted: true,
+    };
+    match search_targets(alloc, &first, budget)? {
         FoundTarget::Target(target) => Ok(MustSelect::No(target)),
         FoundTarget::Nothing => {
-            let found = search_targets(alloc, a, false, b, true, known, budget)?;
+            let found = search_targets(alloc, &second, budget)?;
             Ok(as_must(found))
         }
         FoundTarget::Undecided => {
-            let found = search_targets(alloc, a, false, b, true, known, budget)?;
+            let found = search_targets(alloc, &second, budget)?;
             Ok(as_must(or_undecided(found)))
         }
     }
@@ -193,131 +213,98 @@ fn search_one_target<'a>(
         (wants known.now (condition_of platform.now) wanted (Expression True) true) (λ name. Unit {0}) budget) }
 {
     let everything = Platform::Cfg(CfgExpr::True);
-    search_targets(alloc, platform, wanted, &everything, true, known, budget)
+    let question = Question {
+        known,
+        first: platform,
+        first_wanted: wanted,
+        second: &everything,
+        second_wanted: true,
+    };
+    search_targets(alloc, &question, budget)
 }
 
-/// Searches for a possible target for which both conditions are as true as wanted: first by the names that they name,
-/// and then among all other names.
-fn search_targets<'a>(
+/// Searches for a target: first by the names that the conditions name, and then among all other names.
+fn search_targets(
     alloc: Global,
-    a: &'a Platform,
-    a_wanted: bool,
-    b: &'a Platform,
-    b_wanted: bool,
-    known: &'a Known<'a>,
+    question: &Question<'_>,
     budget: u64,
 ) -> Result<FoundTarget, AllocError>
-    ensures { IfOk result (λ r. SaysTarget r
-        (wants known.now (condition_of a.now) a_wanted (condition_of b.now) b_wanted) (λ name. Unit {0}) budget) }
+    ensures { IfOk result (λ r. SaysTarget r (wanted_of question.now)
+        (λ name. Unit {0}) budget) }
 {
-    match search_named(alloc, a, a, a_wanted, b, b_wanted, known, budget)? {
+    match search_named(alloc, question.first, question, budget)? {
         FoundTarget::Target(target) => Ok(FoundTarget::Target(target)),
-        FoundTarget::Nothing => search_further(alloc, a, a_wanted, b, b_wanted, known, budget),
+        FoundTarget::Nothing => search_further(alloc, question, budget),
         FoundTarget::Undecided => {
-            let found = search_further(alloc, a, a_wanted, b, b_wanted, known, budget)?;
+            let found = search_further(alloc, question, budget)?;
             Ok(or_undecided(found))
         }
     }
 }
 
-/// Searches among the names other than that of `a`.
-fn search_further<'a>(
+/// Searches among the names other than that of the first condition.
+fn search_further(
     alloc: Global,
-    a: &'a Platform,
-    a_wanted: bool,
-    b: &'a Platform,
-    b_wanted: bool,
-    known: &'a Known<'a>,
+    question: &Question<'_>,
     budget: u64,
 ) -> Result<FoundTarget, AllocError>
-    ensures { IfOk result (λ r. SaysTarget r
-        (wants known.now (condition_of a.now) a_wanted (condition_of b.now) b_wanted)
-        (λ name. is_name_of (condition_of a.now) name ≡ false) budget) }
+    ensures { IfOk result (λ r. SaysTarget r (wanted_of question.now)
+        (λ name. is_name_of (condition_of question.now.first.now) name ≡ false) budget) }
 {
-    match search_named(alloc, b, a, a_wanted, b, b_wanted, known, budget)? {
+    match search_named(alloc, question.second, question, budget)? {
         FoundTarget::Target(target) => Ok(FoundTarget::Target(target)),
-        FoundTarget::Nothing => search_unnamed(alloc, a, a_wanted, b, b_wanted, known, budget),
+        FoundTarget::Nothing => search_unnamed(alloc, question, budget),
         FoundTarget::Undecided => {
-            let found = search_unnamed(alloc, a, a_wanted, b, b_wanted, known, budget)?;
+            let found = search_unnamed(alloc, question, budget)?;
             Ok(or_undecided(found))
         }
     }
 }
 
 /// Searches among the targets that `by` names, where it is a name.
-fn search_named<'a>(
+fn search_named(
     alloc: Global,
-    by: &'a Platform,
-    a: &'a Platform,
-    a_wanted: bool,
-    b: &'a Platform,
-    b_wanted: bool,
-    known: &'a Known<'a>,
+    by: &Platform,
+    question: &Question<'_>,
     budget: u64,
 ) -> Result<FoundTarget, AllocError>
-    ensures { IfOk result (λ r. SaysTarget r
-        (wants known.now (condition_of a.now) a_wanted (condition_of b.now) b_wanted)
+    ensures { IfOk result (λ r. SaysTarget r (wanted_of question.now)
         (λ name. is_name_of (condition_of by.now) name ≡ true) budget) }
 {
     match by {
-        Platform::Name(name) => search_with_name(
-            alloc,
-            String::from_str(alloc, name.as_str())?,
-            a,
-            a_wanted,
-            b,
-            b_wanted,
-            known,
-            budget,
-        ),
+        Platform::Name(name) => {
+            let name = String::from_str(alloc, name.as_str())?;
+            search_with_name(alloc, name, question, budget)
+        }
         Platform::Cfg(_) => Ok(FoundTarget::Nothing),
     }
 }
 
 /// Searches among the targets with this name.
-fn search_with_name<'a>(
+fn search_with_name(
     alloc: Global,
     name: String,
-    a: &'a Platform,
-    a_wanted: bool,
-    b: &'a Platform,
-    b_wanted: bool,
-    known: &'a Known<'a>,
+    question: &Question<'_>,
     budget: u64,
 ) -> Result<FoundTarget, AllocError>
-    ensures { IfOk result (λ r. SaysTarget r
-        (wants known.now (condition_of a.now) a_wanted (condition_of b.now) b_wanted)
+    ensures { IfOk result (λ r. SaysTarget r (wanted_of question.now)
         (λ text. string_bytes name ≡ text) budget) }
 {
-    let found = search_under(
-        alloc,
-        Some(name.as_str()),
-        a,
-        a_wanted,
-        b,
-        b_wanted,
-        known,
-        budget,
-    )?;
+    let found = search_under(alloc, Some(name.as_str()), question, budget)?;
     Ok(with_name(found, Some(name)))
 }
 
 /// Searches among the names that neither condition names.
-fn search_unnamed<'a>(
+fn search_unnamed(
     alloc: Global,
-    a: &'a Platform,
-    a_wanted: bool,
-    b: &'a Platform,
-    b_wanted: bool,
-    known: &'a Known<'a>,
+    question: &Question<'_>,
     budget: u64,
 ) -> Result<FoundTarget, AllocError>
-    ensures { IfOk result (λ r. SaysTarget r
-        (wants known.now (condition_of a.now) a_wanted (condition_of b.now) b_wanted)
-        (λ name. (is_name_of (condition_of a.now) name ≡ false) × (is_name_of (condition_of b.now) name ≡ false))
-        budget) }
+    ensures { IfOk result (λ r. SaysTarget r (wanted_of question.now)
+        (λ name. (is_name_of (condition_of question.now.first.now) name ≡ false)
+        × (is_name_of (condition_of question.now.second.now) name ≡ false)) budget) }
 {
-    let found = search_under(alloc, None, a, a_wanted, b, b_wanted, known, budget)?;
+    let found = search_under(alloc, None, question, budget)?;
     Ok(with_name(found, None))
 }
 
@@ -343,32 +330,23 @@ fn or_undecided(found: FoundTarget) -> FoundTarget
 }
 
 /// Searches for the facts of a possible target with this name, or with `None` of one that neither condition names.
-fn search_under<'a>(
+fn search_under(
     alloc: Global,
     name: Option<&str>,
-    a: &'a Platform,
-    a_wanted: bool,
-    b: &'a Platform,
-    b_wanted: bool,
-    known: &'a Known<'a>,
+    question: &Question<'_>,
     budget: u64,
 ) -> Result<Found, AllocError>
-    ensures { IfOk result (λ r. SaysFound r
-        (λ s. MetUnder (wants known.now (condition_of a.now) a_wanted (condition_of b.now) b_wanted)
-        (option_copied name.entry) s)
-        (MissedUnder (wants known.now (condition_of a.now) a_wanted (condition_of b.now) b_wanted)
-        (option_copied name.entry))
-        (NeedsMoreFor (wants known.now (condition_of a.now) a_wanted (condition_of b.now) b_wanted) budget)) }
+    ensures { IfOk result (λ r. SaysFoundUnder r (wanted_of question.now) (option_copied name.entry) budget) }
 {
     let yes = CfgExpr::True;
     let no = CfgExpr::False;
     search_both(
         alloc,
-        under(a, name, &yes, &no),
-        a_wanted,
-        under(b, name, &yes, &no),
-        b_wanted,
-        known,
+        under(question.first, name, &yes, &no),
+        question.first_wanted,
+        under(question.second, name, &yes, &no),
+        question.second_wanted,
+        question.known,
         budget,
     )
 }

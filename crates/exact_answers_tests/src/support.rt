@@ -1,7 +1,7 @@
 //! What the tests share: what is known in a row, and all sets of facts, tried one by one.
 
 use cargo_platform::{Cfg, CfgExpr, Facts, Listed};
-use exact_answers::{FAMILY_RULE, Known, ONE_VALUED};
+use exact_answers::{Known, ONE_VALUED, family_rule};
 use std::alloc::{AllocError, Global};
 use std::process::Abort;
 
@@ -37,16 +37,12 @@ pub fn facts_of(rt: &impl Abort, alloc: Global, letter: &str) -> Vec<Cfg> {
 
 /// What is assumed, by the letter of a row.
 pub fn assumed_of(rt: &impl Abort, alloc: Global, letter: &str) -> CfgExpr {
-    expression(
-        rt,
-        alloc,
-        match letter {
-            "a" => UNIX_FAMILY,
-            "r" => FAMILY_RULE,
-            "x" => "any()",
-            _ => "true",
-        },
-    )
+    match letter {
+        "a" => expression(rt, alloc, UNIX_FAMILY),
+        "r" => family_rule(alloc).expect(rt, "memory"),
+        "x" => expression(rt, alloc, "any()"),
+        _ => CfgExpr::True,
+    }
 }
 
 /// What is known, by the letter of a row: nothing (`n`), keys with one value (`s`), two values listed of such a key

@@ -67,7 +67,26 @@ s can all(target_os, not(target_os = "a")) => yes
 s exclude target_env = "" -> target_env = "gnu" => yes
 s always any(target_endian = "big", target_endian = "little") => no
 s exclude r#target_os = "a" -> target_os = "b" => yes
+s exclude target_os -> target_os = "" => no
+s implies target_os = "" -> target_os => no
+s can all(target_os, target_os = "", not(target_os = "a")) => yes
+s can all(target_os = "", target_os = "a") => no
+s implies target_env = "" -> not(target_env = "musl") => yes
+n exclude target_env = "" -> target_env = "gnu" => no
+f can target_os = "" => no
+f can all(target_os = "linux", target_os) => no
+f equivalent target_os = "linux" -> not(target_os) => yes
+t can all(target_os = "a", not(target_os = "b")) => no
+t implies target_os = "c" -> loom => yes
+t exclude target_os -> target_os = "a" => no
 n always r#true => no
+n can all(true, r#true) => yes
+n implies true -> r#true => no
+n can all(r#true, r#false) => yes
+n implies r#false -> false => no
+n exclude r#true -> not(true) => yes
+n equivalent any(r#true, not(r#true)) -> true => yes
+n equivalent r#k = "1" -> k = "1" => yes
 n can not(r#true) => yes
 n implies r#true -> true => yes
 n equivalent r#true -> true => no

@@ -33,6 +33,12 @@ n can cfg(all(a, not(a))) => no
 n always cfg(any(a, not(a))) => yes
 n equivalent cfg(not(all(a, b))) -> cfg(any(not(a), not(b))) => yes
 n implies cfg(a) -> cfg(all(a, b)) => no
+n equivalent cfg(r#true) -> cfg(true) => no
+n implies cfg(r#a) -> cfg(a) => yes
+n always cfg(true) => yes
+n exclude x86 -> cfg(r#true) => no
+s exclude cfg(target_os = "") -> cfg(target_os = "a") => yes
+s exclude cfg(target_os) -> cfg(target_os = "a") => no
 s exclude cfg(target_os = "a") -> cfg(target_os = "b") => yes
 f implies x86 -> cfg(unix) => yes
 f implies cfg(unix) -> x86 => no

@@ -3,7 +3,6 @@ use Rattle.std.proofs.Common.{◌≡◌, ◌∙◌, refl, sym, ap, ℕ, ◌+◌,
 use Rattle.std.proofs.Common.{false, ◌&&◌, ◌||◌, List, [], ◌∷◌, map, length}
 use Rattle.std.proofs.Common.{Option, Some, None}
 use Rattle.std.proofs.Common.{Global, Box, box_value, rules, arith, ◌++◌, append_assoc}
-use Rattle.std.specs.List.{list_any}
 use Rattle.cargo_platform.specs.Trees.{CfgValue, Alone, KeyPair}
 use Rattle.known_targets.specs.Rows.{Values, Keys, with_fact, names_of, keys_of}
 use Rattle.known_targets.specs.Rows.{values_of, plain, facts_of_values, facts_in}
@@ -12,8 +11,7 @@ use Rattle.std.specs.Prelude.{not, ◌≢◌, bytes_eq}
 use Rattle.std.specs.Borrow.{Bor}
 use Rattle.std.proofs.Common.{◌<◌, ◌≤◌, get_or, take, eqb, eq-eqb, inl, inr, true≢false}
 use Rattle.std.proofs.lemmas.Bool.{cases_eq}
-use Rattle.std.proofs.lemmas.List.{get_or-map, take_all, take_more, map-append}
-use Rattle.std.proofs.lemmas.List.Folds.{list_any_more}
+use Rattle.std.proofs.lemmas.List.{get_or-map, take_more, map-append}
 use Rattle.std.proofs.lemmas.Slice.Eq.{bytes_eq-Decides}
 use Rattle.known_targets.proofs.Bits.{eqb-false}
 use Rattle.cargo_platform.specs.declared.cfg.CfgExpr.{CfgExpr, the_lemmas}
@@ -142,31 +140,6 @@ at_end true u told a [] h = sym (and_true a)
 at_end false u told a [] h = sym (or_false a)
 at_end n u told a (m ∷ ms) h = absurd (omega arith)
 
--- ---- rows that are gone through
-
-list_any_map : {X Y : Type 0} (f : X → Y) (p : Y → Bool) (xs : List X)
-    → list_any p (map f xs) ≡ list_any (λ x. p (f x)) xs
-list_any_map f p [] = refl
-list_any_map f p (x ∷ xs) = ap (λ b. p (f x) || b) (list_any_map f p xs)
-
--- one more row
-pub row_added : {X Y : Type 0} (f : X → Y) (p : Y → Bool) (new old mine : Bool) (xs : List X) (i : ℕ) (d : X)
-    → i < length xs → old ≡ list_any p (map f (take i xs)) → new ≡ (old || mine) → mine ≡ p (f (get_or xs i d))
-    → new ≡ list_any p (map f (take (i + 1) xs))
-row_added f p new old mine xs i d within before now same =
-    now ∙ (λ j. before j || same j)
-    ∙ sym
-    (list_any_map f p (take (i + 1) xs) ∙ list_any_more (λ x. p (f x)) xs i d within
-    ∙ ap (λ b. b || p (f (get_or xs i d))) (sym (list_any_map f p (take i xs))))
-
--- the last one
-pub rows_ended : {X Y : Type 0} (f : X → Y) (p : Y → Bool) (set : Bool) (xs : List X) (i : ℕ)
-    → i ≤ length xs → length xs ≤ i → set ≡ list_any p (map f (take i xs)) → set ≡ list_any p (map f xs)
-rows_ended f p set xs i low high before =
-    let last : i ≡ length xs = omega arith in
-    before ∙ ap (λ n. list_any p (map f (take n xs))) last
-    ∙ ap (λ ys. list_any p (map f ys)) (take_all (length xs) xs (omega arith))
-
 -- ---- names that are gone through
 
 pub name_at : (names : List (Bor (List ℕ))) (i : ℕ) (d : Bor (List ℕ)) → i < length names
@@ -204,12 +177,6 @@ pub named_none : (k i : ℕ) (new old test : Bool) → new ≡ ((eqb k i && test
 named_none k i new old test now above is =
     let other : k ≢ i = omega arith in
     now ∙ ap (λ b. (b && test) || old) (eqb-false k i other) ∙ is
-
-pub is_same : (test b : Bool) → test ≡ true → b ≡ (test && b)
-is_same test b is = sym (ap (λ t. t && b) is)
-
-pub is_other : (test b : Bool) → test ≡ false → false ≡ (test && b)
-is_other test b is = sym (ap (λ t. t && b) is)
 
 -- ---- facts that are listed
 

@@ -1,7 +1,7 @@
 -- What a truth says in which each fact that is not known is taken as the one that turns the whole.
 use Rattle.std.proofs.Common.{◌≡◌, ◌∙◌, refl, sym, ap, ℕ, Bool, true, false, List, [], Option, Some, None, true≢false}
 use Rattle.std.proofs.Common.{IfSome}
-use Rattle.std.specs.Prelude.{◌↔◌, ◌||◌, ◌&&◌, not, IsTrue, bytes_eq}
+use Rattle.std.specs.Prelude.{◌↔◌, ◌||◌, ◌&&◌, not, IsTrue}
 use Rattle.std.specs.declared.cmp.Ordering.{Ordering}
 use Rattle.std.specs.declared.cmp.Ordering.TheVariants.{Less, Equal, Greater}
 use Rattle.std.specs.Ordering.{ordering_then, nat_cmp, is_eq, eq_by_cmp}

@@ -22,7 +22,7 @@ told_in k keys open_keys = open_told (fact_set (facts_in k keys)) open_keys
 abbrev pub taken : Bool → (Pair → Option Bool) → Tree → Bool
 taken u told e = taken_as u (kleene told e)
 
--- both kinds of group, by the truth behind which they go on
+-- both kinds of group, by the truth after which they go on
 abbrev pub both : Bool → Bool → Bool → Bool
 both true a b = a && b
 both false a b = a || b

@@ -1,5 +1,5 @@
 -- The facts of the rows of a table, each once.
-use Rattle.std.specs.Prelude.{◌≡◌, ◌<◌, ℕ, zero, suc, Bool, true, false, ◌||◌, List, [], ◌∷◌, ◌++◌, map}
+use Rattle.std.specs.Prelude.{◌≡◌, ◌<◌, ℕ, zero, suc, Bool, false, ◌||◌, List, [], ◌∷◌, ◌++◌, map}
 use Rattle.std.specs.FinSet.{contains}
 use Rattle.cargo_platform.specs.Trees.{CfgValue, Alone, KeyPair, value_of}
 use Rattle.cargo_platform.specs.Facts.{pair_of, fact_set}
@@ -28,7 +28,7 @@ abbrev pub pairs_in : Keys → List CfgValue
 pairs_in [] = []
 pairs_in (key ∷ keys) = pairs_of key.0 key.2 ++ pairs_in keys
 
--- what the rows list, whether a target has it or not: the names alone, and behind them the pairs
+-- what the rows list, whether a target has it or not: the names alone, and after them the pairs
 abbrev pub values_in : Keys → List CfgValue
 values_in keys = names_in keys ++ pairs_in keys
 

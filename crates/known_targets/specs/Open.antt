@@ -1,5 +1,5 @@
 -- What is known of a target where the facts of some names and keys are open, and a truth by what is known.
-use Rattle.std.specs.Prelude.{◌≡◌, ◌↔◌, ℕ, Bool, true, false, IsTrue, List, [], ◌∷◌, Option, Some, None, IfSome}
+use Rattle.std.specs.Prelude.{◌≡◌, ℕ, Bool, true, false, IsTrue, List, Option, Some, None, IfSome}
 use Rattle.std.specs.FinSet.{contains, insert, remove}
 use Rattle.std.proofs.Common.{refl}
 use Rattle.cargo_platform.specs.Facts.{Pair, FactSet}

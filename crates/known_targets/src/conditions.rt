@@ -34,9 +34,9 @@ pub fn matching(alloc: Global, platform: &Platform) -> Result<TargetSet, AllocEr
 /// The targets at which the condition holds, whatever the facts of these names and keys are.
 ///
 /// A name in `open_keys` leaves open whether the name alone is a fact, and each value of it as a key. With `loom` in
-/// it, neither `cfg(loom)` nor `cfg(not(loom))` holds anywhere for certain. A fact counts by its name or key without the
-/// raw mark. The truth is that of Kleene's strong logic, which takes each fact by itself: `any(loom, not(loom))` is not
-/// certain either. It refuses only where memory is refused.
+/// it, neither `cfg(loom)` nor `cfg(not(loom))` holds anywhere for certain. A fact counts by its name or key without
+/// the raw mark. The truth is that of Kleene's strong logic, which takes each fact by itself: `any(loom, not(loom))` is
+/// not certain either. It refuses only where memory is refused.
 pub fn certainly_matching(
     alloc: Global,
     platform: &Platform,

@@ -38,7 +38,7 @@ pub fn all_facts(alloc: Global) -> Result<Vec<KnownFact>, AllocError>
     had(alloc, keys())
 }
 
-/// The facts of these rows that some target has: the names alone, and behind them the pairs.
+/// The facts of these rows that some target has: the names alone, and after them the pairs.
 fn had(alloc: Global, keys: &[Key]) -> Result<Vec<KnownFact>, AllocError>
     ensures values { IfOk result (λ facts. fact_values facts.items
         ≡ filter (is_had (keys_of keys.now)) (values_in (keys_of keys.now))) }

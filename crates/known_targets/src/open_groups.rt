@@ -11,7 +11,7 @@ use std::alloc::{AllocError, Global};
 /// An `all` or `any` whose members are gone through.
 #[derive(Drop)]
 pub struct OpenList<'a> {
-    /// The truth behind which the group goes on: `all` behind members that are true, and `any` behind false ones.
+    /// The truth after which the group goes on: `all` after members that are true, and `any` after false ones.
     pub neutral: bool,
     /// The truth that is taken for what is not known, at the members.
     pub unknown: bool,

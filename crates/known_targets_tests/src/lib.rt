@@ -6,6 +6,8 @@ pub mod callers;
 #[cfg(test)]
 mod conditions;
 #[cfg(test)]
+mod facts;
+#[cfg(test)]
 mod sets;
 #[cfg(test)]
 mod support;

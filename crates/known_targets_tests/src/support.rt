@@ -10,7 +10,7 @@ pub fn platform(rt: &impl Abort, alloc: Global, text: &str) -> Platform {
     Platform::from_str(alloc, text).expect(rt, text)
 }
 
-/// The parts of a row before and behind its first ` => `.
+/// The parts of a row before and after its first ` => `.
 pub fn row_parts<'a>(rt: &impl Abort, row: &'a str) -> (&'a str, &'a str) {
     row.split_once(" => ").expect(rt, row)
 }

@@ -123,7 +123,7 @@ target_os="none"
 target_pointer_width="32"
 target_vendor="unknown""#;
 
-/// Texts that are no name: before, between and behind the names, and names that were changed a little.
+/// Texts that are no name: before, between and after the names, and names that were changed a little.
 const NO_NAMES: &[&str] = &[
     "",
     "aarch64",
@@ -187,6 +187,17 @@ fn each_name_is_found(rt: HostRuntime) {
     assert_eq!(rt; names().len(), 320);
     for name in names() {
         assert_eq!(rt; target(&rt, name).name(), *name);
+    }
+}
+
+/// Each name with a character more stands right after it, and the name without its last one stands before it.
+#[test]
+fn texts_beside_names_are_no_names(rt: HostRuntime) {
+    for name in names() {
+        let longer = format!(in rt.alloc(); "{name}0").expect(&rt, "memory");
+        assert!(rt; KnownTarget::by_name(&longer).is_none(), "{longer}");
+        let shorter = name.get(..name.len().saturating_sub(1)).expect(&rt, name);
+        assert!(rt; KnownTarget::by_name(shorter).is_none(), "{shorter}");
     }
 }
 

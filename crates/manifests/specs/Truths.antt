@@ -1,10 +1,10 @@
 -- What it is for a condition to be never, always, nowhere and everywhere true.
 use Rattle.std.specs.Prelude.{◌≡◌, ◌<◌, ℕ, Bool, true, false, List, Option, Some}
 use Rattle.cargo_platform.specs.Trees.{Condition}
-use Rattle.cargo_platform.specs.Facts.{FactSet, IsTrueCondition}
+use Rattle.cargo_platform.specs.Facts.{IsTrueCondition}
 use Rattle.partial_facts.specs.Conditions.{kleene_condition}
 use Rattle.exact_answers.specs.declared.known.Known.{Known}
-use Rattle.exact_answers.specs.Possible.{IsAllowed}
+use Rattle.exact_answers.specs.Targets.{ForEach}
 use Rattle.known_targets.specs.Open.{open_told}
 use Rattle.known_targets.specs.Table.{target_name, target_facts}
 use Rattle.known_targets.specs.declared.table.TheConstants.{COUNT}
@@ -13,11 +13,11 @@ use Rattle.manifests.specs.declared.linting.Decided.TheVariants as decided
 
 -- it holds for no target that is possible
 abbrev pub IsNever : Known → Condition → Type 0
-IsNever k c = (name : List ℕ) (s : FactSet) → IsAllowed k s → IsTrueCondition name s c → ⊥
+IsNever k c = ForEach k (λ name s. IsTrueCondition name s c → ⊥)
 
 -- it holds for each target that is possible
 abbrev pub IsAlways : Known → Condition → Type 0
-IsAlways k c = (name : List ℕ) (s : FactSet) → IsAllowed k s → IsTrueCondition name s c
+IsAlways k c = ForEach k (λ name s. IsTrueCondition name s c)
 
 -- what holds where something is said to be
 abbrev pub IfYes : Decided → Type 0 → Type 0

@@ -1,6 +1,7 @@
 //! The names and pairs that a manifest declares as expected, in `[lints.rust]` under `unexpected_cfgs`, `check-cfg`.
 
-use cargo_platform::{Cfg, Ident, Token, Tokenizer};
+use crate::standing::is_among;
+use cargo_platform::{Cfg, Token, Tokenizer};
 use std::alloc::{AllocError, Global};
 use toml::{Table, Value};
 
@@ -67,30 +68,20 @@ fn check_cfg(manifest: &Table) -> Option<&Value> {
 fn declares(entry: &Entry<'_>, c: &Cfg) -> bool {
     match c {
         Cfg::Name(name) => {
-            is_listed(name.as_str(), &entry.names)
+            is_among(name.as_str(), &entry.names)
                 && match &entry.values {
                     Values::Any => true,
                     Values::Listed(_, none) => *none,
                 }
         }
         Cfg::KeyPair(key, value) => {
-            is_listed(key.as_str(), &entry.names)
+            is_among(key.as_str(), &entry.names)
                 && match &entry.values {
                     Values::Any => true,
-                    Values::Listed(values, _) => is_listed(value.as_str(), values),
+                    Values::Listed(values, _) => is_among(value.as_str(), values),
                 }
         }
     }
-}
-
-/// Whether the text is listed.
-fn is_listed(text: &str, texts: &[&str]) -> bool {
-    for other in texts {
-        if *other == text {
-            return true;
-        }
-    }
-    false
 }
 
 /// The next token; nothing where the text ends or is at fault.
@@ -115,33 +106,33 @@ fn entry_of<'a>(alloc: Global, text: &'a str) -> Result<Option<Entry<'a>>, Alloc
         let Some(Token::Ident(raw, name)) = next(&mut tokens) else {
             return Ok(None);
         };
-        let behind = next(&mut tokens);
-        if behind == Some(Token::LeftParen) {
+        let after = next(&mut tokens);
+        if after == Some(Token::LeftParen) {
             if raw || name != "values" || names.is_empty() {
                 return Ok(None);
             }
-            let Some(values) = values_of(alloc, text.len(), &mut tokens)? else {
+            let Some(values) = listed_values(alloc, text.len(), &mut tokens)? else {
                 return Ok(None);
             };
             return Ok(Some(Entry { names, values }));
         }
         names.push(name)?;
-        if behind == Some(Token::RightParen) {
+        if after == Some(Token::RightParen) {
             if tokens.rest().is_some() {
                 return Ok(None);
             }
             let values = Values::Listed(Vec::new(alloc), true);
             return Ok(Some(Entry { names, values }));
         }
-        if behind != Some(Token::Comma) {
+        if after != Some(Token::Comma) {
             return Ok(None);
         }
     }
     Ok(None)
 }
 
-/// The values up to the parenthesis that closes them, and the one behind it.
-fn values_of<'a>(
+/// The values up to the parenthesis that closes them, and the one after it.
+fn listed_values<'a>(
     alloc: Global,
     limit: usize,
     tokens: &mut Tokenizer<'a>,
@@ -176,7 +167,7 @@ fn values_of<'a>(
     Ok(None)
 }
 
-/// The values, where one parenthesis follows and nothing behind it.
+/// The values, where one parenthesis follows and nothing after it.
 fn closed<'a>(
     tokens: &mut Tokenizer<'a>,
     values: Vec<&'a str>,
@@ -195,14 +186,4 @@ fn closed<'a>(
     } else {
         Some(Values::Listed(values, none))
     }
-}
-
-/// Whether the name alone, or as a key, is declared at all.
-pub fn is_name_declared(declared: &Declared<'_>, name: &Ident) -> bool {
-    for entry in &declared.entries {
-        if is_listed(name.as_str(), &entry.names) {
-            return true;
-        }
-    }
-    false
 }

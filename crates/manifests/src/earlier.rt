@@ -53,7 +53,7 @@ impl<'a> Keys<'a> {
         }
     }
 
-    /// Adds a key at a place behind those that were added, and tells how it stands to them. Where `may_ask` is false
+    /// Adds a key at a place after those that were added, and tells how it stands to them. Where `may_ask` is false
     /// it is not asked what is as true.
     pub fn add(
         &mut self,

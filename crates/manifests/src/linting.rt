@@ -13,13 +13,13 @@ use crate::nearest::{Words, instead_of, key_instead_of, key_of_target};
 use crate::spelled::{Spelled, followed_levels, inner, read_key};
 use crate::standing::{Standing, name_in, standing_of};
 use crate::tables::{TargetKey, is_table_name};
-use crate::telling::{OWN, TOLD, joined, no_target, on_one_line, quoted, quoted_fact, with_meant};
+use crate::telling::{OWN, TOLD, joined, no_target, quoted, quoted_fact, with_meant};
 use crate::values::values_of;
-use cargo_platform::{Cfg, CfgExpr, Platform, ReadError, Token, Tokenizer, shown_start};
+use cargo_platform::{Cfg, CfgExpr, Platform, Token, Tokenizer, shown_start, shown_text};
 use exact_answers::{
-    CanSelect, FAMILY_RULE, Known, MustSelect, ONE_VALUED, always_platform, can_hold_platform,
+    CanSelect, Known, MustSelect, ONE_VALUED, always_platform, can_hold_platform, family_rule,
 };
-use known_targets::{KnownTarget, certainly_matching, possibly_matching};
+use known_targets::{KnownTarget, RUSTC_VERSION, certainly_matching, possibly_matching};
 use std::alloc::{AllocError, Global};
 use std::collections::BTreeSet;
 
@@ -462,6 +462,164 @@ fn cargo_warnings(alloc: Global, facts: &[&Cfg]) -> Result<Vec<String>, AllocErr
     Ok(texts)
 }
 
+/// A mistaken fact, with what may be meant.
+fn mistake_text(
+    alloc: Global,
+    words: &Words,
+    c: &Cfg,
+    standing: Standing,
+) -> Result<String, AllocError> {
+    let text = quoted_fact(alloc, c)?;
+    match instead_of(alloc, words, c, standing)? {
+        Some(other) => {
+            let other = quoted(alloc, other.as_str())?;
+            format!(in alloc; "{text} (perhaps {other} is meant)")
+        }
+        None => Ok(text),
+    }
+}
+
+/// What is told of mistaken facts.
+fn mistakes_message(
+    alloc: Global,
+    words: &Words,
+    mistakes: &[(&Cfg, Standing)],
+) -> Result<String, AllocError> {
+    let mut texts = Vec::new(alloc);
+    for (c, standing) in mistakes.iter().take(TOLD) {
+        texts.push(mistake_text(alloc, words, *c, *standing)?)?;
+    }
+    let texts = joined(alloc, &texts, mistakes.len(), ", ")?;
+    let unknown = no_target(alloc)?;
+    format!(in alloc; "{unknown} has {texts}{OWN}")
+}
+
+/// What is told of facts that Cargo reads without their raw marks.
+fn literals_message(alloc: Global, literals: &[&Cfg]) -> Result<String, AllocError> {
+    let texts = quoted_facts(alloc, literals)?;
+    let texts = joined(alloc, &texts, literals.len(), ", ")?;
+    format!(in alloc; "Cargo of today reads {texts} as if it had no raw mark")
+}
+
+/// What is told of facts that only flags set.
+fn custom_message(alloc: Global, custom: &[&Cfg]) -> Result<String, AllocError> {
+    let texts = quoted_facts(alloc, custom)?;
+    let texts = joined(alloc, &texts, custom.len(), ", ")?;
+    let unknown = no_target(alloc)?;
+    format!(in alloc;
+        "{unknown} has {texts}: only `--cfg` in RUSTFLAGS can set it, and no build script"
+    )
+}
+
+/// What Cargo says of facts that do not select dependencies, on one line.
+fn unsupported_message(alloc: Global, unsupported: &[&Cfg]) -> Result<String, AllocError> {
+    let texts = cargo_warnings(alloc, unsupported)?;
+    let texts = joined(alloc, &texts, texts.len(), " ")?;
+    shown_text(alloc, texts.as_str())
+}
+
+/// What is told of a name that no known target has.
+fn unknown_message(alloc: Global, meant: &Option<String>) -> Result<String, AllocError> {
+    let unknown = no_target(alloc)?;
+    let message = format!(in alloc; "{unknown} has this name{OWN}")?;
+    with_meant(alloc, message.as_str(), meant)
+}
+
+/// What is told of a condition that holds at no known target.
+fn nowhere_message(alloc: Global) -> Result<String, AllocError> {
+    let unknown = no_target(alloc)?;
+    format!(in alloc;
+        "{unknown} has facts that make the condition true; a target specification of one's own may have them"
+    )
+}
+
+/// What is told of a key beside an earlier one.
+fn earlier_message(alloc: Global, code: Code, other: &str) -> Result<String, AllocError> {
+    let other = quoted(alloc, other)?;
+    if code == Code::Same {
+        format!(in alloc; "the same condition as the earlier key {other}")
+    } else {
+        format!(in alloc; "true over the same sets of facts as the earlier key {other}")
+    }
+}
+
+/// What is told of a condition with a canonical form of another text.
+fn canonical_message(alloc: Global, canonical: &str) -> Result<String, AllocError> {
+    let form = quoted(alloc, canonical)?;
+    format!(in alloc; "the canonical form is {form}")
+}
+
+/// How much a finding of this code weighs, on a condition with so many names and pairs.
+fn level_of(code: Code, count: usize) -> Level {
+    match code {
+        Code::Always | Code::Everywhere | Code::Custom | Code::NotCanonical => Level::Note,
+        Code::Never if count == 0 => Level::Note,
+        _ => Level::Warning,
+    }
+}
+
+/// What may stand in the place of the key, by the finding of this code.
+fn suggestion_of(
+    alloc: Global,
+    words: &Words,
+    key: TargetKey<'_>,
+    platform: &Platform,
+    canonical: &str,
+    code: Code,
+) -> Result<Option<String>, AllocError> {
+    match code {
+        Code::UnknownTarget => {
+            let members = members_of(alloc, key)?;
+            key_instead_of(alloc, key.key, &members)
+        }
+        Code::UnknownFact => repaired(alloc, words, key.key, platform),
+        Code::NotCanonical => Ok(Some(String::from_str(alloc, canonical)?)),
+        _ => Ok(None),
+    }
+}
+
+/// What is told of facts.
+fn facts_message(
+    alloc: Global,
+    words: &Words,
+    facts: &Facts<'_>,
+    code: Code,
+) -> Result<String, AllocError> {
+    match code {
+        Code::ReadOtherwise => literals_message(alloc, &facts.literals),
+        Code::Unsupported => unsupported_message(alloc, &facts.unsupported),
+        Code::UnknownFact => mistakes_message(alloc, words, &facts.mistakes),
+        _ => custom_message(alloc, &facts.custom),
+    }
+}
+
+/// What is told by the finding of this code. `other` is the earlier key, and `meant` may stand in the key's place.
+fn message_of(
+    alloc: Global,
+    words: &Words,
+    seen: &Seen<'_>,
+    other: &str,
+    meant: &Option<String>,
+    code: Code,
+) -> Result<String, AllocError> {
+    match code {
+        Code::ReadOtherwise | Code::Unsupported | Code::UnknownFact | Code::Custom => {
+            facts_message(alloc, words, &seen.facts, code)
+        }
+        Code::Never => String::from_str(alloc, "no set of facts makes the condition true"),
+        Code::Always => String::from_str(alloc, "every set of facts makes the condition true"),
+        Code::UnknownTarget => unknown_message(alloc, meant),
+        Code::Nowhere => nowhere_message(alloc),
+        Code::Everywhere => format!(in alloc;
+            "the condition holds at every target that rustc {RUSTC_VERSION} knows"
+        ),
+        Code::Same | Code::Equivalent => earlier_message(alloc, code, other),
+        Code::NotCanonical | Code::Refused | Code::NoTable => {
+            canonical_message(alloc, seen.canonical.as_str())
+        }
+    }
+}
+
 /// The finding of this code on a condition.
 fn told(
     alloc: Global,
@@ -473,103 +631,10 @@ fn told(
     other: &str,
     code: Code,
 ) -> Result<Finding, AllocError> {
-    let unknown = no_target(alloc)?;
-    let (level, message, suggestion) = match code {
-        Code::ReadOtherwise => {
-            let literals = &seen.facts.literals;
-            let texts = quoted_facts(alloc, literals)?;
-            let texts = joined(alloc, &texts, literals.len(), ", ")?;
-            let message = format!(in alloc;
-                "Cargo of today reads {texts} as if it had no raw mark"
-            )?;
-            (Level::Warning, message, None)
-        }
-        Code::Unsupported => {
-            let texts = cargo_warnings(alloc, &seen.facts.unsupported)?;
-            let texts = joined(alloc, &texts, texts.len(), " ")?;
-            (Level::Warning, on_one_line(alloc, texts.as_str())?, None)
-        }
-        Code::Never => {
-            let level = if seen.facts.count == 0 {
-                Level::Note
-            } else {
-                Level::Warning
-            };
-            let message = String::from_str(alloc, "no set of facts makes the condition true")?;
-            (level, message, None)
-        }
-        Code::UnknownTarget => {
-            let members = members_of(alloc, key)?;
-            let meant = key_instead_of(alloc, key.key, &members)?;
-            let message = format!(in alloc; "{unknown} has this name{OWN}")?;
-            (
-                Level::Warning,
-                with_meant(alloc, message.as_str(), &meant)?,
-                meant,
-            )
-        }
-        Code::UnknownFact => {
-            let mut texts = Vec::new(alloc);
-            for (c, standing) in seen.facts.mistakes.iter().take(TOLD) {
-                let text = quoted_fact(alloc, *c)?;
-                let meant = instead_of(alloc, words, *c, *standing)?;
-                texts.push(match meant {
-                    Some(other) => {
-                        let other = quoted(alloc, other.as_str())?;
-                        format!(in alloc; "{text} (perhaps {other} is meant)")?
-                    }
-                    None => text,
-                })?;
-            }
-            let texts = joined(alloc, &texts, seen.facts.mistakes.len(), ", ")?;
-            let message = format!(in alloc; "{unknown} has {texts}{OWN}")?;
-            (
-                Level::Warning,
-                message,
-                repaired(alloc, words, key.key, platform)?,
-            )
-        }
-        Code::Nowhere => {
-            let message = format!(in alloc;
-                "{unknown} has facts that make the condition true; a target specification of one's own may have them"
-            )?;
-            (Level::Warning, message, None)
-        }
-        Code::Same | Code::Equivalent => {
-            let other = quoted(alloc, other)?;
-            let message = if code == Code::Same {
-                format!(in alloc; "the same condition as the earlier key {other}")?
-            } else {
-                format!(in alloc; "true over the same sets of facts as the earlier key {other}")?
-            };
-            (Level::Warning, message, None)
-        }
-        Code::Always => {
-            let message = String::from_str(alloc, "every set of facts makes the condition true")?;
-            (Level::Note, message, None)
-        }
-        Code::Everywhere => {
-            let message = format!(in alloc;
-                "the condition holds at every target that rustc {} knows",
-                known_targets::RUSTC_VERSION
-            )?;
-            (Level::Note, message, None)
-        }
-        Code::Custom => {
-            let custom = &seen.facts.custom;
-            let texts = quoted_facts(alloc, custom)?;
-            let texts = joined(alloc, &texts, custom.len(), ", ")?;
-            let message = format!(in alloc;
-                "{unknown} has {texts}: only `--cfg` in RUSTFLAGS can set it, and no build script"
-            )?;
-            (Level::Note, message, None)
-        }
-        Code::NotCanonical | Code::Refused | Code::NoTable => {
-            let form = quoted(alloc, seen.canonical.as_str())?;
-            let message = format!(in alloc; "the canonical form is {form}")?;
-            (Level::Note, message, Some(seen.canonical.clone()?))
-        }
-    };
+    let canonical = seen.canonical.as_str();
+    let suggestion = suggestion_of(alloc, words, key, platform, canonical, code)?;
+    let message = message_of(alloc, words, seen, other, &suggestion, code)?;
+    let level = level_of(code, seen.facts.count);
     Ok(plain_finding(level, code, index, message, suggestion))
 }
 
@@ -626,12 +691,61 @@ fn add_refused(
     } = spelled
     {
         let text = joined(alloc, warnings, *count, " ")?;
-        let text = on_one_line(alloc, text.as_str())?;
+        let text = shown_text(alloc, text.as_str())?;
         let message = format!(in alloc; "Cargo of today reads the key, and warns: {text}")?;
         let meant = Some(marked.clone()?);
         findings.push(plain_finding(Level::Warning, Code::ReadOtherwise, index, message, meant))?;
     }
     Ok(())
+}
+
+/// Whether it may be asked what holds of a key over every set of facts: it is not too deep.
+fn may_ask(alloc: Global, key: &str) -> Result<bool, AllocError> {
+    match inner(key) {
+        Some(text) => Ok(followed_levels(alloc, text)? <= LEVELS),
+        None => Ok(true),
+    }
+}
+
+/// The earlier key that is the same or as true.
+fn earlier_key<'k>(keys: &'k [TargetKey<'_>], earlier: &Earlier) -> &'k str {
+    match earlier {
+        Earlier::Same(first) | Earlier::Equivalent(first) => match keys.get(*first) {
+            Some(key) => key.key,
+            None => "",
+        },
+        Earlier::Unlike | Earlier::Undecided => "",
+    }
+}
+
+/// What there is to find of a condition, by itself and beside those before it.
+fn seen_after<'a>(
+    alloc: Global,
+    key: &str,
+    index: usize,
+    platform: &'a Platform,
+    declared: &Declared<'_>,
+    known: &'a Known<'a>,
+    before: &mut Keys<'a>,
+) -> Result<(Seen<'a>, Earlier), AllocError> {
+    let may_ask = may_ask(alloc, key)?;
+    let mut seen = look_at(alloc, key, platform, declared, known, may_ask)?;
+    let budget = budget_for(seen.facts.count);
+    let decides = seen.holding.never || seen.holding.always;
+    let earlier = before.add(alloc, index, platform, known, budget, may_ask && !decides)?;
+    seen.holding.same = matches!(earlier, Earlier::Same(_));
+    seen.holding.equivalent = matches!(earlier, Earlier::Equivalent(_));
+    seen.undecided = seen.undecided || (earlier == Earlier::Undecided && !decides);
+    Ok((seen, earlier))
+}
+
+/// The conditions of the keys, as far as they spell some.
+fn read_keys(alloc: Global, keys: &[TargetKey<'_>]) -> Result<Vec<Spelled>, AllocError> {
+    let mut read = Vec::new(alloc);
+    for key in keys {
+        read.push(read_key(alloc, key.key)?)?;
+    }
+    Ok(read)
 }
 
 /// The findings on the keys, in the order in which these are given. What the manifest declares as expected is no custom
@@ -642,15 +756,7 @@ pub fn lint(
     keys: &[TargetKey<'_>],
     words: &Words,
 ) -> Result<Report, AllocError> {
-    let mut report = Report {
-        findings: Vec::new(alloc),
-        undecided: Vec::new(alloc),
-    };
-    let rule = match CfgExpr::from_str(alloc, FAMILY_RULE) {
-        Ok(rule) => rule,
-        Err(ReadError::Memory(refused)) => return Err(refused),
-        Err(ReadError::Parse(_error)) => CfgExpr::True,
-    };
+    let rule = family_rule(alloc)?;
     let known = Known {
         facts: &[],
         complete: &[],
@@ -658,10 +764,11 @@ pub fn lint(
         assumed: &rule,
     };
     let declared = Declared::of(alloc, manifest)?;
-    let mut read = Vec::new(alloc);
-    for key in keys {
-        read.push(read_key(alloc, key.key)?)?;
-    }
+    let read = read_keys(alloc, keys)?;
+    let mut report = Report {
+        findings: Vec::new(alloc),
+        undecided: Vec::new(alloc),
+    };
     let mut before = Keys::new(alloc);
     for (index, key) in keys.iter().enumerate() {
         let Some(spelled) = read.get(index) else {
@@ -671,27 +778,18 @@ pub fn lint(
             add_refused(alloc, index, key, spelled, &mut report.findings)?;
             continue;
         };
-        let may_ask = match inner(key.key) {
-            Some(text) => followed_levels(alloc, text)? <= LEVELS,
-            None => true,
-        };
-        let mut seen = look_at(alloc, key.key, platform, &declared, &known, may_ask)?;
-        let budget = budget_for(seen.facts.count);
-        let decides = seen.holding.never || seen.holding.always;
-        let earlier = before.add(alloc, index, platform, &known, budget, may_ask && !decides)?;
-        seen.holding.same = matches!(earlier, Earlier::Same(_));
-        seen.holding.equivalent = matches!(earlier, Earlier::Equivalent(_));
-        if seen.undecided || (earlier == Earlier::Undecided && !decides) {
+        let (seen, earlier) = seen_after(
+            alloc,
+            key.key,
+            index,
+            platform,
+            &declared,
+            &known,
+            &mut before,
+        )?;
+        if seen.undecided {
             report.undecided.push(index)?;
         }
-        let other = match earlier {
-            Earlier::Same(first) | Earlier::Equivalent(first) => first,
-            Earlier::Unlike | Earlier::Undecided => index,
-        };
-        let other = match keys.get(other) {
-            Some(other) => other.key,
-            None => "",
-        };
         add_findings(
             alloc,
             words,
@@ -699,7 +797,7 @@ pub fn lint(
             index,
             platform,
             &seen,
-            other,
+            earlier_key(keys, &earlier),
             &mut report.findings,
         )?;
     }

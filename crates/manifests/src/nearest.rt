@@ -1,30 +1,23 @@
 //! What may be meant by a name, key or value that no known target has.
 
-use crate::standing::{Standing, is_value_of, name_in};
+use crate::standing::{Standing, is_value_of};
 use cargo_platform::{Cfg, Platform};
-use known_targets::{KnownTarget, TargetSet, names};
+use known_targets::{KnownFact, KnownTarget, all_facts, names};
 use std::alloc::{AllocError, Global};
-use std::collections::BTreeSet;
 use strsim::osa_distance;
 
-/// The facts that known targets have, each once, in their order.
+/// The facts that known targets have.
 #[derive(Drop)]
 pub struct Words {
-    facts: BTreeSet<Cfg>,
+    facts: Vec<KnownFact>,
 }
 
 impl Words {
     /// The facts of all known targets.
     pub fn new(alloc: Global) -> Result<Words, AllocError> {
-        let mut facts = BTreeSet::new(alloc);
-        for target in TargetSet::all().iter() {
-            for fact in target.facts(alloc)? {
-                if name_in(&fact) != "target_feature" {
-                    let _is_new = facts.insert(fact)?;
-                }
-            }
-        }
-        Ok(Words { facts })
+        Ok(Words {
+            facts: all_facts(alloc)?,
+        })
     }
 
     /// The value of the key that is nearest to this text.
@@ -35,8 +28,8 @@ impl Words {
         text: &str,
     ) -> Result<Option<&str>, AllocError> {
         let mut best = None;
-        for fact in &self.facts {
-            if let Cfg::KeyPair(other, value) = fact {
+        for known in &self.facts {
+            if let Cfg::KeyPair(other, value) = &known.fact {
                 if other.as_str() == key {
                     best = nearer(alloc, text, value.as_str(), best)?;
                 }

@@ -6,8 +6,9 @@ ghost use Rattle.partial_facts.specs.Conditions.{kleene_condition};
 ghost use Rattle.manifests.specs.Choosing.{choice_of};
 
 use crate::tables::{Dependency, Kind, TargetKey, Targets, dependencies, target_keys};
-use cargo_platform::{Cfg, Facts, Ident, Listed, ParseError, Platform, ReadError};
+use cargo_platform::{Cfg, Facts, Listed, ParseError, Platform, ReadError};
 use known_targets::KnownTarget;
+use partial_facts::names::is_named;
 use partial_facts::{Complete, Knowledge, decide_platform, residual_platform};
 use std::alloc::{AllocError, Global};
 use toml::Table;
@@ -103,7 +104,7 @@ impl<'a> Knowledge for Asked<'a> {
         }
         match c {
             Cfg::Name(name) | Cfg::KeyPair(name, _) => {
-                if self.is_open(name) {
+                if is_named(name, self.open) {
                     return None;
                 }
             }
@@ -116,23 +117,6 @@ impl<'a> Knowledge for Asked<'a> {
 
     ghost sound = { λ k s p is. asked_sound (fact_set (map value_of k.facts.now)) (fact_set (map value_of k.added.now))
         (map (λ t. t.now) k.open.now) s p is };
-}
-
-impl<'a> Asked<'a> {
-    ghost use Rattle.std.specs.Prelude.{◌≡◌, map, string_bytes};
-    ghost use Rattle.partial_facts.specs.Partly.{is_named};
-
-    /// Whether each fact of this name or key is open.
-    fn is_open(&self, name: &Ident) -> bool
-        ensures { result ≡ is_named (string_bytes name.now.name) (map (λ t. t.now) self.now.open.now) }
-    {
-        for text in self.open {
-            if name.as_str() == *text {
-                return true;
-            }
-        }
-        false
-    }
 }
 
 /// Whether a condition holds for the host; where the host is not known, it is left as it is.

@@ -10,7 +10,7 @@ use toml::{Table, Value};
 /// A key of the top table `target`, and what stands at it.
 #[derive(Clone, Copy, Drop)]
 pub struct TargetKey<'a> {
-    /// The key, as it reads behind escapes.
+    /// The key, as it reads after escapes.
     pub key: &'a str,
     /// What stands at it.
     pub value: &'a Value,

@@ -1,6 +1,6 @@
 //! The words of findings.
 
-use cargo_platform::{Cfg, shown_start, shown_text};
+use cargo_platform::{Cfg, shown_start};
 use known_targets::RUSTC_VERSION;
 use std::alloc::{AllocError, Global};
 
@@ -44,17 +44,12 @@ pub fn joined(
     Ok(joined)
 }
 
-/// The text on one line, with no character that is not shown.
-pub fn on_one_line(alloc: Global, text: &str) -> Result<String, AllocError> {
-    shown_text(alloc, text)
-}
-
 /// `no target that rustc .. knows`
 pub fn no_target(alloc: Global) -> Result<String, AllocError> {
     format!(in alloc; "no target that rustc {RUSTC_VERSION} knows")
 }
 
-/// The message with what may be meant behind it.
+/// The message with what may be meant after it.
 pub fn with_meant(
     alloc: Global,
     message: &str,

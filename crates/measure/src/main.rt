@@ -5,9 +5,12 @@
 
 mod calls;
 mod inputs;
+mod keys;
+mod of_keys;
+mod questions;
 
 use calls::{Call, Timed};
-use inputs::Matching;
+use inputs::{LongList, Matching};
 use std::alloc::{AllocError, Global};
 use std::rt::{Clock, Env};
 use std::time::Duration;
@@ -21,13 +24,13 @@ fn rounds(rt: &(impl Env + Alloc)) -> io::Result<Option<u32>> {
     Ok(word.parse::<u32>().ok())
 }
 
-/// Prints the row of a call that took so many nanoseconds, with this number behind them.
-fn print_row(rt: &impl Print, timed: &Timed<'_>, nanoseconds: f64, behind: f64) -> io::Result<()> {
+/// Prints the row of a call that took so many nanoseconds, with this number after them.
+fn print_row(rt: &impl Print, timed: &Timed<'_>, nanoseconds: f64, after: f64) -> io::Result<()> {
     let name = timed.call.name();
     let size = timed.call.size();
     let given = timed.given;
     let answer = timed.answer;
-    println!(rt; "| `{name}` | {given} | {size} | {answer} | {nanoseconds:.1} | {behind:.2} |")
+    println!(rt; "| `{name}` | {given} | {size} | {answer} | {nanoseconds:.1} | {after:.2} |")
 }
 
 /// Times a call, and prints its row.
@@ -74,6 +77,22 @@ fn time_usual(rt: &(impl Print + Clock + AllocGlobal), rounds: u32) -> io::Resul
     time(rt, rounds, "a usual condition", Call::Read(inputs::USUAL))?;
     time(rt, rounds, "a usual condition", Call::Cut(inputs::USUAL))?;
     time(rt, rounds, "a usual fact", Call::ReadFact(inputs::FACT))
+}
+
+/// The rows on how far reading is from its limit.
+fn time_limits(rt: &(impl Print + Clock + AllocGlobal), rounds: u32) -> io::Result<()> {
+    let list = inputs::list(rt.alloc(), 1_000)?;
+    for (given, text) in [
+        ("a usual condition", inputs::USUAL),
+        ("a list", list.as_str()),
+    ] {
+        let mut turns = [
+            Timed::new(given, Call::Least(text)),
+            Timed::new(given, Call::Read(text)),
+        ];
+        time_in_turn(rt, rounds, &mut turns)?;
+    }
+    Ok(())
 }
 
 /// The rows on matching a usual condition over more and more facts.
@@ -171,6 +190,20 @@ fn time_decisions(
     time_in_turn(rt, rounds, &mut index)
 }
 
+/// The rows on lists of more and more members.
+fn time_members(rt: &(impl Print + Clock + AllocGlobal), rounds: u32) -> io::Result<()> {
+    for count in [10, 100, 1_000, 10_000, 100_000, 1_000_000] {
+        let list = LongList::new(rt.alloc(), count)?;
+        time(rt, rounds, "a list", Call::ReadList(&list))?;
+        time(rt, rounds, "a list", Call::PrintList(&list))?;
+        time(rt, rounds, "a list", Call::CopyList(&list))?;
+        time(rt, rounds, "a list", Call::MatchList(&list))?;
+        time(rt, rounds, "a list", Call::LeaveList(&list))?;
+        time(rt, rounds, "a list", Call::FindList(&list))?;
+    }
+    Ok(())
+}
+
 fn print_heading(rt: &impl Print, columns: &str) -> io::Result<()> {
     println!(rt; "{columns}\n|---|---|--:|--:|--:|--:|")
 }
@@ -188,6 +221,11 @@ fn main(rt: HostRuntime) -> io::Result<()> {
     time_usual(&rt, rounds)?;
     print_heading(
         &rt,
+        "\n| call | text | bytes | answer | nanoseconds | ratio |",
+    )?;
+    time_limits(&rt, rounds)?;
+    print_heading(
+        &rt,
         "\n| call | facts in | facts | answer | nanoseconds | a fact |",
     )?;
     time_matching(&rt, rounds)?;
@@ -195,5 +233,25 @@ fn main(rt: HostRuntime) -> io::Result<()> {
         &rt,
         "\n| call | facts in | facts | answer | nanoseconds | ratio |",
     )?;
-    time_deciding(&rt, rounds)
+    time_deciding(&rt, rounds)?;
+    print_heading(
+        &rt,
+        "\n| call | members in | members | answer | nanoseconds | a member |",
+    )?;
+    time_members(&rt, rounds)?;
+    print_heading(
+        &rt,
+        "\n| call | of | keys | targets | median, nanoseconds | most |",
+    )?;
+    of_keys::time_targets(&rt, rounds)?;
+    print_heading(
+        &rt,
+        "\n| call | known | questions | yes | median, nanoseconds | most |",
+    )?;
+    of_keys::time_answers(&rt, rounds)?;
+    print_heading(
+        &rt,
+        "\n| call | text | bytes | answer | nanoseconds | splits |",
+    )?;
+    of_keys::time_hard(&rt, rounds)
 }

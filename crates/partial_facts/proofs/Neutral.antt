@@ -1,5 +1,5 @@
--- Both kinds of group by the truth behind which they go on: `all` goes on behind members that are true, and `any`
--- behind false ones. That truth is called the neutral one, and with the other one a group is settled.
+-- Both kinds of group by the truth after which they go on: `all` goes on after members that are true, and `any`
+-- after false ones. That truth is called the neutral one, and with the other one a group is settled.
 use Rattle.std.proofs.Common.{◌≡◌, refl, Bool, true, false, not, ◌&&◌, ◌||◌, Option, Some, None}
 use Rattle.cargo_platform.specs.Trees.{Tree, Trees, none, tree}
 use Rattle.cargo_platform.specs.Facts.{Pair, FactSet, truth, all_true, any_true}

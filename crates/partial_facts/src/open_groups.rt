@@ -13,7 +13,7 @@ use std::alloc::{AllocError, Global};
 /// An `all` or `any` whose members are gone through.
 #[derive(Drop)]
 pub struct OpenList<'a> {
-    /// The truth behind which the group goes on: `all` behind members that are true, and `any` behind false ones.
+    /// The truth after which the group goes on: `all` after members that are true, and `any` after false ones.
     pub neutral: bool,
     /// What is left of the members so far, where that is no literal.
     pub left: Vec<CfgExpr>,
@@ -63,7 +63,7 @@ fn literal_truth(e: &CfgExpr) -> Option<bool>
     }
 }
 
-/// Members with one more behind them. Where memory is refused, all of them are dropped.
+/// Members with one more after them. Where memory is refused, all of them are dropped.
 fn with_member(mut members: Vec<CfgExpr>, member: CfgExpr) -> Result<Vec<CfgExpr>, AllocError>
     ensures { IfOk result (λ more. map tree_of more.items ≡ map tree_of members.items ++ tree_of member ∷ []) }
 {

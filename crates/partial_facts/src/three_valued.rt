@@ -73,7 +73,7 @@ fn evaluate<K: Knowledge>(e: &CfgExpr, known: &K) -> Option<bool>
 }
 
 // The last member of an `all` or `any`, and whether each member before it is known; or the truth of the group where it
-// hangs on none. `all` goes on behind members that are true, and `any` behind false ones: `neutral` is that truth.
+// hangs on none. `all` goes on after members that are true, and `any` after false ones: `neutral` is that truth.
 #[cycle(evaluate)]
 #[inline(always)]
 fn last_member<'a, K: Knowledge>(

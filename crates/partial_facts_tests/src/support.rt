@@ -76,7 +76,7 @@ pub fn decision(rt: &impl Abort, word: &str) -> Option<bool> {
     }
 }
 
-/// The parts of a row before and behind its first ` => `.
+/// The parts of a row before and after its first ` => `.
 pub fn parts<'a>(rt: &impl Abort, row: &'a str) -> (&'a str, &'a str) {
     row.split_once(" => ").expect(rt, row)
 }

@@ -68,7 +68,7 @@ impl<'a> Tokens<'a> {
         Ok((raw, name))
     }
 
-    /// The string behind `=`.
+    /// The string after `=`.
     fn string(&mut self) -> Result<&'a str, Stop<'a>> {
         let Some(Token::String(value)) = self.token() else {
             return Err(self.fault("a string", "a string"));
@@ -110,7 +110,7 @@ impl<'a> Tokens<'a> {
     }
 }
 
-/// What stands behind the identifier of a pair, if it is one.
+/// What stands after the identifier of a pair, if it is one.
 fn pair_value<'a>(tokens: &mut Tokens<'a>) -> Result<Option<&'a str>, Stop<'a>> {
     if tokens.eat(Token::Equals) {
         return Ok(Some(tokens.string()?));
@@ -128,7 +128,7 @@ fn cfg<'a>(alloc: Global, tokens: &mut Tokens<'a>, raw: bool, text: &str) -> Res
     }
 }
 
-/// A name or a pair, and nothing behind it.
+/// A name or a pair, and nothing after it.
 pub fn read_cfg<'a>(alloc: Global, text: &'a str) -> Result<Cfg, Stop<'a>> {
     let mut tokens = Tokens::new(text);
     let (raw, name) = tokens.identifier("identifier")?;
@@ -137,7 +137,7 @@ pub fn read_cfg<'a>(alloc: Global, text: &'a str) -> Result<Cfg, Stop<'a>> {
     Ok(read)
 }
 
-/// An expression, and nothing behind it.
+/// An expression, and nothing after it.
 pub fn read_expression<'a>(alloc: Global, text: &'a str) -> Result<CfgExpr, Stop<'a>> {
     let mut tokens = Tokens::new(text);
     let expression = expression(alloc, &mut tokens, text.len())?;

@@ -15,35 +15,35 @@ HasNoEnd xs = (i : ℕ) → i < length xs → get_or xs i 0 ≢ 10
 no_end : (x : ℕ) → x ≢ 10 → (x == 10) ≡ false
 no_end x n = grind (arith, nat_tests)
 
-behind : (x : ℕ) (xs : List ℕ) → HasNoEnd (x ∷ xs) → HasNoEnd xs
-behind x xs h i l = h (suc i) (omega arith)
+after : (x : ℕ) (xs : List ℕ) → HasNoEnd (x ∷ xs) → HasNoEnd xs
+after x xs h i l = h (suc i) (omega arith)
 
 ended : (xs ys : List ℕ) → HasNoEnd xs → lines_of (xs ++ (10 ∷ ys)) ≡ xs ∷ lines_of ys
 ended [] ys h = refl
 ended (x ∷ xs) ys h =
-    rw (no_end x (h 0 (omega arith))) (ap (onto_first x) (ended xs ys (behind x xs h)))
+    rw (no_end x (h 0 (omega arith))) (ap (onto_first x) (ended xs ys (after x xs h)))
 
 open_line : (x : ℕ) (xs : List ℕ) → HasNoEnd (x ∷ xs) → lines_of (x ∷ xs) ≡ (x ∷ xs) ∷ []
 open_line x [] h = rw (no_end x (h 0 (omega arith))) refl
 open_line x (y ∷ more) h =
-    rw (no_end x (h 0 (omega arith))) (ap (onto_first x) (open_line y more (behind x (y ∷ more) h)))
+    rw (no_end x (h 0 (omega arith))) (ap (onto_first x) (open_line y more (after x (y ∷ more) h)))
 
--- the first line, and the text behind it
+-- the first line, and the text after it
 pub record IsSplit (text first others : List ℕ) : Type 0 where
   pub line : first ≡ line_at (lines_of text) 1
-  pub behind : lines_of others ≡ drop 1 (lines_of text)
+  pub after : lines_of others ≡ drop 1 (lines_of text)
 
 at_end : (text first others : List ℕ) → (text ≡ first ++ (10 ∷ others)) × HasNoEnd first
     → IsSplit text first others
 at_end text first others h =
     let cut : lines_of text ≡ first ∷ lines_of others = ap lines_of h.0 ∙ ended first others h.1 in
-    record { line = sym (ap (λ ls. line_at ls 1) cut); behind = sym (ap (drop 1) cut) }
+    record { line = sym (ap (λ ls. line_at ls 1) cut); after = sym (ap (drop 1) cut) }
 
 no_end_left : (text : List ℕ) → HasNoEnd text → IsSplit text text []
-no_end_left [] h = record { line = refl; behind = refl }
+no_end_left [] h = record { line = refl; after = refl }
 no_end_left (x ∷ xs) h =
     let cut = open_line x xs h in
-    record { line = sym (ap (λ ls. line_at ls 1) cut); behind = sym (ap (drop 1) cut) }
+    record { line = sym (ap (λ ls. line_at ls 1) cut); after = sym (ap (drop 1) cut) }
 
 abbrev Parts : List ℕ → Option (Bor (List ℕ) × Bor (List ℕ)) → Type 0
 Parts text r = MatchOption r (HasNoEnd text) (λ x. (text ≡ x.0.now ++ (10 ∷ x.1.now)) × HasNoEnd x.0.now)

@@ -23,7 +23,7 @@ use Rattle.platform_check.specs.Lines.{lines_of, line_at, fact_lines}
 use Rattle.platform_check.specs.Answering.{SpellFacts, SpellsNoCondition, SpellsNoFact, IsRefusedFact, IsRefusedLine}
 use Rattle.platform_check.specs.Answering.{IsLeast, IsFactFault, IsLineFault, IsQuery, IfLine}
 
--- the lines behind the first two, where each of these is split off
+-- the lines after the first two, where each of these is split off
 pub behind_two : (ls others rest : List (List ℕ)) → others ≡ drop 1 ls → rest ≡ drop 1 others → rest ≡ fact_lines ls
 behind_two [] others rest e f = f ∙ ap (drop 1) e
 behind_two (l ∷ ls) others rest e f = f ∙ ap (drop 1) e

@@ -32,11 +32,11 @@ ended_texts : (ls : List (List ℕ)) (rest text : List ℕ) → IsUtf8 text → 
     → AllByRecursion IsUtf8 ls × IsUtf8 rest
 ended_texts [] rest text u e = let P : List ℕ → Type 0 = λ z. IsUtf8 z in (tt, subst P e u)
 ended_texts (l ∷ ls) rest text u e =
-    let behind : List ℕ = ended ls ++ rest in
-    let begins : text ≡ line l ++ behind = e ∙ append_assoc (line l) (ended ls) rest in
-    let parts : text ≡ l ++ (10 ∷ behind) = begins ∙ append_assoc l (10 ∷ []) behind in
-    let sides = ascii_sides 10 text l behind (lit≤ tt) u parts in
-    let others = ended_texts ls rest behind sides.1 refl in
+    let after : List ℕ = ended ls ++ rest in
+    let begins : text ≡ line l ++ after = e ∙ append_assoc (line l) (ended ls) rest in
+    let parts : text ≡ l ++ (10 ∷ after) = begins ∙ append_assoc l (10 ∷ []) after in
+    let sides = ascii_sides 10 text l after (lit≤ tt) u parts in
+    let others = ended_texts ls rest after sides.1 refl in
     ((sides.0, others.0), others.1)
 
 and_last : (front : List (List ℕ)) (last : List ℕ) → AllByRecursion IsUtf8 front → IsUtf8 last
@@ -74,7 +74,7 @@ record FirstRefused (texts : List (List ℕ)) : Type 0 where
   pub within : at < length texts
   pub refused : IsRefused Values (get_or texts at []) fault
 
--- behind a line that is a fact, the first that is refused is the same
+-- after a line that is a fact, the first that is refused is the same
 later : (t : List ℕ) (texts : List (List ℕ)) (c : CfgValue) → IsValueText t c → FirstRefused texts
     → FirstRefused (t ∷ texts)
 later t texts c spelled r = record {

@@ -54,10 +54,10 @@ enum Refusal {
 /// What stands for the manifest in the warnings on keywords.
 const MANIFEST: &str = "-";
 
-/// The first line of a text, without what ends it, and the text behind it.
+/// The first line of a text, without what ends it, and the text after it.
 fn split_line(text: &str) -> (&str, &str)
     ensures line { result.0.now ≡ line_at (lines_of text.now) 1 }
-    ensures behind { lines_of result.1.now ≡ drop 1 (lines_of text.now) }
+    ensures after { lines_of result.1.now ≡ drop 1 (lines_of text.now) }
 {
     match text.split_once('\n') {
         Some(parts) => parts,

@@ -41,10 +41,11 @@ pub enum RunError {
 /// it is too long, no UTF-8, or has a line that can't be read, it is one line that says why; the first such line
 /// counts.
 ///
-/// Each read has room for 4,096 bytes. An interrupted read or write is asked again. `RunError::Read`: a read failed otherwise, or 1,048,578 reads brought
-/// neither the end nor a byte too many. `RunError::Write`: a write failed otherwise or took nothing, one write more
-/// than the output has bytes did not take all of it, or the flush failed. `RunError::Memory`: memory was wanted for
-/// what had come, or once the end was met. After `Read` and `Memory` nothing was written, and after `Write` a beginning of the output.
+/// Each read has room for 4,096 bytes. An interrupted read or write is asked again. `RunError::Read`: a read failed
+/// otherwise, or 1,048,578 reads brought neither the end nor a byte too many. `RunError::Write`: a write failed
+/// otherwise or took nothing, one write more than the output has bytes did not take all of it, or the flush failed.
+/// `RunError::Memory`: memory was refused for what had come, or once the end was met. After `Read` and `Memory` nothing
+/// was written, and after `Write` a beginning of the output.
 pub fn run<R: Read, W: Write>(
     alloc: Global,
     input: &mut counted::Input<R>,

@@ -443,7 +443,7 @@ fn a_long_output_in_the_last_write(rt: HostRuntime) {
     assert_count(&rt, writer.counts.writes, 10_023);
 }
 
-/// Asserts a run to a writer of one byte a write, of which the one behind `got` fails or takes nothing.
+/// Asserts a run to a writer of one byte a write, of which the one after `got` fails or takes nothing.
 fn assert_stops(
     rt: &impl Abort,
     alloc: Global,

@@ -155,7 +155,7 @@ const REFUSED: &[Refused] = &[
         Fault::UnexpectedChar('€'),
         "unexpected character `€` in cfg, expected parens, a comma, an identifier, or a string",
     ),
-    // What stands behind a whole expression.
+    // What stands after a whole expression.
     (
         "a b",
         Fault::UnterminatedExpression("b"),

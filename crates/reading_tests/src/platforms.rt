@@ -178,7 +178,7 @@ fn assert_reads_back(rt: &impl Abort, alloc: Global, read: &Platform, printed: &
     assert_holds(rt, prints(alloc, &again, printed), printed);
 }
 
-/// Asserts that `a` and a long word behind it are refused, also in a key.
+/// Asserts that `a` and a long word after it are refused, also in a key.
 fn assert_second_is_refused(rt: &impl Abort, alloc: Global, long: &str) {
     let text = format!(in alloc; "a {long}").expect(rt, "memory");
     let message = format!(in alloc;
@@ -211,7 +211,7 @@ fn assert_second_is_refused(rt: &impl Abort, alloc: Global, long: &str) {
     assert!(rt; !CfgExpr::matches_key(alloc, &key, &[]).expect(rt, "memory"));
 }
 
-/// Asserts that a long word with `!` behind it is refused as the name of a target.
+/// Asserts that a long word with `!` after it is refused as the name of a target.
 fn assert_target_is_refused(rt: &impl Abort, alloc: Global, long: &str) {
     let name = format!(in alloc; "{long}!").expect(rt, "memory");
     let fault = Fault::InvalidTarget("unexpected character ! in target name");

@@ -3,7 +3,7 @@
 use cargo_platform::{Spanned, Token, TokenFault, TokenFaultKind, Tokenizer};
 use std::process::Abort;
 
-/// A token, the place where its written form begins, and the place behind it.
+/// A token, the place where its written form begins, and the place after it.
 type Piece = (Token<'static>, usize, usize);
 
 /// A text, its tokens, and the fault of what is left with the place where that begins.

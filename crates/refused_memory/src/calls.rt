@@ -1,5 +1,8 @@
 //! The calls by their names.
 
+use crate::exact::Question;
+use crate::targets::Asked;
+
 /// What is called with a text.
 #[derive(Clone, Copy)]
 pub enum Call {
@@ -27,8 +30,10 @@ pub enum Call {
     Print,
     ExpressionLeft,
     ConditionLeft,
-    ExampleOf,
-    CounterexampleOf,
+    OfExpressions(Question),
+    OfPlatforms(Question),
+    FamilyRule,
+    OfTargets(Asked),
     SnippetOf,
     SnippetIn,
     Shown,
@@ -41,7 +46,7 @@ const GROUP: &str = "any( a ,b = \"1\", )";
 
 const GROUP_CONDITION: &str = "cfg(any( a ,b = \"1\", ))";
 
-/// More groups in one another, each with members left behind the next, than a list has room for at first.
+/// More groups in one another, each with members left after the next, than a list has room for at first.
 const DEEP: &str =
     "cfg(all(a, all(a, all(a, all(a, all(a, all(a, feature = \"w\", b), b), b), b), b), b))";
 
@@ -138,16 +143,149 @@ pub const CALLS: &[(&str, Call, &str)] = &[
         Call::ConditionLeft,
         "x86_64-apple-darwin",
     ),
-    ("exact_example", Call::ExampleOf, "any(a, b)"),
+    (
+        "exact_example",
+        Call::OfExpressions(Question::CanHold),
+        "any(a, b)",
+    ),
     (
         "exact_several",
-        Call::ExampleOf,
+        Call::OfExpressions(Question::CanHold),
         "all(a, b = \"1\", r#c, d, e)",
     ),
-    ("exact_none", Call::ExampleOf, "all(a, not(a))"),
-    ("exact_named", Call::CounterexampleOf, "x -> cfg(a)"),
-    ("exact_unnamed", Call::CounterexampleOf, "cfg(a) -> x"),
-    ("exact_implied", Call::CounterexampleOf, "x -> x"),
+    (
+        "exact_none",
+        Call::OfExpressions(Question::CanHold),
+        "all(a, not(a))",
+    ),
+    ("exact_rule", Call::FamilyRule, ""),
+    (
+        "exact_met",
+        Call::OfExpressions(Question::CanBeMet),
+        "all(a, not(b))",
+    ),
+    (
+        "exact_unmet",
+        Call::OfExpressions(Question::CanBeMet),
+        "all(a, not(a))",
+    ),
+    (
+        "exact_always",
+        Call::OfExpressions(Question::Always),
+        "any(a, not(a))",
+    ),
+    (
+        "exact_sometimes",
+        Call::OfExpressions(Question::Always),
+        "not(a)",
+    ),
+    (
+        "exact_implies",
+        Call::OfExpressions(Question::Implies),
+        "a -> any(a, b)",
+    ),
+    (
+        "exact_implies_not",
+        Call::OfExpressions(Question::Implies),
+        "a -> b",
+    ),
+    (
+        "exact_excludes",
+        Call::OfExpressions(Question::Excludes),
+        "target_os = \"a\" -> target_os = \"b\"",
+    ),
+    (
+        "exact_overlaps",
+        Call::OfExpressions(Question::Excludes),
+        "a -> any(a, b)",
+    ),
+    (
+        "exact_equivalent",
+        Call::OfExpressions(Question::Equivalent),
+        "not(all(a, b)) -> any(not(a), not(b))",
+    ),
+    (
+        "exact_different",
+        Call::OfExpressions(Question::Equivalent),
+        "a -> all(a, b)",
+    ),
+    (
+        "exact_named",
+        Call::OfPlatforms(Question::Implies),
+        "x -> cfg(a)",
+    ),
+    (
+        "exact_unnamed",
+        Call::OfPlatforms(Question::Implies),
+        "cfg(a) -> x",
+    ),
+    (
+        "exact_implied",
+        Call::OfPlatforms(Question::Implies),
+        "x -> x",
+    ),
+    ("exact_target", Call::OfPlatforms(Question::CanHold), "x"),
+    (
+        "exact_no_target",
+        Call::OfPlatforms(Question::CanHold),
+        "cfg(any())",
+    ),
+    (
+        "exact_all_targets",
+        Call::OfPlatforms(Question::Always),
+        "cfg(all())",
+    ),
+    (
+        "exact_not_all_targets",
+        Call::OfPlatforms(Question::Always),
+        "cfg(not(a))",
+    ),
+    (
+        "exact_names_exclude",
+        Call::OfPlatforms(Question::Excludes),
+        "x -> y",
+    ),
+    (
+        "exact_targets_overlap",
+        Call::OfPlatforms(Question::Excludes),
+        "x -> cfg(a)",
+    ),
+    (
+        "exact_name_alone",
+        Call::OfPlatforms(Question::Equivalent),
+        "x -> x",
+    ),
+    (
+        "exact_name_differs",
+        Call::OfPlatforms(Question::Equivalent),
+        "cfg(a) -> x",
+    ),
+    (
+        "targets",
+        Call::OfTargets(Asked::Matching),
+        "cfg(all(target_os = \"macos\", not(target_arch = \"aarch64\")))",
+    ),
+    (
+        "targets_of_name",
+        Call::OfTargets(Asked::Matching),
+        "avr-none",
+    ),
+    (
+        "targets_deep",
+        Call::OfTargets(Asked::Matching),
+        "cfg(all(target_os = \"macos\", any(loom, not(all(any(loom, not(target_arch = \"x86\")), all())))))",
+    ),
+    (
+        "targets_certain",
+        Call::OfTargets(Asked::Certain),
+        "cfg(any(all(loom, unix), target_arch = \"avr\"))",
+    ),
+    (
+        "targets_possible",
+        Call::OfTargets(Asked::Possible),
+        "cfg(all(loom, target_os = \"macos\"))",
+    ),
+    ("target_facts", Call::OfTargets(Asked::Facts), "avr-none"),
     ("snippet", Call::SnippetOf, "all(a b)"),
     ("snippet_end", Call::SnippetOf, "all("),
     ("snippet_hidden", Call::SnippetOf, "a\tb"),

@@ -1,21 +1,23 @@
 //! Makes the calls that standard input names, and prints their answers.
 //!
-//! The script `.ci/refusals` runs it with each growth of memory refused in turn. The status tells what came of it: 0
-//! after the answers, 9 where a call answered want of memory, 8 where a list of warnings was left changed then, 6 for a
-//! name that stands for no call. Each `+` before the name is a growth that is made before the call, so one build, with
-//! one growth refused, does for each growth of each call.
+//! The script `.ci/refusals` runs it with each allocation refused in turn. The status tells what came of it: 0 after
+//! the answers, 9 where a call answered an allocation failure, 8 where a list of warnings was left changed then, 6 for
+//! a name that stands for no call. Each `+` before the name is an allocation that comes before the call, so one build,
+//! with one allocation refused, does for each allocation of each call.
 #![tactic(auto)]
 
 mod calls;
 mod exact;
 mod known_in_part;
 mod snippets;
+mod targets;
 
 use calls::{CALLS, Call};
 use cargo_platform::{
     Cfg, CfgExpr, FactIndex, Facts, FactsError, Ident, JsonError, ParseError, ParseErrorKind,
     Platform, ReadError, read_facts,
 };
+use exact_answers::family_rule;
 use serde_json::Value;
 use std::alloc::{AllocError, Global};
 use std::fmt::Display;
@@ -51,7 +53,7 @@ fn printed<T: Display>(alloc: Global, value: &T) -> Result<String, Fault> {
     Ok(format!(in alloc; "{value}\n")?)
 }
 
-/// The printed value, or want of memory where it was not made.
+/// The printed value, or an allocation failure where it was not made.
 fn printed_if_made<T: Display + Drop>(
     alloc: Global,
     made: Result<T, AllocError>,
@@ -97,15 +99,15 @@ fn facts(alloc: Global) -> Result<Vec<Cfg>, Fault> {
     Ok(facts)
 }
 
-/// Makes a growth for each `+` that the input begins with, and returns what stands behind them.
+/// Makes an allocation for each `+` that the input begins with, and returns what stands after them.
 fn grown<'a>(alloc: Global, input: &'a [u8]) -> Result<&'a [u8], Fault> {
     let mut name = input;
     for _ in 0..input.len() {
-        let [b'+', behind @ ..] = name else {
+        let [b'+', after @ ..] = name else {
             break;
         };
-        let _growth = Box::new(alloc, 0u8).map_err(AllocError::from)?;
-        name = behind;
+        let _allocated = Box::new(alloc, 0u8).map_err(AllocError::from)?;
+        name = after;
     }
     Ok(name)
 }
@@ -146,8 +148,10 @@ fn make(alloc: Global, call: Call, text: &str) -> Result<String, Fault> {
         Call::Print => printed(alloc, &platform(alloc, text)?),
         Call::ExpressionLeft => known_in_part::expression_left(alloc, text),
         Call::ConditionLeft => known_in_part::condition_left(alloc, text),
-        Call::ExampleOf => exact::example_of(alloc, text),
-        Call::CounterexampleOf => exact::counterexample_of(alloc, text),
+        Call::OfExpressions(question) => exact::of_expressions(alloc, question, text),
+        Call::OfPlatforms(question) => exact::of_platforms(alloc, question, text),
+        Call::FamilyRule => printed(alloc, &family_rule(alloc)?),
+        Call::OfTargets(asked) => targets::answered(alloc, asked, text),
         Call::SnippetOf => snippets::snippet_of(alloc, text),
         Call::SnippetIn => snippets::snippet_in(alloc, text),
         Call::Shown => snippets::shown(alloc, text),
@@ -212,7 +216,7 @@ fn alone(alloc: Global, text: &str) -> Result<Platform, Fault> {
     Ok(Platform::Cfg(CfgExpr::Value(fact(alloc, text)?)))
 }
 
-/// The warnings of a walk behind one that was there. Where memory is refused the list has to hold that one alone.
+/// The warnings of a walk after one that was there. Where memory is refused the list has to hold that one alone.
 fn warned(alloc: Global, platform: &Platform, attributes: bool) -> Result<String, Fault> {
     let mut warnings = Vec::new(alloc);
     warnings

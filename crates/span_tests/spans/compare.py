@@ -1,8 +1,8 @@
 #!/usr/bin/env python3
 """A second telling of the spans in `../src/spans.rt`'s tables: a scan from the left, in characters.
 
-It reads the tables of `../src/spans.rt`, tells the span of each text on its own, and compares. Each text that the tables
-of the crate `reading_tests` hold as a refused one has to stand there too. `make test` runs it.
+It reads the tables of `../src/spans.rt`, tells the span of each text on its own, and compares. Each text that the
+tables of the crate `reading_tests` hold as a refused one has to stand there too. `make test` runs it.
 Run: python3 crates/span_tests/spans/compare.py
 """
 import ast
@@ -75,12 +75,12 @@ def span_of(text, is_expression):
                 if is_expression and kind in ("all", "any", "not"):
                     state = "open " + kind
                 elif is_expression and kind in ("true", "false"):
-                    state = "behind" if open_groups else "whole"
+                    state = "after" if open_groups else "whole"
                 else:
                     state = "name"
             elif kind == ")" and open_groups and open_groups[-1] != "not" and state != "start":
                 open_groups.pop()
-                state = "behind" if open_groups else "whole"
+                state = "after" if open_groups else "whole"
             else:
                 return span
         elif state.startswith("open "):
@@ -91,13 +91,13 @@ def span_of(text, is_expression):
         elif state == "equals":
             if kind != "string":
                 return span
-            state = "behind" if open_groups else "whole"
-        else:  # behind a member
+            state = "after" if open_groups else "whole"
+        else:  # after a member
             if kind == "=" and state == "name":
                 state = "equals"
             elif kind == ")":
                 open_groups.pop()
-                state = "behind" if open_groups else "whole"
+                state = "after" if open_groups else "whole"
             elif kind == "," and open_groups[-1] != "not":
                 state = "member"
             else:
@@ -121,8 +121,8 @@ def condition_span(key):
 def key_span(key):
     """The span in the key itself."""
     inner, span = condition_span(key)
-    behind = 0 if inner == key else 4
-    return span and (span[0] + behind, span[1] + behind)
+    after = 0 if inner == key else 4
+    return span and (span[0] + after, span[1] + after)
 
 
 def facts_span(text):
@@ -162,7 +162,8 @@ def refused(file, name):
 
 def missing(source):
     """How many refused texts `reading_tests` has, and those that have no row."""
-    keys = refused("platforms.rt", "BAD_NAMES") + [f"cfg({text})" for text in refused("platforms.rt", "BAD_EXPRESSIONS")]
+    keys = refused("platforms.rt", "BAD_NAMES")
+    keys += [f"cfg({text})" for text in refused("platforms.rt", "BAD_EXPRESSIONS")]
     wanted = [
         ("EXPRESSIONS", refused("expressions.rt", "REFUSED")),
         ("FACTS", refused("names_and_pairs.rt", "REFUSED")),

@@ -11,7 +11,7 @@ type Row = (&'static str, usize, usize);
 
 /// As an expression.
 const EXPRESSIONS: &[Row] = &[
-    // A token that does not fit: behind nothing, a `(`, a comma, `=`, a group's word, and the end of a member.
+    // A token that does not fit: after nothing, a `(`, a comma, `=`, a group's word, and the end of a member.
     (")", 0, 1),
     ("\"é\"", 0, 4),
     ("all(,a)", 4, 5),
@@ -41,7 +41,7 @@ const EXPRESSIONS: &[Row] = &[
     ("all(true (", 9, 10),
     ("all(true = \"x\")", 9, 10),
     ("not(true = \"x\")", 9, 10),
-    // Something left behind a whole expression: to the end.
+    // Something left after a whole expression: to the end.
     ("a b", 2, 3),
     ("a  )  ", 3, 6),
     ("a = \"x\" %", 8, 9),
@@ -58,7 +58,7 @@ const EXPRESSIONS: &[Row] = &[
     ("true = \"x\")", 5, 11),
     ("true = \"x\"", 5, 10),
     ("false =", 6, 7),
-    // A character that begins no token; behind `r#` the character and not the mark.
+    // A character that begins no token; after `r#` the character and not the mark.
     ("%", 0, 1),
     ("é", 0, 2),
     ("all(é)", 4, 6),

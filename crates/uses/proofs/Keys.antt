@@ -49,7 +49,7 @@ spaced = tree_on_literal (codes " unix ") unix refl refl ((refl, refl), (refl, r
 refused : IsRefused Expressions (codes "all(a b)") (UnexpectedToken (codes "`)`") (codes "an identifier"))
 refused = refused_on_literal (codes "all(a b)") _ refl refl
 
--- a comma behind the last member
+-- a comma after the last member
 all_unix : IsTreeText (codes "all(unix,)") (All (tree unix none))
 all_unix = spelling_on_literal (codes "all(unix,)") (All (tree unix none)) refl
     ((Ident false (codes "unix") ∷ []) ∷ [], _, ((refl, (refl, refl)), tt), inr refl, refl)

@@ -14,7 +14,7 @@ IsErrorOf line key (Key n e) =
     (n ≡ line) × ((p : Condition) → IsConditionText key p → ⊥) × IsRefusedCondition key (orig_of e) (fault_in e)
 IsErrorOf line key (Memory e) = Unit {0}
 
--- what an error prints: the file, the line of the key, and the text of its fault; of want of memory nothing is said
+-- what an error prints: the file, the line of the key, and the text of its fault; nothing of an allocation failure
 abbrev pub print_manifest_error : ManifestError → Option (List ℕ)
 print_manifest_error (Key n e) =
     Some (codes "Cargo.toml:" ++ (decimal n ++ (codes ": " ++ print_error (orig_of e) (fault_in e))))

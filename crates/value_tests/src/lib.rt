@@ -2,6 +2,8 @@
 #![tactic(auto)]
 
 #[cfg(test)]
+mod nests;
+#[cfg(test)]
 mod order;
 #[cfg(test)]
 mod printing;

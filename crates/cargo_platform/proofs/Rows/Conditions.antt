@@ -118,7 +118,7 @@ cfg_of_no_other p = absurd (omega (arith, ap length p))
 cfg_is_not_bare : IsBare (codes "cfg(a)") → ⊥
 cfg_is_not_bare p = p (codes "a") cfg_of_a
 
--- a space behind the last `)`
+-- a space after the last `)`
 space_behind_is_bare : IsBare (codes "cfg(a) ")
 space_behind_is_bare inner h =
     let two : length inner ≡ 2 = omega (arith, ap length h, length-append inner (codes ")")) in
@@ -144,7 +144,7 @@ condition_of_expression = (codes "a", refl, (_, lone_a, (refl, (refl, refl))))
 cfg_is_no_target : (name : List ℕ) → IsConditionText (codes "cfg(a)") (Target name) → ⊥
 cfg_is_no_target name p = cfg_is_not_bare p.1
 
--- and with a space behind it it is no condition at all
+-- and with a space after it it is no condition at all
 space_behind : (p : Condition) → IsConditionText (codes "cfg(a) ") p → ⊥
 space_behind (Target name) p = refused_is_no_name (codes "cfg(a) ") 0x28 parenthesis_refused p.2
 space_behind (Expression e) p = space_behind_is_bare p.0 p.1

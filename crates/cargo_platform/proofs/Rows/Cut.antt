@@ -63,7 +63,7 @@ pub late_mark : IsCut (codes "ar#") (word (codes "ar") 0 2 ∷ []) 2
 unfolding encode_utf8
 late_mark = cut_by _ _ _ refl (inr (UnexpectedChar 0x23, inr ([], record { scalar = refl; parts = refl }, refl)))
 
--- nor does an `r` with a space behind it
+-- nor does an `r` with a space after it
 pub apart_mark : IsCut (codes "r #foo") (word (codes "r") 0 1 ∷ []) 2
 unfolding encode_utf8
 apart_mark =
@@ -142,7 +142,7 @@ space_is_no_fault : BeginsFault (codes " ") (UnexpectedChar 0x20) → ⊥
 space_is_no_fault (inl p) = true≢false (ap (starts is_space) p.2)
 space_is_no_fault (inr p) = true≢false p.2
 
--- the end of the text behind a mark is no unexpected character
+-- the end of the text after a mark is no unexpected character
 last_mark_is_missing : BeginsFault (codes "r#") (UnexpectedChar 0x72) → ⊥
 unfolding encode_utf8
 last_mark_is_missing (inl p) = absurd (omega (arith, ap length p.2, ap length p.3.parts))
@@ -160,7 +160,7 @@ space_is_no_tail t = true≢false (tail_no_space (codes " a") t)
 second_comes : Comes (codes "a b") 1 (Token (word (codes "b") 2 3)) 3
 second_comes = (spaces _ _ _ refl, written_at _ (word (codes "b") 2 3) refl, (refl, refl), refl)
 
--- no token comes where a part of one stands behind it
+-- no token comes where a part of one stands after it
 no_part_comes : (to : ℕ) → Comes (codes "ab") 0 (Token (word (codes "a") 0 1)) to → ⊥
 no_part_comes to p = true≢false p.2.0
 

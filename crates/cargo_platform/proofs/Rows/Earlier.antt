@@ -19,7 +19,7 @@ condition_released = (codes "r#true", refl, literal_released)
 name_today : IsTreeText (codes "r#true") (Value (Alone (marked (codes "true"))))
 name_today = spelling_on_literal (codes "r#true") (Value (Alone (marked (codes "true")))) refl (refl, (refl, refl))
 
--- ---- `true = "x"` was a pair, and has a surplus behind the literal
+-- ---- `true = "x"` was a pair, and has a surplus after the literal
 
 pair_transitional : IsTransitionalTreeText (codes "true = \"x\"") (Value (KeyPair (name (codes "true")) (codes "x")))
 pair_transitional = (tokens_in (codes "true = \"x\""), cut_whole (codes "true = \"x\"") refl, (refl, refl))

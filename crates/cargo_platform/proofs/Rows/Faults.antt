@@ -75,7 +75,7 @@ short_prefix after p =
 long_prefix : (after : List Placed) → IsFaultPrefix Expressions all_a_b all_a_b after → ⊥
 long_prefix after p = unwalked Expressions (lexemes all_a_b) refl p.completable
 
--- what comes behind a prefix: a token, before the tail or the end
+-- what comes after a prefix: a token, before the tail or the end
 token_behind : ComesBehind (codes "a b \"") 0 (word (codes "a") 0 1 ∷ []) (Token (word (codes "b") 2 3)) 3
 token_behind =
     let a = written_at (codes "a b \"") (word (codes "a") 0 1) refl in
@@ -124,7 +124,7 @@ accepted_at_end = refl
 
 -- ---- refused texts
 
--- a text, by its fault prefix and the tokens behind it
+-- a text, by its fault prefix and the tokens after it
 row : (text : List ℕ) (prefix behind : List Placed) (tail : ℕ) (s : State) (next : Item) (fault : Fault)
     → is_cut_from text 0 (prefix ++ behind) tail ≡ true → IsTail (drop tail text)
     → walk Expressions (lexemes prefix) ≡ Some s → goes_on Expressions s behind ≡ None → IsNext text behind tail next
@@ -158,7 +158,7 @@ comma_behind_pair =
     row _ (word (codes "not") 0 3 ∷ at LeftParen 3 4 ∷ word (codes "a") 4 5 ∷ at Equals 6 7 ∷ at
     (String (codes "1")) 8 11 ∷ []) (at Comma 11 12 ∷ []) 12 _ _ _ refl (inl refl) refl refl refl refl
 
--- behind a comma a member may come
+-- after a comma a member may come
 member_missing : IsRefused Expressions (codes "any(a,") (IncompleteExpr (codes "start of a cfg expression"))
 member_missing =
     row _ (word (codes "any") 0 3 ∷ at LeftParen 3 4 ∷ word (codes "a") 4 5 ∷ at Comma 5 6 ∷ []) [] 6 _ Nothing _ refl
@@ -229,7 +229,7 @@ literal_as_key_in_negation : IsRefused Expressions (codes "not(true = \"x\")")
     (UnexpectedToken (codes "`)`") (codes "`=`"))
 literal_as_key_in_negation = row _ true_in_not pair_goes_on 15 _ _ _ refl (inl refl) refl refl refl refl
 
--- a bad token before a string that does not end, in a group and behind an expression
+-- a bad token before a string that does not end, in a group and after an expression
 token_before_string : IsRefused Expressions (codes "all(a b \"") (UnexpectedToken (codes "`)`") (codes "an identifier"))
 unfolding encode_utf8
 token_before_string =
@@ -243,7 +243,7 @@ more_before_string =
     row _ (word (codes "a") 0 1 ∷ []) (word (codes "b") 2 3 ∷ []) 4 _ _ _ refl
     (inr (lexical.UnterminatedString, ([], record { scalar = refl; parts = refl }, refl))) refl refl refl refl
 
--- a lexical fault in a group is the fault, and behind an expression it is not
+-- a lexical fault in a group is the fault, and after an expression it is not
 string_in_group : IsRefused Expressions (codes "all(a \"") UnterminatedString
 unfolding encode_utf8
 string_in_group =

@@ -20,7 +20,7 @@ last_end : (lines_of (codes "a\nb\n") ≡ codes "a" ∷ codes "b" ∷ [])
     × (lines_of (codes "a\nb") ≡ codes "a" ∷ codes "b" ∷ [])
 last_end = (refl, refl)
 
--- an empty line between two lines is a line, and so is one behind the last
+-- an empty line between two lines is a line, and so is one after the last
 empty_lines : (lines_of (codes "a\n\nb") ≡ codes "a" ∷ [] ∷ codes "b" ∷ [])
     × (lines_of (codes "a\n\n") ≡ codes "a" ∷ [] ∷ [])
 empty_lines = (refl, refl)
@@ -29,7 +29,7 @@ empty_lines = (refl, refl)
 carriage_return : lines_of (0x61 ∷ 0x0D ∷ 0x0A ∷ []) ≡ (0x61 ∷ 0x0D ∷ []) ∷ []
 carriage_return = refl
 
--- lines are counted from 1, and behind the last one the empty text stands
+-- lines are counted from 1, and after the last one the empty text stands
 numbered : (line_at (lines_of (codes "a\nb")) 1 ≡ codes "a") × (line_at (lines_of (codes "a\nb")) 2 ≡ codes "b")
     × (line_at (lines_of (codes "a\nb")) 3 ≡ [])
 numbered = (refl, refl, refl)

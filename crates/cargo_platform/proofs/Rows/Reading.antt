@@ -132,7 +132,7 @@ next_after_fault = record {
   at_most = lit≤ tt;
 }
 
--- behind a token the space there was looked at, and at the end the end
+-- after a token the space there was looked at, and at the end the end
 looks_at_space : (old : Progress) (r : Option (Result Spanned TokenFault)) (looks : ℕ) →
     NextCall old r (reached (codes "a ") 1 looks) → looks ≡ 2
 unfolding chars

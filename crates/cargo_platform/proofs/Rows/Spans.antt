@@ -16,7 +16,7 @@ use Rattle.cargo_platform.proofs.Prefixes.{goes_on, refused_walked_at}
 use Rattle.cargo_platform.proofs.CutTests.{is_cut_from, cut_by}
 use Rattle.cargo_platform.proofs.Rows.Cut.{at, word}
 
--- a character that begins no token, and one behind a mark, where the mark is not meant
+-- a character that begins no token, and one after a mark, where the mark is not meant
 bare_character : span_of (codes "a %") false (Lexical (lexical.UnexpectedChar 0x25) 2) ≡ from_to 2 3
 bare_character = refl
 
@@ -26,11 +26,11 @@ marked_character = refl
 wide_character : span_of (codes "é") false (Lexical (lexical.UnexpectedChar 0xE9) 0) ≡ from_to 0 2
 wide_character = refl
 
--- behind a whole expression the mark is a part of what is left
+-- after a whole expression the mark is a part of what is left
 marked_behind : span_of (codes "a r#%") true (Lexical (lexical.UnexpectedChar 0x25) 2) ≡ from_to 2 5
 marked_behind = refl
 
--- a text, by its fault prefix and the tokens behind it, with its span
+-- a text, by its fault prefix and the tokens after it, with its span
 row : (text : List ℕ) (prefix behind : List Placed) (tail : ℕ) (s : State) (next : Item) (fault : Fault)
     (span : Range ℕ) → is_cut_from text 0 (prefix ++ behind) tail ≡ true → IsTail (drop tail text)
     → walk Expressions (lexemes prefix) ≡ Some s → goes_on Expressions s behind ≡ None → IsNext text behind tail next

@@ -4,7 +4,7 @@ use Rattle.std.specs.List.{AllByRecursion}
 use Rattle.cargo_platform.specs.Lines.{lines_of, IsUnbroken, ended}
 use Rattle.cargo_platform.specs.FactLines.{BeginsLine}
 
--- behind so many lines with their ends the rest of the text stands
+-- after so many lines with their ends the rest of the text stands
 abbrev pub IsBehind : List ℕ → ℕ → List ℕ → Type 0
 IsBehind text many rest =
     (ls : List (List ℕ)) × AllByRecursion IsUnbroken ls × (text ≡ ended ls ++ rest) × (length ls ≡ many)

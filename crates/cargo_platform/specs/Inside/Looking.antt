@@ -10,7 +10,8 @@ use Rattle.cargo_platform.specs.declared.source.Look.{Look}
 use Rattle.cargo_platform.specs.declared.tokens.TokenFaultKind.{TokenFaultKind}
 use Rattle.cargo_platform.specs.declared.source.Look.TheVariants.{End, Ascii, Wide}
 use Rattle.cargo_platform.specs.Cut.{BeginsFault}
-use Rattle.cargo_platform.specs.Reading.{characters_from}
+use Rattle.cargo_platform.specs.Reading.{characters_from, IsLookedTo}
+use Rattle.cargo_platform.specs.Faults.{lexical_span}
 
 -- the character c begins at the place
 pub record IsCharAt (text : List ℕ) (at c : ℕ) : Type 0 where
@@ -56,6 +57,10 @@ pub record Costs (text : List ℕ) (from to beside old new : ℕ) : Type 0 where
   -- below the greatest count
   pub at_least : new < 2 ^ 128 - 1 → old + characters_from text from + beside ≤ new + characters_from text to
 
+-- below the greatest count, no fewer looks were made than characters stand before the place
+abbrev pub IsCountedTo : List ℕ → ℕ → ℕ → Type 0
+IsCountedTo text to looks = looks < 2 ^ 128 - 1 → IsLookedTo text to looks
+
 -- where a tokenizer stands: until a fault each character before the place was looked at once, and once it began what is
 -- at the place too
 pub record IsStanding (text : List ℕ) (place : ℕ) (seen : Option Look) (failed : Bool) (looks : ℕ) : Type 0 where
@@ -70,6 +75,21 @@ abbrev pub IsFound : List ℕ → Option TokenFaultKind → Type 0
 IsFound text None = Unit {0}
 IsFound text (Some kind) = BeginsFault text kind
 
+-- the fault that was found was looked at up to the end of its span
+abbrev pub IsSeenFault : List ℕ → ℕ → Option TokenFaultKind → ℕ → Type 0
+IsSeenFault text place None looks = Unit {0}
+IsSeenFault text place (Some kind) looks =
+    characters_from text 0 ≤ looks + characters_from text (lexical_span text place kind).end
+
+-- a fault was found at a place, from which on so many characters were looked at before: each other one up to the end of
+-- its span was looked at
+pub record FindsFault (text : List ℕ) (at : ℕ) (kind : TokenFaultKind) (before old new : ℕ) : Type 0 where
+  pub grows : old ≤ new
+  -- below the greatest count
+  pub at_least :
+      new < 2 ^ 128 - 1
+      → old + characters_from text at ≤ new + characters_from text (lexical_span text at kind).end + before
+
 -- Where a reader stands: at no space, with what is there seen. Until a fault is found each character before the place
 -- was looked at once, and what is at the place too.
 pub record IsReadingAt (text : List ℕ) (place : ℕ) (seen : Look) (fault : Option TokenFaultKind) (looks : ℕ)
@@ -81,6 +101,8 @@ pub record IsReadingAt (text : List ℕ) (place : ℕ) (seen : Look) (fault : Op
   pub past : slice_index text place ≢ 0x20
   pub found : IsFound (drop place text) fault
   pub each : fault ≡ None → looks + characters_from text place ≡ characters_from text 0 + 1
+  pub at_least : characters_from text 0 ≤ looks + characters_from text place
+  pub seen_fault : IsSeenFault text place fault looks
   pub at_most : looks ≤ characters_from text 0 + 1
 
 -- the first quote from a place on stands at another, or none does and that is the end; and so many bytes between them

@@ -1,6 +1,7 @@
 -- What a reader of expressions has read: the groups that are open with their members so far, and the expression that
--- stands behind them, if one does.
+-- stands after them, if one does.
 use Rattle.std.specs.Prelude.{◌≡◌, ℕ, Bool, true, false, List, [], ◌∷◌, ◌++◌, map, reverse, codes, Option, Some, None}
+use Rattle.std.specs.Prelude.{length}
 use Rattle.std.specs.Prelude.{Result, Ok, Err, IfSome}
 use Rattle.std.specs.List.{last_or}
 use Rattle.std.specs.declared.ops.Range.{Range}
@@ -21,22 +22,22 @@ use Rattle.cargo_platform.specs.Tokens.{Lexeme, LeftParen, RightParen, Ident, Co
 use Rattle.cargo_platform.specs.Tokens.{placed}
 use Rattle.cargo_platform.specs.Cut.{lexemes}
 use Rattle.cargo_platform.specs.Cut.{Item, Nothing}
-use Rattle.cargo_platform.specs.Inside.Ahead.{Ahead, NextIs, GoesPast, Path}
+use Rattle.cargo_platform.specs.Inside.Ahead.{Ahead, NextIs, GoesPast, Path, Standing, IsSeenTo}
 use Rattle.cargo_platform.specs.Cut as cut
 use Rattle.cargo_platform.specs.Trees.{CfgValue, Alone, KeyPair, Tree, All, Any, Value, trees_of, tree_of}
 use Rattle.cargo_platform.specs.Spelling.{Grammar, Spells, SpellEach}
 use Rattle.cargo_platform.specs.Faults.{UnterminatedExpression, expected_token}
-use Rattle.cargo_platform.specs.Faults.{expected_end}
+use Rattle.cargo_platform.specs.Faults.{expected_end, lexical_span, looked_to}
 use Rattle.cargo_platform.specs.Walk.{Word, Several, Negation, State, after, walk, is_whole}
 use Rattle.cargo_platform.specs.Inside.Refusals.{FaultAt, fault_at_of, refused_at}
 
--- behind tokens that are accepted this text is the surplus, and it lies here
+-- after tokens that are accepted this text is the surplus, and it lies here
 abbrev pub IsSurplus : List ℕ → Item → List ℕ → Range ℕ → Type 0
 IsSurplus text next rest span =
     (g : Grammar) (last : Option Lexeme)
     → fault_at_of g text true last next ≡ Some (record { fault = UnterminatedExpression rest; span = span })
 
--- the text from the next item on, which is the surplus behind what is accepted, or nothing at the end
+-- the text from the next item on, which is the surplus after what is accepted, or nothing at the end
 abbrev pub SeesRest : Ahead → Option Rest → Type 0
 SeesRest l None = NextIs l Nothing
 SeesRest l (Some rest) = (next : Item) × NextIs l next × IsSurplus l.text next rest.text.now rest.span
@@ -56,6 +57,12 @@ abbrev pub Takes : Ahead → Ahead → Option (Result Spanned TokenFaultKind) �
 Takes old new None = (new ≡ old) × NextIs old Nothing
 Takes old new (Some (Ok t)) = GoesPast old new (placed t)
 Takes old new (Some (Err kind)) = (new ≡ old) × NextIs old (cut.Lexical kind old.place)
+
+-- it was looked at: a token and a lexical fault up to the end of its span, and else the text up to its end
+abbrev pub SeesTaken : Standing → Option (Result Spanned TokenFaultKind) → Type 0
+SeesTaken new None = IsSeenTo new (length new.ahead.text)
+SeesTaken new (Some (Ok t)) = IsSeenTo new t.end
+SeesTaken new (Some (Err kind)) = IsSeenTo new (lexical_span new.ahead.text new.ahead.place kind).end
 
 -- the token is an identifier
 abbrev pub IsIdentifier : Lexeme → Type 0
@@ -139,7 +146,7 @@ abbrev pub with_last : List Opening → Tree → List Opening
 with_last (Listed all es ∷ gs) e = Listed all (es ++ e ∷ []) ∷ gs
 with_last gs e = gs
 
--- members, each with the comma behind it
+-- members, each with the comma after it
 abbrev pub finished : List (List Lexeme) → List Lexeme
 finished [] = []
 finished (s ∷ ss) = s ++ (Comma ∷ finished ss)
@@ -154,7 +161,7 @@ Wants (Listed all es ∷ gs) ts =
     (before : List Lexeme) × (ss : List (List Lexeme)) × Wants gs before × SpellEach (trees_of es) ss
     × (ts ≡ before ++ (plain (list_word all) ∷ LeftParen ∷ finished ss))
 
--- an expression stands behind them
+-- an expression stands after them
 abbrev pub EndsWith : List Opening → Tree → List Lexeme → Type 0
 EndsWith gs e ts = (before : List Lexeme) × (s : List Lexeme) × Wants gs before × Spells e s × (ts ≡ before ++ s)
 
@@ -209,9 +216,13 @@ pub record IsStuck (g : Grammar) (l : Ahead) (ts : List Lexeme) (fault : FaultAt
   pub stops : IsStop g s next
   pub is : fault_at_of g l.text (is_whole s) (last_or None ts) next ≡ Some fault
 
--- what is said of the fault that a refusal stands for, where it is no want of memory
+-- what is said of the fault that a refusal stands for, where it is no allocation failure
 abbrev pub IfFault : Refusal → (FaultAt → Type 0) → Type 0
 IfFault r P = IfSome (refused_at r) P
+
+-- the text was looked at as far as its fault asks for
+abbrev pub HasLooked : Standing → Refusal → Type 0
+HasLooked s r = IfFault r (λ fault. IsSeenTo s (looked_to fault.fault fault.span))
 
 -- some tokens were read, and the fault is where they cannot go on
 pub record StopsAt (g : Grammar) (l : Ahead) (P : List Lexeme → Type 0) (fault : FaultAt) : Type 0 where
@@ -223,7 +234,7 @@ pub record StopsAt (g : Grammar) (l : Ahead) (P : List Lexeme → Type 0) (fault
 abbrev pub Stops : Grammar → Ahead → (List Lexeme → Type 0) → Refusal → Type 0
 Stops g l P r = IfFault r (StopsAt g l P)
 
--- the next item is refused, behind tokens that are not accepted and behind which these are the words for what is
+-- the next item is refused, after tokens that are not accepted and after which these are the words for what is
 -- expected
 abbrev pub RefusesNext : Ahead → List ℕ → List ℕ → Refusal → Type 0
 RefusesNext l expected at_end r =
@@ -231,7 +242,7 @@ RefusesNext l expected at_end r =
     × ((g : Grammar) (last : Option Lexeme) → expected_token g last ≡ expected → expected_end g last ≡ at_end
     → IfFault r (λ fault. fault_at_of g l.text false last next ≡ Some fault))
 
--- the next item is refused, behind tokens that are accepted
+-- the next item is refused, after tokens that are accepted
 abbrev pub RefusesMore : Ahead → Refusal → Type 0
 RefusesMore l r =
     (next : Item) × NextIs l next
@@ -243,7 +254,7 @@ RefusesMore l r =
 abbrev pub HasRead : Ahead → Ahead → List Lexeme → Type 0
 HasRead old new read = Reads old new (λ ts. ts ≡ []) (λ ts. ts ≡ read)
 
--- no `=` comes behind a name alone
+-- no `=` comes after a name alone
 abbrev pub ClearBehind : CfgValue → Ahead → Type 0
 ClearBehind (Alone n) l = LacksPunctuation l punctuation.Equals
 ClearBehind (KeyPair k v) l = Unit {0}

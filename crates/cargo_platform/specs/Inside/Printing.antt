@@ -40,7 +40,7 @@ abbrev mutual
   begun_members (tree e none) = begun e
   begun_members (tree e (tree d es)) = print e ++ codes ", " ++ begun_members (tree d es)
 
--- what stands behind a member, before the others
+-- what stands after a member, before the others
 abbrev pub between : List CfgExpr → List ℕ
 between [] = []
 between (e ∷ es) = codes ", "

@@ -26,7 +26,7 @@ placed_fault span (Some fault) = Some (record { fault = fault; span = span })
 abbrev pub fault_at_of : Grammar → List ℕ → Bool → Option Lexeme → Item → Option FaultAt
 fault_at_of g text accepted last next = placed_fault (span_of text accepted next) (fault_of g text accepted last next)
 
--- the fault that a refusal stands for, where it is no want of memory
+-- the fault that a refusal stands for, where it is no allocation failure
 abbrev pub refused_fault : Refusal → Option Fault
 refused_fault (refusal.Unexpected expected found span) = Some (UnexpectedToken expected.now found.now)
 refused_fault (refusal.Incomplete expected span) = Some (IncompleteExpr expected.now)

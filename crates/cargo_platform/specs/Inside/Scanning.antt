@@ -12,7 +12,7 @@ pub record IsTokenAt (text : List ℕ) (token : Lexeme) (start end : ℕ) : Type
   pub written : IsWrittenAt text (record { token = token; start = start; end = end })
   pub whole : IsWhole text (record { token = token; start = start; end = end })
 
--- a token is cut off from a place on, and what is behind it was looked at
+-- a token is cut off from a place on, and what is after it was looked at
 pub record IsCutAt (text : List ℕ) (start : ℕ) (cut : Cut) : Type 0 where
   pub stands : IsTokenAt text (lexeme cut.token) start cut.end
   pub boundary : IsCharBoundary text cut.end

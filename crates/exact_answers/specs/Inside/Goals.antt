@@ -1,12 +1,17 @@
 -- Expressions with the truths that are wanted of them, and the search for a set over which they have these.
 use Rattle.std.specs.Prelude.{◌≡◌, ℕ, ◌+◌, ◌^◌, ◌<◌, Bool, true, false, not, ◌&&◌, ◌||◌, List, [], ◌∷◌, map}
-use Rattle.std.specs.Prelude.{Option, Some, None, is_none}
+use Rattle.std.specs.Prelude.{Option, Some, None, is_none, IsTrue}
 use Rattle.std.specs.Bool.{MatchBool}
-use Rattle.cargo_platform.specs.Trees.{Trees, none, tree, tree_of, value_of}
-use Rattle.cargo_platform.specs.Facts.{Pair, FactSet, pair_of, fact_set, truth}
+use Rattle.std.specs.List.{All}
+use Rattle.std.specs.FinSet.{contains, from_list}
+use Rattle.cargo_platform.specs.Trees.{CfgValue, Trees, none, tree, tree_of, value_of}
+use Rattle.cargo_platform.specs.Facts.{Pair, FactSet, pair_of, pair_cmp, fact_set, truth}
 use Rattle.partial_facts.specs.Kleene.{kleene, kleene_not, kleene_and}
 use Rattle.exact_answers.specs.Inside.Paths.{Base, IsOver, Turn, told_on, Agrees}
-use Rattle.exact_answers.specs.Asking.{some_asks, one_if, HasAll}
+use Rattle.exact_answers.specs.Possible.{IsAllowed}
+use Rattle.exact_answers.specs.Asking.{some_asks, one_if, HasAll, NeedsMore}
+use Rattle.exact_answers.specs.Answers.{IsUnmarked, IsFactOfExample}
+use Rattle.exact_answers.specs.declared.known.Known.{Known}
 use Rattle.exact_answers.specs.declared.search.Goal.{Goal}
 use Rattle.exact_answers.specs.declared.search.Found.{Found}
 use Rattle.exact_answers.specs.declared.search.Found.TheVariants as found
@@ -56,11 +61,20 @@ SaysStepOn (step.Decided b) k gs ds = MatchBool b (goals_known (told_on k ds) gs
 SaysStepOn (step.Open c) k gs ds =
     (told_on k ds (pair_of (value_of c.now)) ≡ None) × (some_asks (goal_trees gs) (pair_of (value_of c.now)) ≡ true)
 
--- what holds of the facts that are found, what holds where there are none, and what where the splits are used up
-abbrev pub SaysFound : Found → (FactSet → Type 0) → Type 0 → Type 0 → Type 0
-SaysFound (found.Facts facts) P Q R = P (fact_set (map value_of facts.items))
-SaysFound found.Nothing P Q R = Q
-SaysFound found.Undecided P Q R = R
+-- what became of a search among the sets of A: the facts that are found are one of them, P holds over them, and F holds
+-- of each; where there are none, Q holds over each of the sets; and what holds where the splits are used up
+abbrev pub SaysFoundAmong : (FactSet → Type 0) → (CfgValue → Type 0) → Found → (FactSet → Type 0)
+    → (FactSet → Type 0) → Type 0 → Type 0
+SaysFoundAmong A F (found.Facts facts) P Q R =
+    A (fact_set (map value_of facts.items))
+    × (P (fact_set (map value_of facts.items)) × All F (map value_of facts.items))
+SaysFoundAmong A F found.Nothing P Q R = (s : FactSet) → A s → Q s
+SaysFoundAmong A F found.Undecided P Q R = R
+
+-- what became of a search among the possible sets, on the expressions es
+abbrev pub SaysFound : Found → Known → Trees → ℕ → (FactSet → Type 0) → (FactSet → Type 0) → Type 0
+SaysFound r k es budget P Q =
+    SaysFoundAmong (λ s. IsAllowed k s) (λ c. IsFactOfExample k es c) r P Q (NeedsMore k es budget)
 
 -- how many of the pairs are open on the path
 abbrev pub open_on : Base → List Turn → List Pair → ℕ
@@ -70,8 +84,13 @@ open_on k ds (p ∷ ps) = one_if (is_none (told_on k ds p)) + open_on k ds ps
 abbrev pub NeedsMoreOn : Base → Trees → ℕ → Type 0
 NeedsMoreOn k es budget = (ps : List Pair) → HasAll es ps → budget + 1 < 2 ^ open_on k [] ps
 
+-- a fact without a raw mark that is listed or stands in one of the trees
+abbrev pub MayBeFound : Base → Trees → CfgValue → Type 0
+MayBeFound k es c =
+    IsUnmarked c × IsTrue (contains (from_list {R = pair_cmp} k.listed) (pair_of c) || some_asks es (pair_of c))
+
 -- a set over which each goal is met, or that there is none
 abbrev pub Searched : Base → List Goal → ℕ → Found → Type 0
 Searched k gs budget r =
-    SaysFound r (λ s. IsOver k s × (goals_true s gs ≡ true)) ((s : FactSet) → IsOver k s → goals_true s gs ≡ false)
-    (NeedsMoreOn k (goal_trees gs) budget)
+    SaysFoundAmong (λ s. IsOver k s) (λ c. MayBeFound k (goal_trees gs) c) r (λ s. goals_true s gs ≡ true)
+    (λ s. goals_true s gs ≡ false) (NeedsMoreOn k (goal_trees gs) budget)

@@ -3,14 +3,16 @@ use Rattle.std.specs.Prelude.{◌≡◌, ℕ, Bool, false, not, List, [], ◌∷
 use Rattle.std.specs.Prelude.{if◌then◌else◌, bytes_eq}
 use Rattle.std.specs.Prelude.{String}
 use Rattle.std.specs.declared.alloc.Global.{Global}
-use Rattle.cargo_platform.specs.Trees.{Tree, True, False, Condition, Target, Expression, tree, none}
+use Rattle.cargo_platform.specs.Trees.{Tree, True, False, Condition, Target, Expression, condition_of}
 use Rattle.cargo_platform.specs.Facts.{FactSet, truth}
-use Rattle.exact_answers.specs.Possible.{IsAllowed}
 use Rattle.exact_answers.specs.Asking.{NeedsMore}
-use Rattle.exact_answers.specs.Targets.{IsExample, asked_tree}
+use Rattle.exact_answers.specs.Answers.{OverEach}
+use Rattle.exact_answers.specs.Targets.{IsExample, asked_trees}
+use Rattle.exact_answers.specs.Inside.Goals.{SaysFound}
 use Rattle.exact_answers.specs.declared.known.Known.{Known}
 use Rattle.exact_answers.specs.declared.search.Found.{Found}
 use Rattle.exact_answers.specs.declared.search.Found.TheVariants as found
+use Rattle.exact_answers.specs.declared.platforms.Question.{Question}
 use Rattle.exact_answers.specs.declared.platforms.FoundTarget.{FoundTarget}
 use Rattle.exact_answers.specs.declared.platforms.CanSelect.{CanSelect}
 use Rattle.exact_answers.specs.declared.platforms.CanSelect.TheVariants as can
@@ -39,18 +41,25 @@ pub record Wanted : Type 0 where
 abbrev pub wants : Known → Condition → Bool → Condition → Bool → Wanted
 wants k a v b w = record { known = k; first = a; first_wanted = v; second = b; second_wanted = w }
 
+-- what a value of the program stands for
+abbrev pub wanted_of : Question → Wanted
+wanted_of q = wants q.known.now (condition_of q.first.now) q.first_wanted (condition_of q.second.now) q.second_wanted
+
+abbrev pub conditions : Wanted → List Condition
+conditions w = w.first ∷ w.second ∷ []
+
 abbrev pub MetUnder : Wanted → Option (List ℕ) → FactSet → Type 0
 MetUnder w name s =
-    IsAllowed w.known s × ((truth s (tree_under name w.first) ≡ w.first_wanted)
-    × (truth s (tree_under name w.second) ≡ w.second_wanted))
+    (truth s (tree_under name w.first) ≡ w.first_wanted) × (truth s (tree_under name w.second) ≡ w.second_wanted)
 
-abbrev pub MissedUnder : Wanted → Option (List ℕ) → Type 0
-MissedUnder w name =
-    (s : FactSet) → IsAllowed w.known s → truth s (tree_under name w.first) ≡ w.first_wanted
-    → truth s (tree_under name w.second) ≡ not w.second_wanted
+abbrev pub MissedUnder : Wanted → Option (List ℕ) → FactSet → Type 0
+MissedUnder w name s =
+    truth s (tree_under name w.first) ≡ w.first_wanted → truth s (tree_under name w.second) ≡ not w.second_wanted
 
-abbrev pub NeedsMoreFor : Wanted → ℕ → Type 0
-NeedsMoreFor w budget = NeedsMore w.known (tree (asked_tree w.first) (tree (asked_tree w.second) none)) budget
+-- what became of a search for the facts of a target with this name
+abbrev pub SaysFoundUnder : Found → Wanted → Option (List ℕ) → ℕ → Type 0
+SaysFoundUnder r w name budget =
+    SaysFound r w.known (asked_trees (conditions w)) budget (λ s. MetUnder w name s) (λ s. MissedUnder w name s)
 
 -- what is found, with the name by which it was looked for
 abbrev pub with_name : Found → Option (String Global) → FoundTarget
@@ -75,6 +84,7 @@ as_must one.Undecided = must.Undecided
 
 -- a target that meets what is wanted, or that none does whose name is in question
 abbrev pub SaysTarget : FoundTarget → Wanted → (List ℕ → Type 0) → ℕ → Type 0
-SaysTarget (one.Target t) w D budget = IsExample t (w.first ∷ w.second ∷ []) (λ name s. MetUnder w (Some name) s)
-SaysTarget one.Nothing w D budget = (name : List ℕ) → D name → MissedUnder w (Some name)
-SaysTarget one.Undecided w D budget = NeedsMoreFor w budget
+SaysTarget (one.Target t) w D budget = IsExample t w.known (conditions w) (λ name s. MetUnder w (Some name) s)
+SaysTarget one.Nothing w D budget =
+    (name : List ℕ) → D name → OverEach w.known (λ s. MissedUnder w (Some name) s)
+SaysTarget one.Undecided w D budget = NeedsMore w.known (asked_trees (conditions w)) budget

@@ -1,5 +1,5 @@
--- Both kinds of group, by the truth behind which they go on: `all` goes on behind members that are true, and `any`
--- behind false ones. That truth is called the neutral one.
+-- Both kinds of group, by the truth after which they go on: `all` goes on after members that are true, and `any`
+-- after false ones. That truth is called the neutral one.
 use Rattle.std.specs.Prelude.{Bool, true, false, Option, Some, None}
 use Rattle.cargo_platform.specs.Trees.{Tree, All, Any, Trees}
 use Rattle.cargo_platform.specs.Facts.{Pair}

@@ -1,4 +1,4 @@
--- Behind the lines that were passed the rest stands.
+-- After the lines that were passed the rest stands.
 use denote.Shadow.{shadow}
 use denote.Text.{Utf8}
 use Rattle.std.proofs.Common.{ℕ, ◌+◌, ◌≡◌}

@@ -11,9 +11,9 @@ use Rattle.cargo_platform.proofs.parser.begin.Goals as goal
 
 pub returns-in-Some-clause-begun : goal.returns-in-Some-clause-begun
 returns-in-Some-clause-begun c =
-    let l = c.args.reader.now in
-    let m = c.eat_name.new.self in
-    let n = c.behind_name.new.reader in
+    let l = c.args.reader.now.ahead in
+    let m = c.eat_name.new.self.ahead in
+    let n = c.behind_name.new.reader.ahead in
     let gs = stack c.args.groups.now in
     let raw = c.in-Some.raw in
     let name = c.in-Some.name.now in
@@ -25,8 +25,8 @@ returns-in-Some-clause-begun c =
 
 pub returns-in-Some-clause-refused : goal.returns-in-Some-clause-refused
 returns-in-Some-clause-refused c =
-    let l = c.args.reader.now in
-    let m = c.eat_name.new.self in
+    let l = c.args.reader.now.ahead in
+    let m = c.eat_name.new.self.ahead in
     let gs = stack c.args.groups.now in
     let raw = c.in-Some.raw in
     let name = c.in-Some.name.now in
@@ -38,19 +38,19 @@ returns-in-Some-clause-refused c =
 
 pub returns-clause-refused : goal.returns-clause-refused
 returns-clause-refused c =
-    let l = c.args.reader.now in
+    let l = c.args.reader.now.ahead in
     let gs = stack c.args.groups.now in
     let n = c.in_default.ensures.not_taken in
     let k = c.in_default-end_list.ensures.not_closed in
     let L : Ahead → Type 0 = λ z. LacksPunctuation z punctuation.RightParen in
-    stops_untaken l c.end_list.new.reader (Wants gs) c.refuse.result _ _ (k.0 ∙ n.0) c.refuse.ensures.refused
+    stops_untaken l c.end_list.new.reader.ahead (Wants gs) c.refuse.result _ _ (k.0 ∙ n.0) c.refuse.ensures.refused
     (λ ts p. wants_refusing l gs ts n.1 (λ y. subst L n.0 (k.1 y)) p)
 
 pub returns-in-Some-clause-shorter : goal.returns-in-Some-clause-shorter
 returns-in-Some-clause-shorter c =
-    let l = c.args.reader.now in
-    let m = c.eat_name.new.self in
-    let n = c.behind_name.new.reader in
+    let l = c.args.reader.now.ahead in
+    let m = c.eat_name.new.self.ahead in
+    let n = c.behind_name.new.reader.ahead in
     if_ok c.behind_name.result _ (λ _. bytes_left n < bytes_left l) (λ done a.
     omega (
       arith,

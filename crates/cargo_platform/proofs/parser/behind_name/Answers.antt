@@ -11,7 +11,7 @@ use Rattle.cargo_platform.proofs.parser.behind_name.Goals as goal
 
 pub returns-in-Some-literal_named-clause-begun : goal.returns-in-Some-literal_named-clause-begun
 returns-in-Some-literal_named-clause-begun c =
-    let l = c.args.reader.now in
+    let l = c.args.reader.now.ahead in
     let gs = stack c.args.groups.now in
     let e = tree_of c.in-Some-literal_named.literal in
     let is = c.in-Some-literal_named.ensures in
@@ -20,7 +20,7 @@ returns-in-Some-literal_named-clause-begun c =
 
 pub returns-in_err-value-clause-refused : goal.returns-in_err-value-clause-refused
 returns-in_err-value-clause-refused c =
-    let l = c.args.reader.now in
+    let l = c.args.reader.now.ahead in
     let gs = stack c.args.groups.now in
     let n : Name = record { raw = c.args.raw; name = c.args.name.now } in
     let r = c.in_err-value.field-0.0 in
@@ -32,8 +32,8 @@ returns-in_err-value-clause-refused c =
 
 pub returns-clause-begun : goal.returns-clause-begun
 returns-clause-begun c =
-    let l = c.args.reader.now in
-    let m = c.read_value.new.reader in
+    let l = c.args.reader.now.ahead in
+    let m = c.read_value.new.reader.ahead in
     let gs = stack c.args.groups.now in
     let n : Name = record { raw = c.args.raw; name = c.args.name.now } in
     let v = c.in_ok-value.value in
@@ -44,7 +44,7 @@ returns-clause-begun c =
 
 pub returns-in_err-open_group-clause-refused : goal.returns-in_err-open_group-clause-refused
 returns-in_err-open_group-clause-refused c =
-    let l = c.args.reader.now in
+    let l = c.args.reader.now.ahead in
     let gs = stack c.args.groups.now in
     let raw = c.args.raw in
     let name = c.args.name.now in

@@ -8,17 +8,17 @@ use Rattle.cargo_platform.proofs.parser.close_group.Goals as goal
 
 pub returns-then-not-eat-clause-refused : goal.returns-then-not-eat-clause-refused
 returns-then-not-eat-clause-refused c = λ gs.
-    let l = c.args.reader.now in
+    let l = c.args.reader.now.ahead in
     let o = opening c.args.group in
     let e = tree_of c.args.last in
     let n = c.eat.ensures.not_taken c.if-not-eat.true in
-    stops_untaken l c.eat.new.self (Has (o ∷ gs) e l) c.refuse.result _ _ n.0 c.refuse.ensures.refused
+    stops_untaken l c.eat.new.self.ahead (Has (o ∷ gs) e l) c.refuse.result _ _ n.0 c.refuse.ensures.refused
     (λ ts p. group_refusing l o gs e ts n.1 c.requires p)
 
 pub returns-in_ok-negation-in-Not-clause-closed : goal.returns-in_ok-negation-in-Not-clause-closed
 returns-in_ok-negation-in-Not-clause-closed c = λ gs.
-    let l = c.args.reader.now in
-    let m = c.eat.new.self in
+    let l = c.args.reader.now.ahead in
+    let m = c.eat.new.self.ahead in
     let e = tree_of c.args.last in
     let closed = c.in_ok-negation-in-Not in
     let G : Group → Type 0 = λ z. Reads l m (Has (opening z ∷ gs) e l) (Has gs (tree_of closed.field-0) m) in
@@ -30,8 +30,8 @@ returns-in_ok-negation-in-Not-clause-closed c = λ gs.
 
 pub returns-in_ok-with_member-in-List-clause-closed : goal.returns-in_ok-with_member-in-List-clause-closed
 returns-in_ok-with_member-in-List-clause-closed c = λ gs.
-    let l = c.args.reader.now in
-    let m = c.eat.new.self in
+    let l = c.args.reader.now.ahead in
+    let m = c.eat.new.self.ahead in
     let e = tree_of c.args.last in
     let all = is_all c.in-List.word in
     let es = map tree_of c.in-List.members.items in

@@ -7,8 +7,8 @@ use Rattle.cargo_platform.proofs.parser.end_list.Goals as goal
 
 pub returns-else-not-eat-clause-closed : goal.returns-else-not-eat-clause-closed
 returns-else-not-eat-clause-closed c =
-    let l = c.args.reader.now in
-    let m = c.eat.new.self in
+    let l = c.args.reader.now.ahead in
+    let m = c.eat.new.self.ahead in
     let gs = stack c.pop.new.self in
     let all = is_all c.in-Some-List.word in
     let es = map tree_of c.in-Some-List.members.items in

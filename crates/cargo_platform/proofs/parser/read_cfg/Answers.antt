@@ -14,15 +14,15 @@ Nothing ts = ts ≡ []
 
 pub returns-in_default-clause-refused : goal.returns-in_default-clause-refused
 returns-in_default-clause-refused c =
-    let l = c.args.reader.now in
+    let l = c.args.reader.now.ahead in
     let n = c.in_default.ensures.not_taken in
-    stops_untaken l c.eat_name.new.self Nothing c.refuse.result _ _ n.0 c.refuse.ensures.refused
+    stops_untaken l c.eat_name.new.self.ahead Nothing c.refuse.result _ _ n.0 c.refuse.ensures.refused
     (λ ts p. start_refusing l ts n.1 p)
 
 pub returns-in_err-cfg-clause-refused : goal.returns-in_err-cfg-clause-refused
 returns-in_err-cfg-clause-refused c =
-    let l = c.args.reader.now in
-    let m = c.eat_name.new.self in
+    let l = c.args.reader.now.ahead in
+    let m = c.eat_name.new.self.ahead in
     let t = Ident c.in-Some.raw c.in-Some.name.now in
     let Name : List Lexeme → Type 0 = λ ts. walk Values ts ≡ Some (Named []) in
     let p = err_from_is_err_and c.from_residual.result c.from_residual.ensures.1 in
@@ -33,9 +33,9 @@ returns-in_err-cfg-clause-refused c =
 
 pub returns-clause-value : goal.returns-clause-value
 returns-clause-value c =
-    let l = c.args.reader.now in
-    let m = c.eat_name.new.self in
-    let n = c.read_value.new.reader in
+    let l = c.args.reader.now.ahead in
+    let m = c.eat_name.new.self.ahead in
+    let n = c.read_value.new.reader.ahead in
     let t = Ident c.in-Some.raw c.in-Some.name.now in
     reads_then l m n Nothing (λ ts. ts ≡ t ∷ []) (λ ts. ts ≡ value_spelling (value_of c.in_ok-cfg.cfg))
     (reads_taken l m t Nothing (λ ts. ts ≡ t ∷ []) c.in-Some.ensures.taken
@@ -43,9 +43,9 @@ returns-clause-value c =
 
 pub returns-in_err-expect_end-clause-refused : goal.returns-in_err-expect_end-clause-refused
 returns-in_err-expect_end-clause-refused c =
-    let l = c.args.reader.now in
-    let m = c.eat_name.new.self in
-    let n = c.read_value.new.reader in
+    let l = c.args.reader.now.ahead in
+    let m = c.eat_name.new.self.ahead in
+    let n = c.read_value.new.reader.ahead in
     let t = Ident c.in-Some.raw c.in-Some.name.now in
     let v = value_of c.in_ok-cfg.cfg in
     let p = err_from_is_err_and c.from_residual-in_err-expect_end.result c.from_residual-in_err-expect_end.ensures.1 in

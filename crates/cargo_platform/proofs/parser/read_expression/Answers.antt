@@ -18,9 +18,9 @@ Nothing ts = ts ≡ []
 
 pub groups-preserved-in_default : goal.groups-preserved-in_default
 groups-preserved-in_default c =
-    let a = c.args.reader.now in
-    let l = c.groups.reader in
-    let m = c.begin.new.reader in
+    let a = c.args.reader.now.ahead in
+    let l = c.groups.reader.ahead in
+    let m = c.begin.new.reader.ahead in
     let gs = stack c.groups.groups in
     let D : Option CfgExpr → Type 0 = λ z. Reads a l Nothing (Stands gs z l) in
     record {
@@ -32,9 +32,9 @@ groups-preserved-in_default c =
 
 pub groups-preserved-then-eat_comma : goal.groups-preserved-then-eat_comma
 groups-preserved-then-eat_comma c =
-    let a = c.args.reader.now in
-    let l = c.groups.reader in
-    let m = c.eat_comma.new.reader in
+    let a = c.args.reader.now.ahead in
+    let l = c.groups.reader.ahead in
+    let m = c.eat_comma.new.reader.ahead in
     let gs = stack c.groups.groups in
     let e = tree_of c.in-Some.e in
     let D : Option CfgExpr → Type 0 = λ z. Reads a l Nothing (Stands gs z l) in
@@ -52,10 +52,10 @@ groups-preserved-then-eat_comma c =
 
 pub groups-preserved : goal.groups-preserved
 groups-preserved c =
-    let a = c.args.reader.now in
-    let l = c.groups.reader in
-    let k = c.eat_comma.new.reader in
-    let m = c.close_group.new.reader in
+    let a = c.args.reader.now.ahead in
+    let l = c.groups.reader.ahead in
+    let k = c.eat_comma.new.reader.ahead in
+    let m = c.close_group.new.reader.ahead in
     let gs = stack c.groups.groups in
     let e = tree_of c.in-Some.e in
     let os = opening c.in-Some-pop.group ∷ stack c.pop.new.self in
@@ -74,8 +74,8 @@ groups-preserved c =
 
 pub returns-in_err-done-clause-refused : goal.returns-in_err-done-clause-refused
 returns-in_err-done-clause-refused c =
-    let a = c.args.reader.now in
-    let l = c.groups.reader in
+    let a = c.args.reader.now.ahead in
+    let l = c.groups.reader.ahead in
     let gs = stack c.groups.groups in
     let D : Option CfgExpr → Type 0 = λ z. Reads a l Nothing (Stands gs z l) in
     let r = c.in_err-done.field-0.0 in
@@ -86,9 +86,9 @@ returns-in_err-done-clause-refused c =
 
 pub returns-in_err-close_group-clause-refused : goal.returns-in_err-close_group-clause-refused
 returns-in_err-close_group-clause-refused c =
-    let a = c.args.reader.now in
-    let l = c.groups.reader in
-    let k = c.eat_comma.new.reader in
+    let a = c.args.reader.now.ahead in
+    let l = c.groups.reader.ahead in
+    let k = c.eat_comma.new.reader.ahead in
     let gs = stack c.groups.groups in
     let e = tree_of c.in-Some.e in
     let os = opening c.in-Some-pop.group ∷ stack c.pop.new.self in
@@ -106,9 +106,9 @@ returns-in_err-close_group-clause-refused c =
 
 pub returns-in_err-expect_end-clause-refused : goal.returns-in_err-expect_end-clause-refused
 returns-in_err-expect_end-clause-refused c =
-    let a = c.args.reader.now in
-    let l = c.groups.reader in
-    let k = c.eat_comma.new.reader in
+    let a = c.args.reader.now.ahead in
+    let l = c.groups.reader.ahead in
+    let k = c.eat_comma.new.reader.ahead in
     let gs = stack c.groups.groups in
     let e = tree_of c.in-Some.e in
     let r = c.in_err-expect_end.field-0.0 in

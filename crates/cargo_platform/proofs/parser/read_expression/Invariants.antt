@@ -3,12 +3,12 @@ use Rattle.cargo_platform.specs.Inside.Ahead.{bytes_left}
 use Rattle.cargo_platform.specs.Inside.Parsing.{stack, Stands, Reads}
 use Rattle.cargo_platform.proofs.parser.read_expression.Given as goal
 
--- what was read opened the groups, and ended the expression that stands behind them
+-- what was read opened the groups, and ended the expression that stands after them
 abbrev pub invariant-groups : goal.invariant-groups
 invariant-groups l = record {
-  same_text : l.reader.text ≡ l.fn.reader.text;
-  reads : Reads l.fn.reader l.reader (λ ts. ts ≡ []) (Stands (stack l.groups) l.done l.reader);
+  same_text : l.reader.ahead.text ≡ l.fn.reader.ahead.text;
+  reads : Reads l.fn.reader.ahead l.reader.ahead (λ ts. ts ≡ []) (Stands (stack l.groups) l.done l.reader.ahead);
 }
 
 abbrev pub decreases-groups : goal.decreases-groups
-decreases-groups l = bytes_left l.reader
+decreases-groups l = bytes_left l.reader.ahead

@@ -11,21 +11,21 @@ use Rattle.cargo_platform.proofs.parser.read_value.Goals as goal
 
 pub returns-in_default-clause-refused : goal.returns-in_default-clause-refused
 returns-in_default-clause-refused c = λ g ws.
-    let l = c.args.reader.now in
-    let m = c.eat.new.self in
+    let l = c.args.reader.now.ahead in
+    let m = c.eat.new.self.ahead in
     let n = c.in_default.ensures.not_taken in
     let Name : List Lexeme → Type 0 = λ ts. walk g ts ≡ Some (Named ws) in
     let Key : List Lexeme → Type 0 = λ ts. (before : List Lexeme) × Name before × (ts ≡ before ++ Equals ∷ []) in
     stops_then g l m Name Key c.refuse.result
     (reads_taken l m Equals Name Key (c.eat.ensures.taken c.if-not-eat.false) (λ ts p. (ts, p, refl)))
-    (stops_untaken m c.eat_string.new.self Key c.refuse.result _ _ n.0 c.refuse.ensures.refused
+    (stops_untaken m c.eat_string.new.self.ahead Key c.refuse.result _ _ n.0 c.refuse.ensures.refused
     (λ ts p. key_refusing g m ws p.0 ts n.1 p.1 p.2))
 
 pub returns-clause-value : goal.returns-clause-value
 returns-clause-value c =
-    let l = c.args.reader.now in
-    let m = c.eat.new.self in
-    let n = c.eat_string.new.self in
+    let l = c.args.reader.now.ahead in
+    let m = c.eat.new.self.ahead in
+    let n = c.eat_string.new.self.ahead in
     let t = Ident c.args.raw c.args.name.now in
     let s = String c.in-Some.value.now in
     let is : KeyPair _ _ ≡ KeyPair _ _ = λ i. KeyPair (c.in_ok-key.ensures i) (c.in_ok-value.ensures.ok i) in

@@ -1,7 +1,6 @@
 use Rattle.std.proofs.Common.{refl, true, [], ◌∷◌}
 use Rattle.std.proofs.lemmas.Result.{IfOk-weaker}
 use Rattle.cargo_platform.specs.Trees.{tree_of, tree, none}
-use Rattle.exact_answers.specs.Asking.{NeedsMore}
 use Rattle.exact_answers.proofs.Answering.{both_say}
 use Rattle.exact_answers.proofs.Spending.{needs_more_by}
 use Rattle.exact_answers.proofs.answers.search_both.Goals as goal
@@ -12,7 +11,7 @@ returns c =
     (λ r. both_say c.args.known.now c.args.a.now c.args.b.now c.args.a_wanted c.args.b_wanted
     (record { e = c.args.known.now.assumed; wanted = true } ∷ record { e = c.args.a; wanted = c.args.a_wanted }
     ∷ record { e = c.args.b; wanted = c.args.b_wanted } ∷ []) c.args.budget
-    (NeedsMore c.args.known.now (tree (tree_of c.args.a.now) (tree (tree_of c.args.b.now) none)) c.args.budget)
+    (tree (tree_of c.args.a.now) (tree (tree_of c.args.b.now) none))
     r (needs_more_by c.args.known.now (tree (tree_of c.args.a.now) (tree (tree_of c.args.b.now) none)) c.args.budget)
-    (λ s. refl))
+    (λ c is. is) (λ s. refl))
     c.search.ensures

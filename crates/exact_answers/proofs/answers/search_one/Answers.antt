@@ -1,7 +1,6 @@
 use Rattle.std.proofs.Common.{refl, true, [], ◌∷◌}
 use Rattle.std.proofs.lemmas.Result.{IfOk-weaker}
 use Rattle.cargo_platform.specs.Trees.{tree_of, tree, none}
-use Rattle.exact_answers.specs.Asking.{NeedsMore}
 use Rattle.exact_answers.proofs.Answering.{one_says}
 use Rattle.exact_answers.proofs.Spending.{needs_more_by}
 use Rattle.exact_answers.proofs.answers.search_one.Goals as goal
@@ -11,5 +10,5 @@ returns c =
     IfOk-weaker _ _ _ (λ r. one_says c.args.known.now c.args.e.now c.args.wanted
     (record { e = c.args.known.now.assumed; wanted = true } ∷ record { e = c.args.e; wanted = c.args.wanted } ∷ [])
     c.args.budget
-    (NeedsMore c.args.known.now (tree (tree_of c.args.e.now) none) c.args.budget)
-    r (needs_more_by c.args.known.now (tree (tree_of c.args.e.now) none) c.args.budget) (λ s. refl)) c.search.ensures
+    (tree (tree_of c.args.e.now) none)
+    r (needs_more_by c.args.known.now (tree (tree_of c.args.e.now) none) c.args.budget) (λ c is. is) (λ s. refl)) c.search.ensures

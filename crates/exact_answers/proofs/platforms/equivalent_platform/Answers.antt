@@ -6,7 +6,7 @@ use Rattle.exact_answers.proofs.platforms.equivalent_platform.Goals as goal
 
 pub returns-in_ok-found-in-Nothing : goal.returns-in_ok-found-in-Nothing
 returns-in_ok-found-in-Nothing c =
-    must_by c.as_must.result c.in_ok-found-in-Nothing.found _ _ _ _ c.as_must.ensures
+    must_by c.as_must.result c.in_ok-found-in-Nothing.found _ _ _ _ _ c.as_must.ensures
     (second_says c.args.known.now (condition_of c.args.a.now) (condition_of c.args.b.now) c.args.budget
     c.in_ok-found-in-Nothing.found
     (nothing_found

@@ -1,5 +1,4 @@
-use Rattle.std.proofs.Common.{◌∙◌, sym, ap, ◌++◌, map, [], ◌∷◌}
-use Rattle.std.specs.List.{filter}
+use Rattle.std.proofs.Common.{◌∙◌, sym, ap, ◌++◌}
 use Rattle.std.proofs.lemmas.List.{map-append}
 use Rattle.cargo_platform.specs.Trees.{value_of}
 use Rattle.known_targets.specs.declared.known_facts.KnownFact.{KnownFact}

@@ -10,7 +10,7 @@ pub returns-in_err-facts-clause-refused : goal.returns-in_err-facts-clause-refus
 returns-in_err-facts-clause-refused c =
     let ls = lines_of c.args.text.now in
     let p = condition_of c.in_ok-platform.platform in
-    let facts = behind_two ls _ _ c.split_line.ensures.behind c.split_line-2.ensures.behind in
+    let facts = behind_two ls _ _ c.split_line.ensures.after c.split_line-2.ensures.after in
     passed_on
     (λ r. IfLine r (λ n orig fault. IsLeast (IsRefusedLine ls) n × IsLineFault ls n orig fault))
     _ c.in_err-facts.field-0.0 c.from_residual-in_err-facts.ensures.1

@@ -2,7 +2,6 @@ use Rattle.std.proofs.Common.{◌≡◌, ◌≤◌, length, ◌+◌, ◌++◌, t
 use Rattle.std.proofs.lemmas.Grind.{common_steps}
 use Rattle.std.proofs.KnownBytes.{Consumes-trans, Consumes-kept}
 use Rattle.platform_check.proofs.reading.gather.Goals as goal
-use Rattle.platform_check.proofs.reading.gather.Goals.{in-Ok+else-n-len+else-is_err, in-Err+else-not-is_interrupted}
 
 pub returns-then-n-len-clause-brought : goal.returns-then-n-len-clause-brought
 returns-then-n-len-clause-brought g c =
@@ -25,7 +24,7 @@ returns-then-n-len-clause-brought g c =
 
 pub loop-turn-preserved : goal.loop-turn-preserved
 loop-turn-preserved g c = elim c.match-read.branch [
-  | in-Ok+else-n-len+else-is_err w ↦
+  | goal.in-Ok+else-n-len+else-is_err w ↦
       let within : w.in-Ok.n ≤ length c.read.new.piece = w.in-Ok.ensures.bound.0 in
       let some : w.in-Ok.n ≡ 0 → ⊥ = w.in-Ok.n-test.1 in
       let full : w.len.result ≡ length c.loop-turn.bytes.items = search rules in
@@ -43,7 +42,7 @@ loop-turn-preserved g c = elim c.match-read.branch [
         short = omega arith;
         brought = rw grown (Consumes-trans _ _ _ _ _ c.loop-turn.invariant.brought w.in-Ok.ensures.bytes.0);
       }
-  | in-Err+else-not-is_interrupted w ↦
+  | goal.in-Err+else-not-is_interrupted w ↦
       let same : c.match-read.bytes.items ≡ c.loop-turn.bytes.items = ap (λ x. x.items) w.bytes-is in
       let counted = w.in-Err.ensures.interrupted (search rules) in
       record {

@@ -29,5 +29,6 @@ returns-in-Err-Parse c =
     let read = rw c.in-Err-Parse.field-0-is at c.in-Err-Parse.ensures in
     IfOk-weaker c.snippet_in.result _ (λ lines. IsUnderlined key lines)
     (λ lines snippet. shown key (orig_of e) (fault_in e) (span_in e) lines
-    (λ at found. c.faults_are_in_keys.ensures key (orig_of e) (fault_in e) at found c.utf8.key) read.fault read.span snippet)
+    (λ at found. c.faults_are_in_keys.ensures key (orig_of e) (fault_in e) at found c.utf8.key)
+    read.fault read.span snippet)
     c.snippet_in.ensures

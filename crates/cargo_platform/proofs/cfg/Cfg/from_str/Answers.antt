@@ -14,7 +14,7 @@ pub returns-in-Ok : goal.returns-in-Ok
 returns-in-Ok c =
     let s = c.args.s.now in
     let v = c.in-Ok.cfg in
-    let read = value_read s c.new-reader.result c.read_cfg.new.reader (value_of v) c.new-reader.ensures.text
+    let read = value_read s c.new-reader.result.ahead c.read_cfg.new.reader.ahead (value_of v) c.new-reader.ensures.text
     c.new-reader.ensures.first c.in-Ok.ensures.value c.in-Ok.ensures.ended in
     record {
       value = read;
@@ -34,7 +34,7 @@ returns-in-Err c =
     let b = c.into_error.ensures in
     let span = parse_is Cfg r s x (λ e. IsRefusedAt Values s (fault_in e) (span_in e)) b
     (λ e o f p. fault_and_span r (fault_in e) (span_in e) (IsRefusedAt Values s) f p
-    (stops_refused Values s c.new-reader.result r c.utf8.s c.new-reader.ensures.text c.new-reader.ensures.first
+    (stops_refused Values s c.new-reader.result.ahead r c.utf8.s c.new-reader.ensures.text c.new-reader.ensures.first
     c.in-Err.ensures.refused)) in
     let fault = if_parse Cfg x _ (λ e. IsRefused Values s (fault_in e)) (λ e h. h.0) span in
     let none = refused_answer value_laws {B = Cfg} s (Err x) fault in

@@ -5,7 +5,7 @@ use Rattle.cargo_platform.proofs.Members.{count_members}
 use Rattle.cargo_platform.proofs.LastMembers.{last_fed}
 use Rattle.cargo_platform.proofs.order.expressions.+feed.Goals as goal
 
--- no member is left behind the last
+-- no member is left after the last
 pub feed_all_but_last-returns-clause-fed : goal.feed_all_but_last-returns-clause-fed
 feed_all_but_last-returns-clause-fed g t c =
     let es = c.args.members.now in

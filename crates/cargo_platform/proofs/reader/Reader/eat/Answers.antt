@@ -1,6 +1,6 @@
 use Rattle.std.proofs.Common.{◌≡◌, refl, sym, ap, subst, ◌∙◌, ◌+◌, ℕ, List, ◌++◌, arith}
 use Rattle.cargo_platform.specs.Tokens.{Lexeme, written}
-use Rattle.cargo_platform.specs.Inside.Ahead.{Ahead}
+use Rattle.cargo_platform.specs.Inside.Ahead.{Ahead, Standing}
 use Rattle.cargo_platform.specs.Inside.Looking.{IsReadingAt}
 use Rattle.cargo_platform.specs.Inside.Parsing.{TakesToken, Lacks, lexeme_of}
 use Rattle.cargo_platform.proofs.OneCut.{head_of}
@@ -15,7 +15,7 @@ returns-then-not-is_byte-clause-not_taken c = λ _.
     let P : Lexeme → Type 0 = λ t. t ≡ lexeme_of c.args.wanted in
     let L : Ahead → Type 0 = λ z. Lacks P z in (
       refl,
-      subst L c.self.view_is
+      subst L (ap (λ (z : Standing). z.ahead) c.self.view_is)
           (lacks P r.source.text.now r.place r.seen i.past i.sees (λ t b bs rest p w e s.
           let first : c.byte_of.result ≡ b = head_of
           (sym (ap (λ (z : Lexeme). written z ++ rest) p ∙ ap (λ (z : List ℕ). z ++ rest) c.byte_of.ensures) ∙ e) in
@@ -52,7 +52,7 @@ returns-clause-taken c = λ _.
     let stands = punctuation_stands text r.place c.byte_of.result c.args.wanted c.byte_of.ensures here.1 here.0 in
     let found = rw c.look-behind.ensures.same at c.past_spaces.ensures in
     let T : Ahead → Type 0 = λ z. TakesToken z (ahead_at c.past_spaces.new.self.text.now to) t in
-    subst T c.self.view_is
+    subst T (ap (λ (z : Standing). z.ahead) c.self.view_is)
     (subst
     (λ z. TakesToken (ahead_at text r.place) (ahead_at z.now to) t) (sym found.same)
     (takes text r.place (r.place + 1) to t i.reached.0 stands found.spaces))

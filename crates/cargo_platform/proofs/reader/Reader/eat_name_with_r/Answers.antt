@@ -28,9 +28,10 @@ returns-in-Ok-clause-not_taken c =
 pub returns-in-Err-clause-not_taken : goal.returns-in-Err-clause-not_taken
 returns-in-Err-clause-not_taken c =
     let taken = rw c.in-Err.is at c.in_ok-taken.ensures.taken in
-    (taken.0, λ t is p. no_token c.args.self.now (Lexical c.in-Err._kind c.args.self.now.place) t refl taken.1 is)
+    let l = c.args.self.now.ahead in
+    (taken.0, λ t is p. no_token l (Lexical c.in-Err._kind l.place) t refl taken.1 is)
 
 pub returns-in_err-taken-clause-not_taken : goal.returns-in_err-taken-clause-not_taken
 returns-in_err-taken-clause-not_taken c =
     let taken = c.in_err-taken.ensures.taken in
-    rw c.from_residual.ensures (taken.0, λ t is p. no_token c.args.self.now Nothing t refl taken.1 is)
+    rw c.from_residual.ensures (taken.0, λ t is p. no_token c.args.self.now.ahead Nothing t refl taken.1 is)

@@ -2,7 +2,7 @@ use Rattle.std.proofs.Common.{◌≡◌, refl, sym, ap, subst, ◌∙◌, ◌+�
 use Rattle.std.specs.List.{between}
 use Rattle.cargo_platform.specs.declared.tokens.TokenFaultKind.TheVariants.{UnterminatedString}
 use Rattle.cargo_platform.specs.Tokens.{Lexeme, String, written}
-use Rattle.cargo_platform.specs.Inside.Ahead.{Ahead}
+use Rattle.cargo_platform.specs.Inside.Ahead.{Ahead, Standing}
 use Rattle.cargo_platform.specs.Inside.Looking.{IsReadingAt}
 use Rattle.cargo_platform.specs.Inside.Parsing.{IsString}
 use Rattle.cargo_platform.specs.Inside.Parsing.{TakesToken, Lacks}
@@ -18,7 +18,7 @@ returns-then-not-is_byte-clause-not_taken c =
     let i = c.self.invariant in
     let L : Ahead → Type 0 = λ z. Lacks IsString z in (
       refl,
-      subst L c.self.view_is
+      subst L (ap (λ (z : Standing). z.ahead) c.self.view_is)
           (lacks IsString r.source.text.now r.place r.seen i.past i.sees (λ t b bs rest p w e s.
           let first : 0x22 ≡ b = head_of (sym (ap (λ (z : Lexeme). written z ++ rest) p.1) ∙ e) in
           c.is_byte.ensures.no c.if-not-is_byte.true (rw first s))),
@@ -31,7 +31,7 @@ returns-in-Some-clause-not_taken c =
     let L : Ahead → Type 0 = λ z. Lacks IsString z in
     let found = rw c.in-Some.is at i.found in
     let lacks_it = fault_lacks IsString r.source.text.now r.place c.in-Some._kind i.reached.0 found in
-    (refl, subst L c.self.view_is lacks_it)
+    (refl, subst L (ap (λ (z : Standing). z.ahead) c.self.view_is) lacks_it)
 
 pub invariant_of-self : goal.invariant_of-self
 invariant_of-self c =
@@ -44,7 +44,11 @@ invariant_of-self c =
     subst
     (λ t. IsReadingAt t.now r.place r.seen (Some UnterminatedString) c.closing_quote.new.self.looks) (sym ends.same)
     (finds text r.place r.seen r.fault UnterminatedString r.source.looks c.closing_quote.new.self.looks i
-    c.in_default.is (unterminated text r.place here.1 ends.none) (omega (arith, ends.cost_to_end.at_most, step.1)))
+    c.in_default.is (unterminated text r.place here.1 ends.none) (omega (arith, ends.cost_to_end.at_most, step.1))
+    (record {
+      grows = ends.cost_to_end.grows;
+      at_least = λ small. omega (arith, ends.cost_to_end.at_least small, step.1);
+    }))
 
 pub returns-in_default-closing_quote-clause-not_taken : goal.returns-in_default-closing_quote-clause-not_taken
 returns-in_default-closing_quote-clause-not_taken c =
@@ -55,8 +59,8 @@ returns-in_default-closing_quote-clause-not_taken c =
     let ends = c.in_default-closing_quote.ensures in
     let V : Ahead → Type 0 = λ z. ahead_at c.closing_quote.new.self.text.now r.place ≡ z in
     let L : Ahead → Type 0 = λ z. Lacks IsString z in (
-      subst V c.self.view_is (ap (λ z. ahead_at z.now r.place) ends.same),
-      subst L c.self.view_is
+      subst V (ap (λ (z : Standing). z.ahead) c.self.view_is) (ap (λ z. ahead_at z.now r.place) ends.same),
+      subst L (ap (λ (z : Standing). z.ahead) c.self.view_is)
           (fault_lacks IsString text r.place UnterminatedString i.reached.0
           (unterminated text r.place here.1 ends.none)),
     )
@@ -77,7 +81,7 @@ returns-clause-taken c =
     ends.value in
     let found = rw (c.look-behind.ensures.same ∙ ends.same) at c.past_spaces.ensures in
     let T : Ahead → Type 0 = λ z. TakesToken z (ahead_at c.past_spaces.new.self.text.now to) (String value) in
-    subst T c.self.view_is
+    subst T (ap (λ (z : Standing). z.ahead) c.self.view_is)
     (subst
     (λ z. TakesToken (ahead_at text r.place) (ahead_at z.now to) (String value)) (sym found.same)
     (takes text r.place (end + 1) to (String value) i.reached.0 stands found.spaces))

@@ -41,6 +41,16 @@ invariant_of-result c =
         fits,
         c.new-source.ensures.looks,
       );
+      at_least = omega (
+        arith,
+        look.at_most,
+        look.at_least,
+        found.cost.at_most,
+        found.cost.at_least,
+        fits,
+        c.new-source.ensures.looks,
+      );
+      seen_fault = tt;
       at_most = omega (arith, look.at_most, found.cost.at_most, c.new-source.ensures.looks);
     })
 

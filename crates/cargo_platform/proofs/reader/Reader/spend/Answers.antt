@@ -1,6 +1,6 @@
-use Rattle.std.proofs.Common.{sym, subst}
+use Rattle.std.proofs.Common.{ap, sym, subst}
 use Rattle.cargo_platform.specs.Cut.{Nothing}
-use Rattle.cargo_platform.specs.Inside.Ahead.{Ahead, NextIs}
+use Rattle.cargo_platform.specs.Inside.Ahead.{Ahead, Standing, NextIs}
 use Rattle.cargo_platform.proofs.Coming.{whole_read}
 use Rattle.cargo_platform.proofs.reader.Reader.spend.Goals as goal
 
@@ -9,5 +9,5 @@ returns-clause-whole c = λ done.
     let r = c.self.inside in
     let N : Ahead → Type 0 = λ z. NextIs z Nothing in
     let seen = whole_read r.source.text.now r.place r.seen r.fault r.source.looks c.self.invariant
-    (subst N (sym c.self.view_is) done) in
-    rw (← c.self.view_is, c.spend.ensures) seen
+    (subst N (sym (ap (λ (z : Standing). z.ahead) c.self.view_is)) done) in
+    rw (← (ap (λ (z : Standing). z.ahead) c.self.view_is), c.spend.ensures) seen

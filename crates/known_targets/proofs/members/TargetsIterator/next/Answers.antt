@@ -1,5 +1,5 @@
 use Rattle.std.proofs.Common.{◌∙◌, sym, ap, ◌+◌, ◌∷◌, arith}
-use Rattle.known_targets.specs.Sets.{left, members_from}
+use Rattle.known_targets.specs.Sets.{members_from}
 use Rattle.known_targets.proofs.Places.{is_in, is_out, is_over, shorter}
 use Rattle.known_targets.proofs.members.TargetsIterator.next.Goals as goal
 

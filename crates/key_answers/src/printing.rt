@@ -1,0 +1,175 @@
+//! How facts, examples and refusals are printed.
+
+ghost use Rattle.std.specs.Prelude.{◌≡◌, ◌++◌, IfOk, OnOk, flat_map, map, string_bytes};
+ghost use Rattle.cargo_platform.specs.Trees.{value_of};
+ghost use Rattle.key_answers.specs.Printing.{fact_line};
+
+use cargo_platform::{Cfg, ParseError, shown_start};
+use exact_answers::PossibleTarget;
+use serde_json::{Map, Value};
+use std::alloc::{AllocError, Global};
+
+/// Appends the fact as `rustc --print cfg` prints it, and a line end.
+pub fn push_fact_line(text: &mut String, fact: &Cfg) -> Result<(), AllocError>
+    ensures { OnOk result (string_bytes text.new ≡ string_bytes text.old ++ fact_line (value_of fact.now)) }
+{
+    match fact {
+        Cfg::Name(name) => {
+            text.push_str(name.as_str())?;
+            text.push_str("\n")
+        }
+        Cfg::KeyPair(key, value) => {
+            text.push_str(key.as_str())?;
+            text.push_str("=\"")?;
+            text.push_str(value.as_str())?;
+            text.push_str("\"\n")
+        }
+    }
+}
+
+/// The lines of the facts.
+pub fn fact_lines(alloc: Global, facts: &[Cfg]) -> Result<String, AllocError>
+    ensures { IfOk result (λ t. string_bytes t ≡ flat_map fact_line (map value_of facts.now)) }
+{
+    let mut text = String::new(alloc);
+    for fact in facts {
+        push_fact_line(&mut text, fact)?;
+    }
+    Ok(text)
+}
+
+/// The fact as `Cfg` prints it, as it is shown.
+pub fn shown_fact(alloc: Global, fact: &Cfg) -> Result<String, AllocError> {
+    let text = format!(in alloc; "{fact}")?;
+    shown_start(alloc, text.as_str())
+}
+
+/// The facts as they are shown, joined by commas.
+pub fn shown_facts(alloc: Global, facts: &[Cfg]) -> Result<String, AllocError> {
+    if facts.is_empty() {
+        return String::from_str(alloc, "no facts");
+    }
+    let mut text = String::new(alloc);
+    for fact in facts {
+        if !text.is_empty() {
+            text.push_str(", ")?;
+        }
+        let shown = shown_fact(alloc, fact)?;
+        text.push_str(shown.as_str())?;
+    }
+    Ok(text)
+}
+
+/// The name as it is shown, and the empty one as two quotes.
+pub fn shown_name(alloc: Global, name: &str) -> Result<String, AllocError> {
+    if name.is_empty() {
+        String::from_str(alloc, "\"\"")
+    } else {
+        shown_start(alloc, name)
+    }
+}
+
+/// The target of an example: `over FACTS`, with `at NAME` before it where the name counts.
+pub fn shown_example(alloc: Global, example: &PossibleTarget) -> Result<String, AllocError> {
+    let facts = shown_facts(alloc, &example.facts)?;
+    match &example.name {
+        Some(name) => {
+            let name = shown_name(alloc, name.as_str())?;
+            format!(in alloc; "at {name} over {facts}")
+        }
+        None => format!(in alloc; "over {facts}"),
+    }
+}
+
+/// Appends the lines of the text, each indented by four spaces.
+pub fn push_indented(text: &mut String, lines: &str) -> Result<(), AllocError> {
+    for line in lines.lines() {
+        text.push_str("    ")?;
+        text.push_str(line)?;
+        text.push_str("\n")?;
+    }
+    Ok(())
+}
+
+/// The text, or null.
+pub fn text_value(alloc: Global, text: Option<&str>) -> Result<Value, AllocError> {
+    match text {
+        Some(text) => Ok(Value::String(String::from_str(alloc, text)?)),
+        None => Ok(Value::Null),
+    }
+}
+
+/// Adds a member to an object.
+pub fn put(
+    object: &mut Map<String, Value>,
+    alloc: Global,
+    field: &str,
+    value: Value,
+) -> Result<(), AllocError> {
+    let field = String::from_str(alloc, field)?;
+    let _before = object.insert(field, value)?;
+    Ok(())
+}
+
+/// Adds a member that is a text.
+pub fn put_text(
+    object: &mut Map<String, Value>,
+    alloc: Global,
+    field: &str,
+    text: &str,
+) -> Result<(), AllocError> {
+    let value = Value::String(String::from_str(alloc, text)?);
+    put(object, alloc, field, value)
+}
+
+/// Appends the object, on a line of its own.
+pub fn push_json(text: &mut String, alloc: Global, object: &Value) -> Result<(), AllocError> {
+    let object = object.to_string(alloc)?;
+    text.push_str(object.as_str())?;
+    text.push_str("\n")
+}
+
+/// Appends where a text is refused and why, indented.
+fn push_fault(
+    text: &mut String,
+    alloc: Global,
+    error: &ParseError,
+    snippet: Option<String>,
+) -> Result<(), AllocError> {
+    match snippet {
+        Some(snippet) => push_indented(text, snippet.as_str()),
+        None => {
+            let whole = format!(in alloc; "{error}")?;
+            let shown = shown_start(alloc, whole.as_str())?;
+            push_indented(text, shown.as_str())
+        }
+    }
+}
+
+/// What is said of a key that spells no condition.
+pub fn refused_key(alloc: Global, key: &str, error: &ParseError) -> Result<String, AllocError> {
+    let mut text = String::from_str(alloc, "error: the key spells no condition\n")?;
+    let snippet = error.snippet_in(alloc, key)?;
+    push_fault(&mut text, alloc, error, snippet)?;
+    Ok(text)
+}
+
+/// What is said of a line that spells no fact.
+pub fn refused_fact(
+    alloc: Global,
+    number: usize,
+    error: &ParseError,
+) -> Result<String, AllocError> {
+    let mut text = format!(in alloc; "error: line {number} of the facts spells no fact\n")?;
+    let snippet = error.snippet(alloc)?;
+    push_fault(&mut text, alloc, error, snippet)?;
+    Ok(text)
+}
+
+/// What is said of an argument that spells no fact.
+pub fn refused_cfg(alloc: Global, error: &ParseError) -> Result<String, AllocError> {
+    let mut text = String::from_str(alloc, "error: what stands after --cfg spells no fact\n")?;
+    let snippet = error.snippet(alloc)?;
+    push_fault(&mut text, alloc, error, snippet)?;
+    Ok(text)
+}

@@ -1,0 +1,41 @@
+//! What is asked of several manifests, one after the other.
+
+use key_answers::answer::{Answer, Status};
+use manifest_files::reading::{Manifest, ReadError, read_manifest};
+use std::alloc::{AllocError, Global};
+use std::rt::Files;
+
+/// A question about a manifest.
+pub trait Question {
+    /// The answer on a manifest.
+    fn answer(&mut self, alloc: Global, manifest: &Manifest) -> Result<Answer, AllocError>;
+}
+
+/// The answers on the manifests that are named, in their order. One that can't be used does not stop the others.
+pub fn answer_each<R: Files + Input + AllocGlobal, Q: Question>(
+    rt: &R,
+    paths: &[&str],
+    question: &mut Q,
+) -> Result<Answer, AllocError> {
+    let alloc = rt.alloc();
+    let mut whole = Answer::of(alloc, String::new(alloc), Status::Fine);
+    for path in paths {
+        let answer = answer_on(rt, path, question)?;
+        whole.append(answer)?;
+    }
+    Ok(whole)
+}
+
+/// The answer on the manifest that is named.
+fn answer_on<R: Files + Input + AllocGlobal, Q: Question>(
+    rt: &R,
+    path: &str,
+    question: &mut Q,
+) -> Result<Answer, AllocError> {
+    let alloc = rt.alloc();
+    match read_manifest(rt, path) {
+        Ok(manifest) => question.answer(alloc, &manifest),
+        Err(ReadError::Unusable(line)) => Ok(Answer::unusable(alloc, line)),
+        Err(ReadError::Memory(refused)) => Err(refused),
+    }
+}

@@ -1,0 +1,246 @@
+//! `facts`, `targets` and `match`: what is asked of one target or one key.
+
+ghost use Rattle.std.specs.Prelude.{◌↔◌, IsTrue, IfOk, map};
+ghost use Rattle.cargo_platform.specs.Trees.{value_of, condition_of};
+ghost use Rattle.cargo_platform.specs.Facts.{fact_set, IsTrueCondition};
+
+use cargo_platform::{Cfg, FactIndex, FactsError, Platform, ReadError, read_facts};
+use key_answers::answer::{Answer, Status};
+use key_answers::conditions::read_key;
+use key_answers::printing::{fact_lines, refused_cfg, refused_fact, shown_name};
+use known_targets::{COUNT, KnownTarget, RUSTC_VERSION, TargetSet, matching};
+use manifests::{Code, Finding, Report, TargetKey, Words, lint, nearest_target};
+use serde_json::Value;
+use std::alloc::{AllocError, Global};
+
+/// What is said of a name that no known target has, with the nearest one that some target has.
+pub fn unknown_name(alloc: Global, name: &str) -> Result<String, AllocError> {
+    let shown = shown_name(alloc, name)?;
+    match nearest_target(alloc, name)? {
+        Some(nearest) => format!(in alloc;
+            "error: no target that rustc {RUSTC_VERSION} knows is named {shown}; perhaps {nearest} is meant\n"
+        ),
+        None => {
+            format!(in alloc;
+                "error: no target that rustc {RUSTC_VERSION} knows is named {shown}\n"
+            )
+        }
+    }
+}
+
+/// Whether `match` tells a finding of this code: what no known target has, and what only `--cfg` sets unless facts are
+/// given.
+fn is_told(code: Code, has_facts: bool) -> bool {
+    match code {
+        Code::UnknownTarget | Code::UnknownFact => true,
+        Code::Custom => !has_facts,
+        _ => false,
+    }
+}
+
+/// Appends the line of a finding.
+fn push_finding(text: &mut String, alloc: Global, finding: &Finding) -> Result<(), AllocError> {
+    let level = finding.level.word();
+    let code = finding.code.word();
+    let message = finding.message.as_str();
+    let line = format!(in alloc; "{level}[{code}]: {message}\n")?;
+    text.push_str(line.as_str())
+}
+
+/// The findings on a key that stands alone.
+fn findings_on(alloc: Global, key: &str) -> Result<Report, AllocError> {
+    let value = toml::Value::Table(toml::Table::new(alloc));
+    let keys = [TargetKey { key, value: &value }];
+    let words = Words::new(alloc)?;
+    lint(alloc, &toml::Table::new(alloc), &keys, &words)
+}
+
+/// What there is to tell of the names and facts of a key that no known target has.
+fn unknown_in(alloc: Global, key: &str, has_facts: bool) -> Result<String, AllocError> {
+    let report = findings_on(alloc, key)?;
+    let mut text = String::new(alloc);
+    for finding in &report.findings {
+        if is_told(finding.code, has_facts) {
+            push_finding(&mut text, alloc, finding)?;
+        }
+    }
+    Ok(text)
+}
+
+/// The facts of the target with this name.
+pub fn facts(alloc: Global, name: &str) -> Result<Answer, AllocError> {
+    match KnownTarget::by_name(name) {
+        Some(target) => {
+            let facts = target.facts(alloc)?;
+            let text = fact_lines(alloc, &facts)?;
+            Ok(Answer::of(alloc, text, Status::Fine))
+        }
+        None => Ok(Answer::unusable(alloc, unknown_name(alloc, name)?)),
+    }
+}
+
+/// The names of the targets, one a line.
+fn name_lines(alloc: Global, targets: TargetSet) -> Result<String, AllocError> {
+    let mut text = String::new(alloc);
+    for target in targets.iter() {
+        text.push_str(target.name())?;
+        text.push_str("\n")?;
+    }
+    Ok(text)
+}
+
+/// The names of the targets, as one array.
+fn name_array(alloc: Global, targets: TargetSet) -> Result<String, AllocError> {
+    let mut names = Vec::new(alloc);
+    for target in targets.iter() {
+        names.push(Value::String(String::from_str(alloc, target.name())?))?;
+    }
+    let mut text = Value::Array(names).to_string(alloc)?;
+    text.push_str("\n")?;
+    Ok(text)
+}
+
+/// What standard error is told beside the names: how many there are, and that no known target has the key's name.
+fn counted(alloc: Global, condition: &Platform, targets: TargetSet) -> Result<String, AllocError> {
+    let count = targets.len();
+    let mut errors = format!(in alloc; "{count} of {COUNT} known targets\n")?;
+    if let Platform::Name(name) = condition {
+        if KnownTarget::by_name(name.as_str()).is_none() {
+            let name = shown_name(alloc, name.as_str())?;
+            let note = format!(in alloc;
+                "note: no target that rustc {RUSTC_VERSION} knows is named {name}\n"
+            )?;
+            errors.push_str(note.as_str())?;
+        }
+    }
+    Ok(errors)
+}
+
+/// The known targets at which the key holds.
+pub fn targets(alloc: Global, key: &str, json: bool) -> Result<Answer, AllocError> {
+    let condition = match read_key(alloc, key)? {
+        Ok(condition) => condition,
+        Err(answer) => return Ok(answer),
+    };
+    let targets = matching(alloc, &condition)?;
+    if json {
+        let text = name_array(alloc, targets)?;
+        return Ok(Answer::of(alloc, text, Status::Fine));
+    }
+    let errors = counted(alloc, &condition, targets)?;
+    Ok(Answer {
+        output: name_lines(alloc, targets)?,
+        errors,
+        status: Status::Fine,
+    })
+}
+
+/// The facts of a target: those of the lines where there are some, else those of the table. An `Err` is what is to be
+/// said.
+pub fn table_or_lines(
+    alloc: Global,
+    name: &str,
+    lines: Option<&str>,
+) -> Result<Result<Vec<Cfg>, Answer>, AllocError> {
+    match lines {
+        Some(lines) => match read_facts(alloc, lines) {
+            Ok(facts) => Ok(Ok(facts)),
+            Err(FactsError::Memory(refused)) => Err(refused),
+            Err(FactsError::Line { number, error }) => {
+                let text = refused_fact(alloc, number, &error)?;
+                Ok(Err(Answer::unusable(alloc, text)))
+            }
+        },
+        None => match KnownTarget::by_name(name) {
+            Some(target) => Ok(Ok(target.facts(alloc)?)),
+            None => Ok(Err(Answer::unusable(alloc, unknown_name(alloc, name)?))),
+        },
+    }
+}
+
+/// The facts that arguments spell. An `Err` is what is to be said.
+pub fn added_facts(alloc: Global, texts: &[&str]) -> Result<Result<Vec<Cfg>, Answer>, AllocError> {
+    let mut facts = Vec::new(alloc);
+    for text in texts {
+        match Cfg::from_str(alloc, text) {
+            Ok(fact) => facts.push(fact)?,
+            Err(ReadError::Memory(refused)) => return Err(refused),
+            Err(ReadError::Parse(error)) => {
+                let text = refused_cfg(alloc, &error)?;
+                return Ok(Err(Answer::unusable(alloc, text)));
+            }
+        }
+    }
+    Ok(Ok(facts))
+}
+
+/// Whether the condition holds for a target with this name and these facts.
+fn holds(alloc: Global, platform: &Platform, name: &str, facts: &[Cfg]) -> Result<bool, AllocError>
+    ensures { IfOk result (λ b. IsTrue b
+        ↔ IsTrueCondition name.now (fact_set (map value_of facts.now)) (condition_of platform.now)) }
+{
+    match platform {
+        Platform::Cfg(expression) => {
+            let index = FactIndex::new(alloc, facts)?;
+            Ok(expression.matches_in(&index))
+        }
+        Platform::Name(_) => Ok(platform.matches(name, &[])),
+    }
+}
+
+/// The facts of a target with those that are added. An `Err` is what is to be said.
+fn all_facts(
+    alloc: Global,
+    name: &str,
+    lines: Option<&str>,
+    added: &[&str],
+) -> Result<Result<Vec<Cfg>, Answer>, AllocError> {
+    let mut facts = match table_or_lines(alloc, name, lines)? {
+        Ok(facts) => facts,
+        Err(answer) => return Ok(Err(answer)),
+    };
+    match added_facts(alloc, added)? {
+        Ok(added) => {
+            for fact in added {
+                facts.push(fact)?;
+            }
+            Ok(Ok(facts))
+        }
+        Err(answer) => Ok(Err(answer)),
+    }
+}
+
+/// What is printed of whether a key applies.
+fn verdict(alloc: Global, applies: bool, errors: String) -> Result<Answer, AllocError> {
+    let (word, status) = if applies {
+        ("yes\n", Status::Fine)
+    } else {
+        ("no\n", Status::Found)
+    };
+    Ok(Answer {
+        output: String::from_str(alloc, word)?,
+        errors,
+        status,
+    })
+}
+
+/// Whether the key applies to the target with this name, whose facts are those of `lines` where these are given.
+pub fn applies(
+    alloc: Global,
+    key: &str,
+    name: &str,
+    lines: Option<&str>,
+    added: &[&str],
+) -> Result<Answer, AllocError> {
+    let condition = match read_key(alloc, key)? {
+        Ok(condition) => condition,
+        Err(answer) => return Ok(answer),
+    };
+    let facts = match all_facts(alloc, name, lines, added)? {
+        Ok(facts) => facts,
+        Err(answer) => return Ok(answer),
+    };
+    let applies = holds(alloc, &condition, name, &facts)?;
+    let errors = unknown_in(alloc, key, lines.is_some() || !added.is_empty())?;
+    verdict(alloc, applies, errors)
+}

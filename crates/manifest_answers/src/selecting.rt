@@ -1,0 +1,246 @@
+//! `select`: which dependencies of a manifest are selected.
+
+use crate::in_turn::{Question, answer_each};
+use crate::questions::{added_facts, table_or_lines, unknown_name};
+use cargo_platform::shown_start;
+use key_answers::answer::{Answer, Status};
+use key_answers::printing::{push_json, put, put_text, refused_key, text_value};
+use known_targets::KnownTarget;
+use manifest_files::reading::Manifest;
+use manifests::selection::SelectError;
+use manifests::{Asked, Choice, Dependency, Row, select};
+use serde_json::{Map, Value};
+use std::alloc::{AllocError, Global};
+use std::rt::Files;
+
+/// The word for a choice.
+fn choice_word(choice: &Choice) -> &'static str {
+    match choice {
+        Choice::Selected => "selected",
+        Choice::LeftOut => "left out",
+        Choice::Open(_) => "open",
+    }
+}
+
+/// The condition that is left to ask, as a key.
+fn residual(alloc: Global, choice: &Choice) -> Result<Option<String>, AllocError> {
+    match choice {
+        Choice::Open(condition) => Ok(Some(condition.to_string(alloc)?)),
+        Choice::Selected | Choice::LeftOut => Ok(None),
+    }
+}
+
+/// The table of a dependency, as it is shown.
+fn shown_table(alloc: Global, row: &Row<'_>) -> Result<String, AllocError> {
+    let table = row.dependency.kind.table_name();
+    match row.dependency.key {
+        Some(key) => {
+            let key = shown_start(alloc, key)?;
+            format!(in alloc; "target.'{key}'.{table}")
+        }
+        None => String::from_str(alloc, table),
+    }
+}
+
+/// The condition that is left to ask, as it is shown after the word for the choice.
+fn shown_residual(alloc: Global, choice: &Choice) -> Result<String, AllocError> {
+    match residual(alloc, choice)? {
+        Some(key) => {
+            let key = shown_start(alloc, key.as_str())?;
+            format!(in alloc; " where {key}")
+        }
+        None => Ok(String::new(alloc)),
+    }
+}
+
+/// Appends the line of a dependency.
+fn push_line(
+    text: &mut String,
+    alloc: Global,
+    path: &str,
+    row: &Row<'_>,
+) -> Result<(), AllocError> {
+    let optional = if row.dependency.optional {
+        ", optional"
+    } else {
+        ""
+    };
+    let name = shown_start(alloc, row.dependency.name)?;
+    let table = shown_table(alloc, row)?;
+    let word = choice_word(&row.choice);
+    let left = shown_residual(alloc, &row.choice)?;
+    let line = format!(in alloc; "{path}: {name} ({table}{optional}): {word}{left}\n")?;
+    text.push_str(line.as_str())
+}
+
+/// Adds what stands in the manifest.
+fn put_dependency(
+    object: &mut Map<String, Value>,
+    alloc: Global,
+    dependency: &Dependency<'_>,
+) -> Result<(), AllocError> {
+    put_text(object, alloc, "dependency", dependency.name)?;
+    put_text(object, alloc, "table", dependency.kind.table_name())?;
+    put(object, alloc, "key", text_value(alloc, dependency.key)?)?;
+    put(object, alloc, "optional", Value::Bool(dependency.optional))
+}
+
+/// Adds what is chosen.
+fn put_choice(
+    object: &mut Map<String, Value>,
+    alloc: Global,
+    choice: &Choice,
+) -> Result<(), AllocError> {
+    put_text(object, alloc, "choice", choice_word(choice))?;
+    let residual = match residual(alloc, choice)? {
+        Some(text) => Value::String(text),
+        None => Value::Null,
+    };
+    put(object, alloc, "residual", residual)
+}
+
+/// Appends the object of a dependency, on a line of its own.
+fn push_object(
+    text: &mut String,
+    alloc: Global,
+    path: &str,
+    row: &Row<'_>,
+) -> Result<(), AllocError> {
+    let mut object = Map::new(alloc);
+    put_text(&mut object, alloc, "manifest", path)?;
+    put_dependency(&mut object, alloc, &row.dependency)?;
+    put_choice(&mut object, alloc, &row.choice)?;
+    push_json(text, alloc, &Value::Object(object))
+}
+
+/// What is told of a manifest that Cargo refuses.
+fn refused(alloc: Global, path: &str, error: SelectError<'_>) -> Result<Answer, AllocError> {
+    let text = match error {
+        SelectError::Memory(refused) => return Err(refused),
+        SelectError::TargetIsNoTable => format!(in alloc; "{path}: error: `target` is no table\n")?,
+        SelectError::KeyIsNoTable(key) => {
+            let key = shown_start(alloc, key)?;
+            format!(in alloc; "{path}: error: target.'{key}' is no table\n")?
+        }
+        SelectError::Refused(key, error) => {
+            let fault = refused_key(alloc, key, &error)?;
+            format!(in alloc; "{path}: {fault}")?
+        }
+    };
+    Ok(Answer::unusable(alloc, text))
+}
+
+/// Appends what is printed of the rows.
+fn push_rows(
+    text: &mut String,
+    alloc: Global,
+    path: &str,
+    rows: &[Row<'_>],
+    json: bool,
+) -> Result<(), AllocError> {
+    for row in rows {
+        if json {
+            push_object(text, alloc, path, row)?;
+        } else {
+            push_line(text, alloc, path, row)?;
+        }
+    }
+    Ok(())
+}
+
+/// `select`: the target and the host that are asked, and how the answer is printed.
+#[derive(Drop)]
+struct Selecting<'a> {
+    /// The name of the target.
+    target: &'a str,
+    known: &'a Asked<'a>,
+    host: Option<KnownTarget>,
+    /// One object a line.
+    json: bool,
+}
+
+impl<'a> Question for Selecting<'a> {
+    fn answer(&mut self, alloc: Global, manifest: &Manifest) -> Result<Answer, AllocError> {
+        let path = manifest.path.as_str();
+        match select(alloc, &manifest.table, self.target, self.known, self.host) {
+            Ok(rows) => {
+                let mut text = String::new(alloc);
+                push_rows(&mut text, alloc, path, &rows, self.json)?;
+                Ok(Answer::of(alloc, text, Status::Fine))
+            }
+            Err(error) => refused(alloc, path, error),
+        }
+    }
+}
+
+/// A target, by what people write of it.
+#[derive(Clone, Copy, Drop)]
+pub struct Target<'a> {
+    pub name: &'a str,
+    /// Facts that it has beside its own.
+    pub added: &'a [&'a str],
+    /// Names and keys of which each fact is open.
+    pub open: &'a [&'a str],
+}
+
+/// The host of this name. An inner `Err` is what is to be said of a name that no known target has.
+fn known_host(
+    alloc: Global,
+    name: Option<&str>,
+) -> Result<Result<Option<KnownTarget>, Answer>, AllocError> {
+    match name {
+        Some(name) => match KnownTarget::by_name(name) {
+            Some(host) => Ok(Ok(Some(host))),
+            None => Ok(Err(Answer::unusable(alloc, unknown_name(alloc, name)?))),
+        },
+        None => Ok(Ok(None)),
+    }
+}
+
+/// What is selected of the manifests that are named, in their order. The target's own facts are those of `lines`, where
+/// these are given, and else it is a known one.
+pub fn select_each<R: Files + Input + AllocGlobal>(
+    rt: &R,
+    paths: &[&str],
+    target: &Target<'_>,
+    lines: Option<&str>,
+    host: Option<&str>,
+    json: bool,
+) -> Result<Answer, AllocError> {
+    let alloc = rt.alloc();
+    let facts = match table_or_lines(alloc, target.name, lines)? {
+        Ok(facts) => facts,
+        Err(answer) => return Ok(answer),
+    };
+    let added = match added_facts(alloc, target.added)? {
+        Ok(added) => added,
+        Err(answer) => return Ok(answer),
+    };
+    let known = Asked {
+        facts: &facts,
+        added: &added,
+        open: target.open,
+    };
+    match known_host(alloc, host)? {
+        Ok(host) => select_known(rt, paths, target.name, &known, host, json),
+        Err(answer) => Ok(answer),
+    }
+}
+
+/// What is selected of the manifests that are named, by what is known of the target.
+fn select_known<R: Files + Input + AllocGlobal>(
+    rt: &R,
+    paths: &[&str],
+    target: &str,
+    known: &Asked<'_>,
+    host: Option<KnownTarget>,
+    json: bool,
+) -> Result<Answer, AllocError> {
+    let mut selecting = Selecting {
+        target,
+        known,
+        host,
+        json,
+    };
+    answer_each(rt, paths, &mut selecting)
+}

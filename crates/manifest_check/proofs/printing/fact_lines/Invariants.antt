@@ -1,8 +1,0 @@
--- Each fact so far has its line.
-use Rattle.std.proofs.Common.{◌≡◌, flat_map, map, take, string_bytes}
-use Rattle.cargo_platform.specs.Trees.{value_of}
-use Rattle.manifest_check.specs.Printing.{fact_line}
-use Rattle.manifest_check.proofs.printing.fact_lines.Given as goal
-
-abbrev pub invariant-loop-fact : goal.invariant-loop-fact
-invariant-loop-fact l = string_bytes l.text ≡ flat_map fact_line (map value_of (take l.fact-index l.facts))

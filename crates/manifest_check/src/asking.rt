@@ -1,0 +1,143 @@
+//! The subcommands, asked by the words that `clap` read.
+
+use anyhow::{Context, Result};
+use clap::ArgMatches;
+use key_answers::answer::Answer;
+use key_answers::comparing::compare;
+use manifest_answers::linting::{Style, lint_each};
+use manifest_answers::questions;
+use manifest_answers::selecting::{Target, select_each};
+use std::alloc::Global;
+use std::rt::{Env, Files};
+use std::{env, fs};
+
+/// Which outputs are terminals.
+#[derive(Clone, Copy, Drop)]
+pub struct Terminals {
+    pub output: bool,
+    pub errors: bool,
+}
+
+/// The text of a word that its subcommand requires.
+fn word<'a>(matches: &ArgMatches<'a>, id: &str) -> &'a str {
+    matches.get_str(id).unwrap_or("")
+}
+
+/// The text of the file of facts, where one is named.
+fn facts_file<R: Files + AllocGlobal>(rt: &R, matches: &ArgMatches<'_>) -> Result<Option<String>> {
+    match matches.get_str("facts") {
+        Some(path) => {
+            let text = fs::read_to_string(rt, path).context(format_args!(
+                "reading the facts of {path:?}"
+            ))?;
+            Ok(Some(text))
+        }
+        None => Ok(None),
+    }
+}
+
+/// Answers `match`.
+fn match_answer<R: Files + AllocGlobal>(rt: &R, matches: &ArgMatches<'_>) -> Result<Answer> {
+    let lines = facts_file(rt, matches)?;
+    Ok(questions::applies(
+        rt.alloc(),
+        word(matches, "key"),
+        word(matches, "target"),
+        lines.as_ref().map(|text| text.as_str()),
+        matches.get_strs("cfg").unwrap_or(&[]),
+    )?)
+}
+
+/// Answers `select`.
+fn select_answer<R: Files + Input + AllocGlobal>(
+    rt: &R,
+    matches: &ArgMatches<'_>,
+) -> Result<Answer> {
+    let lines = facts_file(rt, matches)?;
+    let target = Target {
+        name: word(matches, "target"),
+        added: matches.get_strs("cfg").unwrap_or(&[]),
+        open: matches.get_strs("open").unwrap_or(&[]),
+    };
+    Ok(select_each(
+        rt,
+        matches.get_strs("manifest").unwrap_or(&[]),
+        &target,
+        lines.as_ref().map(|text| text.as_str()),
+        matches.get_str("host"),
+        matches.get_flag("json"),
+    )?)
+}
+
+/// Whether `NO_COLOR` is set to anything.
+fn has_no_color<R: Env + AllocGlobal>(rt: &R) -> bool {
+    match env::var(rt, "NO_COLOR") {
+        Ok(value) => !value.is_empty(),
+        Err(env::VarError::NotPresent) => false,
+        Err(_) => true,
+    }
+}
+
+/// Answers `lint`.
+fn lint_answer<R: Files + Input + Env + AllocGlobal>(
+    rt: &R,
+    matches: &ArgMatches<'_>,
+    terminals: Terminals,
+) -> Result<Answer> {
+    let json = matches.get_flag("json");
+    let style = Style {
+        json,
+        colours: terminals.output && !json && !has_no_color(rt),
+        deny_notes: matches.get_str("deny").is_some(),
+    };
+    Ok(lint_each(
+        rt,
+        matches.get_strs("manifest").unwrap_or(&[]),
+        style,
+        terminals.errors,
+    )?)
+}
+
+/// Answers `compare`.
+fn compare_answer(alloc: Global, matches: &ArgMatches<'_>) -> Result<Answer> {
+    Ok(compare(
+        alloc,
+        word(matches, "first"),
+        word(matches, "second"),
+        matches.get_one::<u64>("budget").unwrap_or(0),
+        matches.get_flag("json"),
+    )?)
+}
+
+/// Answers a question on keys and targets.
+fn question_answer(alloc: Global, matches: &ArgMatches<'_>) -> Result<Answer> {
+    if let Some(m) = matches.subcommand_matches("targets") {
+        return Ok(questions::targets(alloc, word(m, "key"), m.get_flag("json"))?);
+    }
+    if let Some(m) = matches.subcommand_matches("facts") {
+        return Ok(questions::facts(alloc, word(m, "name"))?);
+    }
+    if let Some(m) = matches.subcommand_matches("compare") {
+        return compare_answer(alloc, m);
+    }
+    let text = String::from_str(alloc, "error: no such subcommand\n")?;
+    Ok(Answer::unusable(alloc, text))
+}
+
+/// Answers the subcommand that was asked.
+pub fn answer_to<R: Files + Input + Env + AllocGlobal>(
+    rt: &R,
+    matches: &ArgMatches<'_>,
+    terminals: Terminals,
+) -> Result<Answer> {
+    if let Some(m) = matches.subcommand_matches("lint") {
+        return lint_answer(rt, m, terminals);
+    }
+    if let Some(m) = matches.subcommand_matches("select") {
+        return select_answer(rt, m);
+    }
+    if let Some(m) = matches.subcommand_matches("match") {
+        return match_answer(rt, m);
+    }
+    question_answer(rt.alloc(), matches)
+}
