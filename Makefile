@@ -10,11 +10,13 @@
 # make refusals   each allocation refused in turn, in each call and in the program
 # make statuses   the program where reading or writing fails
 # make manifests  the program manifest_check over questions whose answers are known, and hostile input
+# make cargo-select  what `manifest_check select` selects, beside what Cargo does; it needs cargo and rustc 1.95.0
 # make pages      what the pages say, beside what it is said of
 # make depths     the programs on the deepest conditions that their inputs hold
 # make targets    asks the rustc at hand for its targets, and writes the table of crates/known_targets anew
 # make fmt    lays out the files
-.PHONY: lint run build install take test gate mutants refusals statuses manifests pages depths quick targets fmt rt
+.PHONY: lint run build install take test gate mutants refusals statuses manifests cargo-select pages depths quick \
+	targets fmt rt
 
 PROGRAM := crates/platform_check
 CHECK := crates/manifest_check
@@ -65,6 +67,9 @@ statuses: rt
 
 manifests: rt
 	.ci/manifests
+
+cargo-select: rt
+	.ci/cargo-select
 
 pages: rt
 	.ci/pages

@@ -26,7 +26,8 @@ class Step(NamedTuple):
     """A step: its name, its command, the folder that it works in, and the command that repeats it alone.
 
     A step that counts prints `N passed, M failed` at its end; each other one counts as one. Lines that match `told` are
-    passed on, and those that match `done` are counted as its progress, of so many as `total` says.
+    passed on, and those that match `done` are counted as its progress, of so many as `total` says. Those that match
+    `wrong` are failures too, where a command that is not ours says so in its own words.
     """
 
     name: str
@@ -37,6 +38,7 @@ class Step(NamedTuple):
     told: str = "$^"
     done: str = "$^"
     total: str = ""
+    wrong: str = "$^"
 
 
 class Steps:
@@ -59,7 +61,10 @@ class Steps:
             if time.monotonic() - self.last > SILENCE:
                 now = time.monotonic()
                 running = self.running.items()
-                each = [f"{name} ({done}{self.totals[name]} done, {(now - since) / 60:.0f} min)" for name, (since, done) in running]
+                each = [
+                    f"{name} ({done}{self.totals[name]} done, {(now - since) / 60:.0f} min)"
+                    for name, (since, done) in running
+                ]
                 self.say(f"running: {', '.join(each) or 'nothing'}; {len(self.failures)} failed so far")
 
     def run(self, step):
@@ -78,9 +83,10 @@ class Steps:
                     count = last if COUNTED.fullmatch(last) else count
                     since, done = self.running[step.name]
                     self.running[step.name] = (since, done + bool(re.search(step.done, line)))
-                    if line.startswith(FAILED):
-                        told.append(line[len(FAILED) :].strip())
-                    if line.startswith(FAILED) or re.search(step.told, line):
+                    if line.startswith(FAILED) or re.search(step.wrong, line):
+                        told.append(line.removeprefix(FAILED).strip())
+                        self.say(f"{step.name}: {FAILED}{told[-1]}")
+                    elif re.search(step.told, line):
                         self.say(f"{step.name}: {line.rstrip()}")
         self.end(step, process.returncode, count if step.counts else last, told)
 
