@@ -1,17 +1,12 @@
 -- The facts of an index mean what its list meant, and a search finds what they have.
-use Rattle.std.proofs.Common.{◌≡◌, refl, sym, ap, ◌∙◌, ℕ, ◌+◌, ◌<◌, false, ◌||◌, List, [], ◌∷◌, ◌++◌, map}
-use Rattle.std.proofs.Common.{length, take, get_or, append_assoc, Ok, Err, arith}
-use Rattle.std.specs.Prelude.{Result, is_ok}
+use Rattle.std.proofs.Common.{◌≡◌, refl, sym, ap, ◌∙◌, ℕ, ◌+◌, ◌<◌, ◌||◌, List, [], ◌∷◌, ◌++◌, map}
+use Rattle.std.proofs.Common.{length, take, get_or, append_assoc}
 use Rattle.std.specs.List.{list_any}
-use Rattle.std.specs.Ordering.{is_eq, eq_by_cmp, on}
-use Rattle.std.specs.List.Sorted.{IsPermutation, IsSorted, IsSearchInRange, IsBinarySearchResult}
+use Rattle.std.specs.Ordering.{is_eq, eq_by_cmp}
+use Rattle.std.specs.List.Sorted.{IsPermutation}
 use Rattle.std.specs.FinSet.{contains-from_list, same_set}
-use Rattle.std.proofs.Math.Logic.{⊎_elim}
-use Rattle.std.proofs.lemmas.Bool.{cases_lt}
 use Rattle.std.proofs.lemmas.List.{map_more, map_push}
-use Rattle.std.proofs.lemmas.List.Elements.{All-from_get_or}
-use Rattle.std.proofs.lemmas.List.Folds.{list_any_at, list_any_none}
-use Rattle.std.proofs.lemmas.List.Sorted.{list_any-IsPermutation, searchable_from_sorted}
+use Rattle.std.proofs.lemmas.List.Sorted.{list_any-IsPermutation}
 use Rattle.std.proofs.lemmas.List.Sorted.{IsPermutation-map, IsPermutation-append, IsPermutation-append_left}
 use Rattle.std.proofs.lemmas.List.Sorted.{IsPermutation-trans, IsPermutation-sym, IsPermutation-middle}
 use Rattle.std.proofs.lemmas.List.Sorted.{IsPermutation-push_more}
@@ -24,7 +19,7 @@ use Rattle.cargo_platform.specs.LengthOrder.{length_cmp, alone, key_value}
 use Rattle.cargo_platform.specs.Facts.{pair_of, pair_cmp, fact_set}
 use Rattle.cargo_platform.proofs.FactSets.{pairs_total}
 use Rattle.cargo_platform.proofs.FactTruths.{pair_tie}
-use Rattle.cargo_platform.proofs.LengthOrder.{length_total, length_ties}
+use Rattle.cargo_platform.proofs.LengthOrder.{length_ties}
 
 -- the names and pairs that an index keeps of the first facts of a list
 abbrev pub AreKept : List Cfg → List Ident → List KeyValue → Type 0
@@ -77,23 +72,13 @@ put_in_order facts ms ns ps qs kept first second =
     (IsPermutation-append (map alone ms) (map alone ns) (map key_value ps) (map key_value qs)
     (IsPermutation-map alone ms ns first) (IsPermutation-map key_value ps qs second)))
 
--- what a binary search by lengths answers is whether some fact equals the value
-module _ {A : Type 0} (f : A → CfgValue) (c : CfgValue) where
-  pub is_found : (facts : List A) (a : A) (r : Result ℕ ℕ) → IsSorted (on f length_cmp) facts
-      → IsSearchInRange r (length facts) → IsBinarySearchResult (λ b. length_cmp (f b) c) facts r
-      → is_ok r ≡ list_any (λ b. eq_by_cmp value_cmp (f b) c) facts
-  is_found facts a (Ok i) sorted bound at =
-      sym
-      (list_any_at (λ b. eq_by_cmp value_cmp (f b) c) facts i a bound
-      (sym (length_ties (f (get_or facts i a)) c) ∙ ap is_eq (at a)))
-  is_found facts a (Err i) sorted bound parts =
-      let parted = parts (searchable_from_sorted length_total f facts c sorted) in
-      let test = λ (b : A). eq_by_cmp value_cmp (f b) c in
-      let apart : (k : ℕ) → k < length facts → test (get_or facts k a) ≡ false = λ k within.
-      sym (length_ties (f (get_or facts k a)) c)
-      ∙ ⊎_elim (λ below. ap is_eq (parted.0 k a (omega arith) below)) (λ above. ap is_eq (parted.1 k a above within))
-      (cases_lt k i) in
-      sym (list_any_none test facts (All-from_get_or (λ b. test b ≡ false) facts a apart))
+-- what is found by lengths is what equals the value
+pub is_found : {A : Type 0} (f : A → CfgValue) (c : CfgValue) (facts : List A)
+    → list_any (λ a. is_eq (length_cmp (f a) c)) facts ≡ list_any (λ a. eq_by_cmp value_cmp (f a) c) facts
+is_found f c [] = refl
+is_found f c (a ∷ facts) =
+    ap (λ b. b || list_any (λ d. is_eq (length_cmp (f d) c)) facts) (length_ties (f a) c)
+    ∙ ap (λ b. eq_by_cmp value_cmp (f a) c || b) (is_found f c facts)
 
 -- no pair equals a name, and no name a pair: whether a fact is kept is whether it is among those of its kind
 pub is_name_kept : (names : List Ident) (pairs : List KeyValue) (n : Ident)

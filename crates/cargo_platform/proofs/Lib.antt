@@ -110,6 +110,8 @@ pub mod FactLines
 pub mod FoundInFacts
 -- LengthOrder: the order of an index is total
 pub mod LengthOrder
+-- Halving: a search goes on in one half
+pub mod Halving
 -- FactIndexes: an index means what its list meant
 pub mod FactIndexes
 -- Holders: sets of holders of one's own

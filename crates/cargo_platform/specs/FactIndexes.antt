@@ -6,4 +6,4 @@ use Rattle.cargo_platform.specs.LengthOrder.{alone, key_value}
 
 -- the facts that are kept: the names alone, and then the pairs
 abbrev pub indexed : FactIndex → List CfgValue
-indexed index = map alone index.names.items ++ map key_value index.pairs.items
+indexed index = map alone index.names.members.items ++ map key_value index.pairs.members.items

@@ -15,6 +15,7 @@ ghost use Rattle.cargo_platform.specs.ExpressionSizes.{node_count, node_counts};
 
 use crate::asking::{Asked, Asks, Tally, Uncounted};
 use crate::cfg::{Cfg, CfgExpr, Ident};
+use crate::search::{Sorted, Sought};
 use std::alloc::{AllocError, Global};
 use std::cmp::Ordering;
 
@@ -120,15 +121,43 @@ impl KeyValue {
     }
 }
 
+/// A name that is looked for.
+#[derive(Clone, Copy)]
+struct SoughtName<'a>(&'a Ident);
+
+impl<'a> Sought<Ident> for SoughtName<'a> {
+    ghost order = { λ sought name. length_cmp (alone name) (alone sought.0.now) };
+
+    #[inline(always)]
+    fn compare<T: Tally>(&self, tally: &mut T, name: &Ident) -> Ordering {
+        tally.add_one();
+        by_length(name, self.0)
+    }
+}
+
+/// A pair that is looked for.
+#[derive(Clone, Copy)]
+struct SoughtPair<'a>(&'a Ident, &'a str);
+
+impl<'a> Sought<KeyValue> for SoughtPair<'a> {
+    ghost order = { λ sought pair. length_cmp (key_value pair) (KeyPair (name_of sought.0.now) sought.1.now) };
+
+    #[inline(always)]
+    fn compare<T: Tally>(&self, tally: &mut T, pair: &KeyValue) -> Ordering {
+        tally.add_one();
+        pair.by_length(self.0, self.1)
+    }
+}
+
 /// Facts kept in order, so that asking for one goes over few of them. It means the set of the pairs of the values that
 /// it was made of.
 // Names and pairs lie in lists of their own, each of which asks for less memory at once than one list of both.
 #[derive(Drop)]
 pub struct FactIndex {
-    names: Vec<Ident>,
-    pairs: Vec<KeyValue>,
-    ghost names_sorted: { IsSorted (on alone length_cmp) names.items } by { Prim.hlevel props },
-    ghost pairs_sorted: { IsSorted (on key_value length_cmp) pairs.items } by { Prim.hlevel props },
+    names: Sorted<Ident>,
+    pairs: Sorted<KeyValue>,
+    ghost names_sorted: { IsSorted (on alone length_cmp) names.members.items } by { Prim.hlevel props },
+    ghost pairs_sorted: { IsSorted (on key_value length_cmp) pairs.members.items } by { Prim.hlevel props },
 }
 
 impl FactIndex {
@@ -150,7 +179,10 @@ impl FactIndex {
         }
         names.sort_unstable_by(by_length);
         pairs.sort_unstable_by(|a: &KeyValue, b: &KeyValue| a.by_length(&b.key, &b.value));
-        Ok(FactIndex { names, pairs })
+        Ok(FactIndex {
+            names: Sorted::new(names),
+            pairs: Sorted::new(pairs),
+        })
     }
 }
 
@@ -161,14 +193,8 @@ impl Facts for FactIndex {
 
     fn holds(&self, c: &Cfg) -> bool {
         match c {
-            Cfg::Name(name) => self
-                .names
-                .binary_search_by(|fact| by_length(fact, name))
-                .is_ok(),
-            Cfg::KeyPair(key, value) => self
-                .pairs
-                .binary_search_by(|fact| fact.by_length(key, value))
-                .is_ok(),
+            Cfg::Name(name) => self.names.has(&SoughtName(name), &mut Uncounted),
+            Cfg::KeyPair(key, value) => self.pairs.has(&SoughtPair(key, value), &mut Uncounted),
         }
     }
 }

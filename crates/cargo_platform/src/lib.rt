@@ -21,6 +21,7 @@ mod order;
 mod parser;
 mod platforms;
 mod reader;
+mod search;
 mod snippet;
 mod source;
 pub mod tokens;

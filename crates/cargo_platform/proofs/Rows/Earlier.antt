@@ -1,6 +1,5 @@
 -- Two texts in the earlier grammars, and today.
 use Rattle.std.proofs.Common.{refl, true, codes}
-use Rattle.std.specs.Char.{encode_utf8}
 use Rattle.cargo_platform.specs.Trees.{Alone, KeyPair, Value, True, Expression}
 use Rattle.cargo_platform.specs.Spelling.{Expressions, IsTreeText}
 use Rattle.cargo_platform.specs.Faults.{IsRefused, UnterminatedExpression}

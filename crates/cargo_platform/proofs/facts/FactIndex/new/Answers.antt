@@ -39,17 +39,20 @@ loop-fact-preserved c =
 pub invariant_of-result : goal.invariant_of-result
 invariant_of-result c = record {
   names_sorted =
-      c.sort_unstable_by.ensures.sorted _ (ranks_by length_total alone)
-      (answers_always _ _ _ (λ f a r g k. ap is_lt k.met));
+      rw c.new-2.ensures
+      (c.sort_unstable_by.ensures.sorted _ (ranks_by length_total alone)
+      (answers_always _ _ _ (λ f a r g k. ap is_lt k.met)));
   pairs_sorted =
-      c.sort_unstable_by-2.ensures.sorted _ (ranks_by length_total key_value)
+      rw c.new-3.ensures
+      (c.sort_unstable_by-2.ensures.sorted _ (ranks_by length_total key_value)
       (answers_always _ _ _
       (λ f a r g k.
-      let is : r ≡ length_cmp (key_value a.0.now) (key_value a.1.0.now) = search (rules, tests) in ap is_lt is));
+      let is : r ≡ length_cmp (key_value a.0.now) (key_value a.1.0.now) = search (rules, tests) in ap is_lt is)));
 }
 
 pub returns : goal.returns
 returns c =
-    put_in_order _ _ _ _ _ c.loop-fact.invariant c.sort_unstable_by.ensures.permutation
+    rw (c.new-2.ensures, c.new-3.ensures)
+    (put_in_order _ _ _ _ _ c.loop-fact.invariant c.sort_unstable_by.ensures.permutation
     c.sort_unstable_by-2.ensures.permutation
-    ∙ ap (λ cs. fact_set (map value_of cs)) (take_all c.loop-fact.fact-index c.args.cfg.now (omega arith))
+    ∙ ap (λ cs. fact_set (map value_of cs)) (take_all c.loop-fact.fact-index c.args.cfg.now (omega arith)))

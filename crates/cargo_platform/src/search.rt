@@ -1,0 +1,62 @@
+//! The search of a list that is in order.
+//!
+//! The search knows what is looked for as `Sought` alone, whose one call counts each comparison. A `Sorted` list can be
+//! searched, and read in no other way.
+
+ghost use Rattle.std.specs.Prelude.{◌≡◌, ℕ, ◌+◌, ◌-◌, ◌*◌, ◌^◌, ◌≤◌, length};
+ghost use Rattle.std.specs.declared.cmp.Ordering.{Ordering};
+ghost use Rattle.std.specs.Ordering.{ordering_index, is_eq};
+ghost use Rattle.std.specs.List.{list_any};
+ghost use Rattle.std.specs.List.Sorted.{IsNonDecreasingBy};
+ghost use Rattle.cargo_platform.specs.Inside.Asking.{Counts};
+
+use crate::asking::Tally;
+use std::cmp::Ordering;
+
+/// What is looked for in a list that is in order.
+pub(crate) trait Sought<A> {
+    // The order of a member of the list and what is looked for.
+    ghost order: { Self → A → Ordering };
+
+    /// The order of a member and what is looked for, for which they are compared once.
+    fn compare<T: Tally>(&self, tally: &mut T, member: &A) -> Ordering
+        ensures order { result ≡ order self.now member.now }
+        ensures count { Counts 1 0 (T.asks tally.old) (T.asks tally.new) };
+}
+
+/// A list that can be searched, and read in no other way.
+#[derive(Drop)]
+pub(crate) struct Sorted<A> {
+    members: Vec<A>,
+}
+
+impl<A> Sorted<A> {
+    /// The list of these members, which are in order.
+    pub fn new(members: Vec<A>) -> Sorted<A>
+        ensures { result.members ≡ members }
+    {
+        Sorted { members }
+    }
+
+    /// Whether a member is what is looked for. There are at most as many comparisons as the logarithm to base 2 of the
+    /// number of members, rounded down, and one; of no members there are none.
+    #[inline(always)]
+    pub fn has<S: Sought<A>, T: Tally>(&self, sought: &S, tally: &mut T) -> bool
+        requires { IsNonDecreasingBy (λ a. ordering_index (S.order sought.now a)) self.now.members.items }
+        ensures found { result ≡ list_any (λ a. is_eq (S.order sought.now a)) self.now.members.items }
+        ensures comparisons { 2 ^ (T.asks tally.new - T.asks tally.old) ≤ 2 * length self.now.members.items + 1 }
+    {
+        let mut left = self.members.as_slice();
+        'halves: loop {
+            let (before, others) = left.split_at(left.len() / 2);
+            let Some((middle, after)) = others.split_first() else {
+                return false;
+            };
+            match sought.compare(tally, middle) {
+                Ordering::Less => left = after,
+                Ordering::Equal => return true,
+                Ordering::Greater => left = before,
+            }
+        }
+    }
+}
