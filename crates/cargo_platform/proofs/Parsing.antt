@@ -8,8 +8,8 @@ use Rattle.std.specs.List.{last_or}
 use Rattle.std.proofs.lemmas.Option.{IfSome_then}
 use Rattle.std.specs.declared.ops.Range.{Range}
 use Rattle.std.proofs.lemmas.Option.{same_Some}
-use Rattle.cargo_platform.specs.declared.reader.Refusal.{Refusal}
-use Rattle.cargo_platform.specs.declared.reader.Refusal.TheVariants as refusal
+use Rattle.cargo_platform.specs.declared.refusal.Refusal.{Refusal}
+use Rattle.cargo_platform.specs.declared.refusal.Refusal.TheVariants as refusal
 use Rattle.cargo_platform.specs.declared.reader.Punctuation.TheVariants as punctuation
 use Rattle.cargo_platform.specs.Tokens.{Lexeme, LeftParen, RightParen, Ident, Comma, Equals, String, Placed}
 use Rattle.cargo_platform.specs.Tokens.{written}

@@ -3,7 +3,7 @@ use Rattle.std.proofs.Common.{◌≡◌, refl, ℕ, List, [], Some, Result, Ok, 
 use Rattle.cargo_platform.specs.declared.error.ParseError.{ParseError}
 use Rattle.cargo_platform.specs.declared.error.ReadError.{ReadError}
 use Rattle.cargo_platform.specs.declared.error.ReadError.TheVariants as errors
-use Rattle.cargo_platform.specs.declared.reader.Refusal.{Refusal}
+use Rattle.cargo_platform.specs.declared.refusal.Refusal.{Refusal}
 use Rattle.cargo_platform.specs.Trees.{CfgValue, Tree}
 use Rattle.cargo_platform.specs.Spelling.{value_spelling, IsValueText, IsTreeText}
 use Rattle.cargo_platform.specs.Errors.{IfParse, orig_of, fault_in, span_in}

@@ -4,7 +4,7 @@ use Rattle.std.specs.declared.ops.Range.{Range}
 use Rattle.std.proofs.lemmas.Option.{same_Some}
 use Rattle.std.specs.List.{last_or}
 use Rattle.std.specs.Prelude.{IsUtf8}
-use Rattle.cargo_platform.specs.declared.reader.Refusal.{Refusal}
+use Rattle.cargo_platform.specs.declared.refusal.Refusal.{Refusal}
 use Rattle.cargo_platform.specs.Tokens.{Placed}
 use Rattle.cargo_platform.specs.Cut.{AreSpaces, IsCut, lexemes, Item, Nothing, Comes, ComesBehind}
 use Rattle.cargo_platform.specs.Spelling.{Grammar}

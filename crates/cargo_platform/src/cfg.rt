@@ -116,7 +116,7 @@ impl Cfg {
         let mut reader = Reader::new(s);
         match parser::read_cfg(alloc, &mut reader) {
             Ok(cfg) => Ok(cfg),
-            Err(refusal) => Err(refusal.into_error(alloc, s)),
+            Err(refusal) => Err(refusal.into_error(alloc, s, &reader.spend())),
         }
     }
 }
@@ -245,11 +245,13 @@ impl CfgExpr {
             (λ e. IfSome (span_in e) (λ span. IsLookedTo s.now (looked_to (fault_in e) span) result.1)) }
     {
         let mut reader = Reader::new(s);
-        let read = match parser::read_expression(alloc, &mut reader) {
-            Ok(expression) => Ok(expression),
-            Err(refusal) => Err(refusal.into_error(alloc, s)),
-        };
-        (read, reader.spend())
+        match parser::read_expression(alloc, &mut reader) {
+            Ok(expression) => (Ok(expression), reader.spend()),
+            Err(refusal) => {
+                let looks = reader.spend();
+                (Err(refusal.into_error(alloc, s, &looks)), looks)
+            }
+        }
     }
 
     /// Takes the expression apart, one level down: its parts are handed out as they are. Nothing is allocated, and

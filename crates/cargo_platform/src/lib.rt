@@ -21,6 +21,7 @@ mod order;
 mod parser;
 mod platforms;
 mod reader;
+mod refusal;
 mod search;
 mod snippet;
 mod source;

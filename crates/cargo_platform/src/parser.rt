@@ -15,7 +15,8 @@ ghost use Rattle.cargo_platform.specs.Inside.Parsing.{HasWord, Stands, Reads, St
 ghost use Rattle.cargo_platform.specs.Inside.Parsing.{opening_word, kinds, is_list, openings, with_last, HasLooked};
 
 use crate::cfg::{Cfg, CfgExpr, Ident};
-use crate::reader::{Punctuation, Reader, Refusal, expect_end, refuse};
+use crate::reader::{Punctuation, Reader, expect_end, refuse};
+use crate::refusal::Refusal;
 use std::alloc::{AllocError, Global};
 use std::mem;
 

@@ -15,10 +15,9 @@ ghost use Rattle.cargo_platform.specs.Inside.Parsing.{SeesTaken, HasLooked};
 
 use crate::Looks;
 use crate::classes::begins_identifier;
-use crate::error::{ParseError, ParseErrorKind, ReadError};
+use crate::refusal::{Refusal, Unread};
 use crate::source::{Look, Source};
 use crate::tokens::{Spanned, Token, TokenFaultKind, character_of, token_at};
-use std::alloc::{AllocError, Global};
 use std::marker::Model;
 use std::ops::Range;
 
@@ -179,7 +178,7 @@ impl<'a> Reader<'a> {
     {
         match character_of(self.seen) {
             Some(_first) => Some(Rest {
-                text: self.source.text_from(self.place),
+                text: self.source.rest_from(self.place),
                 span: self.place..self.source.len(),
             }),
             None => None,
@@ -232,7 +231,7 @@ impl<'a> Reader<'a> {
 
 /// What is left of a text after a whole value or expression, and its span.
 pub(crate) struct Rest<'a> {
-    pub text: &'a str,
+    pub text: Unread<'a>,
     pub span: Range<usize>,
 }
 
@@ -279,69 +278,6 @@ fn byte_of(wanted: Punctuation) -> u8
         Punctuation::RightParen => b')',
         Punctuation::Comma => b',',
         Punctuation::Equals => b'=',
-    }
-}
-
-/// Why nothing was read: the fault and its span, or an allocation failure.
-#[derive(Drop)]
-pub(crate) enum Refusal<'a> {
-    Unexpected {
-        expected: &'static str,
-        found: &'static str,
-        span: Range<usize>,
-    },
-    Incomplete(&'static str, Range<usize>),
-    Lexical(TokenFaultKind, Range<usize>),
-    /// A whole expression ended, and this text is left.
-    Unterminated(&'a str, Range<usize>),
-    Memory(AllocError),
-}
-
-impl<'a> Refusal<'a> {
-    ghost use Rattle.cargo_platform.specs.Inside.Refusals.{Becomes};
-
-    /// The error of the text that is refused.
-    pub fn into_error(self, alloc: Global, orig: &str) -> ReadError
-        ensures { Becomes self.entry orig.now result }
-    {
-        let (kind, span) = match self {
-            Refusal::Unexpected {
-                expected,
-                found,
-                span,
-            } => (ParseErrorKind::UnexpectedToken { expected, found }, span),
-            Refusal::Incomplete(expected, span) => {
-                (ParseErrorKind::IncompleteExpr(expected), span)
-            }
-            Refusal::Lexical(TokenFaultKind::UnterminatedString, span) => {
-                (ParseErrorKind::UnterminatedString, span)
-            }
-            Refusal::Lexical(TokenFaultKind::UnexpectedChar(c), span) => {
-                (ParseErrorKind::UnexpectedChar(c), span)
-            }
-            Refusal::Lexical(TokenFaultKind::MissingIdentifier, span) => {
-                (ParseErrorKind::IncompleteExpr("identifier"), span)
-            }
-            Refusal::Unterminated(rest, span) => match String::from_str(alloc, rest) {
-                Ok(rest) => (ParseErrorKind::UnterminatedExpression(rest), span),
-                Err(e) => return ReadError::Memory(e),
-            },
-            Refusal::Memory(e) => return ReadError::Memory(e),
-        };
-        match ParseError::with_span(alloc, orig, kind, Some(span)) {
-            Ok(e) => ReadError::Parse(e),
-            Err(e) => ReadError::Memory(e),
-        }
-    }
-}
-
-impl<'a> From<AllocError> for Refusal<'a> {
-    ghost use Rattle.cargo_platform.specs.declared.reader.Refusal.TheVariants.{Memory};
-
-    ghost from_gives = { λ a e. e ≡ Memory a };
-
-    fn from(e: AllocError) -> Refusal<'a> {
-        Refusal::Memory(e)
     }
 }
 

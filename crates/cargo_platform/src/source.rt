@@ -3,20 +3,23 @@
 //! A look asks what is at one place: a character, or the end of the text. `Source` keeps its text to itself. Its calls
 //! that tell of characters are `look` and the three scans, and each counts its looks; `spend` gives the count. A scan
 //! goes over bytes, counts once, and hands on what ended it, so that nobody need look there again. `slice` hands out
-//! text before which as many looks were made. Uncounted are `text_from`, for the error of a text with something left
-//! over, and `rest_from`, for `Tokenizer::rest`.
+//! text before which as many looks were made. `rest_from` hands out text that was not looked at, and that can't be read
+//! before the source is spent. Uncounted is `Tokenizer::rest` alone, which tells what was not looked at.
 
 ghost use Rattle.std.specs.Prelude.{◌≡◌, ◌≢◌, ℕ, ◌+◌, ◌-◌, ◌^◌, ◌<◌, ◌≤◌, true, false, length, drop, slice_index};
-ghost use Rattle.std.specs.Prelude.{slice_range, IfSome, IfNone, MatchOption, IsFalse};
+ghost use Rattle.std.specs.Prelude.{slice_range, IfSome, IfNone, IsFalse};
 ghost use Rattle.std.specs.Str.{IsCharBoundary};
 ghost use Rattle.cargo_platform.specs.Chars.{is_identifier_rest, is_character_start};
 ghost use Rattle.cargo_platform.specs.Cut.{AreSpaces};
-ghost use Rattle.cargo_platform.specs.Reading.{IsRestFrom, characters_from};
+ghost use Rattle.cargo_platform.specs.Reading.{characters_from};
 ghost use Rattle.std.specs.List.{count_by};
 ghost use Rattle.cargo_platform.specs.Inside.Looking.{IsCharAt, Shows, Costs, IsFirstQuote, IsRun, is_no_quote};
 ghost use Rattle.cargo_platform.specs.Inside.Looking.{IsCountedTo};
 
+mod rest;
+
 use crate::classes::{LANES, continues_identifier, identifier_run};
+use crate::refusal::Unread;
 use std::marker::Model;
 use std::simd::prelude::*;
 
@@ -176,28 +179,14 @@ impl<'a> Source<'a> {
         &text[from..to]
     }
 
-    /// The text from a byte place on.
-    pub fn text_from(&self, at: usize) -> &'a str
+    /// The text from a byte place on, shut.
+    #[inline(always)]
+    pub fn rest_from(&self, at: usize) -> Unread<'a>
         requires { IsCharBoundary self.now.text.now at }
-        ensures { result.now ≡ drop at self.now.text.now }
+        ensures { result.text.now ≡ drop at self.now.text.now }
     {
         let text: &'a str = self.text;
-        &text[at..]
-    }
-
-    /// The text from the first character on that is no space, from a byte place on.
-    pub fn rest_from(&self, at: usize) -> Option<&'a str>
-        requires { IsCharBoundary self.now.text.now at }
-        ensures { MatchOption result
-            (AreSpaces self.now.text.now at (length self.now.text.now))
-            (λ rest. IsRestFrom self.now.text.now at rest.now) }
-    {
-        let text: &'a str = self.text;
-        let start = spaces_end(text, at);
-        if start == text.len() {
-            return None;
-        }
-        Some(&text[start..])
+        Unread::new(&text[at..])
     }
 
     /// The looks that were made.

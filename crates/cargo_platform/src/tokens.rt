@@ -89,8 +89,8 @@ pub struct TokenFault {
 /// The tokens of a text in order, then the fault of what is left, if there is one, and then `None` for good.
 #[derive(Drop)]
 pub struct Tokenizer<'a> {
-    source: Source<'a>,
-    place: usize,
+    pub(crate) source: Source<'a>,
+    pub(crate) place: usize,
     /// What is at the place, where that was looked at.
     seen: Option<Look>,
     failed: bool,
@@ -124,16 +124,6 @@ impl<'a> Tokenizer<'a> {
             seen: None,
             failed: false,
         }
-    }
-
-    /// The text from the first character that is no space, from the place reached; `None` if only spaces are left.
-    /// After a fault it begins at the fault's place.
-    pub fn rest(&self) -> Option<&'a str>
-        ensures { MatchOption result
-            (AreSpaces self.now.text self.now.place (length self.now.text))
-            (λ rest. IsRestFrom self.now.text self.now.place rest.now) }
-    {
-        self.source.rest_from(self.place)
     }
 }
 

@@ -9,7 +9,7 @@ use Rattle.cargo_platform.specs.declared.tokens.Spanned.{Spanned}
 use Rattle.cargo_platform.specs.declared.reader.Rest.{Rest}
 use Rattle.cargo_platform.specs.declared.tokens.TokenFaultKind.{TokenFaultKind}
 use Rattle.cargo_platform.specs.declared.cfg.CfgExpr.{CfgExpr}
-use Rattle.cargo_platform.specs.declared.reader.Refusal.{Refusal}
+use Rattle.cargo_platform.specs.declared.refusal.Refusal.{Refusal}
 use Rattle.cargo_platform.specs.declared.parser.Listing.{Listing}
 use Rattle.cargo_platform.specs.declared.parser.Listing.TheVariants as listing
 use Rattle.cargo_platform.specs.declared.reader.Punctuation.{Punctuation}
@@ -40,7 +40,7 @@ IsSurplus text next rest span =
 -- the text from the next item on, which is the surplus after what is accepted, or nothing at the end
 abbrev pub SeesRest : Ahead → Option Rest → Type 0
 SeesRest l None = NextIs l Nothing
-SeesRest l (Some rest) = (next : Item) × NextIs l next × IsSurplus l.text next rest.text.now rest.span
+SeesRest l (Some rest) = (next : Item) × NextIs l next × IsSurplus l.text next rest.text.text.now rest.span
 
 abbrev pub lexeme_of : Punctuation → Lexeme
 lexeme_of punctuation.LeftParen = LeftParen

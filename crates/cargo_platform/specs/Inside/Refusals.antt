@@ -2,8 +2,8 @@
 use Rattle.std.specs.Prelude.{◌≡◌, ℕ, List, Option, Some, None}
 use Rattle.cargo_platform.specs.declared.error.ReadError.{ReadError}
 use Rattle.cargo_platform.specs.declared.error.ReadError.TheVariants as errors
-use Rattle.cargo_platform.specs.declared.reader.Refusal.{Refusal}
-use Rattle.cargo_platform.specs.declared.reader.Refusal.TheVariants as refusal
+use Rattle.cargo_platform.specs.declared.refusal.Refusal.{Refusal}
+use Rattle.cargo_platform.specs.declared.refusal.Refusal.TheVariants as refusal
 use Rattle.std.specs.Prelude.{Bool}
 use Rattle.std.specs.declared.ops.Range.{Range}
 use Rattle.cargo_platform.specs.Tokens.{Lexeme}
@@ -31,7 +31,7 @@ abbrev pub refused_fault : Refusal → Option Fault
 refused_fault (refusal.Unexpected expected found span) = Some (UnexpectedToken expected.now found.now)
 refused_fault (refusal.Incomplete expected span) = Some (IncompleteExpr expected.now)
 refused_fault (refusal.Lexical k span) = Some (lexical_fault k)
-refused_fault (refusal.Unterminated rest span) = Some (UnterminatedExpression rest.now)
+refused_fault (refusal.Unterminated rest span) = Some (UnterminatedExpression rest.text.now)
 refused_fault (refusal.Memory e) = None
 
 -- and its span
@@ -49,7 +49,7 @@ refused_at (refusal.Unexpected expected found span) =
 refused_at (refusal.Incomplete expected span) = Some (record { fault = IncompleteExpr expected.now; span = span })
 refused_at (refusal.Lexical k span) = Some (record { fault = lexical_fault k; span = span })
 refused_at (refusal.Unterminated rest span) =
-    Some (record { fault = UnterminatedExpression rest.now; span = span })
+    Some (record { fault = UnterminatedExpression rest.text.now; span = span })
 refused_at (refusal.Memory e) = None
 
 -- the error that a refusal of a text is reported as

@@ -20,6 +20,6 @@ returns-in-Some-clause-rest c =
     let i = c.self.invariant in
     let within = something_seen r.source.text.now r.place _ r.seen i.sees (sym c.character_of.ensures ∙ c.in-Some.is) in
     let span = from_to r.place c.len.result in
-    let S : Ahead → Type 0 = λ z. (next : Item) × NextIs z next × IsSurplus z.text next c.text_from.result.now span in
+    let S : Ahead → Type 0 = λ z. (next : Item) × NextIs z next × IsSurplus z.text next c.rest_from.result.text.now span in
     subst S (ap (λ (z : Standing). z.ahead) c.self.view_is)
-    (rw (c.text_from.ensures, c.len.ensures) (rest_ahead r.source.text.now r.place i.utf8 i.reached i.past within))
+    (rw (c.rest_from.ensures, c.len.ensures) (rest_ahead r.source.text.now r.place i.utf8 i.reached i.past within))
