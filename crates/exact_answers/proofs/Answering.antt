@@ -67,7 +67,8 @@ pub one_says : (k : Known) (e : CfgExpr) (w : Bool) (gs : List Goal) (budget : �
     → SaysFound r k es budget (λ s. truth s (tree_of e) ≡ w) (λ s. truth s (tree_of e) ≡ not w)
 one_says k e w gs budget es (found.Facts facts) more each is h =
     let all = sym (is _) ∙ h.1.0 in
-    (allowed k _ h.0 (first_so _ _ all), (met w _ (first_so _ _ (second_so _ _ all)), λ i d short. each _ (h.1.1 i d short)))
+    let true_facts = met w _ (first_so _ _ (second_so _ _ all)) in
+    (allowed k _ h.0 (first_so _ _ all), (true_facts, λ i d short. each _ (h.1.1 i d short)))
 one_says k e w gs budget es found.Nothing more each is h =
     λ s allows. unmet w (truth s (tree_of e))
     (last_false _ (rest_false _ _ (sym (is s) ∙ h s (over_of k s allows)) allows.assumed_true))
@@ -146,3 +147,5 @@ pub both_ways_same : (x y : Bool) → (x ≡ true → y ≡ true) → (y ≡ tru
 both_ways_same true y f g = sym (f refl)
 both_ways_same false true f g = g refl
 both_ways_same false false f g = refl
+
+pub ruleset both_ways = (one_example, other_example, both_ways_same)

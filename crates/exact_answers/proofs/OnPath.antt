@@ -110,8 +110,11 @@ none_unmarked = λ k d short. absurd (omega (arith, short))
 pub one_more_unmarked : (old new : List Cfg) (c : Cfg) (d : CfgValue) → new ≡ old ++ c ∷ [] → value_of c ≡ unmarked d
     → All IsUnmarked (map value_of old) → All IsUnmarked (map value_of new)
 one_more_unmarked old new c d is e h =
-    subst (All IsUnmarked) (sym (ap (map value_of) is ∙ map-append value_of old (c ∷ []) ∙ ap (λ x. map value_of old ++ x ∷ []) e))
+    subst (All IsUnmarked)
+    (sym (ap (map value_of) is ∙ map-append value_of old (c ∷ []) ∙ ap (λ x. map value_of old ++ x ∷ []) e))
     (All-append IsUnmarked (map value_of old) (unmarked d ∷ []) h (are_unmarked (d ∷ [])))
+
+pub ruleset unmarked_facts = (unmarked_pair, none_unmarked, one_more_unmarked)
 
 -- the taken facts and the listed ones
 pub all_pairs : (all taken listed : List CfgValue) → all ≡ taken ++ map unmarked listed

@@ -207,7 +207,8 @@ pub can_says : (k : Known) (c : Condition) (budget : ℕ) (r : FoundTarget)
     → SaysCanSelect (as_can r) k (c ∷ []) budget (λ name s. IsTrueCondition name s c)
     (λ name s. IsTrueCondition name s c → ⊥)
 can_says k c budget (one.Target t) h =
-    example_by t k (c ∷ Expression True ∷ []) (c ∷ []) (λ name s. MetUnder (wants k c true (Expression True) true) (Some name) s)
+    example_by t k (c ∷ Expression True ∷ []) (c ∷ [])
+    (λ name s. MetUnder (wants k c true (Expression True) true) (Some name) s)
     (λ name s. IsTrueCondition name s c) (λ name. one_name t.name c name) (λ c is. is)
     (λ name s met. is_true c name s met.0) h
 can_says k c budget one.Nothing h = λ name s allows is.
@@ -219,7 +220,8 @@ pub always_says : (k : Known) (c : Condition) (budget : ℕ) (r : FoundTarget)
     → SaysMustSelect (as_must r) k (c ∷ []) budget (λ name s. IsTrueCondition name s c → ⊥)
     (λ name s. IsTrueCondition name s c)
 always_says k c budget (one.Target t) h =
-    example_by t k (c ∷ Expression True ∷ []) (c ∷ []) (λ name s. MetUnder (wants k c false (Expression True) true) (Some name) s)
+    example_by t k (c ∷ Expression True ∷ []) (c ∷ [])
+    (λ name s. MetUnder (wants k c false (Expression True) true) (Some name) s)
     (λ name s. IsTrueCondition name s c → ⊥) (λ name. one_name t.name c name) (λ c is. is)
     (λ name s met. is_untrue c name s met.0) h
 always_says k c budget one.Nothing h = λ name s allows.

@@ -126,7 +126,7 @@ pub fn exclude<'a>(
 
 /// Whether `a` and `b` are as true as each other over each possible set of facts. Each of the two implications has the
 /// budget.
-#[tactic(auto, using(crate::proofs::Answering::one_example, crate::proofs::Answering::other_example, crate::proofs::Answering::both_ways_same, crate::proofs::Spending::other_order))]
+#[tactic(auto, using(crate::proofs::Answering::both_ways, crate::proofs::Spending::other_order))]
 pub fn equivalent<'a>(
     alloc: Global,
     a: &'a CfgExpr,

@@ -184,7 +184,7 @@ impl<'a> Path<'a> {
 }
 
 /// The pairs that are taken as facts, the last one first, without marks.
-#[tactic(auto, using(crate::proofs::OnPath::unmarked_pair, crate::proofs::OnPath::none_unmarked, crate::proofs::OnPath::one_more_unmarked))]
+#[tactic(auto, using(crate::proofs::OnPath::unmarked_facts))]
 fn taken_facts(alloc: Global, splits: Vec<Split<'_>>) -> Result<Vec<Cfg>, AllocError>
     ensures pairs { IfOk result (λ facts. map pair_of (map value_of facts.items)
         ≡ taken (reverse (map turn_of splits.entry.items))) }

@@ -346,8 +346,8 @@ impl<'a> Question for Linting<'a> {
     }
 }
 
-/// The findings on the manifests that are named, in their order. With `sums_up` standard error has a last line that sums
-/// up.
+/// The findings on the manifests that are named, in their order. With `sums_up` standard error has a last line that
+/// sums up.
 pub fn lint_each<R: Files + Input + AllocGlobal>(
     rt: &R,
     paths: &[&str],

@@ -11,4 +11,5 @@ returns c =
     (record { e = c.args.known.now.assumed; wanted = true } ∷ record { e = c.args.e; wanted = c.args.wanted } ∷ [])
     c.args.budget
     (tree (tree_of c.args.e.now) none)
-    r (needs_more_by c.args.known.now (tree (tree_of c.args.e.now) none) c.args.budget) (λ c is. is) (λ s. refl)) c.search.ensures
+    r (needs_more_by c.args.known.now (tree (tree_of c.args.e.now) none) c.args.budget) (λ c is. is) (λ s. refl))
+    c.search.ensures
