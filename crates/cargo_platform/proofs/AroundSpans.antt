@@ -134,13 +134,12 @@ cut_in_front text n from to tail [] next within left spaces ends h = record {
 }
 cut_in_front text n from to tail (t ∷ ts) next within left spaces ends h =
     let others = cut_in_front text n t.end to tail ts next within left spaces ends.1 h.1 in
-    let P : List ℕ → Type 0 = λ z. EndsBefore t.token z in
     let start : t.start ≤ n = omega (arith, h.0.1.1.ordered, ends.0) in
     record {
       written = ((h.0.1.0, piece_in_front text n t.start t.end _ ends.0 h.0.1.1), others.written);
       apart = (spaces_in_front text n from t.start start h.0.0, others.apart);
       whole = (
-        subst P (sym (rest_in_front text n t.end ends.0))
+        rw (rest_in_front text n t.end ends.0)
             (ends_in_front t.token (drop t.end text) (n - t.end) h.0.2),
         others.whole,
       );

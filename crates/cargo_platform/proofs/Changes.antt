@@ -1,12 +1,13 @@
 -- What the grammar of expressions changed.
 use Rattle.std.proofs.Common.{◌≡◌, refl, sym, ap, subst, ◌∙◌, ℕ, Bool, true, false, not, ◌&&◌, ◌||◌, true≢false, List}
 use Rattle.std.proofs.Common.{[], ◌∷◌, ◌++◌, codes, inl, inr}
+use Rattle.std.proofs.lemmas.Bool.{or_parts}
 use Rattle.std.specs.Prelude.{◌↔◌, IsFalse, bytes_eq, if◌then◌else◌}
 use Rattle.std.specs.List.{list_any, flat_map}
 use Rattle.std.proofs.lemmas.Grind.{flat_map-append}
 use Rattle.std.proofs.lemmas.List.Concat.{flat_map-cons}
 use Rattle.std.proofs.lemmas.List.Folds.{list_any-append}
-use Rattle.cargo_platform.specs.Tokens.{Lexeme, Ident, Placed}
+use Rattle.cargo_platform.specs.Tokens.{Lexeme, Ident}
 use Rattle.cargo_platform.specs.Cut.{lexemes}
 use Rattle.cargo_platform.specs.Trees.{Name, CfgValue, Alone, KeyPair, Tree, Not, All, Any, Value, True, False, Trees}
 use Rattle.cargo_platform.specs.Trees.{none, tree, Condition, Target, Expression}
@@ -17,7 +18,7 @@ use Rattle.cargo_platform.specs.Faults.{Fault, IsRefusedBy}
 use Rattle.cargo_platform.specs.Earlier.{IsAcceptedTransitional, MayStandTransitional, SpellsTransitional}
 use Rattle.cargo_platform.specs.Earlier.{SpellEachTransitional, IsTransitionalConditionText, is_literal_name}
 use Rattle.cargo_platform.specs.Earlier.{IsAcceptedReleased, MayStandReleased, SpellsReleasedLiteral, SpellsReleased}
-use Rattle.cargo_platform.specs.Earlier.{IsReleasedTreeText, IsReleasedConditionText, released, released_members}
+use Rattle.cargo_platform.specs.Earlier.{IsReleasedConditionText, released, released_members}
 use Rattle.cargo_platform.specs.Warnings.{values, members_values, keyword_warning, keyword_warning_at}
 use Rattle.cargo_platform.specs.Warnings.{keyword_warning_of}
 use Rattle.cargo_platform.specs.ChangeLaws.{is_marked_literal, SpelledReleased, IsAcceptedAsReleased}
@@ -32,10 +33,6 @@ use Rattle.cargo_platform.proofs.Building.{one_built}
 use Rattle.cargo_platform.proofs.WellFormedness.{spelled_well_formed}
 use Rattle.cargo_platform.proofs.Roles.{bytes_eq-true}
 use Rattle.cargo_platform.proofs.Conditions.{one_inner}
-
-neither : (a b : Bool) → (a || b) ≡ false → (a ≡ false) × (b ≡ false)
-neither true b h = absurd (true≢false h)
-neither false b h = (refl, h)
 
 -- ---- literals that were keys
 
@@ -90,8 +87,7 @@ mutual
   to_released (All es) s p = (p.0, p.1, each_to_released es p.0 p.2, p.3, p.4)
   to_released (Any es) s p = (p.0, p.1, each_to_released es p.0 p.2, p.3, p.4)
   to_released (Value (Alone n)) s p =
-      let S : List Lexeme → Type 0 = λ z. SpellsReleased (released (Value (Alone n))) z in
-      subst S (sym p.0) (lone_released n.raw n.name p.1.0 p.1.1)
+      rw p.0 (lone_released n.raw n.name p.1.0 p.1.1)
   to_released (Value (KeyPair k v)) s p = p
   to_released True s p = (false, p)
   to_released False s p = (false, p)
@@ -162,7 +158,7 @@ mutual
   kept (Not e) h = ap Not (kept e h)
   kept (All es) h = ap All (members_kept es h)
   kept (Any es) h = ap Any (members_kept es h)
-  kept (Value (Alone n)) h = unmarked n (neither (n.raw && is_literal_name n) false h).0
+  kept (Value (Alone n)) h = unmarked n (or_parts (n.raw && is_literal_name n) false h).0
   kept (Value (KeyPair k v)) h = refl
   kept True h = refl
   kept False h = refl
@@ -170,7 +166,7 @@ mutual
   members_kept : (es : Trees) → IsFalse (list_any is_marked_literal (members_values es)) → released_members es ≡ es
   members_kept none h = refl
   members_kept (tree e es) h =
-      let b = neither _ _ (sym (list_any-append is_marked_literal (values e) (members_values es)) ∙ h) in
+      let b = or_parts _ _ (sym (list_any-append is_marked_literal (values e) (members_values es)) ∙ h) in
       let first = kept e b.0 in
       let others = members_kept es b.1 in
       λ i. tree (first i) (others i)
@@ -225,8 +221,7 @@ tree_text_as_released text = (
 pub keeps_tree : (text : List ℕ) → KeepsTree text
 keeps_tree text d e p q h =
     let same : p.0 ≡ q.0 = (one_cut_from text p.0 q.0 0 _ _ p.1 q.1).0 in
-    let S : List Placed → Type 0 = λ z. SpellsReleased d (lexemes z) in
-    sym ((spelled_released (lexemes q.0) d e q.2).0 (subst S same p.2) ∙ kept e h)
+    sym ((spelled_released (lexemes q.0) d e q.2).0 (rw (← same) p.2) ∙ kept e h)
 
 -- A text spells a condition where it did before.
 pub condition_text_as_released : (text : List ℕ) → IsConditionTextAsReleased text
@@ -246,8 +241,7 @@ keeps_condition text (Target m) (Target n) p q h = ap Target (q.0 ∙ sym p.0)
 keeps_condition text (Target m) (Expression e) p q h = absurd (p.1 q.0 q.1)
 keeps_condition text (Expression d) (Target n) p q h = absurd (q.1 p.0 p.1)
 keeps_condition text (Expression d) (Expression e) p q h =
-    let S : List ℕ → Type 0 = λ z. IsReleasedTreeText z d in
-    ap Expression (keeps_tree q.0 d e (subst S (one_inner text p.0 q.0 p.1 q.1) p.2) q.2 h)
+    ap Expression (keeps_tree q.0 d e (rw (← one_inner text p.0 q.0 p.1 q.1) p.2) q.2 h)
 
 -- And it is refused as one where it was before, with the fault of before.
 pub condition_refused_as_released : (text orig : List ℕ) (fault : Fault) → IsConditionRefusedAsReleased text orig fault
@@ -305,7 +299,7 @@ mutual
   still (Not e) s p h = (p.0, still e p.0 p.1 h, p.2)
   still (All es) s p h = (p.0, p.1, each_still es p.0 p.2 h, p.3, p.4)
   still (Any es) s p h = (p.0, p.1, each_still es p.0 p.2 h, p.3, p.4)
-  still (Value c) s p h = (p.0, may_stand c p.1 (neither (is_literal_key c) false h).0)
+  still (Value c) s p h = (p.0, may_stand c p.1 (or_parts (is_literal_key c) false h).0)
   still True s p h = p
   still False s p h = p
 
@@ -315,7 +309,7 @@ mutual
   each_still none (s ∷ ss) p h = absurd p
   each_still (tree e es) [] p h = absurd p
   each_still (tree e es) (s ∷ ss) p h =
-      let b = neither _ _ (sym (list_any-append is_literal_key (values e) (members_values es)) ∙ h) in
+      let b = or_parts _ _ (sym (list_any-append is_literal_key (values e) (members_values es)) ∙ h) in
       (still e s p.0 b.0, each_still es ss p.1 b.1)
 
 -- A list of tokens that spelled a tree is refused where a literal is a key in it.
@@ -327,8 +321,7 @@ refused_for_literal_keys ts e p = (
         | false ↦ λ h. absurd (refused (e, still e ts p h))
       ] refl,
   λ h q.
-      let K : Tree → Type 0 = λ z. has_literal_key (values z) ≡ true in
-      true≢false (sym (subst K (one_built true e q.0 ts p (was_spelled q.0 ts q.1)) h) ∙ keyless q.0 ts q.1),
+      true≢false (sym (rw (← one_built true e q.0 ts p (was_spelled q.0 ts q.1)) h) ∙ keyless q.0 ts q.1),
 )
 
 -- ---- well-formed trees
@@ -352,7 +345,7 @@ mutual
   well_formed_where less may test n (Any es) = are_well_formed_where less may test n es
   well_formed_where less may test n (Value c) = (
     λ w. let m = (n c).0 w.1 in ((w.0, m.0), ap (λ b. b || false) m.1),
-    λ w. (w.0.0, (n c).1 (w.0.1, (neither (test c) false w.1).0)),
+    λ w. (w.0.0, (n c).1 (w.0.1, (or_parts (test c) false w.1).0)),
   )
   well_formed_where less may test n True = (λ w. (w, refl), λ w. w.0)
   well_formed_where less may test n False = (λ w. (w, refl), λ w. w.0)
@@ -369,7 +362,7 @@ mutual
             let b = others.0 w.1 in
             ((a.0, b.0), both ∙ λ i. a.1 i || b.1 i),
         λ w.
-            let b = neither _ _ (sym both ∙ w.1) in
+            let b = or_parts _ _ (sym both ∙ w.1) in
             (first.1 (w.0.0, b.0), others.1 (w.0.1, b.1)),
       )
 

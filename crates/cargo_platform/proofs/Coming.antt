@@ -20,8 +20,8 @@ use Rattle.cargo_platform.specs.Reading.{characters_from}
 use Rattle.cargo_platform.specs.Cut.{Item, Token, Lexical, Nothing, is_token}
 use Rattle.cargo_platform.specs.Faults.{from_to}
 use Rattle.cargo_platform.specs.Inside.Ahead.{Ahead, NextIs, GoesPast}
-use Rattle.cargo_platform.specs.Inside.Looking.{IsCharAt, Shows, Costs, character_of, IsFound, IsReadingAt}
-use Rattle.cargo_platform.specs.Inside.Looking.{IsSeenFault, FindsFault}
+use Rattle.cargo_platform.specs.Inside.Looking.{IsCharAt, Shows, Costs, character_of, IsReadingAt}
+use Rattle.cargo_platform.specs.Inside.Looking.{FindsFault}
 use Rattle.cargo_platform.specs.Inside.Scanning.{IsTokenAt}
 use Rattle.cargo_platform.specs.Inside.Parsing.{TakesToken, Lacks, lexeme_of, IsIdentifier, IsSurplus}
 use Rattle.cargo_platform.specs.declared.reader.Punctuation.{Punctuation}
@@ -72,8 +72,7 @@ fault_ahead text at k within f = record { to = at; comes = (no_spaces text at wi
 
 pub end_ahead : (text : List ℕ) (at : ℕ) → at ≡ length text → NextIs (ahead_at text at) Nothing
 end_ahead text at is =
-    let S : ℕ → Type 0 = λ z. AreSpaces text at z in
-    record { to = length text; comes = (subst S is (no_spaces text at (omega (arith, is))), refl) }
+    record { to = length text; comes = (rw (← is) (no_spaces text at (omega (arith, is))), refl) }
 
 -- what is left from a place on that is not the end
 pub rest_ahead : (text : List ℕ) (at : ℕ) → IsUtf8 text → IsCharBoundary text at → slice_index text at ≢ 0x20
@@ -236,8 +235,6 @@ pub reads_on : (text : List ℕ) (at from end to : ℕ) (seen next : Look) (faul
     → Costs text end to 0 mid new → IsCharBoundary text to → Shows text to next → slice_index text to ≢ 0x20
     → IsReadingAt text to next fault new
 reads_on text at from end to seen next fault looks mid new r none one a b boundary sees past =
-    let F : Option TokenFaultKind → Type 0 = λ z. IsFound (drop to text) z in
-    let S : Option TokenFaultKind → Type 0 = λ z. IsSeenFault text to z new in
     let before = r.each none in
     let most : new ≤ characters_from text 0 + 1 = omega (arith, a.at_most, b.at_most, one, before) in
     let small : new < 2 ^ 128 - 1 = omega (arith, most, r.short) in
@@ -248,10 +245,10 @@ reads_on text at from end to seen next fault looks mid new r none one a b bounda
       reached = boundary;
       sees = sees;
       past = past;
-      found = subst F (sym none) tt;
+      found = rw none tt;
       each = λ _. omega (arith, a.at_most, b.at_most, a.at_least still, b.at_least small, one, before);
       at_least = omega (arith, a.at_least still, b.at_least small, one, before);
-      seen_fault = subst S (sym none) tt;
+      seen_fault = rw none tt;
       at_most = most;
     }
 

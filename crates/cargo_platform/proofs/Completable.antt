@@ -2,6 +2,7 @@
 use Rattle.std.proofs.Common.{◌≡◌, refl, sym, ap, subst, ◌∙◌, ℕ, ◌+◌, ◌≤◌, suc, arith, Bool, true, false}
 use Rattle.std.proofs.Common.{true≢false, List, [], ◌∷◌, ◌++◌, Option, Some, None, codes, inl, inr, ◌⊎◌}
 use Rattle.std.proofs.Common.{append_assoc, length, length-append, cond}
+use Rattle.std.proofs.lemmas.Bool.{false_from_ne_true}
 use Rattle.std.specs.Prelude.{◌↔◌}
 use Rattle.std.specs.List.{AllByRecursion, count_by, last_or}
 use Rattle.std.proofs.lemmas.List.Sums.{sum_by-cons}
@@ -19,7 +20,6 @@ use Rattle.cargo_platform.specs.Faults.{IncompleteExpr, expected_token, expected
 use Rattle.cargo_platform.specs.Walk.{Word, Several, Negation, State, Wanted, Member, Behind, Named, Keyed, Ended}
 use Rattle.cargo_platform.specs.Walk.{after_role, after_name, after_expression, after, walk_from, walk, is_whole}
 use Rattle.cargo_platform.specs.FaultLaws.{is_left_paren, IsCompletedShortly, IsOfClass, CanFollow, Names}
-use Rattle.cargo_platform.proofs.OneCut.{never}
 use Rattle.cargo_platform.proofs.Walk.{none_some, walk_next}
 use Rattle.cargo_platform.proofs.Building.{completable_walks}
 use Rattle.cargo_platform.proofs.Completing.{needed, walked_completes_within, walked_completes, whole_accepted}
@@ -40,8 +40,7 @@ well_behind (t ∷ prefix) after more a b = well_behind prefix after more a.1 b
 pub prefix_completable : (g : Grammar) (prefix after : List Lexeme) → AreWellWritten (prefix ++ after)
     → IsCompletable g (prefix ++ after) → IsCompletable g prefix
 prefix_completable g prefix after well p =
-    let A : List Lexeme → Type 0 = λ z. IsAccepted g z in
-    (after ++ p.0, well_behind prefix after p.0 well p.1, subst A (append_assoc prefix after p.0) p.2)
+    (after ++ p.0, well_behind prefix after p.0 well p.1, rw (← append_assoc prefix after p.0) p.2)
 
 -- the empty list is completable
 pub none_completable : (g : Grammar) → IsCompletable g []
@@ -195,7 +194,8 @@ state_followed ts (Ended []) h w = absurd (true≢false w)
 expression_followed : (ts : List Lexeme) (s : State) → walk Expressions ts ≡ Some s
     → (IsAccepted Expressions ts → ⊥) → Follow Expressions ts (last_or None ts)
 expression_followed ts s h refused =
-    let unfinished : is_whole s ≡ false = never (is_whole s) (λ w. refused (whole_accepted Expressions s ts w h)) in
+    let unfinished : is_whole s ≡ false =
+    false_from_ne_true (is_whole s) (λ w. refused (whole_accepted Expressions s ts w h)) in
     let f = state_followed ts s h unfinished in
     let m = walk_matches Expressions ts s h in
     let C : List ℕ → Type 0 = λ z. CanFollow Expressions ts z in

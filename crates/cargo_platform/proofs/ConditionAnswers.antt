@@ -18,8 +18,7 @@ pub expression_fault : (text inner : List ℕ) (x : ReadError) → IsCfgOf text 
     → IfParse {A = CfgExpr} (Err x) (λ e. IsRefused Expressions inner (fault_in e))
     → IfParse {A = Platform} (Err x) (λ e. IsRefusedCondition text (orig_of e) (fault_in e))
 expression_fault text inner (errors.Parse e) h orig fault =
-    let P : List ℕ → Type 0 = λ z. IsCfgOf text z × IsRefused Expressions z (fault_in e) in
-    inl (subst P (sym orig) (h, fault))
+    inl (rw orig (h, fault))
 expression_fault text inner (errors.Memory e) h orig fault = tt
 
 -- and so is its span

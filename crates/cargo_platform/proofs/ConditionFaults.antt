@@ -1,5 +1,5 @@
 -- A text is accepted as a condition, or it is refused, with one fault.
-use Rattle.std.proofs.Common.{◌≡◌, refl, sym, ap, ◌∙◌, subst, ℕ, ◌==◌, Bool, true, false, true≢false, List, [], ◌∷◌}
+use Rattle.std.proofs.Common.{◌≡◌, refl, sym, ap, ◌∙◌, ℕ, ◌==◌, Bool, true, false, true≢false, List, [], ◌∷◌}
 use Rattle.std.proofs.Common.{◌++◌, length, length-append, take, drop, ◌-◌, codes, Option, Some, None, MatchOption}
 use Rattle.std.proofs.Common.{find, not, IsTrue, IsFalse, IsUtf8, inl, inr, ◌⊎◌, chars, encode_utf8, encode_utf8_all}
 use Rattle.std.proofs.Common.{append_assoc, arith, lit≤}
@@ -11,7 +11,7 @@ use Rattle.std.proofs.lemmas.Str.{encode_same}
 use Rattle.std.specs.Prelude.{bytes_eq}
 use Rattle.cargo_platform.specs.Trees.{Tree, Condition, Target, Expression}
 use Rattle.cargo_platform.specs.Spelling.{Expressions, IsTreeText}
-use Rattle.cargo_platform.specs.Faults.{Fault, InvalidTarget, IsRefused}
+use Rattle.cargo_platform.specs.Faults.{Fault, InvalidTarget}
 use Rattle.cargo_platform.specs.Platforms.{is_target_char, IsTargetName, IsCfgOf, IsBare, IsFirstRefused}
 use Rattle.cargo_platform.specs.Platforms.{IsTargetMessage, IsConditionText, IsRefusedCondition}
 use Rattle.cargo_platform.specs.Platforms.{IsConditionRefusal}
@@ -122,8 +122,7 @@ pub one_condition_fault : (text o p : List ℕ) (e f : Fault) → IsRefusedCondi
     → (o ≡ p) × (e ≡ f)
 one_condition_fault text o p e f (inl a) (inl b) =
     let same = one_inner text o p a.0 b.0 in
-    let R : List ℕ → Type 0 = λ z. IsRefused Expressions z e in
-    (same, one_fault Expressions p e f (subst R same a.1) b.1)
+    (same, one_fault Expressions p e f (rw (← same) a.1) b.1)
 one_condition_fault text o p e f (inl a) (inr b) = absurd (b.0 o a.0)
 one_condition_fault text o p e f (inr a) (inl b) = absurd (a.0 p b.0)
 one_condition_fault text o p e f (inr a) (inr b) =
@@ -134,8 +133,7 @@ none_spelled : (text inner : List ℕ) → IsCfgOf text inner → ((t : Tree) �
     → IsConditionText text p → ⊥
 none_spelled text inner h none (Target name) s = s.1 inner h
 none_spelled text inner h none (Expression t) s =
-    let P : List ℕ → Type 0 = λ z. IsTreeText z t in
-    none t (subst P (one_inner text s.0 inner s.1 h) s.2)
+    none t (rw (← one_inner text s.0 inner s.1 h) s.2)
 
 -- a text that is refused spells no condition
 pub refused_spells_no_condition : (text orig : List ℕ) (fault : Fault) → IsRefusedCondition text orig fault

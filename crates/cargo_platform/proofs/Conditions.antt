@@ -2,7 +2,6 @@
 use Rattle.std.proofs.Common.{◌≡◌, refl, sym, ap, ◌∙◌, subst, ℕ, Bool, false, List, ◌++◌, codes}
 use Rattle.std.proofs.lemmas.List.{append_cancel_left, append_cancel_right}
 use Rattle.cargo_platform.specs.Trees.{Tree, Condition, Target, Expression}
-use Rattle.cargo_platform.specs.Spelling.{IsTreeText}
 use Rattle.cargo_platform.specs.Platforms.{IsTargetName, IsCfgOf, IsConditionText}
 use Rattle.cargo_platform.specs.WellFormed.{IsWellFormedCondition}
 use Rattle.cargo_platform.specs.Print.{print, print_condition}
@@ -21,8 +20,7 @@ one_inner text i j p q =
 pub one_expression : (text : List ℕ) (d e : Tree) → IsConditionText text (Expression d)
     → IsConditionText text (Expression e) → d ≡ e
 one_expression text d e p q =
-    let P : List ℕ → Type 0 = λ z. IsTreeText z e in
-    one_tree_text p.0 d e p.2 (subst P (one_inner text q.0 p.0 q.1 p.1) q.2)
+    one_tree_text p.0 d e p.2 (rw (← one_inner text q.0 p.0 q.1 p.1) q.2)
 
 -- A text spells at most one condition.
 pub one_condition : (text : List ℕ) (p q : Condition) → IsConditionText text p → IsConditionText text q → p ≡ q

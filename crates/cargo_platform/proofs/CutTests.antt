@@ -6,7 +6,7 @@ use Rattle.std.specs.Str.{IsAscii}
 use Rattle.std.specs.Char.{is_ascii}
 use Rattle.std.specs.List.{list_all}
 use Rattle.std.proofs.Math.Dec.{leb}
-use Rattle.std.proofs.lemmas.Bool.{leb-true, ltb-true}
+use Rattle.std.proofs.lemmas.Bool.{and_parts, leb-true, ltb-true}
 use Rattle.std.proofs.lemmas.Str.{IsUtf8-from_ascii}
 use Rattle.std.proofs.lemmas.Slice.Eq.{bytes_eq-Decides}
 use Rattle.cargo_platform.specs.Chars.{is_identifier_start, is_identifier_rest, is_space, is_quote, is_number_sign}
@@ -14,7 +14,6 @@ use Rattle.cargo_platform.specs.Chars.{starts}
 use Rattle.cargo_platform.specs.Tokens.{Lexeme, LeftParen, RightParen, Ident, Comma, Equals, String, Placed, written}
 use Rattle.cargo_platform.specs.Tokens.{IsWellWritten}
 use Rattle.cargo_platform.specs.Cut.{IsPiece, IsWrittenAt, AreSpaces, EndsBefore, IsTail, IsCutFrom, IsCut}
-use Rattle.cargo_platform.proofs.OneCut.{both_first, both_second}
 
 -- strings here are ASCII
 abbrev pub is_well_written : Lexeme → Bool
@@ -25,13 +24,13 @@ is_well_written t = true
 
 ascii : (bs : List ℕ) → list_all is_ascii bs ≡ true → IsAscii bs
 ascii [] h i = lit< tt
-ascii (b ∷ bs) h zero = ltb-true b 128 (both_first (is_ascii b) _ h)
-ascii (b ∷ bs) h (suc i) = ascii bs (both_second (is_ascii b) _ h) i
+ascii (b ∷ bs) h zero = ltb-true b 128 (and_parts (is_ascii b) _ h).0
+ascii (b ∷ bs) h (suc i) = ascii bs (and_parts (is_ascii b) _ h).1 i
 
 well_written : (t : Lexeme) → is_well_written t ≡ true → IsWellWritten t
 well_written (Ident raw []) h = absurd (true≢false (sym h))
-well_written (Ident raw (c ∷ cs)) h = (both_first _ _ h, both_second _ _ h)
-well_written (String value) h = (IsUtf8-from_ascii value (ascii value (both_first _ _ h)), both_second _ _ h)
+well_written (Ident raw (c ∷ cs)) h = and_parts _ _ h
+well_written (String value) h = (IsUtf8-from_ascii value (ascii value (and_parts _ _ h).0), (and_parts _ _ h).1)
 well_written LeftParen h = tt
 well_written RightParen h = tt
 well_written Comma h = tt
@@ -47,7 +46,7 @@ false_of true h = absurd (true≢false (sym h))
 false_of false h = refl
 
 ends : (t : Lexeme) (rest : List ℕ) → ends_before t rest ≡ true → EndsBefore t rest
-ends (Ident raw name) rest h = (false_of _ (both_first _ _ h), false_of _ (both_second _ _ h))
+ends (Ident raw name) rest h = (false_of _ (and_parts _ _ h).0, false_of _ (and_parts _ _ h).1)
 ends LeftParen rest h = tt
 ends RightParen rest h = tt
 ends Comma rest h = tt
@@ -61,9 +60,9 @@ piece : (text : List ℕ) (i j : ℕ) (p : List ℕ) → is_range text i j ≡ t
     → IsPiece text i j p
 piece text i j p h e =
     record {
-      ordered = leb-true i j (both_first _ _ h);
+      ordered = leb-true i j (and_parts _ _ h).0;
       inside = leb-true j (length text)
-          (both_second _ _ h);
+          (and_parts _ _ h).1;
       bytes = e;
     }
 
@@ -72,7 +71,7 @@ are_spaces text i j = is_range text i j && list_all is_space (slice_range text i
 
 pub spaces : (text : List ℕ) (i j : ℕ) → are_spaces text i j ≡ true → AreSpaces text i j
 spaces text i j h =
-    (slice_range text i j, piece text i j (slice_range text i j) (both_first _ _ h) refl, both_second _ _ h)
+    (slice_range text i j, piece text i j (slice_range text i j) (and_parts _ _ h).0 refl, (and_parts _ _ h).1)
 
 abbrev is_written_at : List ℕ → Placed → Bool
 is_written_at text t =
@@ -81,9 +80,9 @@ is_written_at text t =
 
 pub written_at : (text : List ℕ) (t : Placed) → is_written_at text t ≡ true → IsWrittenAt text t
 written_at text t h = (
-  well_written t.token (both_first _ _ (both_first _ _ h)),
-  piece text t.start t.end (written t.token) (both_second _ _ (both_first _ _ h))
-      ((bytes_eq-Decides (slice_range text t.start t.end) (written t.token)).0 (both_second _ _ h)),
+  well_written t.token (and_parts _ _ (and_parts _ _ h).0).0,
+  piece text t.start t.end (written t.token) (and_parts _ _ (and_parts _ _ h).0).1
+      ((bytes_eq-Decides (slice_range text t.start t.end) (written t.token)).0 (and_parts _ _ h).1),
 )
 
 -- the tokens are cut so from a place on, up to the tail
@@ -97,13 +96,13 @@ cut_from : (text : List ℕ) (from : ℕ) (ts : List Placed) (tail : ℕ) → is
     → IsTail (drop tail text) → IsCutFrom text from ts tail
 cut_from text from [] tail h rest = record { written = tt; apart = spaces text from tail h; whole = tt; rest = rest }
 cut_from text from (t ∷ ts) tail h rest =
-    let behind = both_second (are_spaces text from t.start) _ h in
-    let token = both_second (is_written_at text t) _ behind in
-    let others = cut_from text t.end ts tail (both_second (ends_before t.token (drop t.end text)) _ token) rest in
+    let behind = (and_parts (are_spaces text from t.start) _ h).1 in
+    let token = (and_parts (is_written_at text t) _ behind).1 in
+    let others = cut_from text t.end ts tail (and_parts (ends_before t.token (drop t.end text)) _ token).1 rest in
     record {
-      written = (written_at text t (both_first _ _ behind), others.written);
-      apart = (spaces text from t.start (both_first _ _ h), others.apart);
-      whole = (ends t.token (drop t.end text) (both_first _ _ token), others.whole);
+      written = (written_at text t (and_parts _ _ behind).0, others.written);
+      apart = (spaces text from t.start (and_parts _ _ h).0, others.apart);
+      whole = (ends t.token (drop t.end text) (and_parts _ _ token).0, others.whole);
       rest = rest;
     }
 

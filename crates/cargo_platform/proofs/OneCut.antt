@@ -1,6 +1,6 @@
 -- A text has at most one cut.
 use Rattle.std.proofs.Common.{◌≡◌, refl, sym, ap, subst, ◌∙◌, ℕ, ◌+◌, ◌-◌, ◌<◌, Bool, true, false, not, ◌&&◌, ◌||◌}
-use Rattle.std.proofs.Common.{List, [], ◌∷◌, ◌++◌, codes, inl, inr, ◌⊎◌, true≢false, append_assoc, arith, length, drop}
+use Rattle.std.proofs.Common.{List, [], ◌∷◌, ◌++◌, codes, inl, inr, true≢false, append_assoc, arith, length, drop}
 use Rattle.std.proofs.Common.{lit≤, length-take, length-drop, take-append-drop}
 use Rattle.std.specs.Prelude.{IsFalse, bytes_eq, if◌then◌else◌, ◌==◌, slice_range}
 use Rattle.std.specs.List.{list_all}
@@ -8,7 +8,7 @@ use Rattle.std.specs.Char.{encode_utf8, is_ascii_alphabetic}
 use Rattle.std.specs.Int.{is_in_range}
 use Rattle.std.proofs.Math.Dec.{leb}
 use Rattle.std.proofs.Math.Bool.{or-true, and-false}
-use Rattle.std.proofs.lemmas.Bool.{leb-true, eqb-true}
+use Rattle.std.proofs.lemmas.Bool.{and_parts, eqb-true, false_from_ne_true, leb-true, or_cases}
 use Rattle.std.proofs.lemmas.Str.{char_from_byte, encode_ascii}
 use Rattle.std.proofs.lemmas.List.{drop-drop}
 use Rattle.std.proofs.lemmas.List.Folds.{list_all-append}
@@ -22,18 +22,6 @@ use Rattle.cargo_platform.specs.Tokens.{IsIdentifierName, IsWellWritten, Placed}
 use Rattle.cargo_platform.specs.Cut.{IsPiece, IsWrittenAt, AreSpaces, AreApart, EndsBefore, IsWhole, BeginsFault}
 use Rattle.cargo_platform.specs.Cut.{IsTail, IsCutFrom}
 
-pub both_true : (a b : Bool) → a ≡ true → b ≡ true → (a && b) ≡ true
-both_true true b h k = k
-both_true false b h k = h
-
-pub both_first : (a b : Bool) → (a && b) ≡ true → a ≡ true
-both_first true b h = refl
-both_first false b h = absurd (true≢false (sym h))
-
-pub both_second : (a b : Bool) → (a && b) ≡ true → b ≡ true
-both_second true b h = h
-both_second false b h = absurd (true≢false (sym h))
-
 pub head_of : {a b : ℕ} {s t : List ℕ} → a ∷ s ≡ b ∷ t → a ≡ b
 head_of h = cc
 
@@ -45,11 +33,11 @@ runs_same : (p : ℕ → Bool) (xs ys r s : List ℕ) → list_all p xs ≡ true
     → starts p r ≡ false → starts p s ≡ false → (xs ≡ ys) × (r ≡ s)
 runs_same p [] [] r s a b h nr ns = (refl, h)
 runs_same p [] (y ∷ ys) r s a b h nr ns =
-    absurd (true≢false (sym (both_first (p y) (list_all p ys) b) ∙ sym (ap (starts p) h) ∙ nr))
+    absurd (true≢false (sym (and_parts (p y) (list_all p ys) b).0 ∙ sym (ap (starts p) h) ∙ nr))
 runs_same p (x ∷ xs) [] r s a b h nr ns =
-    absurd (true≢false (sym (both_first (p x) (list_all p xs) a) ∙ ap (starts p) h ∙ ns))
+    absurd (true≢false (sym (and_parts (p x) (list_all p xs) a).0 ∙ ap (starts p) h ∙ ns))
 runs_same p (x ∷ xs) (y ∷ ys) r s a b h nr ns =
-    let t = runs_same p xs ys r s (both_second (p x) (list_all p xs) a) (both_second (p y) (list_all p ys) b)
+    let t = runs_same p xs ys r s (and_parts (p x) (list_all p xs) a).1 (and_parts (p y) (list_all p ys) b).1
     (tail_of h) nr ns in
     (λ i. head_of h i ∷ t.0 i, t.1)
 
@@ -95,7 +83,7 @@ mark_is_no_name c [] r more w e h =
     true≢false this
 mark_is_no_name c (d ∷ ds) r more w e h =
     true≢false
-    (sym (both_first (is_identifier_rest d) (list_all is_identifier_rest ds) w.1)
+    (sym (and_parts (is_identifier_rest d) (list_all is_identifier_rest ds) w.1).0
     ∙ sym (ap is_identifier_rest (head_of (tail_of h))))
 
 names_same : (m n r s : List ℕ) → IsIdentifierName m → IsIdentifierName n → IsFalse (starts is_identifier_rest r)
@@ -132,27 +120,20 @@ tokens_same t u r s v w e f h = absurd (omega (arith, sym (class_is t r v) ∙ a
 
 -- ---- the first byte of a token and of a tail
 
-pub either : (a b : Bool) → (a || b) ≡ true → (a ≡ true) ⊎ (b ≡ true)
-either true b h = inl refl
-either false b h = inr h
-
-pub never : (b : Bool) → (b ≡ true → ⊥) → b ≡ false
-never true h = absurd (h refl)
-never false h = refl
-
 -- an identifier start is ASCII
 pub start_is_ascii : (c : ℕ) → is_identifier_start c ≡ true → c < 128
 start_is_ascii c h =
-    elim (either (c == 0x5F) (is_ascii_alphabetic c) h) [
+    elim (or_cases (c == 0x5F) (is_ascii_alphabetic c) h) [
       | inl e ↦ omega (arith, eqb-true c 0x5F e)
-      | inr e ↦ elim (either (is_in_range 65 90 c) (is_in_range 97 122 c) e) [
-        | inl f ↦ omega (arith, leb-true c 90 (both_second (leb 65 c) (leb c 90) f))
-        | inr f ↦ omega (arith, leb-true c 122 (both_second (leb 97 c) (leb c 122) f))
+      | inr e ↦ elim (or_cases (is_in_range 65 90 c) (is_in_range 97 122 c) e) [
+        | inl f ↦ omega (arith, leb-true c 90 (and_parts (leb 65 c) (leb c 90) f).1)
+        | inr f ↦ omega (arith, leb-true c 122 (and_parts (leb 97 c) (leb c 122) f).1)
       ]
     ]
 
 start_is_no_space : (c : ℕ) → is_identifier_start c ≡ true → is_space c ≡ false
-start_is_no_space c h = never (is_space c) (λ e. true≢false (sym h ∙ ap is_identifier_start (eqb-true c 0x20 e)))
+start_is_no_space c h =
+    false_from_ne_true (is_space c) (λ e. true≢false (sym h ∙ ap is_identifier_start (eqb-true c 0x20 e)))
 
 pub record Begins (text : List ℕ) : Type 0 where
   pub byte : ℕ
@@ -244,7 +225,7 @@ fault_no_space text UnterminatedString f =
 fault_no_space text MissingIdentifier f = ap (starts is_space) f
 fault_no_space text (UnexpectedChar c) (inl f) = ap (starts is_space) f.2
 fault_no_space [] (UnexpectedChar c) (inr f) = refl
-fault_no_space (b ∷ bs) (UnexpectedChar c) (inr f) = never (is_space b) (λ h.
+fault_no_space (b ∷ bs) (UnexpectedChar c) (inr f) = false_from_ne_true (is_space b) (λ h.
     let sp : b ≡ 0x20 = eqb-true b 0x20 h in
     let is : c ≡ b = char_is (b ∷ bs) f.0 c b bs f.1.parts refl (omega (arith, sp)) in
     true≢false (sym (ap is_known_start (is ∙ sp)) ∙ f.2))
@@ -291,9 +272,8 @@ pub not_both : (text : List ℕ) (from i : ℕ) (t : Placed) → AreSpaces text 
 not_both text from i t p tail q w whole =
     let same : i ≡ t.start = same_start text from i t.start p q (tail_no_space (drop i text) tail)
     (starts_clear text t w) in
-    let P : List ℕ → Type 0 = λ z. IsTail z in
     token_is_no_tail t.token (drop t.end text) w.0 whole
-    (subst P (ap (λ k. drop k text) same ∙ written_rest text t w) tail)
+    (rw (← ap (λ k. drop k text) same ∙ written_rest text t w) tail)
 
 pub same_token : (text : List ℕ) (from : ℕ) (t u : Placed) → AreSpaces text from t.start → AreSpaces text from u.start
     → IsWrittenAt text t → IsWrittenAt text u → IsWhole text t → IsWhole text u → t ≡ u

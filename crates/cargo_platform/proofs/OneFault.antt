@@ -84,8 +84,7 @@ one_next text [] tail (Token t) j f g = absurd f
 one_next text [] tail i (Token t) f g = absurd g
 one_next text [] tail (Lexical k at) (Lexical l place) f g =
     let same : at ≡ place = f.0 ∙ sym g.0 in
-    let B : ℕ → Type 0 = λ z. BeginsFault (drop z text) l in
-    let kind = one_lexical_fault (drop at text) k l f.1 (subst B (sym same) g.1) in
+    let kind = one_lexical_fault (drop at text) k l f.1 (rw same g.1) in
     λ i. Lexical (kind i) (same i)
 one_next text [] tail (Lexical k at) Nothing f g = absurd (no_fault_at_end text tail at k f g)
 one_next text [] tail Nothing (Lexical k at) f g = absurd (no_fault_at_end text tail at k g f)

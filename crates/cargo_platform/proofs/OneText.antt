@@ -1,6 +1,6 @@
 -- A list of tokens, and a text, spells at most one value, and at most one tree.
-use Rattle.std.proofs.Common.{◌≡◌, refl, sym, ap, ◌∙◌, ℕ, subst, false, List, [], ◌∷◌, length}
-use Rattle.cargo_platform.specs.Tokens.{Lexeme, Ident, Equals, String, Placed}
+use Rattle.std.proofs.Common.{◌≡◌, refl, sym, ap, ◌∙◌, ℕ, false, List, [], ◌∷◌, length}
+use Rattle.cargo_platform.specs.Tokens.{Lexeme, Ident, Equals, String}
 use Rattle.cargo_platform.specs.Cut.{lexemes}
 use Rattle.cargo_platform.specs.Trees.{CfgValue, Alone, KeyPair, Tree}
 use Rattle.cargo_platform.specs.Spelling.{value_spelling, SpellsValue, Spells, TextSpells, IsValueText, IsTreeText}
@@ -31,8 +31,7 @@ one_text : {A : Type 0} (spells : A → List Lexeme → Type 0)
     → TextSpells spells text a → TextSpells spells text b → a ≡ b
 one_text spells one text a b p q =
     let same : p.0 ≡ q.0 = (one_cut_from text p.0 q.0 0 (length text) (length text) p.1 q.1).0 in
-    let Q : List Placed → Type 0 = λ z. spells b (lexemes z) in
-    one a b (lexemes p.0) p.2 (subst Q (sym same) q.2)
+    one a b (lexemes p.0) p.2 (rw same q.2)
 
 pub one_value_text : (text : List ℕ) (c d : CfgValue) → IsValueText text c → IsValueText text d → c ≡ d
 one_value_text text c d p q = one_text SpellsValue one_value text c d p q

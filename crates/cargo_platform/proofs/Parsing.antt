@@ -1,9 +1,9 @@
 -- A reader of names, pairs and expressions, step by step.
 use Rattle.std.proofs.Common.{◌≡◌, refl, sym, ap, subst, ◌∙◌, ℕ, ◌≤◌, ◌<◌, Bool, true, false, ◌&&◌, List, []}
-use Rattle.std.proofs.Common.{◌∷◌, ◌++◌, Option, Some, None, Ok, Err, codes, length, append_assoc}
+use Rattle.std.proofs.Common.{◌∷◌, ◌++◌, Option, Some, None, codes, length, append_assoc}
 use Rattle.std.proofs.Common.{append-nil}
 use Rattle.std.proofs.Common.{true≢false, arith}
-use Rattle.std.specs.Prelude.{IsFalse, Result, IfOk, IfErr, IfSome}
+use Rattle.std.specs.Prelude.{IsFalse, IfSome}
 use Rattle.std.specs.List.{last_or}
 use Rattle.std.proofs.lemmas.Option.{IfSome_then}
 use Rattle.std.specs.declared.ops.Range.{Range}
@@ -16,7 +16,7 @@ use Rattle.cargo_platform.specs.Tokens.{written}
 use Rattle.cargo_platform.specs.Cut.{lexemes}
 use Rattle.cargo_platform.specs.Trees.{Name, CfgValue, Alone, KeyPair, Tree, Not, Value}
 use Rattle.cargo_platform.specs.Spelling.{Grammar, Values, Expressions, identifier, value_spelling, name_in, MayStand}
-use Rattle.cargo_platform.specs.Spelling.{is_group_word, is_literal_word, Spells}
+use Rattle.cargo_platform.specs.Spelling.{Spells}
 use Rattle.cargo_platform.specs.Faults.{Fault, expected_token, expected_end}
 use Rattle.cargo_platform.specs.Walk.{Word, Several, Negation, State, Behind, Named, Keyed, after, after_expression}
 use Rattle.cargo_platform.specs.Walk.{walk, is_whole}
@@ -112,9 +112,7 @@ fault_is r f P h p = let I : Option FaultAt → Type 0 = λ o. IfSome o P in sub
 moved : (a f : Fault) (x : Range ℕ) (s : Option (Range ℕ)) (P : Fault → Option (Range ℕ) → Type 0) → Some a ≡ Some f
     → Some x ≡ s → P a (Some x) → P f s
 moved a f x s P h k p =
-    let A : Fault → Type 0 = λ z. P z (Some x) in
-    let B : Option (Range ℕ) → Type 0 = λ z. P f z in
-    subst B k (subst A (same_Some _ _ h) p)
+    rw (← k) (rw (← same_Some _ _ h) p)
 
 -- what is said of the fault that a refusal stands for and of its span
 pub fault_and_span : (r : Refusal) (f : Fault) (s : Option (Range ℕ)) (P : Fault → Option (Range ℕ) → Type 0)
@@ -171,8 +169,7 @@ refused_here g l next P r comes h =
       path = refl;
       stuck = λ ts p.
           let a = h ts p in
-          let S : List Lexeme → Type 0 = λ z. IsStuck g l z f in
-          subst S (sym (append-nil ts)) (record {
+          rw (append-nil ts) (record {
             next = next;
             comes = comes;
             s = a.s;
@@ -196,12 +193,11 @@ stops_here : {g : Grammar} (l : Ahead) (P : List Lexeme → Type 0) (r : Refusal
 stops_here {g} l P r expected at_end h f = refused_here g l h.0 P r h.1 (λ ts p.
     let a = f ts p in
     let m = walk_matches g ts a.s a.walked in
-    let F : Bool → Type 0 = λ b. IfFault r (λ z. fault_at_of g l.text b (last_or None ts) h.0 ≡ Some z) in
     record {
       s = a.s;
       walked = a.walked;
       unfit = a.unfit;
-      refused = subst F (sym a.unfinished) (h.2 g (last_or None ts) (m.0 ∙ a.wants) (m.1 ∙ a.wants_end));
+      refused = rw a.unfinished (h.2 g (last_or None ts) (m.0 ∙ a.wants) (m.1 ∙ a.wants_end));
     })
 
 pub stops_untaken : {g : Grammar} (l m : Ahead) (P : List Lexeme → Type 0) (r : Refusal) (expected at_end : List ℕ)
@@ -226,12 +222,11 @@ pub stops_behind : {g : Grammar} (l : Ahead) (P : List Lexeme → Type 0) (r : R
     → ((ts : List Lexeme) → P ts → Whole g l ts) → Stops g l P r
 stops_behind {g} l P r h f = refused_here g l h.0 P r h.1 (λ ts p.
     let a = f ts p in
-    let F : Bool → Type 0 = λ b. IfFault r (λ z. fault_at_of g l.text b (last_or None ts) h.0 ≡ Some z) in
     record {
       s = ends a.lone [];
       walked = a.walked;
       unfit = λ t x. after_end g a.lone [] t.token (clear_first a.lone t.token (λ n. a.clear n t x));
-      refused = subst F (sym (ends_whole a.lone)) (h.2 g (last_or None ts));
+      refused = rw (ends_whole a.lone) (h.2 g (last_or None ts));
     })
 
 -- ---- names and pairs
@@ -281,13 +276,12 @@ value_stands l m gs n c may a clear = record {
   path = a.path;
   leads = λ ts h.
       let is = a.leads (identifier n ∷ []) refl in
-      let M : Name → Type 0 = λ z. IsFalse (is_group_word z) × IsFalse (is_literal_word z) in
       record {
         ends = (
           h.before,
           value_spelling c,
           h.wanted,
-          (refl, subst M (key_is n c (lexemes a.us) is) may),
+          (refl, rw (← key_is n c (lexemes a.us) is) may),
           ap (λ (z : List Lexeme). z ++ lexemes a.us) h.is
               ∙ append_assoc h.before (identifier n ∷ []) (lexemes a.us)
               ∙ ap (λ (z : List Lexeme). h.before ++ z) is,
@@ -458,11 +452,3 @@ tree_whole l e ts h = record { lone = is_lone e; walked = ends_walk [] e ts h.en
 
 pub spelled : (l m : Ahead) (e : Tree) → (a : Reads l m (λ ts. ts ≡ []) (Has [] e m)) → Spells e (lexemes a.us)
 spelled l m e a = tree_accepted e (lexemes a.us) (a.leads [] refl).ends
-
-pub if_ok : {A E : Type 0} → (r : Result A E) (P Q : A → Type 0) → ((a : A) → P a → Q a) → IfOk r P → IfOk r Q
-if_ok (Ok a) P Q f p = f a p
-if_ok (Err e) P Q f p = tt
-
-pub if_err : {A E : Type 0} → (r : Result A E) (P Q : E → Type 0) → ((e : E) → P e → Q e) → IfErr r P → IfErr r Q
-if_err (Ok a) P Q f p = tt
-if_err (Err e) P Q f p = f e p

@@ -1,6 +1,7 @@
 -- What comes ahead of a reader is what the cut has next.
 use Rattle.std.proofs.Common.{◌≡◌, refl, sym, ap, subst, ◌∙◌, ℕ, List, [], ◌∷◌, ◌++◌, inl, inr, arith, length, drop}
 use Rattle.std.proofs.Common.{◌+◌, append_assoc, drop_of_length-le, length-append}
+use Rattle.std.proofs.lemmas.Bool.{and_from}
 use Rattle.std.proofs.lemmas.List.Folds.{list_all-append}
 use Rattle.cargo_platform.specs.Chars.{is_space, starts}
 use Rattle.cargo_platform.specs.Tokens.{Placed}
@@ -8,7 +9,7 @@ use Rattle.cargo_platform.specs.Cut.{IsPiece, AreSpaces, BeginsFault, IsCutFrom,
 use Rattle.cargo_platform.specs.Cut.{Item, Nothing, Comes}
 use Rattle.cargo_platform.specs.Inside.Ahead.{Ahead, Path}
 use Rattle.cargo_platform.specs.Cut as cut
-use Rattle.cargo_platform.proofs.OneCut.{both_true, piece_end, piece_rest, same_start, same_token, not_both}
+use Rattle.cargo_platform.proofs.OneCut.{piece_end, piece_rest, same_start, same_token, not_both}
 use Rattle.cargo_platform.proofs.OneCut.{tail_no_space}
 use Rattle.cargo_platform.proofs.SomeCut.{piece_at}
 
@@ -22,8 +23,7 @@ join text from mid to s t =
     let piece = piece_at text from (s.0 ++ t.0) (drop to text) (omega (arith, s.1.ordered, s.1.inside)) whole in
     let end : from + length (s.0 ++ t.0) ≡ to = omega
     (arith, piece_end text from mid s.0 s.1, piece_end text mid to t.0 t.1, length-append s.0 t.0) in
-    let P : ℕ → Type 0 = λ z. IsPiece text from z (s.0 ++ t.0) in
-    (s.0 ++ t.0, subst P end piece, list_all-append is_space s.0 t.0 ∙ both_true _ _ s.2 t.2)
+    (s.0 ++ t.0, rw (← end) piece, list_all-append is_space s.0 t.0 ∙ and_from _ _ s.2 t.2)
 
 pub comes_from : (text : List ℕ) (from at to : ℕ) (i : Item) → AreSpaces text from at → Comes text at i to
     → Comes text from i to
@@ -65,15 +65,12 @@ next_is text from to tail Nothing ts c g = go ts c
 pub next_comes : (text : List ℕ) (from tail : ℕ) (ts : List Placed) (i : Item) → IsCutFrom text from ts tail
     → IsNext text ts tail i → (to : ℕ) × Comes text from i to
 next_comes text from tail (t ∷ ts) i c is =
-    let C : Item → Type 0 = λ z. (to : ℕ) × Comes text from z to in
-    subst C (sym is) (t.end, (c.apart.0, c.written.0, c.whole.0, refl))
+    rw is (t.end, (c.apart.0, c.written.0, c.whole.0, refl))
 next_comes text from tail [] (cut.Token t) c is = absurd is
 next_comes text from tail [] (cut.Lexical k at) c is =
-    let S : ℕ → Type 0 = λ z. AreSpaces text from z in
-    (at, (subst S (sym is.0) c.apart, is.1, refl))
+    (at, (rw is.0 c.apart, is.1, refl))
 next_comes text from tail [] Nothing c is =
-    let S : ℕ → Type 0 = λ z. AreSpaces text from z in
-    (length text, (subst S is c.apart, refl))
+    (length text, (rw (← is) c.apart, refl))
 
 -- what is left after a token
 pub cut_behind : (text : List ℕ) (from tail : ℕ) (t : Placed) (ts : List Placed) → IsCutFrom text from (t ∷ ts) tail
@@ -104,9 +101,8 @@ first_left text from to tail [] ts i c h = (ts, refl, next_is text from to tail 
 first_left text from to tail (t ∷ us) [] i c h = absurd (next_is text from t.end tail (cut.Token t) [] c h.0)
 first_left text from to tail (t ∷ us) (u ∷ ts) i c h =
     let same = same_token text from u t c.apart.0 h.0.0 c.written.0 h.0.1 c.whole.0 h.0.2 in
-    let L : ℕ → Type 0 = λ z. IsCutFrom text z ts tail in
     let left = first_left text t.end to tail us ts i
-    (subst L (ap (λ (z : Placed). z.end) same) (cut_behind text from tail u ts c)) h.1 in
+    (rw (← ap (λ (z : Placed). z.end) same) (cut_behind text from tail u ts c)) h.1 in
     (left.0, λ i. same i ∷ left.1 i, left.2)
 
 -- ---- what is ahead of a reader

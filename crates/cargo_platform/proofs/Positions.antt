@@ -266,11 +266,9 @@ literal_holds gs ts name w is = go is
 role_holds : (gs : List Opening) (ts : List Lexeme) (n : Name) (r : Role) → Wants gs ts → IsOfRole n r
     → Holds (at_role r n gs) (ts ++ identifier n ∷ [])
 role_holds gs ts n GroupWord w is =
-    let W : Bool → Type 0 = λ z. HasWord gs (opened_by n.name) (ts ++ Ident z n.name ∷ []) in
-    subst W (sym is.0) (word_holds gs ts n.name w is.1)
+    rw is.0 (word_holds gs ts n.name w is.1)
 role_holds gs ts n LiteralWord w is =
-    let L : Bool → Type 0 = λ z. EndsWith gs (literal_of n.name) (ts ++ Ident z n.name ∷ []) in
-    subst L (sym is.0) (literal_holds gs ts n.name w is.1)
+    rw is.0 (literal_holds gs ts n.name w is.1)
 role_holds gs ts n PlainName w is = name_ends gs n ts w is
 
 -- after an expression
@@ -306,15 +304,13 @@ next_holds p t q ts o h = no_position h
 all_hold : (p : Position) (before ts : List Lexeme) (q : Position) → Holds p before
     → lead_from false (Some p) ts ≡ Some q → Holds q (before ++ ts)
 all_hold p before [] q o h =
-    let H : List Lexeme → Type 0 = λ z. Holds q z in
-    subst H (sym (append-nil before)) (moved p q before h o)
+    rw (append-nil before) (moved p q before h o)
 all_hold p before (t ∷ ts) q o h =
     elim (lead false p t) as
     (λ z. lead false p t ≡ z → lead_from false z ts ≡ Some q → Holds q (before ++ (t ∷ ts))) [
       | None ↦ λ _ stops. no_position stops
       | Some u ↦ λ is goes.
-          let H : List Lexeme → Type 0 = λ z. Holds q z in
-          subst H (append_assoc before (t ∷ []) ts)
+          rw (← append_assoc before (t ∷ []) ts)
           (all_hold u (before ++ t ∷ []) ts q (next_holds p t u before o is) goes)
     ] refl h
 

@@ -47,14 +47,13 @@ longest_before g prefix rest t never longer others h p =
     elim (longer_or prefix others longer rest t h) [
       | inl le ↦ le
       | inr m ↦
-          let A : List Lexeme → Type 0 = λ z. IsAccepted g z in
           let tokens = lexemes prefix in
           let is : lexemes longer ++ p.0 ≡ (tokens ++ t.token ∷ []) ++ (lexemes m.0 ++ p.0) =
           ap (λ (z : List Placed). lexemes z ++ p.0) m.1
           ∙ ap (λ (z : List Lexeme). z ++ p.0) (lexemes-append prefix (t ∷ m.0))
           ∙ append_assoc tokens (t.token ∷ lexemes m.0) p.0
           ∙ sym (append_assoc tokens (t.token ∷ []) (lexemes m.0 ++ p.0)) in
-          absurd (never (lexemes m.0 ++ p.0) (subst A is p.2))
+          absurd (never (lexemes m.0 ++ p.0) (rw (← is) p.2))
     ]
 
 -- the next token does not go on with the tokens that lead to the state

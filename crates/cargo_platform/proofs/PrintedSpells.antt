@@ -89,7 +89,6 @@ cut_laid text from (p ∷ ps) le h s =
     (written p.token ++ laid ps) h in
     let word = piece_at text at (written p.token) (laid ps) space.inside here in
     let behind : drop end text ≡ laid ps = rest_at text at (written p.token) (laid ps) here in
-    let E : List ℕ → Type 0 = λ z. EndsBefore p.token z in
     let others = cut_laid text end ps word.inside behind s.2 in
     record {
       places = record { token = p.token; start = at; end = end } ∷ others.places;
@@ -97,7 +96,7 @@ cut_laid text from (p ∷ ps) le h s =
       cut = record {
         written = ((s.0, word), others.cut.written);
         apart = ((gap p.space, space, gap_is p.space), others.cut.apart);
-        whole = (subst E (sym behind) s.1, others.cut.whole);
+        whole = (rw behind s.1, others.cut.whole);
         rest = others.cut.rest;
       };
     }

@@ -123,8 +123,7 @@ step_positive layer.False = omega arith
 
 size_positive : (e : CfgExpr) → 1 ≤ node_count e
 size_positive e =
-    let P : ℕ → Type 0 = λ z. 1 ≤ z in
-    subst P (sym (fold_out-CfgExpr ℕ size_step e)) (step_positive (map-CfgExpr CfgExpr ℕ node_count (out-CfgExpr e)))
+    rw (fold_out-CfgExpr ℕ size_step e) (step_positive (map-CfgExpr CfgExpr ℕ node_count (out-CfgExpr e)))
 
 size_of_first : (e : CfgExpr) (es : List CfgExpr) → node_counts (e ∷ es) ≡ node_count e + node_counts es
 size_of_first e es = sum_by-cons (λ (x : ℕ). x) (node_count e) (map node_count es)
@@ -149,11 +148,10 @@ module _ {W : Type 0} (took : W → List ℕ → W → Type 0) where
       → HasWritten took g (word (tree_of e)) h → HasWritten took h (between es) k
       → HasWrittenBut took f text (begun_members (trees_of (map tree_of es))) k
   leaf_written f g h k text ls es e is leaf so_far first behind =
-      let P : List ℕ → Type 0 = λ z. HasWrittenBut took f text z g in
       let same = ap (λ z. begun_members (trees_of (map tree_of z))) is ∙ members_begun (tree_of e) es leaf in
       piece_written took f h k text (between es) (begun_members (trees_of (map tree_of es)))
       (piece_written took f g h text (word (tree_of e)) (between es ++ begun_members (trees_of (map tree_of es)))
-      (subst P same so_far) first) behind
+      (rw (← same) so_far) first) behind
 
   -- what a group begins with that no others follow
   pub group_opened : (f g h : Formatter W) (text : List ℕ) (ls es : List CfgExpr) (e : CfgExpr) (ms : List CfgExpr)
@@ -162,11 +160,10 @@ module _ {W : Type 0} (took : W → List ℕ → W → Type 0) where
       → HasWrittenBut took f text (begun_members (trees_of (map tree_of ls))) g → HasWritten took g (word (tree_of e)) h
       → HasWrittenBut took f text (begun_members (trees_of (map tree_of ms))) h
   group_opened f g h text ls es e ms is so grouped begins so_far first =
-      let P : List ℕ → Type 0 = λ z. HasWrittenBut took f text z g in
       let same = ap (λ z. begun_members (trees_of (map tree_of z)))
       (is ∙ ap (λ (z : List CfgExpr). e ∷ z) (alone (is_group (tree_of e)) es so grouped)) in
       piece_written took f g h text (word (tree_of e)) (begun_members (trees_of (map tree_of ms)))
-      (subst P (same ∙ begins) so_far) first
+      (rw (← same ∙ begins) so_far) first
 
   -- a whole group that others follow, and the comma
   pub group_written : (f g h k : Formatter W) (text : List ℕ) (ls es : List CfgExpr) (e : CfgExpr) → ls ≡ e ∷ es
@@ -174,19 +171,17 @@ module _ {W : Type 0} (took : W → List ℕ → W → Type 0) where
       → HasWritten took g (print (tree_of e)) h → HasWritten took h (codes ", ") k
       → HasWrittenBut took f text (begun_members (trees_of (map tree_of es))) k
   group_written f g h k text ls es e is some so_far group comma =
-      let P : List ℕ → Type 0 = λ z. HasWrittenBut took f text z g in
       let same = ap (λ z. begun_members (trees_of (map tree_of z))) is
       ∙ group_begun (tree_of e) es (followed ls es e is some) in
       piece_written took f h k text (codes ", ") (begun_members (trees_of (map tree_of es)))
       (piece_written took f g h text (print (tree_of e)) (codes ", " ++ begun_members (trees_of (map tree_of es)))
-      (subst P same so_far) group) comma
+      (rw (← same) so_far) group) comma
 
   -- a part of what is left
   pub further_written : (f g h : Formatter W) (text left rest : List ℕ) → HasWrittenBut took f text left g
       → HasWrittenBut took g left rest h → HasWrittenBut took f text rest h
   further_written f g h text left rest so_far next =
-      let P : List ℕ → Type 0 = λ z. HasWrittenBut took f text z g in
-      piece_written took f g h text next.done rest (subst P (sym next.whole) so_far) next.wrote
+      piece_written took f g h text next.done rest (rw next.whole so_far) next.wrote
 
   -- one parenthesis
   pub end_written : (f g h : Formatter W) (text : List ℕ) (n m : ℕ) → HasWrittenBut took f text (closed n) g

@@ -1,5 +1,5 @@
 -- A text with a first fault spells nothing of the grammar.
-use Rattle.std.proofs.Common.{◌≡◌, refl, sym, ap, subst, ◌∙◌, ℕ, ◌≤◌, Bool, true, List, [], ◌∷◌, ◌++◌, Option, Some}
+use Rattle.std.proofs.Common.{◌≡◌, refl, sym, ap, subst, ◌∙◌, ℕ, ◌≤◌, true, List, [], ◌∷◌, ◌++◌, Option, Some}
 use Rattle.std.proofs.Common.{None, append-nil, arith, length, length-append, drop_of_length-le, inl, inr}
 use Rattle.std.specs.List.{last_or}
 use Rattle.std.specs.Char.{encode_utf8}
@@ -63,13 +63,9 @@ refused_accepts_none g text f ts r cut p =
     let prefix_is : r.ts ≡ r.prefix = r.is_prefix.parts ∙ ap (λ (z : List Placed). r.prefix ++ z) none
     ∙ append-nil r.prefix in
     let yes : r.accepted ≡ true = r.is_accepted.1 (subst A prefix_is whole) in
-    let C : List Placed → Type 0 = λ z. IsCut text z r.tail in
-    let N : List Placed → Type 0 = λ z. IsNext text z r.tail r.next in
-    let M : ℕ → Type 0 = λ z. IsNext text [] z r.next in
-    let F : Bool → Type 0 = λ z. fault_of g text z (last_or None (lexemes r.prefix)) r.next ≡ Some f in
-    let next = behind_is text 0 r.place r.tail r.prefix r.after r.next (subst C r.is_prefix.parts r.cut) r.follows in
-    at_end g text (last_or None (lexemes r.prefix)) r.next f (subst M same.1 (subst N none next))
-    (subst F yes r.is_fault)
+    let next = behind_is text 0 r.place r.tail r.prefix r.after r.next (rw (← r.is_prefix.parts) r.cut) r.follows in
+    at_end g text (last_or None (lexemes r.prefix)) r.next f (rw (← same.1) (rw (← none) next))
+    (rw (← yes) r.is_fault)
 
 -- a text that is refused as an expression spells no tree
 pub refused_spells_none : (text : List ℕ) (f : Fault) (e : Tree) → IsRefused Expressions text f → IsTreeText text e → ⊥

@@ -28,8 +28,7 @@ goes_not_on g text (t ∷ us) tail s next f h = let S : Item → Type 0 = λ z. 
 way_comes : (text : List ℕ) (l m : Ahead) (us : List Placed) (i : Item) (to : ℕ) → l.text ≡ text
     → AreSpaces text 0 l.place → Path l us m → Comes m.text m.place i to → ComesBehind text 0 us i to
 way_comes text l m us i to same spaces path c =
-    let B : List ℕ → Type 0 = λ z. ComesBehind z l.place us i to in
-    behind_spaces text 0 l.place to us i spaces (subst B same (path_comes l m us i to path c))
+    behind_spaces text 0 l.place to us i spaces (rw (← same) (path_comes l m us i to path c))
 
 -- the fault and its span, each by itself
 parts_of : (span : Range ℕ) (o : Option Fault) (f : FaultAt) → placed_fault span o ≡ Some f
@@ -56,8 +55,7 @@ stops_refused g text l r utf8 same spaces h =
         let both = parts_of (span_of text (is_whole s.s) s.next)
         (fault_of g text (is_whole s.s) (last_or None (lexemes a.us)) s.next) f
         (subst F (path_text l a.stop a.us a.path ∙ same) s.is) in
-        let R : Range ℕ → Type 0 = λ z. IsRefusedAt g text f.fault (Some z) in
-        subst R both.1
+        rw (← both.1)
         (refused_walked_at g text c.0 a.us left.0 c.1 s.s s.next f.fault c.2 left.1 s.walked
         (goes_not_on g text left.0 c.1 s.s s.next left.2 s.stops) left.2 both.0)
 
@@ -65,9 +63,8 @@ stops_refused g text l r utf8 same spaces h =
 pub path_cut : (text : List ℕ) (l m : Ahead) (us : List Placed) → l.text ≡ text → AreSpaces text 0 l.place
     → Path l us m → NextIs m Nothing → IsCut text us (length text)
 path_cut text l m us same spaces path done =
-    let C : ℕ → Type 0 = λ z. IsCut text us z in
     let w = way_comes text l m us Nothing done.to same spaces path done.comes in
-    subst C (ends us 0 w) ((cuts_are_read text us done.to).0 (Nothing, refl, w))
+    rw (← ends us 0 w) ((cuts_are_read text us done.to).0 (Nothing, refl, w))
   where
     ends : (us : List Placed) (from : ℕ) → ComesBehind text from us Nothing done.to → done.to ≡ length text
     ends [] from h = h.1

@@ -6,7 +6,7 @@ use Rattle.std.specs.Prelude.{IsFalse}
 use Rattle.cargo_platform.specs.declared.tokens.Spanned.{Spanned}
 use Rattle.cargo_platform.specs.declared.tokens.TokenFault.{TokenFault}
 use Rattle.cargo_platform.specs.Tokens.{Placed, placed}
-use Rattle.cargo_platform.specs.Cut.{AreSpaces, BeginsFault, IsCutFrom, Item, Token, Lexical, Nothing, Comes}
+use Rattle.cargo_platform.specs.Cut.{AreSpaces, IsCutFrom, Item, Token, Lexical, Nothing, Comes}
 use Rattle.cargo_platform.specs.Cut.{ComesBehind, is_token}
 use Rattle.cargo_platform.specs.Reading.{Progress, given}
 use Rattle.cargo_platform.specs.CutLaws.{CutsAreRead, IsReadAlike, GivesNoMore, EndsForGood, FailsOnce}
@@ -21,12 +21,11 @@ read_cut : (text : List ℕ) (from tail : ℕ) (ts : List Placed) (last : Item) 
     → ComesBehind text from ts last tail → IsCutFrom text from ts tail
 read_cut text from tail [] (Token t) none h = absurd (true≢false none)
 read_cut text from tail [] (Lexical k at) none h =
-    let B : ℕ → Type 0 = λ z. BeginsFault (drop z text) k in
     record {
       written = tt;
       apart = subst (AreSpaces text from) (sym h.2) h.0;
       whole = tt;
-      rest = inr (k, subst B (sym h.2) h.1);
+      rest = inr (k, rw h.2 h.1);
     }
 read_cut text from tail [] Nothing none h = record {
   written = tt;
@@ -86,8 +85,7 @@ end_gives p at_end r new (inl g) = go r g.comes
     go (Some (Ok s)) c = absurd (next_is p.text p.place new.place p.place (Token (placed s)) [] cut c)
     go (Some (Err f)) c =
         let left = next_is p.text p.place new.place p.place (Lexical f.kind f.at) [] cut c in
-        let B : List ℕ → Type 0 = λ z. BeginsFault z f.kind in
-        absurd (no_fault f.kind (subst B (ap (λ k. drop k p.text) left.0 ∙ none) c.1))
+        absurd (no_fault f.kind (rw (← ap (λ k. drop k p.text) left.0 ∙ none) c.1))
 
 pub ends_for_good : (old new : Progress) → EndsForGood old new
 ends_for_good old new (inr g) = failed_gives new (ap (λ (p : Progress). p.failed) g.2 ∙ g.0)

@@ -8,7 +8,7 @@ use Rattle.std.proofs.lemmas.List.{get_or-drop}
 use Rattle.std.proofs.lemmas.List.Edits.{between_none, between_more, length-between, get_or-between}
 use Rattle.std.proofs.lemmas.Grind.{common_steps}
 use Rattle.std.proofs.lemmas.Slice.Eq.{bytes_eq-Decides}
-use Rattle.std.proofs.lemmas.Bool.{ne_eqb, ltb-true, ltb-false}
+use Rattle.std.proofs.lemmas.Bool.{and_from, and_parts, false_from_ne_true, ltb-false, ltb-true, ne_eqb}
 use Rattle.std.proofs.Math.Seq.{drop-cons}
 use Rattle.cargo_platform.specs.declared.tokens.TokenFaultKind.TheVariants.{UnterminatedString}
 use Rattle.cargo_platform.specs.Chars.{is_identifier_start, is_identifier_rest, is_space, is_quote, is_number_sign}
@@ -17,7 +17,6 @@ use Rattle.cargo_platform.specs.Tokens.{Ident, String, IsIdentifierName}
 use Rattle.cargo_platform.specs.Cut.{AreSpaces, EndsBefore, BeginsFault}
 use Rattle.cargo_platform.specs.Inside.Looking.{IsCharAt}
 use Rattle.cargo_platform.specs.Inside.Scanning.{IsTokenAt}
-use Rattle.cargo_platform.proofs.OneCut.{both_true, both_first, both_second, never}
 
 -- ---- tests of the bytes between two places
 
@@ -25,7 +24,7 @@ pub all_each : (p : ℕ → Bool) (xs : List ℕ) → ((i : ℕ) → i < length 
     list_all p xs ≡ true
 all_each p [] each = refl
 all_each p (x ∷ xs) each =
-    both_true (p x) (list_all p xs) (each 0 (omega arith)) (all_each p xs (λ i below. each (suc i) (omega arith)))
+    and_from (p x) (list_all p xs) (each 0 (omega arith)) (all_each p xs (λ i below. each (suc i) (omega arith)))
 
 all_between : (p : ℕ → Bool) (text : List ℕ) (from to : ℕ) → to ≤ length text
     → ((i : ℕ) → from ≤ i → i < to → p (slice_index text i) ≡ true) → list_all p (slice_range text from to) ≡ true
@@ -138,11 +137,11 @@ name_ends : (text name : List ℕ) (raw : Bool) (end : ℕ) → is_identifier_re
 name_ends text name true end rest plain = (starts_at is_identifier_rest text end rest, refl)
 name_ends text name false end rest plain = (
   starts_at is_identifier_rest text end rest,
-  never (bytes_eq name (codes "r") && starts is_number_sign (drop end text)) (λ both.
+  false_from_ne_true (bytes_eq name (codes "r") && starts is_number_sign (drop end text)) (λ both.
       let is : name ≡ codes "r" = (bytes_eq-Decides name (codes "r")).0
-      (both_first (bytes_eq name (codes "r")) (starts is_number_sign (drop end text)) both) in
+      (and_parts (bytes_eq name (codes "r")) (starts is_number_sign (drop end text)) both).0 in
       let sign = starts_at is_number_sign text end (ne_eqb (slice_index text end) 0x23 (plain refl is)) in
-      true≢false (sym (both_second (bytes_eq name (codes "r")) (starts is_number_sign (drop end text)) both) ∙ sign)),
+      true≢false (sym (and_parts (bytes_eq name (codes "r")) (starts is_number_sign (drop end text)) both).1 ∙ sign)),
 )
 
 pub plain_stands : (text name : List ℕ) (start end : ℕ) → is_identifier_start (slice_index text start) ≡ true

@@ -10,7 +10,7 @@ use Rattle.std.specs.Str.{IsCharBoundary}
 use Rattle.std.proofs.lemmas.Str.{encode_ascii, IsUtf8-past_char, IsUtf8-take, IsUtf8-drop, IsCharBoundary-before_ascii}
 use Rattle.std.proofs.lemmas.Slice.Eq.{bytes_eq-Decides}
 use Rattle.std.proofs.lemmas.List.{drop-drop}
-use Rattle.std.proofs.lemmas.Bool.{eqb-true, leb-true}
+use Rattle.std.proofs.lemmas.Bool.{and_parts, eqb-true, false_from_ne_true, leb-true, or_cases}
 use Rattle.std.proofs.Math.Dec.{leb}
 use Rattle.std.specs.Int.{is_in_range}
 use Rattle.cargo_platform.specs.declared.tokens.TokenFaultKind.TheVariants.{UnterminatedString, UnexpectedChar}
@@ -20,7 +20,7 @@ use Rattle.cargo_platform.specs.Chars.{is_mark, is_known_start, starts, BeginsWi
 use Rattle.cargo_platform.specs.Tokens.{Lexeme, LeftParen, RightParen, Ident, Comma, Equals, String, written}
 use Rattle.cargo_platform.specs.Tokens.{IsWellWritten, Placed}
 use Rattle.cargo_platform.specs.Cut.{IsPiece, AreSpaces, EndsBefore, IsTail, IsCutFrom, IsCut}
-use Rattle.cargo_platform.proofs.OneCut.{either, never, both_first, both_second, start_is_ascii}
+use Rattle.cargo_platform.proofs.OneCut.{start_is_ascii}
 use lib.Utf8.{scalars, scalar, encodes}
 
 pub ascii_rest : (b : ℕ) (bs : List ℕ) → b < 128 → IsUtf8 (b ∷ bs) → IsUtf8 bs
@@ -93,12 +93,12 @@ ascii_sides b text v rest ascii u h =
 first_char : (b : ℕ) (bs : List ℕ) → IsUtf8 (b ∷ bs) → (c : ℕ) × (rest : List ℕ) × BeginsWith (b ∷ bs) c rest
 first_char b bs ([], (s, e)) = absurd cc
 first_char b bs (c ∷ cs, (s, e)) =
-    (c, encodes cs, record { scalar = both_first (scalar c) (scalars cs) s; parts = sym e })
+    (c, encodes cs, record { scalar = (and_parts (scalar c) (scalars cs) s).0; parts = sym e })
 
 -- a test of ASCII characters sees the first byte
 char_fails : (p : ℕ → Bool) → IsAsciiTest p → (b : ℕ) (bs : List ℕ) (c : ℕ) (rest : List ℕ)
     → b ∷ bs ≡ encode_utf8 c ++ rest → p b ≡ false → p c ≡ false
-char_fails p ascii b bs c rest h f = never (p c) (λ passes.
+char_fails p ascii b bs c rest h f = false_from_ne_true (p c) (λ passes.
     let lt : c < 128 = ascii c passes in
     let e : b ∷ bs ≡ c ∷ rest = h ∙ ap (λ (z : List ℕ). z ++ rest) (encode_ascii c lt) in
     let is : b ≡ c = cc in
@@ -119,9 +119,9 @@ Outcome text = IsTail text ⊎ Lexed text
 
 pub rest_is_ascii : IsAsciiTest is_identifier_rest
 rest_is_ascii c h =
-    elim (either (is_identifier_start c) (is_in_range 48 57 c) h) [
+    elim (or_cases (is_identifier_start c) (is_in_range 48 57 c) h) [
       | inl e ↦ start_is_ascii c e
-      | inr e ↦ omega (arith, leb-true c 57 (both_second (leb 48 c) (leb c 57) e))
+      | inr e ↦ omega (arith, leb-true c 57 (and_parts (leb 48 c) (leb c 57) e).1)
     ]
 
 pub space_is_ascii : IsAsciiTest is_space
@@ -129,17 +129,17 @@ space_is_ascii c h = omega (arith, eqb-true c 0x20 h)
 
 pub known_is_ascii : IsAsciiTest is_known_start
 known_is_ascii c h =
-    elim (either (is_space c || is_mark c || is_quote c) (is_identifier_start c) h) [
+    elim (or_cases (is_space c || is_mark c || is_quote c) (is_identifier_start c) h) [
       | inr e ↦ start_is_ascii c e
-      | inl e ↦ elim (either (is_space c || is_mark c) (is_quote c) e) [
+      | inl e ↦ elim (or_cases (is_space c || is_mark c) (is_quote c) e) [
         | inr f ↦ omega (arith, eqb-true c 0x22 f)
-        | inl f ↦ elim (either (is_space c) (is_mark c) f) [
+        | inl f ↦ elim (or_cases (is_space c) (is_mark c) f) [
           | inl g ↦ space_is_ascii c g
-          | inr g ↦ elim (either (c == 0x28 || c == 0x29 || c == 0x2C) (c == 0x3D) g) [
+          | inr g ↦ elim (or_cases (c == 0x28 || c == 0x29 || c == 0x2C) (c == 0x3D) g) [
             | inr k ↦ omega (arith, eqb-true c 0x3D k)
-            | inl k ↦ elim (either (c == 0x28 || c == 0x29) (c == 0x2C) k) [
+            | inl k ↦ elim (or_cases (c == 0x28 || c == 0x29) (c == 0x2C) k) [
               | inr l ↦ omega (arith, eqb-true c 0x2C l)
-              | inl l ↦ elim (either (c == 0x28) (c == 0x29) l) [
+              | inl l ↦ elim (or_cases (c == 0x28) (c == 0x29) l) [
                 | inl m ↦ omega (arith, eqb-true c 0x28 m)
                 | inr m ↦ omega (arith, eqb-true c 0x29 m)
               ]
@@ -197,13 +197,11 @@ name b bs u h =
           })
       | true ↦ λ t.
           let is : b ∷ r.xs ≡ codes "r" = (bytes_eq-Decides (b ∷ r.xs) (codes "r")).0
-          (both_first (bytes_eq (b ∷ r.xs) (codes "r")) (starts is_number_sign r.rest) t) in
+          (and_parts (bytes_eq (b ∷ r.xs) (codes "r")) (starts is_number_sign r.rest) t).0 in
           let after = number_sign r.rest
-          (both_second (bytes_eq (b ∷ r.xs) (codes "r")) (starts is_number_sign r.rest) t) in
-          let P : List ℕ → Type 0 = λ z. IsUtf8 z in
-          let Q : List ℕ → Type 0 = λ z. Outcome z in
+          (and_parts (bytes_eq (b ∷ r.xs) (codes "r")) (starts is_number_sign r.rest) t).1 in
           let whole : codes "r#" ++ after.0 ≡ b ∷ bs = sym (parts ∙ (λ i. is i ++ after.1 i)) in
-          subst Q whole (marked after.0 (ascii_rest 0x23 after.0 (lit≤ tt) (subst P after.1 r.utf8)))
+          rw (← whole) (marked after.0 (ascii_rest 0x23 after.0 (lit≤ tt) (rw (← after.1) r.utf8)))
     ] refl
 
 -- at a quote
@@ -260,9 +258,8 @@ lex (b ∷ bs) u h =
       | false ↦ λ e.
           elim (is_quote b) as (λ v. is_quote b ≡ v → Outcome (b ∷ bs)) [
             | true ↦ λ q.
-                let P : List ℕ → Type 0 = λ z. Outcome z in
                 let is : b ≡ 0x22 = eqb-true b 0x22 q in
-                subst P (sym (ap (λ (z : ℕ). z ∷ bs) is)) (string bs (ascii_rest b bs (omega (arith, is)) u))
+                rw (ap (λ (z : ℕ). z ∷ bs) is) (string bs (ascii_rest b bs (omega (arith, is)) u))
             | false ↦ λ q.
                 elim (b == 0x28) as (λ v. (b == 0x28) ≡ v → Outcome (b ∷ bs)) [
                   | true ↦ λ m. single LeftParen b 0x28 bs tt tt refl m (lit≤ tt) u
@@ -349,12 +346,11 @@ cut_from (suc n) text from le u enough =
     let left : drop at text ≡ r.rest = rest_at text from r.xs r.rest r.parts in
     elim (lex r.rest r.utf8 r.stops) [
       | inl tail ↦
-          let P : List ℕ → Type 0 = λ z. IsTail z in
           record {
             ts =
                 [];
             tail = at;
-            cut = record { written = tt; whole = tt; rest = subst P (sym left) tail; apart = spaces };
+            cut = record { written = tt; whole = tt; rest = rw left tail; apart = spaces };
           }
       | inr x ↦
           let end = at + length (written x.token) in
@@ -362,9 +358,7 @@ cut_from (suc n) text from le u enough =
           let piece : IsPiece text at end (written x.token) = piece_at text at
           (written x.token) x.rest spaces.1.inside here in
           let behind : drop end text ≡ x.rest = rest_at text at (written x.token) x.rest here in
-          let P : List ℕ → Type 0 = λ z. IsUtf8 z in
-          let E : List ℕ → Type 0 = λ z. EndsBefore x.token z in
-          let others = cut_from n text end piece.inside (subst P (sym behind) x.utf8)
+          let others = cut_from n text end piece.inside (rw behind x.utf8)
           (omega (arith, enough, written_length x.token x.well)) in
           record {
             ts = record { token = x.token; start = at; end = end } ∷ others.ts;
@@ -372,7 +366,7 @@ cut_from (suc n) text from le u enough =
             cut = record {
               written = ((x.well, piece), others.cut.written);
               apart = (spaces, others.cut.apart);
-              whole = (subst E (sym behind) x.ends, others.cut.whole);
+              whole = (rw behind x.ends, others.cut.whole);
               rest = others.cut.rest;
             };
           }

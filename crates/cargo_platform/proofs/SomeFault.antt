@@ -1,5 +1,5 @@
 -- In each grammar a text spells something, or has a fault, and not both.
-use Rattle.std.proofs.Common.{◌≡◌, refl, sym, ap, subst, ℕ, Bool, true, false, List, [], ◌∷◌}
+use Rattle.std.proofs.Common.{◌≡◌, refl, ap, subst, ℕ, Bool, true, false, List, [], ◌∷◌}
 use Rattle.std.proofs.Common.{◌++◌, Option, Some, None, inl, inr, ◌⊎◌, append_assoc, append-nil, length, length-drop}
 use Rattle.std.proofs.Common.{arith}
 use Rattle.std.specs.Prelude.{◌↔◌, IsTrue, IsUtf8}
@@ -62,10 +62,8 @@ prefix_from g prefix [] p = record {
 prefix_from g prefix (t ∷ ts) p =
     elim (completable_or g (lexemes prefix ++ (t.token ∷ []))) [
       | inl q ↦
-          let S : List Placed → Type 0 = λ z. SomePrefix g z in
-          let C : List Lexeme → Type 0 = λ z. IsCompletable g z in
-          subst S (append_assoc prefix (t ∷ []) ts)
-          (prefix_from g (prefix ++ (t ∷ [])) ts (subst C (sym (lexemes-append prefix (t ∷ []))) q))
+          rw (← append_assoc prefix (t ∷ []) ts)
+          (prefix_from g (prefix ++ (t ∷ [])) ts (rw (lexemes-append prefix (t ∷ [])) q))
       | inr never ↦ record {
         prefix = prefix;
         after = t ∷ ts;
@@ -95,9 +93,7 @@ whole_text : (g : Grammar) (text : List ℕ) (prefix after : List Placed) (tail 
     → IsNext text after tail Nothing → IsAccepted g (lexemes prefix) → SpellsSomething g text
 whole_text g text prefix (t ∷ after) tail cut h a = absurd (let e = h in cc)
 whole_text g text prefix [] tail cut h a =
-    let T : ℕ → Type 0 = λ z. IsCut text prefix z in
-    let C : List Placed → Type 0 = λ z. IsCut text z tail in
-    spelling g prefix (subst T h (subst C (append-nil prefix) cut)) a
+    spelling g prefix (rw (← h) (rw (← append-nil prefix) cut)) a
   where
     spelling : (g : Grammar) (ts : List Placed) → IsCut text ts (length text) → IsAccepted g (lexemes ts)
         → SpellsSomething g text
@@ -131,8 +127,7 @@ at_next g text ts prefix after tail next accepted cut is follows told =
       )
       | None ↦ λ table.
           let end = faultless g accepted (last_or None (lexemes prefix)) next table in
-          let F : Item → Type 0 = λ z. IsNext text after tail z in
-          inl (whole_text g text prefix after tail (subst C is.parts cut) (subst F end.1 follows) (told.0 end.0))
+          inl (whole_text g text prefix after tail (subst C is.parts cut) (rw (← end.1) follows) (told.0 end.0))
     ] refl
   where
     faultless : (g : Grammar) (accepted : Bool) (last : Option Lexeme) (next : Item)
@@ -149,7 +144,6 @@ pub spells_or_is_refused : (g : Grammar) (text : List ℕ) → IsUtf8 text → S
 spells_or_is_refused g text utf8 =
     let c = some_cut text utf8 in
     let f = prefix_from g [] c.0 (none_completable g) in
-    let C : List Placed → Type 0 = λ z. IsCut text z c.1 in
-    let n = some_next text 0 f.prefix f.after c.1 (subst C f.is.parts c.2) in
+    let n = some_next text 0 f.prefix f.after c.1 (rw (← f.is.parts) c.2) in
     let a = accepted_or g (lexemes f.prefix) f.is.completable in
     at_next g text c.0 f.prefix f.after c.1 n.0 a.0 c.2 f.is n.1 a.1

@@ -9,7 +9,7 @@ use Rattle.std.specs.declared.ops.Range.{Range}
 use Rattle.std.specs.List.{list_all, list_any}
 use Rattle.std.specs.Str.{all_scalars, NonePass, NoCharPasses, IsCharBoundary}
 use Rattle.std.specs.Str.Pattern.{FindsChar, FindsTextPrefix, HasMatch, HasPrefixMatch, MatchBeginsAt}
-use Rattle.std.proofs.lemmas.Bool.{and_parts, agree_below_at}
+use Rattle.std.proofs.lemmas.Bool.{agree_below_at, and_from, and_parts, false_from_ne_true, or_cases}
 use Rattle.std.proofs.lemmas.Str.{NoCharPasses-byte, encode_ascii, encode_same, length-encode, len_utf8_bounds}
 use Rattle.std.proofs.lemmas.Str.{chars_from_encodes}
 use Rattle.std.proofs.lemmas.Str.Pattern.{contains_char}
@@ -26,7 +26,6 @@ use Rattle.cargo_platform.specs.Chars.{BeginsWith, is_identifier_rest}
 use Rattle.cargo_platform.specs.Platforms.{is_target_char, is_plain_byte, IsTargetName, IsFirstRefused, IsTargetMessage}
 use Rattle.cargo_platform.specs.Platforms.{IsBare, IsTargetSpan}
 use Rattle.cargo_platform.specs.Faults.{from_to}
-use Rattle.cargo_platform.proofs.OneCut.{both_true, either, never}
 use Rattle.cargo_platform.proofs.SomeCut.{rest_is_ascii}
 
 -- ---- `cfg(..)` is no target name
@@ -56,9 +55,9 @@ name_is_bare name w =
 
 plain_is_ascii : (b : ℕ) → is_plain_byte b ≡ true → b < 128
 plain_is_ascii b h =
-    elim (either (is_identifier_rest b || b == 0x2D) (b == 0x2E) h) [
+    elim (or_cases (is_identifier_rest b || b == 0x2D) (b == 0x2E) h) [
       | inr e ↦ omega (arith, eqb-true b 0x2E e)
-      | inl e ↦ elim (either (is_identifier_rest b) (b == 0x2D) e) [
+      | inl e ↦ elim (or_cases (is_identifier_rest b) (b == 0x2D) e) [
         | inr f ↦ omega (arith, eqb-true b 0x2D f)
         | inl f ↦ rest_is_ascii b f
       ]
@@ -79,9 +78,9 @@ plain_name (b ∷ text) h =
     let small : b < 128 = plain_is_ascii b parts.0 in
     let rest = plain_name text parts.1 in (
       b ∷ rest.0,
-      both_true _ _ (low_scalar b (omega (arith, small))) rest.1,
+      and_from _ _ (low_scalar b (omega (arith, small))) rest.1,
       ap (λ (z : List ℕ). b ∷ z) rest.2 ∙ ap (λ (z : List ℕ). z ++ encode_utf8_all rest.0) (sym (encode_ascii b small)),
-      both_true _ _ (passes_where (is_plain_byte b) (is_target_char b) (plain_or_not b small) parts.0) rest.3,
+      and_from _ _ (passes_where (is_plain_byte b) (is_target_char b) (plain_or_not b small) parts.0) rest.3,
     )
 
 -- ---- the first refused character
@@ -103,12 +102,12 @@ Found t cs o = MatchOption o (AllPass t (encode_utf8_all cs)) (λ c. FirstFails 
 further : (t : ℕ → Bool) (c : ℕ) (cs : List ℕ) (o : Option ℕ) → IsTrue (t c) → IsScalar c → Found t cs o
     → Found t (c ∷ cs) o
 further t c cs None h s m =
-    (c ∷ m.0, both_true _ _ s m.1, ap (λ (z : List ℕ). encode_utf8 c ++ z) m.2, both_true _ _ h m.3)
+    (c ∷ m.0, and_from _ _ s m.1, ap (λ (z : List ℕ). encode_utf8 c ++ z) m.2, and_from _ _ h m.3)
 further t c cs (Some d) h s m = (
   encode_utf8 c ++ m.0,
   m.1,
   ap (λ (z : List ℕ). encode_utf8 c ++ z) m.2 ∙ sym (append_assoc (encode_utf8 c) m.0 m.1),
-  (c ∷ m.3.0, both_true _ _ s m.3.1, ap (λ (z : List ℕ). encode_utf8 c ++ z) m.3.2, both_true _ _ h m.3.3),
+  (c ∷ m.3.0, and_from _ _ s m.3.1, ap (λ (z : List ℕ). encode_utf8 c ++ z) m.3.2, and_from _ _ h m.3.3),
   m.4,
   m.5,
 )
@@ -138,14 +137,13 @@ pub first_refused_found : (text : List ℕ) (o : Option ℕ) → IsUtf8 text
     → option_map (λ (c : ℕ). c) o ≡ find (λ c. not (is_target_char c)) (chars text)
     → MatchOption o (IsTargetName text) (λ c. IsFirstRefused text c)
 first_refused_found text o u h =
-    let P : List ℕ → Type 0 = λ z. MatchOption o (IsTargetName z) (λ c. IsFirstRefused z c) in
     let Q : Option ℕ
     → Type 0 =
     λ z. MatchOption z (IsTargetName (encode_utf8_all u.0)) (λ c. IsFirstRefused (encode_utf8_all u.0) c) in
     let cs : u.0 ≡ chars text = chars_from_encodes u.0 text u u.1.1 in
     let o_is : find (λ c. not (is_target_char c)) u.0 ≡ o = ap (find (λ c. not (is_target_char c))) cs ∙ sym h
     ∙ same_option o in
-    subst P u.1.1 (subst Q o_is (found is_target_char u.0 u.1.0))
+    rw (← u.1.1) (subst Q o_is (found is_target_char u.0 u.1.0))
 
 -- ---- a text with a refused character is no target name
 
@@ -188,7 +186,8 @@ contained text r m =
     let here = contains_char 0x28 text r m (omega arith) in
     or_is (list_any (λ c. c == 0x28)) (λ c. c == 0x28) refl (λ x xs. refl) text 0 r
     (λ held. let k = here.0 held in (k.0, k.1, eq-eqb _ _ k.2))
-    (λ none i below. never (get_or text i 0 == 0x28) (λ e. true≢false (sym (here.1 i below (eqb-true _ _ e)) ∙ none)))
+    (λ none i below. false_from_ne_true (get_or text i 0 == 0x28)
+    (λ e. true≢false (sym (here.1 i below (eqb-true _ _ e)) ∙ none)))
 
 pub parenthesis_message : (text : List ℕ) (r : Bool) → Contains text r → r ≡ true → (message : List ℕ)
     → message ≡ codes "unexpected `(` character, cfg expressions must start with `cfg(`" → IsTargetMessage text message
@@ -221,7 +220,7 @@ stands_first text c i j f b = (f.0, f.1.split ∙ ap (λ k. encode_utf8 c ++ dro
 
 none_all : (p : ℕ → Bool) (cs : List ℕ) → NonePass p cs → IsTrue (list_all (λ d. not (p d)) cs)
 none_all p [] h = refl
-none_all p (c ∷ cs) h = both_true _ _ (ap not h.0) (none_all p cs h.1)
+none_all p (c ∷ cs) h = and_from _ _ (ap not h.0) (none_all p cs h.1)
 
 -- the first refused character is found
 pub refused_is_found : (text : List ℕ) (c : ℕ) → IsFirstRefused text c → FindsChar c text None → ⊥
@@ -268,7 +267,7 @@ apart : (t : ℕ → Bool) (c : ℕ) (cs : List ℕ) → IsFalse (t c) → IsTru
 apart t c [] fails all = refl
 apart t c (d ∷ cs) fails all =
     let parts = and_parts _ _ all in
-    both_true _ _
+    and_from _ _
     (elim (d == c) as (λ b. (d == c) ≡ b → not b ≡ true) [
       | false ↦ λ _. refl
       | true ↦ λ is. absurd (true≢false (sym parts.0 ∙ ap t (eqb-true d c is) ∙ fails))

@@ -1,5 +1,5 @@
 -- The laws of what texts spell, for each grammar of texts, and what follows from them for an answer to a text.
-use Rattle.std.proofs.Common.{◌≡◌, sym, subst, ℕ, List, Result, Ok, Err}
+use Rattle.std.proofs.Common.{◌≡◌, ℕ, List, Result, Ok, Err}
 use Rattle.std.specs.Prelude.{IfOk}
 use Rattle.cargo_platform.specs.declared.error.ReadError.{ReadError}
 use Rattle.cargo_platform.specs.declared.error.ReadError.TheVariants as errors
@@ -54,8 +54,7 @@ pub is_print : {A : Type 0} {spells : List ℕ → A → Type 0} {formed : A →
     {refused : List ℕ → List ℕ → Fault → Type 0} → Laws A spells formed print refused
     → (text : List ℕ) (a : A) → formed a → text ≡ print a → spells text a
 is_print {A} {spells} l text a w h =
-    let P : List ℕ → Type 0 = λ z. spells z a in
-    subst P (sym h) (l.printed a w)
+    rw h (l.printed a w)
 
 -- what prints alike is the same
 pub apart : {A : Type 0} {spells : List ℕ → A → Type 0} {formed : A → Type 0} {print : A → List ℕ}

@@ -1,7 +1,7 @@
 -- The lines of a text are the parts that its newlines end.
 use Rattle.std.proofs.lemmas.Bool.{and_parts}
 use Rattle.std.proofs.Common.{◌≡◌, ◌≢◌, ℕ, Bool, true, false, cond, List, [], ◌∷◌, ◌++◌, refl, sym, ap, ◌∙◌}
-use Rattle.std.proofs.Common.{append_assoc, append-nil, inl, inr, subst}
+use Rattle.std.proofs.Common.{append_assoc, append-nil, inl, inr}
 use borrow.Author.Tests.{eqb-true}
 use Rattle.std.specs.Prelude.{◌==◌, ◌⊎◌, not}
 use Rattle.std.specs.List.{list_all, AllByRecursion, onto_first}
@@ -51,8 +51,7 @@ Parts text ls = (text ≡ ended ls)
 only : (text : List ℕ) (ls : List (List ℕ)) → AllByRecursion IsUnbroken ls → Parts text ls → ls ≡ lines_of text
 only text ls u (inl e) = sym (ap lines_of (e ∙ sym (append-nil (ended ls))) ∙ ended_lines ls [] u ∙ append-nil ls)
 only text ls u (inr p) =
-    let P : List (List ℕ) → Type 0 = λ z. AllByRecursion IsUnbroken z in
-    let us = front_of p.0 p.1 (subst P p.2 u) in
+    let us = front_of p.0 p.1 (rw (← p.2) u) in
     p.2 ∙ sym (ap lines_of p.4 ∙ ended_lines p.0 p.1 us.0 ∙ ap (λ z. p.0 ++ z) (last_line p.1 us.1 p.3))
 
 -- no other lists are the lines of a text

@@ -1,19 +1,19 @@
 -- From the released grammar of expressions to today's.
-use Rattle.std.proofs.Common.{◌≡◌, refl, sym, ap, subst, ◌∙◌, ℕ, Bool, true, false, ◌&&◌, ◌||◌, List, [], ◌∷◌}
+use Rattle.std.proofs.Common.{◌≡◌, refl, sym, ap, ◌∙◌, ℕ, Bool, true, false, ◌&&◌, ◌||◌, List, [], ◌∷◌}
 use Rattle.std.proofs.Common.{Option, Some, None, codes}
 use Rattle.std.specs.Prelude.{bytes_eq, if◌then◌else◌}
 use Rattle.std.specs.List.{list_any}
 use Rattle.std.proofs.lemmas.List.Folds.{list_any-append}
 use Rattle.std.proofs.lemmas.Option.{same_Some}
-use Rattle.cargo_platform.specs.Tokens.{Lexeme, LeftParen, RightParen, Ident, Equals, String, Placed}
+use Rattle.cargo_platform.specs.Tokens.{Lexeme, LeftParen, RightParen, Ident, Equals, String}
 use Rattle.cargo_platform.specs.Cut.{lexemes}
 use Rattle.cargo_platform.specs.Trees.{Name, Alone, KeyPair, Tree, Not, All, Any, Value, True, False, Trees}
 use Rattle.cargo_platform.specs.Trees.{none, tree}
-use Rattle.cargo_platform.specs.Spelling.{Expressions, IsAccepted, Spells}
+use Rattle.cargo_platform.specs.Spelling.{Expressions, IsAccepted}
 use Rattle.cargo_platform.specs.Faults.{Fault, IsCompletable, IsCompletableBy}
 use Rattle.cargo_platform.specs.Walk.{is_whole}
 use Rattle.cargo_platform.specs.Inside.Parsing.{Opening, Negated, Listed, is_lone}
-use Rattle.cargo_platform.specs.Earlier.{IsAcceptedReleased, SpellsReleased, released, released_members}
+use Rattle.cargo_platform.specs.Earlier.{IsAcceptedReleased, released, released_members}
 use Rattle.cargo_platform.specs.Warnings.{values, members_values}
 use Rattle.cargo_platform.specs.ChangeLaws.{is_literal_key, SpelledReleasedText, IsTextRefusedForLiteralKeys}
 use Rattle.cargo_platform.specs.ChangeLaws.{KeepsFault, ComesNoLater}
@@ -32,8 +32,7 @@ spelled_text text d e p =
     let was = spelled_released (lexemes p.0) d e (was_spelled e (lexemes p.0) p.2) in (
       λ q.
           let same : q.0 ≡ p.0 = (one_cut_from text q.0 p.0 0 _ _ q.1 p.1).0 in
-          let S : List Placed → Type 0 = λ z. SpellsReleased d (lexemes z) in
-          was.0 (subst S same q.2),
+          was.0 (rw (← same) q.2),
       λ is. (p.0, p.1, was.1 is),
     )
 
@@ -75,8 +74,7 @@ text_refused text d q =
       λ no. sym keys ∙ law.0 (λ a. no a.0 (q.0, q.1, a.1)),
       λ is e p.
           let same : p.0 ≡ q.0 = (one_cut_from text p.0 q.0 0 _ _ p.1 q.1).0 in
-          let S : List Placed → Type 0 = λ z. Spells e (lexemes z) in
-          law.1 (keys ∙ is) (e, subst S same p.2),
+          law.1 (keys ∙ is) (e, rw (← same) p.2),
     )
 
 -- ---- faults

@@ -42,7 +42,7 @@ impl Asks {
     }
 }
 
-/// What counts asks, or does not.
+/// What counts asks, or the comparisons of a search, or does not count.
 pub(crate) trait Tally {
     // The asks so far; the greatest count stands for that many or more.
     ghost asks: { Self → ℕ };

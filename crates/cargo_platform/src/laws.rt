@@ -237,8 +237,8 @@ pub fn literals_are_no_keys()
 {}
 
 /// From the Rust crate's grammar of expressions to today's. What a text spelled there is told by what it spells now. It
-/// spells nothing now exactly where an unmarked `true` or `false` is a key. A text that was refused there is refused, at
-/// the same token or an earlier one, and with the same fault where what stands before it can still be completed.
+/// spells nothing now exactly where an unmarked `true` or `false` is a key. A text that was refused there is refused,
+/// at the same token or an earlier one, and with the same fault where what stands before it can still be completed.
 pub fn texts_as_released()
     ensures spelled { (text : List ℕ) → SpelledReleasedText text }
     ensures refused { (text : List ℕ) → IsTextRefusedForLiteralKeys text }

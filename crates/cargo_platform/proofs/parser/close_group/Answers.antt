@@ -1,8 +1,7 @@
-use Rattle.std.proofs.Common.{◌≡◌, sym, ap, subst, ◌∙◌, [], ◌∷◌, ◌++◌, map}
-use Rattle.cargo_platform.specs.declared.parser.Group.{Group}
+use Rattle.std.proofs.Common.{◌≡◌, ap, ◌∙◌, [], ◌∷◌, ◌++◌, map}
 use Rattle.cargo_platform.specs.Tokens.{RightParen}
-use Rattle.cargo_platform.specs.Trees.{Tree, Not, tree_of}
-use Rattle.cargo_platform.specs.Inside.Parsing.{Negated, Listed, opening, is_all, list_tree, Has, Reads}
+use Rattle.cargo_platform.specs.Trees.{Not, tree_of}
+use Rattle.cargo_platform.specs.Inside.Parsing.{Negated, Listed, opening, is_all, list_tree, Has}
 use Rattle.cargo_platform.proofs.Parsing.{reads_taken, stops_untaken, group_refusing, close_negated, close_listed}
 use Rattle.cargo_platform.proofs.parser.close_group.Goals as goal
 
@@ -21,10 +20,8 @@ returns-in_ok-negation-in-Not-clause-closed c = λ gs.
     let m = c.eat.new.self.ahead in
     let e = tree_of c.args.last in
     let closed = c.in_ok-negation-in-Not in
-    let G : Group → Type 0 = λ z. Reads l m (Has (opening z ∷ gs) e l) (Has gs (tree_of closed.field-0) m) in
-    let H : Tree → Type 0 = λ z. Reads l m (Has (Negated ∷ gs) e l) (Has gs z m) in
-    subst G (sym c.in-Not.is)
-    (subst H (sym closed.ensures)
+    rw c.in-Not.is
+    (rw closed.ensures
     (reads_taken l m RightParen (Has (Negated ∷ gs) e l) (Has gs (Not e) m)
     (c.eat.ensures.taken c.if-not-eat.false) (λ ts p. close_negated gs e l m ts p)))
 
@@ -37,11 +34,9 @@ returns-in_ok-with_member-in-List-clause-closed c = λ gs.
     let es = map tree_of c.in-List.members.items in
     let P = Has (Listed all es ∷ gs) e l in
     let closed = tree_of c.close_list.result in
-    let G : Group → Type 0 = λ z. Reads l m (Has (opening z ∷ gs) e l) (Has gs closed m) in
-    let H : Tree → Type 0 = λ z. Reads l m P (Has gs z m) in
     let is : tree_of c.close_list.result ≡ list_tree all (es ++ e ∷ []) = c.close_list.ensures
     ∙ ap (list_tree all) c.in_ok-with_member-in-List.ensures in
-    subst G (sym c.in-List.is)
-    (subst H (sym is)
+    rw c.in-List.is
+    (rw is
     (reads_taken l m RightParen P (Has gs (list_tree all (es ++ e ∷ [])) m)
     (c.eat.ensures.taken c.if-not-eat.false) (λ ts p. close_listed gs all es e l m ts p)))

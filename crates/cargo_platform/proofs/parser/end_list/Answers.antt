@@ -1,7 +1,7 @@
-use Rattle.std.proofs.Common.{◌≡◌, sym, ap, subst, ◌∙◌, List, ◌∷◌, map}
+use Rattle.std.proofs.Common.{◌≡◌, ap, ◌∙◌, ◌∷◌, map}
 use Rattle.cargo_platform.specs.Tokens.{RightParen}
-use Rattle.cargo_platform.specs.Trees.{Tree, tree_of}
-use Rattle.cargo_platform.specs.Inside.Parsing.{Opening, Listed, opening, stack, is_all, list_tree, Wants, Has, Reads}
+use Rattle.cargo_platform.specs.Trees.{tree_of}
+use Rattle.cargo_platform.specs.Inside.Parsing.{Listed, opening, stack, is_all, list_tree, Wants, Has}
 use Rattle.cargo_platform.proofs.Parsing.{reads_taken, wants_close}
 use Rattle.cargo_platform.proofs.parser.end_list.Goals as goal
 
@@ -14,10 +14,8 @@ returns-else-not-eat-clause-closed c =
     let es = map tree_of c.in-Some-List.members.items in
     let was : stack c.args.groups.now ≡ Listed all es ∷ gs = c.in-Some-List.ensures
     ∙ ap (λ z. opening z ∷ gs) c.in-Some-List.field-0-is in
-    let W : List Opening → Type 0 = λ z. Reads l m (Wants z) (Has gs (list_tree all es) m) in
-    let R : Tree → Type 0 = λ z. Reads l m (Wants (stack c.args.groups.now)) (Has gs z m) in
-    subst R (sym c.close_list.ensures)
-    (subst W (sym was)
+    rw c.close_list.ensures
+    (rw was
     (reads_taken l m RightParen (Wants (Listed all es ∷ gs)) (Has gs (list_tree all es) m)
     (c.eat.ensures.taken c.if-not-eat.false) (λ ts p. wants_close gs all es m ts p)))
 

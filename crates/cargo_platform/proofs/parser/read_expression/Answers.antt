@@ -4,9 +4,8 @@ use Rattle.cargo_platform.specs.declared.cfg.CfgExpr.{CfgExpr}
 use Rattle.cargo_platform.specs.Inside.Ahead.{Ahead}
 use Rattle.cargo_platform.specs.Tokens.{Lexeme, Comma}
 use Rattle.cargo_platform.specs.Trees.{tree_of}
-use Rattle.cargo_platform.specs.declared.reader.Punctuation.TheVariants as punctuation
 use Rattle.cargo_platform.specs.Walk.{Word, Several, Negation}
-use Rattle.cargo_platform.specs.Inside.Parsing.{LacksPunctuation, is_list, kind, kinds}
+use Rattle.cargo_platform.specs.Inside.Parsing.{is_list, kind, kinds}
 use Rattle.cargo_platform.specs.Inside.Parsing.{Opening, opening, stack, with_last, Wants, Has, Stands, Reads}
 use Rattle.cargo_platform.specs.Spelling.{Expressions}
 use Rattle.cargo_platform.proofs.Parsing.{reads_taken, reads_then, stops_then, stops_behind, comma_taken, tree_whole}
@@ -131,7 +130,6 @@ pub close_group-requires : goal.close_group-requires
 close_group-requires c = λ alone.
     let n = c.eat_comma.ensures.not_taken c.if-eat_comma.false in
     let gs = stack c.pop.new.self in
-    let L : Ahead → Type 0 = λ z. LacksPunctuation z punctuation.Comma in
-    subst L (sym n.0)
+    rw n.0
     (n.1 (ap (λ z. is_list (kinds z)) c.in-Some-pop.ensures
     ∙ list_alone (kind (opening c.in-Some-pop.group)) (kinds gs) alone))

@@ -3,9 +3,7 @@ use Rattle.cargo_platform.specs.Tokens.{Lexeme, Ident, Equals, String}
 use Rattle.cargo_platform.specs.Trees.{CfgValue, KeyPair}
 use Rattle.cargo_platform.specs.Spelling.{value_spelling}
 use Rattle.cargo_platform.specs.Walk.{Named, walk}
-use Rattle.cargo_platform.specs.declared.reader.Punctuation.TheVariants as punctuation
-use Rattle.cargo_platform.specs.Inside.Ahead.{Ahead}
-use Rattle.cargo_platform.specs.Inside.Parsing.{Reads, LacksPunctuation}
+use Rattle.cargo_platform.specs.Inside.Parsing.{Reads}
 use Rattle.cargo_platform.proofs.Parsing.{reads_taken, reads_then, stops_then, stops_untaken, key_refusing}
 use Rattle.cargo_platform.proofs.parser.read_value.Goals as goal
 
@@ -40,5 +38,4 @@ returns-clause-value c =
 pub returns-then-not-eat-clause-clear : goal.returns-then-not-eat-clause-clear
 returns-then-not-eat-clause-clear c =
     let n = c.eat.ensures.not_taken c.if-not-eat.true in
-    let L : Ahead → Type 0 = λ z. LacksPunctuation z punctuation.Equals in
-    subst L (sym n.0) n.1
+    rw n.0 n.1

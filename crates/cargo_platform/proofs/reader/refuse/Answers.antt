@@ -1,11 +1,11 @@
-use Rattle.std.proofs.Common.{◌≡◌, refl, sym, ap, subst, ◌∙◌, ℕ, Some}
+use Rattle.std.proofs.Common.{◌≡◌, refl, sym, ap, ◌∙◌, ℕ, Some}
 use Rattle.std.specs.declared.ops.Range.{Range}
 use Rattle.cargo_platform.specs.declared.tokens.TokenFaultKind.{TokenFaultKind}
 use Rattle.cargo_platform.specs.declared.tokens.TokenFaultKind.TheVariants as lexical
 use Rattle.cargo_platform.specs.Cut.{Token, Lexical}
 use Rattle.cargo_platform.specs.Tokens.{placed}
 use Rattle.cargo_platform.specs.Faults.{UnexpectedToken, from_to, lexical_fault, lexical_span, looked_to}
-use Rattle.cargo_platform.specs.Inside.Ahead.{Ahead, IsSeenTo}
+use Rattle.cargo_platform.specs.Inside.Ahead.{Ahead}
 use Rattle.cargo_platform.proofs.reader.refuse.Goals as goal
 
 pub returns-in-Some-Ok-clause-refused : goal.returns-in-Some-Ok-clause-refused
@@ -42,5 +42,4 @@ pub returns-in-Some-Err-clause-looked : goal.returns-in-Some-Err-clause-looked
 returns-in-Some-Err-clause-looked c =
     let seen = rw c.in-Some-Err.field-0-is at c.in-Some-Err.ensures.seen in
     let k = c.in-Some-Err.kind in
-    let S : ℕ → Type 0 = λ z. IsSeenTo c.take.new.self z in
-    subst S (sym (to_its_end k c.fault_span.result ∙ ap (λ (z : Range ℕ). z.end) c.fault_span.ensures)) seen
+    rw (to_its_end k c.fault_span.result ∙ ap (λ (z : Range ℕ). z.end) c.fault_span.ensures) seen

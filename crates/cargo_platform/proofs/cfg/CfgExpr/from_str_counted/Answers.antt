@@ -16,8 +16,9 @@ use Rattle.cargo_platform.proofs.cfg.CfgExpr.from_str_counted.Goals as goal
 
 pub returns-in-Ok-clause-tree : goal.returns-in-Ok-clause-tree
 returns-in-Ok-clause-tree c =
-    expression_read c.args.s.now c.new-reader.result.ahead c.read_expression.new.reader.ahead (tree_of c.in-Ok.expression)
-    c.new-reader.ensures.text c.new-reader.ensures.first c.in-Ok.ensures.tree c.in-Ok.ensures.ended
+    expression_read c.args.s.now c.new-reader.result.ahead c.read_expression.new.reader.ahead
+    (tree_of c.in-Ok.expression) c.new-reader.ensures.text c.new-reader.ensures.first c.in-Ok.ensures.tree
+    c.in-Ok.ensures.ended
 
 pub returns-in-Ok-clause-well_formed : goal.returns-in-Ok-clause-well_formed
 returns-in-Ok-clause-well_formed c =

@@ -51,8 +51,7 @@ returns-clause-taken c = λ _.
     let here = rw (c.is_byte.ensures.yes c.if-not-is_byte.false) at i.sees in
     let stands = punctuation_stands text r.place c.byte_of.result c.args.wanted c.byte_of.ensures here.1 here.0 in
     let found = rw c.look-behind.ensures.same at c.past_spaces.ensures in
-    let T : Ahead → Type 0 = λ z. TakesToken z (ahead_at c.past_spaces.new.self.text.now to) t in
-    subst T (ap (λ (z : Standing). z.ahead) c.self.view_is)
+    rw (← ap (λ (z : Standing). z.ahead) c.self.view_is)
     (subst
     (λ z. TakesToken (ahead_at text r.place) (ahead_at z.now to) t) (sym found.same)
     (takes text r.place (r.place + 1) to t i.reached.0 stands found.spaces))

@@ -3,9 +3,8 @@ use Rattle.std.specs.Prelude.{slice_index}
 use Rattle.std.specs.List.{between}
 use Rattle.cargo_platform.specs.declared.source.Look.TheVariants.{Ascii}
 use Rattle.cargo_platform.specs.Chars.{is_identifier_start}
-use Rattle.cargo_platform.specs.Cut.{Token}
 use Rattle.cargo_platform.specs.Tokens.{Ident}
-use Rattle.cargo_platform.specs.Inside.Ahead.{Ahead, Standing, NextIs}
+use Rattle.cargo_platform.specs.Inside.Ahead.{Ahead, Standing}
 use Rattle.cargo_platform.specs.Inside.Looking.{IsReadingAt}
 use Rattle.cargo_platform.specs.Inside.Parsing.{IsIdentifier}
 use Rattle.cargo_platform.specs.Inside.Parsing.{TakesToken, Lacks}
@@ -19,13 +18,12 @@ pub returns-in_default : goal.returns-in_default
 returns-in_default c =
     let r = c.self.inside in
     let i = c.self.invariant in
-    let L : Ahead → Type 0 = λ z. Lacks IsIdentifier z in
     record {
       same_text = refl;
       taken = tt;
       not_taken = (
         refl,
-        subst L (ap (λ (z : Standing). z.ahead) c.self.view_is)
+        rw (← ap (λ (z : Standing). z.ahead) c.self.view_is)
             (lacks_name r.source.text.now r.place r.seen i.past i.sees
             (λ b s h. c.in_default.not-Ascii b s)),
       );
@@ -35,10 +33,9 @@ pub eat_name_with_r-requires : goal.eat_name_with_r-requires
 eat_name_with_r-requires c = λ t is.
     let r = c.self.inside in
     let i = c.self.invariant in
-    let N : Ahead → Type 0 = λ z. NextIs z (Token t) in
     name_ahead r.source.text.now r.place r.seen 0x72 i.past i.sees
     (c.in-Ascii.is ∙ ap Ascii c.if-first-eq114.true) refl t
-    (subst N (sym (ap (λ (z : Standing). z.ahead) c.self.view_is)) is)
+    (rw (ap (λ (z : Standing). z.ahead) c.self.view_is) is)
 
 pub returns-then-not-begins_identifier-clause-not_taken : goal.returns-then-not-begins_identifier-clause-not_taken
 returns-then-not-begins_identifier-clause-not_taken c =
@@ -101,8 +98,7 @@ returns-clause-taken c =
     named.boundary.0 (c.slice-name.ensures ∙ ap (λ t. between r.place end t.now) named.same) named.rest named.end
     (λ is. absurd (c.if-first-eq114.false (sym byte ∙ is))) in
     let found = rw named.same at c.past_spaces.ensures in
-    let T : Ahead → Type 0 = λ z. TakesToken z (ahead_at c.past_spaces.new.self.text.now to) (Ident false name) in
-    subst T (ap (λ (z : Standing). z.ahead) c.self.view_is)
+    rw (← ap (λ (z : Standing). z.ahead) c.self.view_is)
     (subst
     (λ z. TakesToken (ahead_at text r.place) (ahead_at z.now to) (Ident false name)) (sym found.same)
     (takes text r.place end to (Ident false name) i.reached.0 stands found.spaces))

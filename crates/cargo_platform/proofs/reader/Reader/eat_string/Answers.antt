@@ -28,10 +28,9 @@ pub returns-in-Some-clause-not_taken : goal.returns-in-Some-clause-not_taken
 returns-in-Some-clause-not_taken c =
     let r = c.self.inside in
     let i = c.self.invariant in
-    let L : Ahead → Type 0 = λ z. Lacks IsString z in
     let found = rw c.in-Some.is at i.found in
     let lacks_it = fault_lacks IsString r.source.text.now r.place c.in-Some._kind i.reached.0 found in
-    (refl, subst L (ap (λ (z : Standing). z.ahead) c.self.view_is) lacks_it)
+    (refl, rw (← ap (λ (z : Standing). z.ahead) c.self.view_is) lacks_it)
 
 pub invariant_of-self : goal.invariant_of-self
 invariant_of-self c =
@@ -57,9 +56,8 @@ returns-in_default-closing_quote-clause-not_taken c =
     let text = r.source.text.now in
     let here = rw (c.is_byte.ensures.yes c.if-not-is_byte.false) at i.sees in
     let ends = c.in_default-closing_quote.ensures in
-    let V : Ahead → Type 0 = λ z. ahead_at c.closing_quote.new.self.text.now r.place ≡ z in
     let L : Ahead → Type 0 = λ z. Lacks IsString z in (
-      subst V (ap (λ (z : Standing). z.ahead) c.self.view_is) (ap (λ z. ahead_at z.now r.place) ends.same),
+      rw (← ap (λ (z : Standing). z.ahead) c.self.view_is) (ap (λ z. ahead_at z.now r.place) ends.same),
       subst L (ap (λ (z : Standing). z.ahead) c.self.view_is)
           (fault_lacks IsString text r.place UnterminatedString i.reached.0
           (unterminated text r.place here.1 ends.none)),
@@ -80,8 +78,7 @@ returns-clause-taken c =
     quote.within (c.slice-value.ensures ∙ ap (λ t. between (r.place + 1) end t.now) ends.same) c.slice-value.utf8
     ends.value in
     let found = rw (c.look-behind.ensures.same ∙ ends.same) at c.past_spaces.ensures in
-    let T : Ahead → Type 0 = λ z. TakesToken z (ahead_at c.past_spaces.new.self.text.now to) (String value) in
-    subst T (ap (λ (z : Standing). z.ahead) c.self.view_is)
+    rw (← ap (λ (z : Standing). z.ahead) c.self.view_is)
     (subst
     (λ z. TakesToken (ahead_at text r.place) (ahead_at z.now to) (String value)) (sym found.same)
     (takes text r.place (end + 1) to (String value) i.reached.0 stands found.spaces))

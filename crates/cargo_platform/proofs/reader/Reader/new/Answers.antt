@@ -1,5 +1,4 @@
 use Rattle.std.proofs.Common.{sym, ap, subst, ◌∙◌, ◌<◌, ◌^◌, List, ℕ, None, arith}
-use Rattle.std.specs.Str.{IsCharBoundary}
 use Rattle.std.proofs.lemmas.Str.{IsCharBoundary-start}
 use Rattle.cargo_platform.specs.Reading.{characters_from}
 use Rattle.cargo_platform.specs.Inside.Looking.{IsReadingAt}
@@ -8,13 +7,11 @@ use Rattle.cargo_platform.proofs.reader.Reader.new.Goals as goal
 
 pub look-first-requires : goal.look-first-requires
 look-first-requires c =
-    let B : List ℕ → Type 0 = λ z. IsCharBoundary z 0 in
-    subst B (sym c.new-source.ensures.text) (IsCharBoundary-start c.args.text.now c.utf8.text)
+    rw c.new-source.ensures.text (IsCharBoundary-start c.args.text.now c.utf8.text)
 
 pub past_spaces-place-requires-clause-begin : goal.past_spaces-place-requires-clause-begin
 past_spaces-place-requires-clause-begin c =
-    let B : List ℕ → Type 0 = λ z. IsCharBoundary z 0 in
-    subst B (sym (ap (λ t. t.now) c.look-first.ensures.same ∙ c.new-source.ensures.text))
+    rw (ap (λ t. t.now) c.look-first.ensures.same ∙ c.new-source.ensures.text)
     (IsCharBoundary-start c.args.text.now c.utf8.text)
 
 pub invariant_of-result : goal.invariant_of-result

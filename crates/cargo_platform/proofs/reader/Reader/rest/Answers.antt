@@ -1,16 +1,13 @@
-use Rattle.std.proofs.Common.{ap, sym, subst, ◌∙◌}
-use Rattle.cargo_platform.specs.Cut.{Item, Nothing}
-use Rattle.cargo_platform.specs.Inside.Parsing.{IsSurplus}
+use Rattle.std.proofs.Common.{ap, sym, ◌∙◌}
 use Rattle.cargo_platform.specs.Faults.{from_to}
-use Rattle.cargo_platform.specs.Inside.Ahead.{Ahead, Standing, NextIs}
+use Rattle.cargo_platform.specs.Inside.Ahead.{Standing}
 use Rattle.cargo_platform.proofs.Coming.{end_ahead, rest_ahead, nothing_seen, something_seen}
 use Rattle.cargo_platform.proofs.reader.Reader.rest.Goals as goal
 
 pub returns-in-None-clause-rest : goal.returns-in-None-clause-rest
 returns-in-None-clause-rest c =
     let r = c.self.inside in
-    let N : Ahead → Type 0 = λ z. NextIs z Nothing in
-    subst N (ap (λ (z : Standing). z.ahead) c.self.view_is)
+    rw (← ap (λ (z : Standing). z.ahead) c.self.view_is)
     (end_ahead r.source.text.now r.place
     (nothing_seen r.source.text.now r.place r.seen c.self.invariant.sees (sym c.character_of.ensures ∙ c.in-None.is)))
 
@@ -20,6 +17,5 @@ returns-in-Some-clause-rest c =
     let i = c.self.invariant in
     let within = something_seen r.source.text.now r.place _ r.seen i.sees (sym c.character_of.ensures ∙ c.in-Some.is) in
     let span = from_to r.place c.len.result in
-    let S : Ahead → Type 0 = λ z. (next : Item) × NextIs z next × IsSurplus z.text next c.rest_from.result.text.now span in
-    subst S (ap (λ (z : Standing). z.ahead) c.self.view_is)
+    rw (← ap (λ (z : Standing). z.ahead) c.self.view_is)
     (rw (c.rest_from.ensures, c.len.ensures) (rest_ahead r.source.text.now r.place i.utf8 i.reached i.past within))

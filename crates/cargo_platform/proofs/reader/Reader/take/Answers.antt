@@ -1,5 +1,5 @@
-use Rattle.std.proofs.Common.{◌≡◌, refl, sym, ap, subst, ◌∙◌}
-use Rattle.cargo_platform.specs.Cut.{Lexical, Nothing}
+use Rattle.std.proofs.Common.{refl, sym, ap, subst, ◌∙◌}
+use Rattle.cargo_platform.specs.Cut.{Lexical}
 use Rattle.cargo_platform.specs.Tokens.{lexeme, Placed}
 use Rattle.cargo_platform.specs.Inside.Ahead.{Ahead, Standing, NextIs, GoesPast}
 use Rattle.cargo_platform.proofs.Coming.{ahead_at, fault_ahead, end_ahead, nothing_seen, goes_past}
@@ -10,17 +10,15 @@ returns-in-Some-clause-taken c =
     let r = c.self.inside in
     let i = c.self.invariant in
     let found = rw c.in-Some.is at i.found in
-    let N : Ahead → Type 0 = λ z. NextIs z (Lexical c.in-Some.kind z.place) in
     let next = fault_ahead r.source.text.now r.place c.in-Some.kind i.reached.0 found in
-    (refl, subst N (ap (λ (z : Standing). z.ahead) c.self.view_is) next)
+    (refl, rw (← ap (λ (z : Standing). z.ahead) c.self.view_is) next)
 
 pub returns-in_default-character_of-clause-taken : goal.returns-in_default-character_of-clause-taken
 returns-in_default-character_of-clause-taken c =
     let r = c.self.inside in
-    let N : Ahead → Type 0 = λ z. NextIs z Nothing in
     let end = nothing_seen r.source.text.now r.place r.seen c.self.invariant.sees
     (sym c.character_of.ensures ∙ c.in_default-character_of.is) in
-    (refl, subst N (ap (λ (z : Standing). z.ahead) c.self.view_is) (end_ahead r.source.text.now r.place end))
+    (refl, rw (← ap (λ (z : Standing). z.ahead) c.self.view_is) (end_ahead r.source.text.now r.place end))
 
 pub returns-in-Ok-clause-taken : goal.returns-in-Ok-clause-taken
 returns-in-Ok-clause-taken c =
@@ -32,8 +30,7 @@ returns-in-Ok-clause-taken c =
     let cut = c.in-Ok.ensures.token in
     let found = rw c.in-Ok.ensures.same at c.past_spaces.ensures in
     let p : Placed = record { token = t; start = r.place; end = c.in-Ok.cut.end } in
-    let T : Ahead → Type 0 = λ z. GoesPast z (ahead_at c.past_spaces.new.self.text.now to) p in
-    subst T (ap (λ (z : Standing). z.ahead) c.self.view_is)
+    rw (← ap (λ (z : Standing). z.ahead) c.self.view_is)
     (subst
     (λ z. GoesPast (ahead_at text r.place) (ahead_at z.now to) p) (sym found.same)
     (goes_past text r.place c.in-Ok.cut.end to t i.reached.0 cut.stands found.spaces))
@@ -42,9 +39,8 @@ pub returns-in-Err-clause-taken : goal.returns-in-Err-clause-taken
 returns-in-Err-clause-taken c =
     let r = c.self.inside in
     let i = c.self.invariant in
-    let V : Ahead → Type 0 = λ z. ahead_at c.token_at.new.source.text.now r.place ≡ z in
     let N : Ahead → Type 0 = λ z. NextIs z (Lexical c.in-Err.kind z.place) in (
-      subst V (ap (λ (z : Standing). z.ahead) c.self.view_is) (ap (λ z. ahead_at z.now r.place) c.in-Err.ensures.same),
+      rw (← ap (λ (z : Standing). z.ahead) c.self.view_is) (ap (λ z. ahead_at z.now r.place) c.in-Err.ensures.same),
       subst N (ap (λ (z : Standing). z.ahead) c.self.view_is)
           (fault_ahead r.source.text.now r.place c.in-Err.kind i.reached.0 c.in-Err.ensures.fault),
     )

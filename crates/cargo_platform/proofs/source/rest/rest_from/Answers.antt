@@ -6,8 +6,9 @@ use Rattle.cargo_platform.proofs.source.rest.rest_from.Goals as goal
 pub returns-then-start-text : goal.returns-then-start-text
 returns-then-start-text c =
     let found = c.spaces_end-start.ensures in
-    subst (AreSpaces c.args.source.now.text.now c.args.at) c.if-start-text.true
-    (only_spaces c.args.source.now.text.now c.args.at c.spaces_end-start.result found.order found.boundary.0 found.spaces)
+    let text = c.args.source.now.text.now in
+    subst (AreSpaces text c.args.at) c.if-start-text.true
+    (only_spaces text c.args.at c.spaces_end-start.result found.order found.boundary.0 found.spaces)
 
 pub returns : goal.returns
 returns c =

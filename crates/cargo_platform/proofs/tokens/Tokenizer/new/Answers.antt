@@ -1,15 +1,13 @@
-use Rattle.std.proofs.Common.{◌<◌, ◌^◌, ℕ, List, None, false, subst, sym, arith}
+use Rattle.std.proofs.Common.{◌<◌, ◌^◌, arith}
 use Rattle.std.proofs.lemmas.Str.{IsCharBoundary-start}
 use Rattle.cargo_platform.specs.Reading.{characters_from}
-use Rattle.cargo_platform.specs.Inside.Looking.{IsStanding}
 use Rattle.cargo_platform.proofs.Looking.{chars_fit}
 use Rattle.cargo_platform.proofs.tokens.Tokenizer.new.Goals as goal
 
 pub invariant_of-result : goal.invariant_of-result
 invariant_of-result c =
     let fits : characters_from c.args.text.now 0 < 2 ^ 64 = omega (arith, chars_fit c.args.text.now c.utf8.text) in
-    let S : List ℕ → Type 0 = λ bs. IsStanding bs 0 None false c.new.result.looks in
-    subst S (sym c.new.ensures.text) (record {
+    rw c.new.ensures.text (record {
       short = fits;
       reached = IsCharBoundary-start c.args.text.now c.utf8.text;
       sees = tt;
