@@ -28,6 +28,8 @@ pub enum Call {
     JsonText,
     ReadJson,
     Print,
+    Debug,
+    Parts,
     ExpressionLeft,
     ConditionLeft,
     OfExpressions(Question),
@@ -37,6 +39,8 @@ pub enum Call {
     SnippetOf,
     SnippetIn,
     Shown,
+    /// Leaves memory that nobody releases.
+    Forget,
 }
 
 const WARNED: &str = "cfg(any(not(feature = \"w\"), r#test, r#true = \"x\", true))";
@@ -295,4 +299,9 @@ pub const CALLS: &[(&str, Call, &str)] = &[
     ("snippet_open", Call::SnippetIn, "cfg(unix"),
     ("shown", Call::Shown, "a\tb\u{202E}"),
     ("shown_cut", Call::Shown, LONG),
+    ("debug", Call::Debug, GROUP),
+    ("parts", Call::Parts, GROUP),
+    ("parts_of_not", Call::Parts, "not(all(a, b))"),
+    ("parts_of_pair", Call::Parts, "r#k = \"1\""),
+    ("forgotten", Call::Forget, ""),
 ];

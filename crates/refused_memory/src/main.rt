@@ -1,6 +1,6 @@
 //! Makes the calls that standard input names, and prints their answers.
 //!
-//! The script `.ci/refusals` runs it with each allocation refused in turn. The status tells what came of it: 0 after
+//! The script `.ci/refusals` runs it with each allocation refused in turn, and counts what is released. The status tells what came of it: 0 after
 //! the answers, 9 where a call answered an allocation failure, 8 where a list of warnings was left changed then, 6 for
 //! a name that stands for no call. Each `+` before the name is an allocation that comes before the call, so one build,
 //! with one allocation refused, does for each allocation of each call.
@@ -14,16 +14,16 @@ mod targets;
 
 use calls::{CALLS, Call};
 use cargo_platform::{
-    Cfg, CfgExpr, FactIndex, Facts, FactsError, Ident, JsonError, ParseError, ParseErrorKind,
-    Platform, ReadError, read_facts,
+    Cfg, CfgExpr, CfgExprParts, FactIndex, Facts, FactsError, Ident, JsonError, ParseError,
+    ParseErrorKind, Platform, ReadError, read_facts,
 };
 use exact_answers::family_rule;
 use serde_json::Value;
 use std::alloc::{AllocError, Global};
 use std::fmt::Display;
-use std::io;
 use std::io::Read;
 use std::process::ExitCode;
+use std::{io, mem};
 
 /// Why there are no answers to print.
 #[derive(Drop)]
@@ -146,6 +146,8 @@ fn make(alloc: Global, call: Call, text: &str) -> Result<String, Fault> {
         Call::JsonText => json_text(alloc, &json(alloc, text)?),
         Call::ReadJson => read_json(alloc, &Value::String(String::from_str(alloc, text)?)),
         Call::Print => printed(alloc, &platform(alloc, text)?),
+        Call::Debug => debugged(alloc, &expression(alloc, text)?),
+        Call::Parts => parts(alloc, expression(alloc, text)?),
         Call::ExpressionLeft => known_in_part::expression_left(alloc, text),
         Call::ConditionLeft => known_in_part::condition_left(alloc, text),
         Call::OfExpressions(question) => exact::of_expressions(alloc, question, text),
@@ -155,6 +157,7 @@ fn make(alloc: Global, call: Call, text: &str) -> Result<String, Fault> {
         Call::SnippetOf => snippets::snippet_of(alloc, text),
         Call::SnippetIn => snippets::snippet_in(alloc, text),
         Call::Shown => snippets::shown(alloc, text),
+        Call::Forget => forget(alloc),
     }
 }
 
@@ -280,6 +283,34 @@ fn clones(alloc: Global, text: &str) -> Result<String, Fault> {
         }
         Platform::Name(_) => Err(Fault::Unknown),
     }
+}
+
+fn debugged(alloc: Global, e: &CfgExpr) -> Result<String, Fault> {
+    Ok(format!(in alloc; "{e:?}\n")?)
+}
+
+/// The parts of an expression, a line each.
+fn parts(alloc: Global, e: CfgExpr) -> Result<String, Fault> {
+    match e.into_parts() {
+        CfgExprParts::Not(negated) => printed(alloc, &Box::into_inner(negated)),
+        CfgExprParts::All(members) | CfgExprParts::Any(members) => printed_members(alloc, &members),
+        CfgExprParts::Value(value) => printed(alloc, &value),
+        CfgExprParts::True | CfgExprParts::False => Err(Fault::Unknown),
+    }
+}
+
+fn printed_members(alloc: Global, members: &[CfgExpr]) -> Result<String, Fault> {
+    let mut text = String::new(alloc);
+    for member in members {
+        text.push_str(&printed(alloc, member)?)?;
+    }
+    Ok(text)
+}
+
+/// Leaves a box behind, so that the script sees that it can tell.
+fn forget(alloc: Global) -> Result<String, Fault> {
+    mem::forget(Box::new(alloc, 0u8).map_err(AllocError::from)?);
+    Ok(String::from_str(alloc, "forgotten\n")?)
 }
 
 fn json(alloc: Global, text: &str) -> Result<Value, Fault> {
