@@ -5,5 +5,3 @@
 mod asks;
 #[cfg(test)]
 mod matching;
-#[cfg(test)]
-mod support;

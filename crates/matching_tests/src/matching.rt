@@ -6,15 +6,13 @@ ghost use Rattle.cargo_platform.specs.Facts.{fact_set};
 ghost use Rattle.cargo_platform.specs.Holders.{name_fact, pair_fact, only, where_set};
 ghost use Rattle.cargo_platform.specs.Trees.{value_of};
 
-use crate::support::assert_holds;
 use cargo_platform::cfg::{Cfg, CfgExpr, FactIndex, Facts, Listed};
 use cargo_platform::{Platform, read_facts};
 use std::alloc::Global;
 use std::process::Abort;
-use test_support::compared::{json_reads_back, same_value};
-use test_support::made::{repeated, value, values};
+use test_support::made::{value, values};
 use test_support::real_facts::{LINUX, MACOS, WASM, WINDOWS};
-use test_support::texts::{FLAGGED, LENGTHS, MANY, MATCHED, TARGETS, TARGETS_MATCHED};
+use test_support::texts::{FLAGGED, MATCHED, TARGETS, TARGETS_MATCHED};
 
 /// Two lists of facts as one set, as those of a target and those of a build.
 #[derive(Drop)]
@@ -178,75 +176,5 @@ fn keys_match_facts(rt: HostRuntime) {
     for (key, wanted) in KEYS {
         let answer = CfgExpr::matches_key(rt.alloc(), key, &facts).expect(&rt, "memory");
         assert_eq!(rt; answer, *wanted, "{key}");
-    }
-}
-
-/// The copy of a fact, which is asserted to be the same.
-fn copy_of(rt: &impl Abort, alloc: Global, fact: &Cfg) -> Cfg {
-    let copy = fact.clone(alloc).expect(rt, "memory");
-    assert!(rt; same_value(&copy, fact), "{fact}");
-    copy
-}
-
-/// Whether an index of facts holds a fact.
-fn is_in_index(rt: &impl Abort, alloc: Global, facts: &[Cfg], fact: &Cfg) -> bool {
-    FactIndex::new(alloc, facts)
-        .expect(rt, "memory")
-        .holds(fact)
-}
-
-/// Asserts that a condition's copy matches facts, and so does the key that it prints as.
-fn assert_key_matches(rt: &impl Abort, alloc: Global, condition: &Platform, facts: &[Cfg]) {
-    let copy = condition.clone(alloc).expect(rt, "memory");
-    assert!(rt; copy.matches("", facts), "{condition}");
-    let key = condition.to_string(alloc).expect(rt, "memory");
-    assert!(rt;
-        CfgExpr::matches_key(alloc, &key, facts).expect(rt, "memory"),
-        "{key}"
-    );
-}
-
-/// Asserts that a fact is copied, kept in an index, and met by the expression and the key that ask for it.
-fn assert_is_met(rt: &impl Abort, alloc: Global, text: &str) {
-    let fact = Cfg::from_str(alloc, text).expect(rt, text);
-    let copy = copy_of(rt, alloc, &fact);
-    let facts = vec![in alloc; fact].expect(rt, "memory");
-    assert!(rt; is_in_index(rt, alloc, &facts, &copy), "{text}");
-    let condition = Platform::Cfg(CfgExpr::from_str(alloc, text).expect(rt, text));
-    assert_key_matches(rt, alloc, &condition, &facts);
-    assert_holds(rt, json_reads_back(alloc, &condition), text);
-}
-
-#[test]
-fn long_facts_are_met(rt: HostRuntime) {
-    let alloc = rt.alloc();
-    for length in LENGTHS {
-        let long = repeated(alloc, "a", length).expect(&rt, "memory");
-        assert_is_met(
-            &rt,
-            alloc,
-            &format!(in alloc; "r#{long}").expect(&rt, "memory"),
-        );
-        assert_is_met(
-            &rt,
-            alloc,
-            &format!(in alloc; "{long} = \"{long}\"").expect(&rt, "memory"),
-        );
-    }
-}
-
-#[test]
-fn many_facts_are_met(rt: HostRuntime) {
-    let alloc = rt.alloc();
-    let mut text = repeated(alloc, "k = \"a\"\n", MANY).expect(&rt, "memory");
-    text.push_str("z").expect(&rt, "memory");
-    let facts = read_facts(alloc, &text).expect(&rt, &text);
-    assert_eq!(rt; facts.len(), MANY + 1);
-    let index = FactIndex::new(alloc, &facts).expect(&rt, "memory");
-    for asked in ["k=a", "z"] {
-        assert!(rt;
-            index.holds(&value(alloc, asked).expect(&rt, "memory")),
-            "{asked}"
-        );
     }
 }

@@ -13,6 +13,8 @@ mod one_valued;
 pub mod planner;
 #[cfg(test)]
 mod residuals;
+#[cfg(test)]
+mod sizes;
 pub mod steps;
 #[cfg(test)]
 mod stepwise;

@@ -2,66 +2,16 @@
 
 use crate::alike::{is_cfg, is_condition, is_expression};
 use crate::support::assert_holds;
-use cargo_platform::{CfgExpr, Platform};
-use std::alloc::Global;
-use std::process::Abort;
+use cargo_platform::CfgExpr;
 use test_support::compared::{prints, same};
 use test_support::faults::{Fault, is_refused};
 use test_support::made::{expression, negations, repeated, values};
-use test_support::texts::LENGTHS;
 
 const START: &str = "expected start of a cfg expression, but cfg expression ended";
 
 const NAME: &str = "expected `)`, found an identifier";
 
 const UNTERMINATED: &str = "unterminated string in cfg";
-
-/// Asserts that a text is read as a name or a pair, and as an expression.
-fn assert_is_read(rt: &impl Abort, alloc: Global, text: &str) {
-    assert!(rt; is_cfg(rt, alloc, text), "{text}");
-    assert!(rt; is_expression(rt, alloc, text), "{text}");
-}
-
-/// Asserts that a text is read as the name of a target, whose copy prints as the text, and which matches that target.
-fn assert_is_target(rt: &impl Abort, alloc: Global, text: &str) {
-    let target = Platform::from_str(alloc, text).expect(rt, text);
-    let copy = target.clone(alloc).expect(rt, "memory");
-    assert_holds(rt, prints(alloc, &copy, text), text);
-    assert!(rt; target.matches(text, &[]), "{text}");
-}
-
-/// Asserts that a long word is read as a name, raw or not, as a key, as a value, and as the name of a target.
-fn assert_long_is_read(rt: &impl Abort, alloc: Global, long: &str) {
-    assert_is_read(rt, alloc, long);
-    assert_is_read(
-        rt,
-        alloc,
-        &format!(in alloc; "r#{long}").expect(rt, "memory"),
-    );
-    assert_is_read(
-        rt,
-        alloc,
-        &format!(in alloc; "{long} = \"\"").expect(rt, "memory"),
-    );
-    assert_is_read(
-        rt,
-        alloc,
-        &format!(in alloc; "k = \"{long}\"").expect(rt, "memory"),
-    );
-    assert_is_target(rt, alloc, long);
-}
-
-#[test]
-fn long_texts_are_read(rt: HostRuntime) {
-    let alloc = rt.alloc();
-    for length in LENGTHS {
-        assert_long_is_read(
-            &rt,
-            alloc,
-            &repeated(alloc, "a", length).expect(&rt, "memory"),
-        );
-    }
-}
 
 #[test]
 fn a_long_list(rt: HostRuntime) {

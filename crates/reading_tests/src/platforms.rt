@@ -1,13 +1,13 @@
 //! Conditions: names of targets and `cfg(..)` expressions, read from text, printed, compared and matched.
 
 use crate::support::assert_holds;
-use cargo_platform::{Cfg, CfgExpr, Platform};
+use cargo_platform::{CfgExpr, Platform};
 use std::alloc::Global;
 use std::process::Abort;
 use test_support::compared::{prints, same};
 use test_support::faults::{Fault, is_refused};
-use test_support::made::{repeated, value};
-use test_support::texts::{CONDITIONS_READ, LENGTHS};
+use test_support::made::value;
+use test_support::texts::CONDITIONS_READ;
 
 /// Texts that are read as names of targets.
 const NAMES: &[&str] = &[
@@ -176,60 +176,4 @@ fn assert_reads_back(rt: &impl Abort, alloc: Global, read: &Platform, printed: &
     assert_holds(rt, prints(alloc, read, printed), printed);
     let again = Platform::from_str(alloc, printed).expect(rt, printed);
     assert_holds(rt, prints(alloc, &again, printed), printed);
-}
-
-/// Asserts that `a` and a long word after it are refused, also in a key.
-fn assert_second_is_refused(rt: &impl Abort, alloc: Global, long: &str) {
-    let text = format!(in alloc; "a {long}").expect(rt, "memory");
-    let message = format!(in alloc;
-        "unexpected content `{long}` found after cfg expression"
-    ).expect(rt, "memory");
-    let fault = Fault::UnterminatedExpression(long);
-    assert_holds(
-        rt,
-        is_refused(
-            alloc,
-            &Cfg::from_str(alloc, &text).err(),
-            &text,
-            fault,
-            &message,
-        ),
-        &text,
-    );
-    assert_holds(
-        rt,
-        is_refused(
-            alloc,
-            &CfgExpr::from_str(alloc, &text).err(),
-            &text,
-            fault,
-            &message,
-        ),
-        &text,
-    );
-    let key = format!(in alloc; "cfg({text})").expect(rt, "memory");
-    assert!(rt; !CfgExpr::matches_key(alloc, &key, &[]).expect(rt, "memory"));
-}
-
-/// Asserts that a long word with `!` after it is refused as the name of a target.
-fn assert_target_is_refused(rt: &impl Abort, alloc: Global, long: &str) {
-    let name = format!(in alloc; "{long}!").expect(rt, "memory");
-    let fault = Fault::InvalidTarget("unexpected character ! in target name");
-    let message = "invalid target specifier: unexpected character ! in target name";
-    let refusal = Platform::from_str(alloc, &name).err();
-    assert_holds(
-        rt,
-        is_refused(alloc, &refusal, &name, fault, message),
-        &name,
-    );
-}
-
-#[test]
-fn long_texts_are_refused(rt: HostRuntime) {
-    let alloc = rt.alloc();
-    for length in LENGTHS {
-        let long = repeated(alloc, "b", length).expect(&rt, "memory");
-        assert_second_is_refused(&rt, alloc, &long);
-        assert_target_is_refused(&rt, alloc, &long);
-    }
 }

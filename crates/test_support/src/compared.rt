@@ -1,24 +1,15 @@
 //! Comparisons that look at every part, raw marks included, and what values print.
 
-use cargo_platform::{Cfg, CfgExpr, Ident, Platform};
+use cargo_platform::{Cfg, CfgExpr, Ident};
 use std::alloc::Global;
+use std::cmp::Ordering;
 use std::fmt::Display;
+use std::hash::{DefaultHasher, Hash, Hasher};
 
 /// Whether a value prints as the text.
 pub fn prints<T: Display>(alloc: Global, x: &T, text: &str) -> bool {
     match x.to_string(alloc) {
         Ok(printed) => printed.as_str() == text,
-        Err(_) => false,
-    }
-}
-
-/// Whether a condition's JSON is read as one that prints the same.
-pub fn json_reads_back(alloc: Global, condition: &Platform) -> bool {
-    let (Ok(json), Ok(printed)) = (condition.to_json(alloc), condition.to_string(alloc)) else {
-        return false;
-    };
-    match Platform::from_json(alloc, &json) {
-        Ok(again) => prints(alloc, &again, &printed),
         Err(_) => false,
     }
 }
@@ -62,4 +53,20 @@ fn same_members(a: &[CfgExpr], b: &[CfgExpr]) -> bool {
         }
     }
     true
+}
+
+fn hash_of<T: Hash>(x: &T) -> u64 {
+    let mut state = DefaultHasher::new();
+    x.hash(&mut state);
+    state.finish()
+}
+
+/// Whether all comparisons of two values say this order, in both directions, and their hashes agree just where they are
+/// equal.
+pub fn are_ordered<T: Ord + Hash>(first: &T, second: &T, order: Ordering) -> bool {
+    first.cmp(second) == order
+        && second.cmp(first) == order.reverse()
+        && first.partial_cmp(second) == Some(order)
+        && (first == second) == order.is_eq()
+        && (hash_of(first) == hash_of(second)) == order.is_eq()
 }

@@ -7,4 +7,6 @@ pub mod compared;
 pub mod faults;
 pub mod made;
 pub mod real_facts;
+pub mod sizes;
 pub mod texts;
+pub mod warnings;

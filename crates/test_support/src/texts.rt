@@ -336,9 +336,3 @@ pub const TWO_KINDS: &str = "any(not(feature = \"w\"), r#test, r#true = \"x\", t
 
 /// An expression of a name that is a keyword but for its mark, and of the keyword as a literal.
 pub const LITERALS: &str = "any(r#true, true)";
-
-/// Lengths in bytes, from the greatest that a byte holds.
-pub const LENGTHS: [usize; 4] = [255, 256, 257, 5000];
-
-/// How many members or facts a long list has.
-pub const MANY: usize = 300;

@@ -5,25 +5,15 @@ use cargo_platform::{Cfg, CfgExpr, Platform};
 use std::alloc::Global;
 use std::cmp::Ordering;
 use std::collections::{BTreeMap, HashMap};
-use std::hash::{DefaultHasher, Hash, Hasher};
+use std::hash::Hash;
 use std::process::Abort;
-use test_support::compared::{prints, same, same_ident, same_value};
+use test_support::compared::{are_ordered, prints, same, same_ident, same_value};
 use test_support::made::{expression, ident, value};
 use test_support::texts::{CONDITIONS_ORDERED, EXPRESSIONS_ORDERED, VALUES_ORDERED};
 
-fn hash_of<T: Hash>(x: &T) -> u64 {
-    let mut state = DefaultHasher::new();
-    x.hash(&mut state);
-    state.finish()
-}
-
-/// Asserts what all comparisons of two values say, in both directions, and whether their hashes agree.
+/// Asserts the order of two values.
 pub fn assert_order<T: Ord + Hash>(rt: &impl Abort, a: &T, b: &T, order: Ordering, pair: &str) {
-    assert_eq!(rt; a.cmp(b), order, "{pair}");
-    assert_eq!(rt; b.cmp(a), order.reverse(), "{pair}");
-    assert_eq!(rt; a.partial_cmp(b), Some(order), "{pair}");
-    assert_eq!(rt; a == b, order.is_eq(), "{pair}");
-    assert_eq!(rt; hash_of(a) == hash_of(b), order.is_eq(), "{pair}");
+    assert!(rt; are_ordered(a, b, order), "{pair}");
 }
 
 #[test]

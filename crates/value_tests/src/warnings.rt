@@ -1,39 +1,11 @@
 //! Warnings on conditions, in their exact texts.
 
-use crate::support::assert_holds;
 use cargo_platform::{CfgExpr, Platform};
 use std::alloc::Global;
 use std::process::Abort;
-use test_support::compared::{json_reads_back, same};
-use test_support::made::{expression, repeated, value};
-use test_support::texts::{ATTRIBUTES, LENGTHS, LITERALS, MANY, TWO_KINDS};
-
-/// The warning on a name, which is printed with its mark.
-fn on_name(rt: &impl Abort, alloc: Global, name: &str) -> String {
-    format!(in alloc;
-        "Found `{name}` in `target.'cfg(...)'.dependencies`. This value is not supported for selecting dependencies \
-        and will not work as expected. To learn more visit \
-        https://doc.rust-lang.org/cargo/reference/specifying-dependencies.html#platform-specific-dependencies"
-    )
-    .expect(rt, "memory")
-}
-
-/// The warning on a pair with the key `feature`.
-const ON_FEATURE: &str =
-    "Found `feature = ...` in `target.'cfg(...)'.dependencies`. This key is not supported for selecting \
-    dependencies and will not work as expected. Use the [features] section instead: \
-    https://doc.rust-lang.org/cargo/reference/features.html";
-
-/// The warning on a word as a name or a key, for the path, the printed name or pair, and the word.
-pub fn on_word(rt: &impl Abort, alloc: Global, path: &str, cfg: &str, word: &str) -> String {
-    format!(in alloc;
-        "[{path}] future-incompatibility: `cfg({cfg})` is deprecated as `{word}` is a keyword and not an identifier \
-        and should not have have been accepted in this position.\n | this was previously accepted by Cargo but is \
-        being phased out; it will become a hard error in a future release!\n |\n | help: use raw-idents instead: \
-        `cfg(r#{word})`"
-    )
-    .expect(rt, "memory")
-}
+use test_support::made::{expression, value};
+use test_support::texts::{ATTRIBUTES, LITERALS, TWO_KINDS};
+use test_support::warnings::{ON_FEATURE, on_name, on_word};
 
 /// The warnings on attributes: for `feature` the one on that key, and for each other word the one on that name. The
 /// word `w` stands for itself.
@@ -43,7 +15,7 @@ pub fn on_attributes(rt: &impl Abort, alloc: Global, words: &str) -> Vec<String>
         let text = match word {
             "w" => String::from_str(alloc, "w").expect(rt, "memory"),
             "feature" => String::from_str(alloc, ON_FEATURE).expect(rt, "memory"),
-            _ => on_name(rt, alloc, word),
+            _ => on_name(alloc, word).expect(rt, "memory"),
         };
         texts.push(text).expect(rt, "memory");
     }
@@ -111,7 +83,7 @@ fn on_keyword(
     let mut texts = Vec::new(alloc);
     if let Some((printed, word)) = warned {
         texts
-            .push(on_word(rt, alloc, path, printed, word))
+            .push(on_word(alloc, path, printed, word).expect(rt, "memory"))
             .expect(rt, "memory");
     }
     texts
@@ -144,10 +116,10 @@ fn keywords_from_left_to_right(rt: HostRuntime) {
     );
     let mut wanted = Vec::new(alloc);
     wanted
-        .push(on_word(&rt, alloc, "", "true = \"1\"", "true"))
+        .push(on_word(alloc, "", "true = \"1\"", "true").expect(&rt, "memory"))
         .expect(&rt, "memory");
     wanted
-        .push(on_word(&rt, alloc, "", "false = \"2\"", "false"))
+        .push(on_word(alloc, "", "false = \"2\"", "false").expect(&rt, "memory"))
         .expect(&rt, "memory");
     assert_warnings(&rt, &found, &wanted, tree);
 }
@@ -190,7 +162,7 @@ fn warnings_go_behind_those_before(rt: HostRuntime) {
     add_made(&rt, alloc, &mut found);
     let mut wanted = on_attributes(&rt, alloc, "w feature r#test");
     wanted
-        .push(on_word(&rt, alloc, "-", "true = \"x\"", "true"))
+        .push(on_word(alloc, "-", "true = \"x\"", "true").expect(&rt, "memory"))
         .expect(&rt, "memory");
     assert_warnings(&rt, &found, &wanted, "true=x");
 }
@@ -202,57 +174,5 @@ fn names_of_targets_give_none(rt: HostRuntime) {
         let target = Platform::Name(String::from_str(alloc, name).expect(&rt, "memory"));
         assert_warnings(&rt, &attributes_of(&rt, alloc, &target), &[], name);
         assert_warnings(&rt, &keywords_of(&rt, alloc, &target, "-"), &[], name);
-    }
-}
-
-/// Asserts what is warned of where `true` is the key of a long value, in a manifest whose path is as long.
-fn assert_long_is_warned_of(rt: &impl Abort, alloc: Global, long: &str) {
-    let keyed = format!(in alloc; "true={long}").expect(rt, "memory");
-    let condition = Platform::Cfg(CfgExpr::Value(value(alloc, &keyed).expect(rt, "memory")));
-    let found = keywords_of(rt, alloc, &condition, long);
-    let printed = format!(in alloc; "true = \"{long}\"").expect(rt, "memory");
-    let wanted = vec![in alloc; on_word(rt, alloc, long, &printed, "true")].expect(rt, "memory");
-    assert_warnings(rt, &found, &wanted, &printed);
-}
-
-#[test]
-fn long_words_are_warned_of(rt: HostRuntime) {
-    let alloc = rt.alloc();
-    for length in LENGTHS {
-        assert_long_is_warned_of(
-            &rt,
-            alloc,
-            &repeated(alloc, "a", length).expect(&rt, "memory"),
-        );
-    }
-}
-
-/// An expression of many members, each `test`.
-fn many_members(rt: &impl Abort, alloc: Global, word: &str) -> CfgExpr {
-    let members = repeated(alloc, "test,", MANY).expect(rt, "memory");
-    let text = format!(in alloc; "{word}({members})").expect(rt, "memory");
-    CfgExpr::from_str(alloc, &text).expect(rt, &text)
-}
-
-/// Asserts that each of the many members is warned of.
-fn assert_many_are_warned_of(rt: &impl Abort, alloc: Global, condition: &Platform, word: &str) {
-    let found = attributes_of(rt, alloc, condition);
-    let words = repeated(alloc, "test ", MANY).expect(rt, "memory");
-    let wanted = on_attributes(rt, alloc, &words);
-    assert_warnings(rt, &found, &wanted, word);
-}
-
-#[test]
-fn many_members_are_copied_and_warned_of(rt: HostRuntime) {
-    let alloc = rt.alloc();
-    for word in ["all", "any"] {
-        let read = many_members(&rt, alloc, word);
-        assert!(rt;
-            same(&read.clone(alloc).expect(&rt, "memory"), &read),
-            "{word}"
-        );
-        let condition = Platform::Cfg(read);
-        assert_holds(&rt, json_reads_back(alloc, &condition), word);
-        assert_many_are_warned_of(&rt, alloc, &condition, word);
     }
 }
