@@ -1,0 +1,4 @@
+pub mod Reports
+pub mod Rustcs
+pub mod Standings
+pub mod Verdicts

@@ -1,8 +1,10 @@
 -- Which findings there are of a key, and which of them hide which.
-use Rattle.std.specs.Prelude.{◌≡◌, Bool, false, List, [], ◌∷◌}
+use Rattle.std.specs.Prelude.{◌≡◌, Bool, true, false, not, ◌&&◌, List, [], ◌∷◌}
+use Rattle.std.specs.List.{list_any, filter}
 use Rattle.manifests.specs.declared.findings.Code.{Code}
 use Rattle.manifests.specs.declared.findings.Code.TheVariants as code
 use Rattle.manifests.specs.declared.hiding.Holding.{Holding}
+use Rattle.manifests.specs.declared.linting.TheConstants.{CODES}
 
 abbrev pub holds_of : Holding → Code → Bool
 holds_of h code.Refused = h.refused
@@ -29,3 +31,27 @@ hiders code.Nowhere = code.UnknownTarget ∷ code.UnknownFact ∷ code.Never ∷
 hiders code.Equivalent = code.Never ∷ code.Always ∷ code.Same ∷ []
 hiders code.Everywhere = code.Always ∷ []
 hiders _ = []
+
+-- whether a finding is told: it holds, and none hides it
+abbrev pub is_told : Holding → Code → Bool
+is_told h c = holds_of h c && not (list_any (holds_of h) (hiders c))
+
+-- the codes that are told of a key, in their order
+abbrev pub told_codes : Holding → List Code
+told_codes h = filter (is_told h) CODES
+
+-- what is found of a key that spells no condition
+pub record IsUnspelled (no_table : Bool) (h : Holding) : Type 0 where
+  pub tables : h.no_table ≡ no_table
+  pub otherwise : h.read_otherwise ≡ not h.refused
+  pub unsupported : h.unsupported ≡ false
+  pub never : h.never ≡ false
+  pub unknown_target : h.unknown_target ≡ false
+  pub unknown_fact : h.unknown_fact ≡ false
+  pub nowhere : h.nowhere ≡ false
+  pub same : h.same ≡ false
+  pub equivalent : h.equivalent ≡ false
+  pub always : h.always ≡ false
+  pub everywhere : h.everywhere ≡ false
+  pub custom : h.custom ≡ false
+  pub not_canonical : h.not_canonical ≡ false

@@ -3,3 +3,5 @@ pub mod Tables
 pub mod Choosing
 pub mod Truths
 pub mod Hiding
+pub mod Standings
+pub mod Reports

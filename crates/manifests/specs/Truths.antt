@@ -1,6 +1,6 @@
 -- What it is for a condition to be never, always, nowhere and everywhere true.
-use Rattle.std.specs.Prelude.{◌≡◌, ◌<◌, ℕ, Bool, true, false, List, Option, Some}
-use Rattle.cargo_platform.specs.Trees.{Condition}
+use Rattle.std.specs.Prelude.{◌≡◌, ◌≢◌, ◌<◌, ℕ, Bool, true, false, List, Option, Some}
+use Rattle.cargo_platform.specs.Trees.{Condition, Target, Expression}
 use Rattle.cargo_platform.specs.Facts.{IsTrueCondition}
 use Rattle.partial_facts.specs.Conditions.{kleene_condition}
 use Rattle.exact_answers.specs.declared.known.Known.{Known}
@@ -8,8 +8,8 @@ use Rattle.exact_answers.specs.Targets.{ForEach}
 use Rattle.known_targets.specs.Open.{open_told}
 use Rattle.known_targets.specs.Table.{target_name, target_facts}
 use Rattle.known_targets.specs.declared.table.TheConstants.{COUNT}
-use Rattle.manifests.specs.declared.linting.Decided.{Decided}
-use Rattle.manifests.specs.declared.linting.Decided.TheVariants as decided
+use Rattle.manifests.specs.declared.deciding.Decided.{Decided}
+use Rattle.manifests.specs.declared.deciding.Decided.TheVariants as decided
 
 -- it holds for no target that is possible
 abbrev pub IsNever : Known → Condition → Type 0
@@ -25,6 +25,11 @@ IfYes decided.Yes P = P
 IfYes decided.No P = Unit {0}
 IfYes decided.Unknown P = Unit {0}
 
+abbrev pub is_yes : Decided → Bool
+is_yes decided.Yes = true
+is_yes decided.No = false
+is_yes decided.Unknown = false
+
 -- whether it holds at a known target, where that does not hang on the facts of open names and keys
 abbrev pub at_target : List (List ℕ) → Condition → ℕ → Option Bool
 at_target open_keys c k = kleene_condition (Some (target_name k)) (open_told (target_facts k) open_keys) c
@@ -34,3 +39,8 @@ IsNowhere open_keys c = (k : ℕ) → k < COUNT → at_target open_keys c k ≡ 
 
 abbrev pub IsEverywhere : List (List ℕ) → Condition → Type 0
 IsEverywhere open_keys c = (k : ℕ) → k < COUNT → at_target open_keys c k ≡ Some true
+
+-- a name that no known target has
+abbrev pub IsUnknownTarget : Condition → Type 0
+IsUnknownTarget (Target name) = (k : ℕ) → k < COUNT → target_name k ≢ name
+IsUnknownTarget (Expression e) = ⊥

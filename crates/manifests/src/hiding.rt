@@ -2,7 +2,7 @@
 
 ghost use Rattle.std.specs.Prelude.{◌≡◌, ◌↔◌, IsTrue};
 ghost use Rattle.std.specs.List.{AllByRecursion};
-ghost use Rattle.manifests.specs.Hiding.{holds_of, hiders, IsNotOf};
+ghost use Rattle.manifests.specs.Hiding.{holds_of, hiders, IsNotOf, is_told};
 
 use crate::findings::Code;
 
@@ -40,12 +40,16 @@ pub struct Holding {
 }
 
 impl Holding {
-    /// There is nothing to find.
-    pub fn nothing() -> Holding {
+    ghost use Rattle.manifests.specs.Hiding.{IsUnspelled};
+
+    /// What there is to find of a key that spells no condition: Cargo refuses it too, or reads it otherwise.
+    pub fn unspelled(refused: bool, no_table: bool) -> Holding
+        ensures { IsUnspelled no_table result }
+    {
         Holding {
-            refused: false,
-            no_table: false,
-            read_otherwise: false,
+            refused,
+            no_table,
+            read_otherwise: !refused,
             unsupported: false,
             never: false,
             unknown_target: false,
@@ -91,8 +95,9 @@ impl Holding {
 /// Whether a finding is told: it holds, and none that is told hides it. What is hidden of one name alone is told of the
 /// others, and so is not hidden here.
 pub fn is_told(holding: &Holding, code: Code) -> bool
-    ensures { IsTrue result
+    ensures exact { IsTrue result
         ↔ (IsTrue (holds_of holding.now code) × AllByRecursion (IsNotOf holding.now) (hiders code)) }
+    ensures test { result ≡ is_told holding.now code }
 {
     if !holding.holds(code) {
         return false;

@@ -1,15 +1,20 @@
 //! The tables of a manifest that hold dependencies, and which of these a target selects.
 #![tactic(auto)]
 
+mod deciding;
 pub mod declared;
 mod earlier;
+mod facts;
 pub mod findings;
 mod hiding;
 mod linting;
+mod messages;
 mod nearest;
+mod repairs;
 pub mod selection;
 mod spelled;
 mod standing;
+mod subjects;
 pub mod tables;
 mod telling;
 mod values;

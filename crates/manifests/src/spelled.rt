@@ -1,48 +1,47 @@
 //! Keys as they are read, here and by Cargo of today.
 
+ghost use Rattle.std.specs.Prelude.{IfOk};
+ghost use Rattle.manifests.specs.Reports.{IsSpelledAs};
+
 use crate::standing::pair;
 use crate::telling::TOLD;
 use cargo_platform::{Cfg, CfgExpr, ParseError, Platform, ReadError, Token, Tokenizer};
 use std::alloc::{AllocError, Global};
 use std::collections::BTreeSet;
 
+/// What Cargo of today makes of a key that is refused here.
+#[derive(Drop)]
+pub struct Marked {
+    /// Cargo's first warnings, each on one line.
+    pub warnings: Vec<String>,
+    /// How many different ones there are.
+    pub count: usize,
+    /// The key with raw marks, which means the same here and to Cargo.
+    pub key: String,
+}
+
 /// What a key spells.
 #[derive(Drop)]
 pub enum Spelled {
     /// This condition.
     Condition(Platform),
-    /// None here. Cargo of today reads it, with these warnings; this key means the same to both.
-    ByCargo {
-        /// Cargo's first warnings, each on one line.
-        warnings: Vec<String>,
-        /// How many different ones there are.
-        count: usize,
-        /// The key with raw marks.
-        marked: String,
-    },
+    /// None here. Cargo of today reads it.
+    ByCargo(Marked),
     /// None, for this fault.
     Refused(ParseError),
 }
 
-impl Spelled {
-    /// The condition.
-    pub fn platform(&self) -> Option<&Platform> {
-        match self {
-            Spelled::Condition(platform) => Some(platform),
-            Spelled::ByCargo { .. } | Spelled::Refused(_) => None,
-        }
-    }
-}
-
 /// Reads a key.
-pub fn read_key(alloc: Global, key: &str) -> Result<Spelled, AllocError> {
+pub fn read_key(alloc: Global, key: &str) -> Result<Spelled, AllocError>
+    ensures { IfOk result (IsSpelledAs key.now) }
+{
     let error = match Platform::from_str(alloc, key) {
         Ok(platform) => return Ok(Spelled::Condition(platform)),
         Err(ReadError::Memory(refused)) => return Err(refused),
         Err(ReadError::Parse(error)) => error,
     };
     match read_by_cargo(alloc, key)? {
-        Some(spelled) => Ok(spelled),
+        Some(marked) => Ok(Spelled::ByCargo(marked)),
         None => Ok(Spelled::Refused(error)),
     }
 }
@@ -53,7 +52,7 @@ pub fn inner(key: &str) -> Option<&str> {
 }
 
 /// What Cargo makes of a key that is refused here: it takes unmarked `true` and `false` as the keys of pairs.
-fn read_by_cargo(alloc: Global, key: &str) -> Result<Option<Spelled>, AllocError> {
+fn read_by_cargo(alloc: Global, key: &str) -> Result<Option<Marked>, AllocError> {
     let Some(text) = inner(key) else {
         return Ok(None);
     };
@@ -108,10 +107,10 @@ fn read_by_cargo(alloc: Global, key: &str) -> Result<Option<Spelled>, AllocError
     match Platform::from_str(alloc, marked.as_str()) {
         Ok(_platform) => {
             let count = pairs.len();
-            Ok(Some(Spelled::ByCargo {
+            Ok(Some(Marked {
                 warnings,
                 count,
-                marked,
+                key: marked,
             }))
         }
         Err(ReadError::Parse(_error)) => Ok(None),

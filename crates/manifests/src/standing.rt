@@ -1,5 +1,15 @@
 //! What a name or pair that a condition asks for is to rustc: one of its own, a mistake, or a custom one.
 
+ghost use Rattle.std.specs.Prelude.{◌≡◌, IfOk, is_some};
+ghost use Rattle.std.specs.List.{list_any};
+ghost use Rattle.cargo_platform.specs.Trees.{Alone, KeyPair, value_of};
+ghost use Rattle.cargo_platform.specs.Warnings.{is_unsupported_name};
+ghost use Rattle.partial_facts.specs.Partly.{is_named};
+ghost use Rattle.known_targets.specs.Listed.{is_had};
+ghost use Rattle.known_targets.specs.Rows.{names_of, plain};
+ghost use Rattle.known_targets.specs.Table.{table_keys};
+ghost use Rattle.manifests.specs.Standings.{has_as_value, sort_of, sort_in, sort_of_key, Other};
+
 use cargo_platform::{Cfg, Ident};
 use known_targets::having;
 use std::alloc::{AllocError, Global};
@@ -23,9 +33,6 @@ pub const FLAGGED: [&str; 2] = ["panic", "target_feature"];
 
 /// The names that rustc sets without a value.
 pub const PLAIN: [&str; 3] = ["debug_assertions", "unix", "windows"];
-
-/// The names of which Cargo says that they don't select dependencies.
-const UNSUPPORTED: [&str; 3] = ["debug_assertions", "proc_macro", "test"];
 
 /// The keys with one value, and `target_family`, in the order in which a name is looked for among their values.
 const NAMED_BY_VALUE: [&str; 9] = [
@@ -87,9 +94,11 @@ impl Standing {
 }
 
 /// Whether the text is one of these.
-pub fn is_among(text: &str, words: &[&str]) -> bool {
+pub fn is_among(text: &str, words: &[&str]) -> bool
+    ensures { result ≡ is_named text.now (names_of words.now) }
+{
     for word in words {
-        if *word == text {
+        if text == *word {
             return true;
         }
     }
@@ -97,7 +106,9 @@ pub fn is_among(text: &str, words: &[&str]) -> bool {
 }
 
 /// The pair of this key and value.
-pub fn pair(alloc: Global, key: &str, value: &str) -> Result<Cfg, AllocError> {
+pub fn pair(alloc: Global, key: &str, value: &str) -> Result<Cfg, AllocError>
+    ensures { IfOk result (λ c. value_of c ≡ KeyPair (plain key.now) value.now) }
+{
     let key = Ident {
         name: String::from_str(alloc, key)?,
         raw: false,
@@ -105,14 +116,30 @@ pub fn pair(alloc: Global, key: &str, value: &str) -> Result<Cfg, AllocError> {
     Ok(Cfg::KeyPair(key, String::from_str(alloc, value)?))
 }
 
-/// Whether some known target has this value of the key.
-pub fn is_value_of(alloc: Global, key: &str, value: &str) -> Result<bool, AllocError> {
-    Ok(!having(&pair(alloc, key, value)?).is_empty())
+/// Whether some known target has the fact. Raw marks play no part.
+fn is_had(c: &Cfg) -> bool
+    ensures { result ≡ is_had table_keys (value_of c.now) }
+{
+    !having(c).is_empty()
 }
 
-/// The key of which a known target has this value, of the keys with one value and `target_family`.
-fn key_of_value(alloc: Global, value: &str) -> Result<Option<&'static str>, AllocError> {
-    for key in &NAMED_BY_VALUE {
+/// Whether some known target has this value of the key.
+pub fn is_value_of(alloc: Global, key: &str, value: &str) -> Result<bool, AllocError>
+    ensures { IfOk result (λ has. has ≡ is_had table_keys (KeyPair (plain key.now) value.now)) }
+{
+    let pair = pair(alloc, key, value)?;
+    Ok(is_had(&pair))
+}
+
+/// The first of the keys of which a known target has this value.
+fn key_of_value(
+    alloc: Global,
+    value: &str,
+    keys: &[&'static str],
+) -> Result<Option<&'static str>, AllocError>
+    ensures { IfOk result (λ key. is_some key ≡ list_any (has_as_value value.now) (names_of keys.now)) }
+{
+    'keys: for key in keys {
         if is_value_of(alloc, key, value)? {
             return Ok(Some(*key));
         }
@@ -135,7 +162,9 @@ fn near(
 }
 
 /// What a name or key is that rustc does not have.
-fn other(alloc: Global, name: &str) -> Result<Standing, AllocError> {
+fn other(alloc: Global, name: &str) -> Result<Standing, AllocError>
+    ensures { IfOk result (λ s. sort_in s ≡ Other) }
+{
     if name.len() < SHORTEST {
         return Ok(Standing::Custom);
     }
@@ -151,9 +180,18 @@ fn other(alloc: Global, name: &str) -> Result<Standing, AllocError> {
     }
 }
 
+/// Whether Cargo says of the name that it does not select dependencies.
+fn is_unsupported(name: &str) -> bool
+    ensures { result ≡ is_unsupported_name (plain name.now) }
+{
+    matches!(name, "test" | "debug_assertions" | "proc_macro")
+}
+
 /// What a name alone is.
-fn standing_of_name(alloc: Global, name: &str) -> Result<Standing, AllocError> {
-    if is_among(name, &UNSUPPORTED) {
+fn standing_of_name(alloc: Global, name: &str) -> Result<Standing, AllocError>
+    ensures { IfOk result (λ s. sort_in s ≡ sort_of (Alone (plain name.now))) }
+{
+    if is_unsupported(name) {
         return Ok(Standing::Unsupported);
     }
     if is_among(name, &PLAIN) {
@@ -165,14 +203,16 @@ fn standing_of_name(alloc: Global, name: &str) -> Result<Standing, AllocError> {
     if is_among(name, &FLAGGED) {
         return Ok(Standing::Custom);
     }
-    match key_of_value(alloc, name)? {
+    match key_of_value(alloc, name, &NAMED_BY_VALUE)? {
         Some(key) => Ok(Standing::ValueAsName(key)),
         None => other(alloc, name),
     }
 }
 
 /// What a pair with this key is.
-fn standing_of_pair(alloc: Global, c: &Cfg, key: &str) -> Result<Standing, AllocError> {
+fn standing_of_pair(alloc: Global, c: &Cfg, key: &str) -> Result<Standing, AllocError>
+    ensures { IfOk result (λ s. sort_in s ≡ sort_of_key key.now (is_had table_keys (value_of c.now))) }
+{
     if key == "feature" {
         return Ok(Standing::Unsupported);
     }
@@ -180,10 +220,10 @@ fn standing_of_pair(alloc: Global, c: &Cfg, key: &str) -> Result<Standing, Alloc
         return Ok(Standing::Rustc);
     }
     if is_among(key, &VALUED) {
-        if having(c).is_empty() {
-            return Ok(Standing::OtherValue);
+        if is_had(c) {
+            return Ok(Standing::Rustc);
         }
-        return Ok(Standing::Rustc);
+        return Ok(Standing::OtherValue);
     }
     if is_among(key, &PLAIN) {
         return Ok(Standing::WithValue);
@@ -195,7 +235,9 @@ fn standing_of_pair(alloc: Global, c: &Cfg, key: &str) -> Result<Standing, Alloc
 }
 
 /// What a name or pair is. Raw marks play no part.
-pub fn standing_of(alloc: Global, c: &Cfg) -> Result<Standing, AllocError> {
+pub fn standing_of(alloc: Global, c: &Cfg) -> Result<Standing, AllocError>
+    ensures { IfOk result (λ s. sort_in s ≡ sort_of (value_of c.now)) }
+{
     match c {
         Cfg::Name(name) => standing_of_name(alloc, name.as_str()),
         Cfg::KeyPair(key, _) => standing_of_pair(alloc, c, key.as_str()),

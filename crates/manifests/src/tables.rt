@@ -1,9 +1,10 @@
 //! The tables of a manifest that hold dependencies.
 
-ghost use Rattle.std.specs.Prelude.{◌≡◌};
+ghost use Rattle.std.specs.Prelude.{◌≡◌, IfOk, not};
 ghost use Rattle.toml.specs.View.{view};
-ghost use Rattle.manifests.specs.Tables.{table_name, old_table_name, is_optional};
+ghost use Rattle.manifests.specs.Tables.{table_name, old_table_name, is_optional, is_table_name, is_no_table, is_empty_list};
 
+use crate::telling::quoted;
 use std::alloc::{AllocError, Global};
 use toml::{Table, Value};
 
@@ -162,7 +163,9 @@ fn is_optional(value: &Value) -> bool
 }
 
 /// Whether Cargo reads a member of this name in the table of a key.
-pub fn is_table_name(name: &str) -> bool {
+fn is_table_name(name: &str) -> bool
+    ensures { result ≡ is_table_name name.now }
+{
     matches!(
         name,
         "dependencies"
@@ -171,4 +174,26 @@ pub fn is_table_name(name: &str) -> bool {
             | "build-dependencies"
             | "build_dependencies"
     )
+}
+
+/// What under a key is no table of dependencies, by words for each.
+pub fn no_tables(alloc: Global, key: &TargetKey<'_>) -> Result<Vec<String>, AllocError>
+    ensures { IfOk result (λ found. is_empty_list found.items ≡ not (is_no_table (view key.now.value.now))) }
+{
+    let mut found = Vec::new(alloc);
+    let Some(table) = key.value.as_table() else {
+        found.push(String::from_str(alloc, "the key is no table")?)?;
+        return Ok(found);
+    };
+    'members: for (name, value) in table.iter() {
+        let name = name.as_str();
+        if !is_table_name(name) {
+            let name = quoted(alloc, name)?;
+            found.push(format!(in alloc; "{name} is no table of dependencies")?)?;
+        } else if value.as_table().is_none() {
+            let name = quoted(alloc, name)?;
+            found.push(format!(in alloc; "{name} is no table")?)?;
+        }
+    }
+    Ok(found)
 }

@@ -1,0 +1,12 @@
+use Rattle.std.proofs.Common.{◌≡◌, ◌++◌, map, take, Some}
+use Rattle.std.specs.List.{filter}
+use Rattle.manifests.specs.Hiding.{is_told}
+use Rattle.manifests.specs.Reports.{marks}
+use Rattle.manifests.specs.declared.linting.TheConstants.{CODES}
+use Rattle.manifests.proofs.linting.add_findings.Given as goal
+
+abbrev pub invariant-codes : goal.invariant-codes
+invariant-codes l =
+    marks l.findings.items
+    ≡ marks l.initial.findings.items
+    ++ map (λ c. (Some l.subject.index, c)) (filter (is_told l.subject.holding) (take l.code-index CODES))

@@ -1,0 +1,101 @@
+-- What is found of the keys of a manifest, and which findings are told of them.
+use Rattle.std.specs.Prelude.{◌≡◌, ◌⊎◌, ◌↔◌, ℕ, Bool, false, IsTrue, List, [], ◌∷◌, ◌++◌, map, length, cond, Option, Some}
+use Rattle.cargo_platform.specs.Trees.{Condition, condition_of}
+use Rattle.cargo_platform.specs.Facts.{FactSet, fact_set}
+use Rattle.cargo_platform.specs.Platforms.{IsConditionText}
+use Rattle.cargo_platform.specs.Print.{print_condition}
+use Rattle.exact_answers.specs.declared.known.Known.{Known}
+use Rattle.partial_facts.specs.declared.one_valued.TheConstants.{ONE_VALUED}
+use Rattle.exact_answers.specs.Possible.{HasOneValue, IsAllowed}
+use Rattle.exact_answers.specs.Families.{KeepsFamilyRule}
+use Rattle.toml.specs.Data.{Data}
+use Rattle.toml.specs.View.{view}
+use Rattle.manifests.specs.declared.findings.Code.{Code}
+use Rattle.manifests.specs.declared.findings.Finding.{Finding}
+use Rattle.manifests.specs.declared.hiding.Holding.{Holding}
+use Rattle.manifests.specs.declared.spelled.Spelled.{Spelled}
+use Rattle.manifests.specs.declared.spelled.Spelled.TheVariants as spelled
+use Rattle.manifests.specs.declared.subjects.Read.{Read}
+use Rattle.manifests.specs.declared.tables.TargetKey.{TargetKey}
+use Rattle.manifests.specs.Hiding.{is_told, told_codes, IsUnspelled}
+use Rattle.manifests.specs.Tables.{is_no_table}
+use Rattle.manifests.specs.Truths.{IsNever, IsAlways, IsUnknownTarget}
+
+-- a key, and what stands at it
+abbrev pub Entry : Type 0
+Entry = List ℕ × Data
+
+abbrev pub entry_of : TargetKey → Entry
+entry_of k = (k.key.now, view k.value.now)
+
+-- ---- what a key spells
+
+abbrev pub SpellsNothing : List ℕ → Type 0
+SpellsNothing text = (c : Condition) → IsConditionText text c → ⊥
+
+abbrev pub IsSpelledAs : List ℕ → Spelled → Type 0
+IsSpelledAs text (spelled.Condition p) = IsConditionText text (condition_of p)
+IsSpelledAs text (spelled.ByCargo read) = SpellsNothing text
+IsSpelledAs text (spelled.Refused e) = SpellsNothing text
+
+abbrev pub IsRead : Read → Type 0
+IsRead r = IsSpelledAs r.key.key.now r.spelled
+
+-- ---- what is found of a key
+
+-- each set of facts that rustc may set is possible: a key with one value has one at most, and names of families go with
+-- the pairs of `target_family`
+abbrev pub AllowsRustcs : Known → Type 0
+AllowsRustcs k =
+    (s : FactSet) → HasOneValue (fact_set []) (map (λ t. t.now) ONE_VALUED.now) s → KeepsFamilyRule s → IsAllowed k s
+
+pub record IsFoundOfCondition (k : Known) (text : List ℕ) (c : Condition) (h : Holding) : Type 0 where
+  pub refused : h.refused ≡ false
+  pub never : IsTrue h.never → IsNever k c
+  pub always : IsTrue h.always → IsAlways k c
+  pub unknown_target : IsTrue h.unknown_target ↔ IsUnknownTarget c
+  pub not_canonical : IsTrue h.not_canonical ↔ (print_condition c ≡ text → ⊥)
+
+-- of a key that spells a condition, and of one that spells none
+pub record IsFoundSpelled (k : Known) (e : Entry) (h : Holding) : Type 0 where
+  pub condition : Condition
+  pub spelled : IsConditionText e.0 condition
+  pub no_table : h.no_table ≡ is_no_table e.1
+  pub found : IsFoundOfCondition k e.0 condition h
+
+pub record IsFoundUnspelled (e : Entry) (h : Holding) : Type 0 where
+  pub nothing : SpellsNothing e.0
+  pub found : IsUnspelled (is_no_table e.1) h
+
+abbrev pub IsFoundOf : Known → Entry → Holding → Type 0
+IsFoundOf k e h = IsFoundSpelled k e h ⊎ IsFoundUnspelled e h
+
+-- ---- the findings
+
+-- the place of the key that a finding is on, and its code
+abbrev pub Mark : Type 0
+Mark = Option ℕ × Code
+
+abbrev pub mark : Finding → Mark
+mark f = (f.key, f.code)
+
+abbrev pub marks : List Finding → List Mark
+marks fs = map mark fs
+
+-- the finding of a code on the key at a place, where it is told
+abbrev pub told_mark : ℕ → Holding → Code → List Mark
+told_mark n h c = cond (is_told h c) ((Some n, c) ∷ []) []
+
+-- what is told of the key at a place
+abbrev pub told_marks : ℕ → Holding → List Mark
+told_marks n h = map (λ c. (Some n, c)) (told_codes h)
+
+-- the findings on some keys are those that are told of each, in the order of the keys
+pub data AreFindingsOn (k : Known) : List Entry → List Mark → Type 0 where
+  on_none : AreFindingsOn k [] []
+  on_more : (es : List Entry) (e : Entry) (h : Holding) (ms : List Mark) → AreFindingsOn k es ms
+      → IsFoundOf k e h → AreFindingsOn k (es ++ e ∷ []) (ms ++ told_marks (length es) h)
+
+-- the same, by what is known of each target
+abbrev pub AreFindings : List Entry → List Mark → Type 0
+AreFindings es ms = (k : Known) × (AllowsRustcs k × AreFindingsOn k es ms)

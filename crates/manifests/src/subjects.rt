@@ -1,0 +1,319 @@
+//! The keys of a manifest, each with what was found of it.
+
+ghost use Rattle.std.specs.Prelude.{◌≡◌, ◌↔◌, IsTrue, IfOk, false, string_bytes};
+ghost use Rattle.cargo_platform.specs.Trees.{condition_of};
+ghost use Rattle.cargo_platform.specs.Print.{print_condition};
+ghost use Rattle.known_targets.specs.Rows.{names_of};
+ghost use Rattle.manifests.specs.Truths.{IsNever, IsAlways, IsNowhere, IsEverywhere, IsUnknownTarget};
+ghost use Rattle.manifests.specs.Reports.{entry_of, IsFoundOf, IsFoundOfCondition, IsRead};
+ghost use Rattle.manifests.specs.Hiding.{IsUnspelled};
+ghost use Rattle.manifests.specs.Tables.{is_no_table};
+ghost use Rattle.toml.specs.View.{view};
+
+use crate::deciding::{Decided, budget_for, is_everywhere, is_nowhere, is_yes, may_ask, settled};
+use crate::declared::Declared;
+use crate::earlier::{Earlier, Keys};
+use crate::facts::{Facts, facts_in};
+use crate::hiding::Holding;
+use crate::spelled::Spelled;
+use crate::tables::{TargetKey, no_tables};
+use cargo_platform::Platform;
+use exact_answers::Known;
+use known_targets::KnownTarget;
+use std::alloc::{AllocError, Global};
+
+/// Of a condition with more open names and keys it is not asked whether it holds nowhere or everywhere.
+const MANY: usize = 4096;
+
+/// A key, and what it spells.
+#[derive(Drop)]
+pub struct Read<'a> {
+    /// The key.
+    pub key: TargetKey<'a>,
+    /// What it spells.
+    pub spelled: Spelled,
+}
+
+/// What all keys of a manifest are asked by.
+#[derive(Drop)]
+pub struct Asking<'a> {
+    /// What the manifest declares.
+    pub declared: &'a Declared<'a>,
+    /// What is known of each target.
+    pub known: &'a Known<'a>,
+    /// The keys.
+    pub read: &'a [Read<'a>],
+}
+
+/// What was found of a condition, before what hides what.
+#[derive(Drop)]
+pub struct Seen<'a> {
+    /// What there is to find.
+    pub holding: Holding,
+    /// Its facts.
+    pub facts: Facts<'a>,
+    /// Its canonical form.
+    pub canonical: String,
+    /// Whether something is not known of it.
+    pub undecided: bool,
+}
+
+/// A condition, with what the messages on it tell.
+#[derive(Drop)]
+pub struct Spelling<'a> {
+    /// The condition.
+    pub platform: &'a Platform,
+    /// Its facts.
+    pub facts: Facts<'a>,
+    /// Its canonical form.
+    pub canonical: String,
+    /// The earlier key that is the same or as true.
+    pub other: &'a str,
+}
+
+/// What a key spells.
+#[derive(Drop)]
+pub enum Matter<'a> {
+    /// A condition.
+    Condition(Spelling<'a>),
+    /// None here.
+    Unspelled(&'a Spelled),
+}
+
+/// A key, and what there is to tell of it.
+#[derive(Drop)]
+pub struct Subject<'a> {
+    /// The key.
+    pub key: TargetKey<'a>,
+    /// Its place.
+    pub index: usize,
+    /// What there is to find.
+    pub holding: Holding,
+    /// What under it is no table of dependencies, by words for each.
+    pub no_tables: Vec<String>,
+    /// What it spells.
+    pub matter: Matter<'a>,
+    /// Whether something is not known of it.
+    pub undecided: bool,
+}
+
+/// Whether a condition is the name of a target that is not known.
+fn is_unknown_target(platform: &Platform) -> bool
+    ensures { IsTrue result ↔ IsUnknownTarget (condition_of platform.now) }
+{
+    match platform {
+        Platform::Name(name) => KnownTarget::by_name(name.as_str()).is_none(),
+        Platform::Cfg(_) => false,
+    }
+}
+
+/// The canonical form of a condition.
+fn canonical(alloc: Global, platform: &Platform) -> Result<String, AllocError>
+    ensures { IfOk result (λ s. string_bytes s ≡ print_condition (condition_of platform.now)) }
+{
+    format!(in alloc; "{platform}")
+}
+
+/// Whether a condition holds at no and whether at every known target, whatever is open; of too many open names and keys
+/// it is not asked.
+fn places(
+    alloc: Global,
+    platform: &Platform,
+    open_keys: &[&str],
+) -> Result<(bool, bool), AllocError>
+    ensures nowhere { IfOk result (λ h. IsTrue h.0 → IsNowhere (names_of open_keys.now) (condition_of platform.now)) }
+    ensures everywhere { IfOk result (λ h. IsTrue h.1 → IsEverywhere (names_of open_keys.now) (condition_of platform.now)) }
+{
+    if open_keys.len() > MANY {
+        return Ok((false, false));
+    }
+    let nowhere = is_nowhere(alloc, platform, open_keys)?;
+    let everywhere = is_everywhere(alloc, platform, open_keys)?;
+    Ok((nowhere, everywhere))
+}
+
+/// Whether a condition is never and whether it is always true, and whether something of that is not known.
+#[tactic(auto, using(crate::proofs::Verdicts::never_so, crate::proofs::Verdicts::always_so))]
+fn asked<'a>(
+    alloc: Global,
+    platform: &'a Platform,
+    known: &'a Known<'a>,
+    budget: u64,
+    may_ask: bool,
+) -> Result<(bool, bool, bool), AllocError>
+    ensures never { IfOk result (λ h. IsTrue h.0 → IsNever known.now (condition_of platform.now)) }
+    ensures always { IfOk result (λ h. IsTrue h.1 → IsAlways known.now (condition_of platform.now)) }
+{
+    if !may_ask {
+        return Ok((false, false, true));
+    }
+    let (never, always) = settled(alloc, platform, known, budget)?;
+    let unknown = never == Decided::Unknown || always == Decided::Unknown;
+    Ok((is_yes(never), is_yes(always), unknown))
+}
+
+/// Whether the text is not the other one.
+fn is_other_text(text: &str, other: &str) -> bool
+    ensures { IsTrue result ↔ (text.now ≡ other.now → ⊥) }
+{
+    text != other
+}
+
+/// What there is to find of a condition by itself.
+fn look_at<'a>(
+    alloc: Global,
+    asking: &Asking<'a>,
+    key: &str,
+    platform: &'a Platform,
+    may_ask: bool,
+) -> Result<Seen<'a>, AllocError>
+    ensures { IfOk result
+        (λ s. IsFoundOfCondition asking.now.known.now key.now (condition_of platform.now) s.holding) }
+{
+    let facts = facts_in(alloc, platform, asking.declared)?;
+    let canonical = canonical(alloc, platform)?;
+    let (nowhere, everywhere) = places(alloc, platform, &facts.open)?;
+    let budget = budget_for(facts.count);
+    let (never, always, unknown) = asked(alloc, platform, asking.known, budget, may_ask)?;
+    let holding = Holding {
+        refused: false,
+        no_table: false,
+        read_otherwise: !facts.literals.is_empty(),
+        unsupported: !facts.unsupported.is_empty(),
+        never,
+        unknown_target: is_unknown_target(platform),
+        unknown_fact: !facts.mistakes.is_empty(),
+        nowhere,
+        same: false,
+        equivalent: false,
+        always,
+        everywhere,
+        custom: !facts.custom.is_empty(),
+        not_canonical: is_other_text(canonical.as_str(), key),
+    };
+    let undecided = unknown || facts.open.len() > MANY;
+    Ok(Seen {
+        holding,
+        facts,
+        canonical,
+        undecided,
+    })
+}
+
+/// The earlier key that is the same or as true.
+fn earlier_key<'a>(read: &'a [Read<'a>], earlier: Earlier) -> &'a str {
+    match earlier {
+        Earlier::Same(first) | Earlier::Equivalent(first) => match read.get(first) {
+            Some(read) => read.key.key,
+            None => "",
+        },
+        Earlier::Unlike | Earlier::Undecided => "",
+    }
+}
+
+/// What there is to find of a condition, by itself and beside those before it.
+fn seen_after<'a>(
+    alloc: Global,
+    asking: &Asking<'a>,
+    index: usize,
+    key: &str,
+    platform: &'a Platform,
+    before: &mut Keys<'a>,
+) -> Result<(Seen<'a>, Earlier), AllocError>
+    ensures { IfOk result
+        (λ s. IsFoundOfCondition asking.now.known.now key.now (condition_of platform.now) s.0.holding) }
+{
+    let may_ask = may_ask(alloc, key)?;
+    let mut seen = look_at(alloc, asking, key, platform, may_ask)?;
+    let budget = budget_for(seen.facts.count);
+    let decides = seen.holding.never || seen.holding.always;
+    let earlier = before.add(
+        alloc,
+        index,
+        platform,
+        asking.known,
+        budget,
+        may_ask && !decides,
+    )?;
+    seen.holding.same = matches!(earlier, Earlier::Same(_));
+    seen.holding.equivalent = matches!(earlier, Earlier::Equivalent(_));
+    seen.undecided = seen.undecided || (earlier == Earlier::Undecided && !decides);
+    Ok((seen, earlier))
+}
+
+/// A key that spells a condition, and what there is to tell of it.
+fn of_condition<'a>(
+    alloc: Global,
+    asking: &Asking<'a>,
+    index: usize,
+    key: TargetKey<'a>,
+    platform: &'a Platform,
+    before: &mut Keys<'a>,
+) -> Result<Subject<'a>, AllocError>
+    ensures place { IfOk result (λ s. s.index ≡ index) }
+    ensures no_table { IfOk result (λ s. s.holding.no_table ≡ is_no_table (view key.entry.value.now)) }
+    ensures found { IfOk result
+        (λ s. IsFoundOfCondition asking.now.known.now key.entry.key.now (condition_of platform.now) s.holding) }
+{
+    let no_tables = no_tables(alloc, &key)?;
+    let (seen, earlier) = seen_after(alloc, asking, index, key.key, platform, before)?;
+    let mut holding = seen.holding;
+    holding.no_table = !no_tables.is_empty();
+    let undecided = seen.undecided;
+    let spelling = Spelling {
+        platform,
+        facts: seen.facts,
+        canonical: seen.canonical,
+        other: earlier_key(asking.read, earlier),
+    };
+    Ok(Subject {
+        key,
+        index,
+        holding,
+        no_tables,
+        matter: Matter::Condition(spelling),
+        undecided,
+    })
+}
+
+/// A key that spells no condition, and what there is to tell of it.
+fn of_none<'a>(
+    alloc: Global,
+    index: usize,
+    key: TargetKey<'a>,
+    spelled: &'a Spelled,
+) -> Result<Subject<'a>, AllocError>
+    ensures place { IfOk result (λ s. s.index ≡ index) }
+    ensures found { IfOk result (λ s. IsUnspelled (is_no_table (view key.entry.value.now)) s.holding) }
+{
+    let no_tables = no_tables(alloc, &key)?;
+    let refused = matches!(spelled, Spelled::Refused(_));
+    Ok(Subject {
+        key,
+        index,
+        holding: Holding::unspelled(refused, !no_tables.is_empty()),
+        no_tables,
+        matter: Matter::Unspelled(spelled),
+        undecided: false,
+    })
+}
+
+/// A key, and what there is to tell of it after those before it.
+pub fn subject_of<'a>(
+    alloc: Global,
+    asking: &Asking<'a>,
+    index: usize,
+    read: &'a Read<'a>,
+    before: &mut Keys<'a>,
+) -> Result<Subject<'a>, AllocError>
+    ensures place { IfOk result (λ s. s.index ≡ index) }
+    ensures found { IsRead read.now
+        → IfOk result (λ s. IsFoundOf asking.now.known.now (entry_of read.now.key) s.holding) }
+{
+    match &read.spelled {
+        Spelled::Condition(platform) => of_condition(
+            alloc, asking, index, read.key, platform, before,
+        ),
+        Spelled::ByCargo(_) | Spelled::Refused(_) => of_none(alloc, index, read.key, &read.spelled),
+    }
+}
