@@ -46,7 +46,8 @@ module _ (p : Code → Bool) (n : ℕ) (cs : List Code) (i : ℕ) (d : Code) (in
       ∙ ap (λ zs. init ++ zs)
       (sym (map-append (λ c. (Some n, c)) (filter p (take i cs)) xs)
       ∙ ap (λ ys. marked n (filter p (take i cs) ++ ys)) (sym is)
-      ∙ ap (marked n) (sym (filter-append p (take i cs) (get_or cs i d ∷ [])) ∙ ap (filter p) (sym (take_more cs i d within))))
+      ∙ ap (marked n)
+      (sym (filter-append p (take i cs) (get_or cs i d ∷ [])) ∙ ap (filter p) (sym (take_more cs i d within))))
 
   pub one_code : new ≡ old ++ cond (p (get_or cs i d)) ((Some n, get_or cs i d) ∷ []) []
       → new ≡ init ++ marked n (filter p (take (i + 1) cs))

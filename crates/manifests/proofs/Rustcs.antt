@@ -20,7 +20,8 @@ none_listed cs p is =
 none_named : (name : List ℕ) (ns : List (Bor (List ℕ))) → ns ≡ [] → is_named name (map (λ t. t.now) ns) ≡ false
 none_named name ns is = ap (λ ms. is_named name (map (λ t. t.now) ms)) is
 
-pub allows_rustcs : (k : Known) → k.facts.now ≡ [] → k.complete.now ≡ [] → map (λ t. t.now) k.single.now ≡ map (λ t. t.now) ONE_VALUED.now
+pub allows_rustcs : (k : Known) → k.facts.now ≡ [] → k.complete.now ≡ []
+    → map (λ t. t.now) k.single.now ≡ map (λ t. t.now) ONE_VALUED.now
     → ((s : FactSet) → (truth s (tree_of k.assumed.now) ≡ true) ↔ KeepsFamilyRule s) → AllowsRustcs k
 allows_rustcs k facts complete single rule s one families =
     record {

@@ -2,7 +2,8 @@
 
 ghost use Rattle.std.specs.Prelude.{◌≡◌, ◌++◌, IfOk, OnOk, Some, map};
 ghost use Rattle.std.specs.List.{All};
-ghost use Rattle.manifests.specs.Reports.{mark, marks, told_mark, told_marks, entry_of, AreFindingsOn, IsRead, AreFindings};
+ghost use Rattle.manifests.specs.Reports.{mark, marks, told_mark, told_marks};
+ghost use Rattle.manifests.specs.Reports.{entry_of, AreFindingsOn, IsRead, AreFindings};
 
 use crate::declared::Declared;
 use crate::earlier::Keys;

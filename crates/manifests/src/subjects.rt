@@ -122,7 +122,8 @@ fn places(
     open_keys: &[&str],
 ) -> Result<(bool, bool), AllocError>
     ensures nowhere { IfOk result (λ h. IsTrue h.0 → IsNowhere (names_of open_keys.now) (condition_of platform.now)) }
-    ensures everywhere { IfOk result (λ h. IsTrue h.1 → IsEverywhere (names_of open_keys.now) (condition_of platform.now)) }
+    ensures everywhere { IfOk result
+        (λ h. IsTrue h.1 → IsEverywhere (names_of open_keys.now) (condition_of platform.now)) }
 {
     if open_keys.len() > MANY {
         return Ok((false, false));

@@ -2,7 +2,8 @@
 
 ghost use Rattle.std.specs.Prelude.{◌≡◌, IfOk, not};
 ghost use Rattle.toml.specs.View.{view};
-ghost use Rattle.manifests.specs.Tables.{table_name, old_table_name, is_optional, is_table_name, is_no_table, is_empty_list};
+ghost use Rattle.manifests.specs.Tables.{table_name, old_table_name, is_optional};
+ghost use Rattle.manifests.specs.Tables.{is_table_name, is_no_table, is_empty_list};
 
 use crate::telling::quoted;
 use std::alloc::{AllocError, Global};
