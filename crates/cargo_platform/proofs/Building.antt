@@ -1,4 +1,4 @@
--- The automaton of expressions with the trees that it builds: what spells a tree leads to that tree, and to no other.
+-- What spells a tree leads to that tree, and to no other.
 use Rattle.std.proofs.Common.{◌≡◌, refl, sym, ap, subst, ◌∙◌, ℕ, Bool, true, false, true≢false, List, [], ◌∷◌, ◌++◌}
 use Rattle.std.proofs.Common.{Option, Some, None, codes, inl, inr, ◌⊎◌, append_assoc, append-nil}
 use Rattle.std.specs.Prelude.{IsFalse, bytes_eq, if◌then◌else◌}
@@ -11,69 +11,35 @@ use Rattle.cargo_platform.specs.Spelling.{IsMemberList, SpellsLiteral, SpellsBy,
 use Rattle.cargo_platform.specs.Spelling.{Expressions, IsAccepted}
 use Rattle.cargo_platform.specs.Faults.{IsCompletable}
 use Rattle.cargo_platform.specs.Earlier.{MayStandTransitional}
-use Rattle.cargo_platform.specs.Walk.{Word, Several, Negation, State, Wanted, Behind, Keyed, Ended, after, after_role}
-use Rattle.cargo_platform.specs.Walk.{after_expression, walk_from, walk}
-use Rattle.cargo_platform.specs.Inside.Parsing.{Opening, Negated, Listed, list_tree, kind, kinds, is_lone}
+use Rattle.cargo_platform.specs.Walk.{role_in, Opening, Negated, Listed, list_tree, Position, Wanting, WithWord, WithKey}
+use Rattle.cargo_platform.specs.Walk.{WithTree, start, at_role, key_of, after_tree, step_by, steps_by, step, steps}
+use Rattle.cargo_platform.specs.Walk.{Word, Several, Negation, State, Wanted, Behind, Ended, after, after_role}
+use Rattle.cargo_platform.specs.Walk.{after_expression, walk_from, walk, kind, kinds, ends, is_lone, state_of}
 use Rattle.cargo_platform.proofs.Roles.{IsOfRole, of_role, plain_name}
-use Rattle.cargo_platform.proofs.Walk.{none_some, walk_from-append, begins, ends, after_begins, after_end}
+use Rattle.cargo_platform.proofs.Walk.{none_some, walk_from-append, after_begins, after_end}
 
--- what was read: the groups that are open, and what stands after them
-pub data Position : Type 0 where
-  Wanting : List Opening → Position
-  WithWord : Opening → List Opening → Position
-  WithKey : Name → List Opening → Position
-  WithTree : Tree → List Opening → Position
+-- the key that an expression once was: unmarked literals too
+abbrev once_key_of : Tree → Option Name
+once_key_of True = Some (record { raw = false; name = codes "true" })
+once_key_of False = Some (record { raw = false; name = codes "false" })
+once_key_of e = key_of e
 
--- the group that a word opens, and the literal that a word is
-abbrev pub opened_by : List ℕ → Opening
-opened_by name = if bytes_eq name (codes "not") then Negated else Listed (bytes_eq name (codes "all")) []
-
-abbrev pub literal_of : List ℕ → Tree
-literal_of name = if bytes_eq name (codes "true") then True else False
-
-abbrev pub at_role : Role → Name → List Opening → Position
-at_role GroupWord n gs = WithWord (opened_by n.name) gs
-at_role LiteralWord n gs = WithTree (literal_of n.name) gs
-at_role PlainName n gs = WithTree (Value (Alone n)) gs
-
--- the key that an expression is before `=`; the flag says that unmarked literals may be keys, as they once were
-abbrev pub key_of : Bool → Tree → Option Name
-key_of keys (Value (Alone n)) = Some n
-key_of true True = Some (record { raw = false; name = codes "true" })
-key_of true False = Some (record { raw = false; name = codes "false" })
-key_of keys e = None
-
-abbrev pub at_key : Option Name → List Opening → Option Position
-at_key None gs = None
-at_key (Some n) gs = Some (WithKey n gs)
-
-abbrev pub behind_tree : Tree → List Opening → Lexeme → Option Position
-behind_tree e (Negated ∷ gs) RightParen = Some (WithTree (Not e) gs)
-behind_tree e (Listed all es ∷ gs) RightParen = Some (WithTree (list_tree all (es ++ e ∷ [])) gs)
-behind_tree e (Listed all es ∷ gs) Comma = Some (Wanting (Listed all (es ++ e ∷ []) ∷ gs))
-behind_tree e gs t = None
+-- the flag says that literals are keys, as they once were
+abbrev pub key_by : Bool → Tree → Option Name
+key_by true = once_key_of
+key_by false = key_of
 
 abbrev pub lead : Bool → Position → Lexeme → Option Position
-lead keys (Wanting gs) (Ident raw name) =
-    let n : Name = record { raw = raw; name = name } in
-    Some (at_role (role n) n gs)
-lead keys (Wanting (Listed all es ∷ gs)) RightParen = Some (WithTree (list_tree all es) gs)
-lead keys (WithWord o gs) LeftParen = Some (Wanting (o ∷ gs))
-lead keys (WithKey n gs) (String v) = Some (WithTree (Value (KeyPair n v)) gs)
-lead keys (WithTree e gs) Equals = at_key (key_of keys e) gs
-lead keys (WithTree e gs) t = behind_tree e gs t
-lead keys p t = None
+lead keys = step_by (role_in Expressions) (key_by keys)
 
 abbrev pub lead_from : Bool → Option Position → List Lexeme → Option Position
-lead_from keys None ts = None
-lead_from keys (Some p) [] = Some p
-lead_from keys (Some p) (t ∷ ts) = lead_from keys (lead keys p t) ts
+lead_from keys = steps_by (role_in Expressions) (key_by keys)
 
-pub lead_on : (keys : Bool) (p : Option Position) (ts us : List Lexeme)
-    → lead_from keys p (ts ++ us) ≡ lead_from keys (lead_from keys p ts) us
-lead_on keys None ts us = refl
-lead_on keys (Some p) [] us = refl
-lead_on keys (Some p) (t ∷ ts) us = lead_on keys (lead keys p t) ts us
+pub steps_on : (r : Name → Role) (k : Tree → Option Name) (p : Option Position) (ts us : List Lexeme)
+    → steps_by r k p (ts ++ us) ≡ steps_by r k (steps_by r k p ts) us
+steps_on r k None ts us = refl
+steps_on r k (Some p) [] us = refl
+steps_on r k (Some p) (t ∷ ts) us = steps_on r k (step_by r k p t) ts us
 
 -- ---- names and keys
 
@@ -230,12 +196,6 @@ whole_leads keys e ts p =
 
 -- ---- the state is told by the position
 
-abbrev pub state_of : Position → State
-state_of (Wanting gs) = begins (kinds gs)
-state_of (WithWord o gs) = Behind (kind o) (kinds gs)
-state_of (WithKey n gs) = Keyed (kinds gs)
-state_of (WithTree e gs) = ends (is_lone e) (kinds gs)
-
 abbrev pub state_at : Option Position → Option State
 state_at None = None
 state_at (Some p) = Some (state_of p)
@@ -245,7 +205,8 @@ pub list_not_lone : (all : Bool) (es : List Tree) → is_lone (list_tree all es)
 list_not_lone true es = refl
 list_not_lone false es = refl
 
-role_state : (r : Role) (n : Name) (gs : List Opening) → after_role r n.name (kinds gs) ≡ state_of (at_role r n gs)
+role_state : (r : Role) (n : Name) (gs : List Opening)
+    → after_role r n.name (kinds gs) ≡ state_of (at_role r n gs)
 role_state GroupWord n gs =
     elim (bytes_eq n.name (codes "not")) as (λ b. Behind (if b then Negation else Several) (kinds gs)
     ≡ Behind (kind (if b then Negated else Listed (bytes_eq n.name (codes "all")) [])) (kinds gs)) [
@@ -264,50 +225,54 @@ list_state : (all : Bool) (es : List Tree) (gs : List Opening)
     → Some (Ended (kinds gs)) ≡ Some (state_of (WithTree (list_tree all es) gs))
 list_state all es gs = ap (λ b. Some (ends b (kinds gs))) (sym (list_not_lone all es))
 
-behind_state : (e : Tree) (gs : List Opening) (t : Lexeme)
-    → after_expression (kinds gs) t ≡ state_at (behind_tree e gs t)
-behind_state e (Listed all es ∷ gs) RightParen = list_state all (es ++ e ∷ []) gs
-behind_state e (Listed all es ∷ gs) t = refl
-behind_state e (Negated ∷ gs) RightParen = refl
-behind_state e (Negated ∷ gs) t = refl
-behind_state e [] t = refl
+after_state : (e : Tree) (gs : List Opening) (t : Lexeme)
+    → after_expression (kinds gs) t ≡ state_at (after_tree e gs t)
+after_state e (Listed all es ∷ gs) RightParen = list_state all (es ++ e ∷ []) gs
+after_state e (Listed all es ∷ gs) t = refl
+after_state e (Negated ∷ gs) RightParen = refl
+after_state e (Negated ∷ gs) t = refl
+after_state e [] t = refl
 
 no_equals : (ws : List Word) → after_expression ws Equals ≡ None
 no_equals [] = refl
 no_equals (Several ∷ ws) = refl
 no_equals (Negation ∷ ws) = refl
 
-tree_state : (e : Tree) (gs : List Opening) (t : Lexeme)
-    → after Expressions (ends (is_lone e) (kinds gs)) t ≡ state_at (lead false (WithTree e gs) t)
-tree_state (Value (Alone n)) gs Equals = refl
-tree_state e gs Equals = no_equals (kinds gs)
-tree_state e gs t = after_end Expressions (is_lone e) (kinds gs) t refl ∙ behind_state e gs t
+tree_state : (g : Grammar) (e : Tree) (gs : List Opening) (t : Lexeme)
+    → after g (ends (is_lone e) (kinds gs)) t ≡ state_at (step g (WithTree e gs) t)
+tree_state g (Value (Alone n)) gs Equals = refl
+tree_state g e gs Equals = no_equals (kinds gs)
+tree_state g e gs t = after_end g (is_lone e) (kinds gs) t refl ∙ after_state e gs t
 
-next_state : (p : Position) (t : Lexeme) → after Expressions (state_of p) t ≡ state_at (lead false p t)
-next_state (Wanting gs) (Ident raw name) =
+pub next_state : (g : Grammar) (p : Position) (t : Lexeme) → after g (state_of p) t ≡ state_at (step g p t)
+next_state g (Wanting gs) (Ident raw name) =
     let n : Name = record { raw = raw; name = name } in
-    after_begins (kinds gs) raw name ∙ ap Some (role_state (role n) n gs)
-next_state (Wanting (Listed all es ∷ gs)) RightParen = list_state all es gs
-next_state (Wanting (Listed all es ∷ gs)) t = refl
-next_state (Wanting (Negated ∷ gs)) t = refl
-next_state (Wanting []) t = refl
-next_state (WithWord Negated gs) LeftParen = refl
-next_state (WithWord Negated gs) t = refl
-next_state (WithWord (Listed all es) gs) LeftParen = refl
-next_state (WithWord (Listed all es) gs) t = refl
-next_state (WithKey n gs) (String v) = refl
-next_state (WithKey n gs) t = refl
-next_state (WithTree e gs) t = tree_state e gs t
+    after_begins g (kinds gs) raw name ∙ ap Some (role_state (role_in g n) n gs)
+next_state g (Wanting (Listed all es ∷ gs)) RightParen = list_state all es gs
+next_state g (Wanting (Listed all es ∷ gs)) t = refl
+next_state g (Wanting (Negated ∷ gs)) t = refl
+next_state g (Wanting []) t = refl
+next_state g (WithWord Negated gs) LeftParen = refl
+next_state g (WithWord Negated gs) t = refl
+next_state g (WithWord (Listed all es) gs) LeftParen = refl
+next_state g (WithWord (Listed all es) gs) t = refl
+next_state g (WithKey n gs) (String v) = refl
+next_state g (WithKey n gs) t = refl
+next_state g (WithTree e gs) t = tree_state g e gs t
 
-states : (p : Option Position) (ts : List Lexeme)
-    → walk_from Expressions (state_at p) ts ≡ state_at (lead_from false p ts)
-states None ts = refl
-states (Some p) [] = refl
-states (Some p) (t ∷ ts) = ap (λ s. walk_from Expressions s ts) (next_state p t) ∙ states (lead false p t) ts
+states : (g : Grammar) (p : Option Position) (ts : List Lexeme)
+    → walk_from g (state_at p) ts ≡ state_at (steps g p ts)
+states g None ts = refl
+states g (Some p) [] = refl
+states g (Some p) (t ∷ ts) = ap (λ s. walk_from g s ts) (next_state g p t) ∙ states g (step g p t) ts
 
 -- where tokens lead is told by the position
-pub walk_state : (ts : List Lexeme) → walk Expressions ts ≡ state_at (lead_from false (Some (Wanting [])) ts)
-walk_state ts = states (Some (Wanting [])) ts
+pub walk_state : (g : Grammar) (ts : List Lexeme) → walk g ts ≡ state_at (steps g (Some start) ts)
+walk_state g ts = states g (Some start) ts
+
+pub led_state : (g : Grammar) (ts : List Lexeme) (p : Position) → steps g (Some start) ts ≡ Some p
+    → walk g ts ≡ Some (state_of p)
+led_state g ts p h = walk_state g ts ∙ ap state_at h
 
 -- what leads to a tree spells no other
 pub one_built : (keys : Bool) (e f : Tree) (ts : List Lexeme) → SpellsBy (may_of keys) SpellsLiteral e ts
@@ -324,7 +289,7 @@ one_built keys e f ts p q = ap tree_at (sym (whole_leads keys e ts p) ∙ whole_
 pub accepted_walks : (g : Grammar) (ts : List Lexeme) → IsAccepted g ts → (n : Bool) × (walk g ts ≡ Some (ends n []))
 accepted_walks Values ts (Alone n, h) = (true, ap (walk Values) h)
 accepted_walks Values ts (KeyPair k v, h) = (false, ap (walk Values) h)
-accepted_walks Expressions ts (e, p) = (is_lone e, walk_state ts ∙ ap state_at (whole_leads false e ts p))
+accepted_walks Expressions ts (e, p) = (is_lone e, led_state Expressions ts (WithTree e []) (whole_leads false e ts p))
 
 -- where a walk stops, nothing that follows makes the list accepted
 pub stopped : (g : Grammar) (ts more : List Lexeme) → walk g ts ≡ None → IsAccepted g (ts ++ more) → ⊥

@@ -21,11 +21,11 @@ mod CutTests
 pub mod Roles
 -- TreeViews: a value, form by form
 pub mod TreeViews
--- Walk: where tokens lead
+-- Walk: the states that tokens lead to
 pub mod Walk
--- Building: the tree that is built on the way
+-- Building: what spells a tree leads to it
 pub mod Building
--- Positions: where a reader can stand, one token at a time
+-- Positions: what leads to a tree spells it
 pub mod Positions
 -- OneText: tokens spell at most one thing
 pub mod OneText

@@ -1,20 +1,45 @@
--- Where a reader of expressions can stand: which tokens lead there, and how the next one leads on.
-use Rattle.std.proofs.Common.{◌≡◌, refl, sym, ap, subst, ◌∙◌, ℕ, Bool, true, false, List, [], ◌∷◌, ◌++◌, Option, Some}
+-- What leads to a position: its groups are open there, with the members that the tokens spell.
+use Rattle.std.proofs.Common.{◌≡◌, refl, sym, ap, subst, ◌∙◌, ℕ, Bool, true, false, List, [], ◌∷◌, ◌++◌, Some}
 use Rattle.std.proofs.Common.{None, codes, inl, inr, append_assoc, append-nil}
 use Rattle.std.proofs.lemmas.Option.{same_Some}
 use Rattle.cargo_platform.specs.Tokens.{Lexeme, LeftParen, RightParen, Ident, Comma, Equals, String, plain}
 use Rattle.cargo_platform.specs.Trees.{Name, Alone, KeyPair, Tree, Not, Value, trees_of}
 use Rattle.cargo_platform.specs.Spelling.{identifier, MayStand, group, joined, IsMemberList, Spells, SpellEach}
 use Rattle.cargo_platform.specs.Spelling.{Expressions, Role, GroupWord, LiteralWord, PlainName, role}
-use Rattle.cargo_platform.specs.Walk.{Word, State, Behind, after_name, walk}
-use Rattle.cargo_platform.specs.Inside.Parsing.{Opening, Negated, Listed, list_word, list_tree, opening_word}
-use Rattle.cargo_platform.specs.Inside.Parsing.{kind, kinds, finished, Wants, EndsWith, is_lone, HasWord}
+use Rattle.cargo_platform.specs.Walk.{Opening, Negated, Listed, list_tree, Position, Wanting, WithWord, WithKey}
+use Rattle.cargo_platform.specs.Walk.{WithTree, start, opened_by, literal_of, at_role, key_of, at_key, after_tree}
+use Rattle.cargo_platform.specs.Walk.{step, steps, State, walk, state_of}
+use Rattle.cargo_platform.specs.Inside.Parsing.{list_word, opening_word, IsFresh}
 use Rattle.cargo_platform.proofs.Roles.{IsGroupWord, IsLiteralWord, IsOfRole, of_role}
-use Rattle.cargo_platform.proofs.Walk.{none_some, walk_next, begins, ends, after_begins}
-use Rattle.cargo_platform.proofs.Building.{Position, Wanting, WithWord, WithKey, WithTree, opened_by, literal_of}
-use Rattle.cargo_platform.proofs.Building.{at_role}
-use Rattle.cargo_platform.proofs.Building.{key_of, at_key, behind_tree, lead, lead_from, lead_on, tree_leads, state_of}
+use Rattle.cargo_platform.proofs.Walk.{none_some}
 use Rattle.cargo_platform.proofs.Building.{state_at, walk_state}
+
+-- ---- what was read before a position
+
+-- members, each with the comma after it
+abbrev finished : List (List Lexeme) → List Lexeme
+finished [] = []
+finished (s ∷ ss) = s ++ (Comma ∷ finished ss)
+
+-- the tokens open these groups, and spell their members so far
+abbrev pub Wants : List Opening → List Lexeme → Type 0
+Wants [] ts = ts ≡ []
+Wants (Negated ∷ gs) ts =
+    (before : List Lexeme) × Wants gs before × (ts ≡ before ++ (plain (codes "not") ∷ LeftParen ∷ []))
+Wants (Listed all es ∷ gs) ts =
+    (before : List Lexeme) × (ss : List (List Lexeme)) × Wants gs before × SpellEach (trees_of es) ss
+    × (ts ≡ before ++ (plain (list_word all) ∷ LeftParen ∷ finished ss))
+
+-- an expression stands after them
+abbrev pub EndsWith : List Opening → Tree → List Lexeme → Type 0
+EndsWith gs e ts = (before : List Lexeme) × (s : List Lexeme) × Wants gs before × Spells e s × (ts ≡ before ++ s)
+
+-- the word of a group that has no members
+pub record HasWord (gs : List Opening) (o : Opening) (ts : List Lexeme) : Type 0 where
+  pub before : List Lexeme
+  pub wanted : Wants gs before
+  pub fresh : IsFresh o
+  pub is : ts ≡ before ++ (plain (opening_word o) ∷ [])
 
 -- ---- members
 
@@ -166,67 +191,7 @@ member_comma gs all es e ts o =
           ∙ ap (λ (z : List Lexeme). b.0 ++ head all z) (sym (finished_snoc b.1 o.1)),
     )
 
--- ---- what is open, and what stands last, tell the position and the state
-
--- the position that tokens lead to
-abbrev built : List Lexeme → Option Position
-built ts = lead_from false (Some (Wanting [])) ts
-
-built_on : (ts us : List Lexeme) (p : Position) → built ts ≡ Some p → built (ts ++ us) ≡ lead_from false (Some p) us
-built_on ts us p h = lead_on false (Some (Wanting [])) ts us ∙ ap (λ o. lead_from false o us) h
-
-finished_lead : (all : Bool) (es : List Tree) (ss : List (List Lexeme)) (before : List Tree) (gs : List Opening)
-    → SpellEach (trees_of es) ss
-    → lead_from false (Some (Wanting (Listed all before ∷ gs))) (finished ss)
-    ≡ Some (Wanting (Listed all (before ++ es) ∷ gs))
-finished_lead all [] [] before gs p =
-    ap (λ (z : List Tree). Some (Wanting (Listed all z ∷ gs))) (sym (append-nil before))
-finished_lead all [] (s ∷ ss) before gs p = absurd p
-finished_lead all (e ∷ es) [] before gs p = absurd p
-finished_lead all (e ∷ es) (s ∷ ss) before gs p =
-    tree_leads false e s (Listed all before ∷ gs) (Comma ∷ finished ss) p.0
-    ∙ finished_lead all es ss (before ++ e ∷ []) gs p.1
-    ∙ ap (λ (z : List Tree). Some (Wanting (Listed all z ∷ gs))) (append_assoc before (e ∷ []) es)
-
-list_lead : (all : Bool) (gs : List Opening) (us : List Lexeme)
-    → lead_from false (Some (Wanting gs)) (head all us) ≡ lead_from false (Some (Wanting (Listed all [] ∷ gs))) us
-list_lead true gs us = refl
-list_lead false gs us = refl
-
-wants_lead : (gs : List Opening) (ts : List Lexeme) → Wants gs ts → built ts ≡ Some (Wanting gs)
-wants_lead [] ts h = ap built h
-wants_lead (Negated ∷ gs) ts (before, w, is) =
-    ap built is ∙ built_on before (plain (codes "not") ∷ LeftParen ∷ []) (Wanting gs) (wants_lead gs before w)
-wants_lead (Listed all es ∷ gs) ts (before, ss, w, each, is) =
-    ap built is ∙ built_on before (head all (finished ss)) (Wanting gs) (wants_lead gs before w)
-    ∙ list_lead all gs (finished ss) ∙ finished_lead all es ss [] gs each
-
-ends_lead : (gs : List Opening) (e : Tree) (ts : List Lexeme) → EndsWith gs e ts → built ts ≡ Some (WithTree e gs)
-ends_lead gs e ts (before, s, w, spelled, is) =
-    ap built is ∙ built_on before s (Wanting gs) (wants_lead gs before w)
-    ∙ ap (lead_from false (Some (Wanting gs))) (sym (append-nil s)) ∙ tree_leads false e s gs [] spelled
-
-pub wants_walk : (gs : List Opening) (ts : List Lexeme) → Wants gs ts → walk Expressions ts ≡ Some (begins (kinds gs))
-wants_walk gs ts w = walk_state ts ∙ ap state_at (wants_lead gs ts w)
-
-pub ends_walk : (gs : List Opening) (e : Tree) (ts : List Lexeme) → EndsWith gs e ts
-    → walk Expressions ts ≡ Some (ends (is_lone e) (kinds gs))
-ends_walk gs e ts o = walk_state ts ∙ ap state_at (ends_lead gs e ts o)
-
-after_word : (o : Opening) (ws : List Word)
-    → after_name Expressions false (opening_word o) ws ≡ Behind (kind o) ws
-after_word Negated ws = refl
-after_word (Listed true es) ws = refl
-after_word (Listed false es) ws = refl
-
-pub word_walk : (gs : List Opening) (o : Opening) (ts : List Lexeme) → HasWord gs o ts
-    → walk Expressions ts ≡ Some (Behind (kind o) (kinds gs))
-word_walk gs o ts h =
-    ap (walk Expressions) h.is
-    ∙ walk_next Expressions h.before (plain (opening_word o)) (begins (kinds gs)) (wants_walk gs h.before h.wanted)
-    ∙ after_begins (kinds gs) false (opening_word o) ∙ ap Some (after_word o (kinds gs))
-
--- ---- and the other way round
+-- ---- what leads to a position
 
 abbrev pub Holds : Position → List Lexeme → Type 0
 Holds (Wanting gs) ts = Wants gs ts
@@ -273,7 +238,7 @@ role_holds gs ts n PlainName w is = name_ends gs n ts w is
 
 -- after an expression
 tree_holds : (e : Tree) (gs : List Opening) (t : Lexeme) (q : Position) (ts : List Lexeme) → EndsWith gs e ts
-    → behind_tree e gs t ≡ Some q → Holds q (ts ++ t ∷ [])
+    → after_tree e gs t ≡ Some q → Holds q (ts ++ t ∷ [])
 tree_holds e (Negated ∷ gs) RightParen q ts o h = moved (WithTree (Not e) gs) q _ h (negation_close gs e ts o)
 tree_holds e (Listed all es ∷ gs) RightParen q ts o h =
     moved (WithTree (list_tree all (es ++ e ∷ [])) gs) q _ h (list_close gs all es e ts o)
@@ -282,12 +247,12 @@ tree_holds e (Listed all es ∷ gs) Comma q ts o h =
 tree_holds e gs t q ts o h = no_position h
 
 key_holds : (e : Tree) (gs : List Opening) (q : Position) (ts : List Lexeme) → EndsWith gs e ts
-    → at_key (key_of false e) gs ≡ Some q → Holds q (ts ++ Equals ∷ [])
+    → at_key (key_of e) gs ≡ Some q → Holds q (ts ++ Equals ∷ [])
 key_holds (Value (Alone n)) gs q ts o h = moved (WithKey n gs) q _ h (name_key gs n ts o)
 key_holds e gs q ts o h = no_position h
 
 -- the next token
-next_holds : (p : Position) (t : Lexeme) (q : Position) (ts : List Lexeme) → Holds p ts → lead false p t ≡ Some q
+next_holds : (p : Position) (t : Lexeme) (q : Position) (ts : List Lexeme) → Holds p ts → step Expressions p t ≡ Some q
     → Holds q (ts ++ t ∷ [])
 next_holds (Wanting gs) (Ident raw name) q ts w h =
     let n : Name = record { raw = raw; name = name } in
@@ -301,13 +266,13 @@ next_holds (WithTree e gs) Equals q ts o h = key_holds e gs q ts o h
 next_holds (WithTree e gs) t q ts o h = tree_holds e gs t q ts o h
 next_holds p t q ts o h = no_position h
 
-all_hold : (p : Position) (before ts : List Lexeme) (q : Position) → Holds p before
-    → lead_from false (Some p) ts ≡ Some q → Holds q (before ++ ts)
+pub all_hold : (p : Position) (before ts : List Lexeme) (q : Position) → Holds p before
+    → steps Expressions (Some p) ts ≡ Some q → Holds q (before ++ ts)
 all_hold p before [] q o h =
     rw (append-nil before) (moved p q before h o)
 all_hold p before (t ∷ ts) q o h =
-    elim (lead false p t) as
-    (λ z. lead false p t ≡ z → lead_from false z ts ≡ Some q → Holds q (before ++ (t ∷ ts))) [
+    elim (step Expressions p t) as
+    (λ z. step Expressions p t ≡ z → steps Expressions z ts ≡ Some q → Holds q (before ++ (t ∷ ts))) [
       | None ↦ λ _ stops. no_position stops
       | Some u ↦ λ is goes.
           rw (← append_assoc before (t ∷ []) ts)
@@ -318,8 +283,8 @@ all_hold p before (t ∷ ts) q o h =
 pub walked_reached : (ts : List Lexeme) (s : State) → walk Expressions ts ≡ Some s
     → (p : Position) × (state_of p ≡ s) × Holds p ts
 walked_reached ts s h =
-    elim (built ts) as
-    (λ z. built ts ≡ z → state_at z ≡ Some s → (p : Position) × (state_of p ≡ s) × Holds p ts) [
+    elim (steps Expressions (Some start) ts) as
+    (λ z. steps Expressions (Some start) ts ≡ z → state_at z ≡ Some s → (p : Position) × (state_of p ≡ s) × Holds p ts) [
       | None ↦ λ _ stops. none_some stops
       | Some p ↦ λ is same. (p, same_Some _ _ same, all_hold (Wanting []) [] ts p refl is)
-    ] refl (sym (walk_state ts) ∙ h)
+    ] refl (sym (walk_state Expressions ts) ∙ h)

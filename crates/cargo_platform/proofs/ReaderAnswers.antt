@@ -1,29 +1,31 @@
 -- What a reader answers, from what it read or where it stopped.
-use Rattle.std.proofs.Common.{◌≡◌, refl, ℕ, List, [], Some, Result, Ok, Err}
+use Rattle.std.proofs.Common.{◌≡◌, ℕ, List, [], Some, Result, Ok, Err}
 use Rattle.cargo_platform.specs.declared.error.ParseError.{ParseError}
 use Rattle.cargo_platform.specs.declared.error.ReadError.{ReadError}
 use Rattle.cargo_platform.specs.declared.error.ReadError.TheVariants as errors
 use Rattle.cargo_platform.specs.declared.refusal.Refusal.{Refusal}
-use Rattle.cargo_platform.specs.Trees.{CfgValue, Tree}
-use Rattle.cargo_platform.specs.Spelling.{value_spelling, IsValueText, IsTreeText}
+use Rattle.cargo_platform.specs.Trees.{CfgValue, Tree, Value}
+use Rattle.cargo_platform.specs.Spelling.{Values, Expressions, IsValueText, IsTreeText}
+use Rattle.cargo_platform.specs.Walk.{WithTree, start}
 use Rattle.cargo_platform.specs.Errors.{IfParse, orig_of, fault_in, span_in}
 use Rattle.cargo_platform.specs.Inside.Refusals.{refused_fault, refused_span, Becomes}
-use Rattle.cargo_platform.specs.Cut.{AreSpaces, Nothing}
+use Rattle.cargo_platform.specs.Cut.{AreSpaces, lexemes, Nothing}
 use Rattle.cargo_platform.specs.Inside.Ahead.{Ahead, NextIs}
-use Rattle.cargo_platform.specs.Inside.Parsing.{Has, Reads, HasRead}
-use Rattle.cargo_platform.proofs.Parsing.{spelled}
+use Rattle.cargo_platform.specs.Inside.Parsing.{Reads}
+use Rattle.cargo_platform.proofs.Completing.{tree_spelled}
+use Rattle.cargo_platform.proofs.Parsing.{value_spelled}
 use Rattle.cargo_platform.proofs.Refusing.{path_cut}
 
 -- a value that was read up to the end is what the text spells
 pub value_read : (text : List ℕ) (l m : Ahead) (c : CfgValue) → l.text ≡ text
-    → AreSpaces text 0 l.place → HasRead l m (value_spelling c) → NextIs m Nothing → IsValueText text c
+    → AreSpaces text 0 l.place → Reads Values l m start (WithTree (Value c) []) → NextIs m Nothing → IsValueText text c
 value_read text l m c same spaces a done =
-    (a.us, path_cut text l m a.us same spaces a.path done, a.leads [] refl)
+    (a.us, path_cut text l m a.us same spaces a.path done, value_spelled c (lexemes a.us) a.leads)
 
 pub expression_read : (text : List ℕ) (l m : Ahead) (e : Tree) → l.text ≡ text
-    → AreSpaces text 0 l.place → Reads l m (λ ts. ts ≡ []) (Has [] e m) → NextIs m Nothing → IsTreeText text e
+    → AreSpaces text 0 l.place → Reads Expressions l m start (WithTree e []) → NextIs m Nothing → IsTreeText text e
 expression_read text l m e same spaces a done =
-    (a.us, path_cut text l m a.us same spaces a.path done, spelled l m e a)
+    (a.us, path_cut text l m a.us same spaces a.path done, tree_spelled e (lexemes a.us) a.leads)
 
 -- what is said of the fault that a refusal stands for is said of its error
 pub parse_is : (A : Type 0) (r : Refusal) (orig : List ℕ) (x : ReadError) (P : ParseError → Type 0) → Becomes r orig x

@@ -9,20 +9,24 @@ use Rattle.cargo_platform.specs.Tokens.{Placed}
 use Rattle.cargo_platform.specs.Cut.{AreSpaces, IsCut, lexemes, Item, Nothing, Comes, ComesBehind}
 use Rattle.cargo_platform.specs.Spelling.{Grammar}
 use Rattle.cargo_platform.specs.Faults.{Fault, fault_of, span_of, IsRefusedAt}
-use Rattle.cargo_platform.specs.Walk.{State, is_whole}
+use Rattle.cargo_platform.specs.Walk.{Position, start, step, is_whole, state_of}
 use Rattle.cargo_platform.specs.Inside.Ahead.{Ahead, NextIs, Path}
 use Rattle.cargo_platform.specs.Inside.Refusals.{FaultAt, placed_fault, fault_at_of}
 use Rattle.cargo_platform.specs.Inside.Parsing.{IsStop, IfFault, StopsAt, Stops}
+use Rattle.cargo_platform.proofs.Building.{state_at, next_state, led_state}
 use Rattle.cargo_platform.proofs.Prefixes.{goes_on, refused_walked_at}
 use Rattle.cargo_platform.proofs.SomeCut.{some_cut}
 use Rattle.cargo_platform.proofs.Paths.{IsNext, first_left, behind_spaces, path_comes, path_text}
 use Rattle.cargo_platform.proofs.Runs.{cuts_are_read}
 use Rattle.cargo_platform.proofs.Parsing.{if_fault}
 
-goes_not_on : (g : Grammar) (text : List ℕ) (left : List Placed) (tail : ℕ) (s : State) (next : Item)
-    → IsNext text left tail next → IsStop g s next → goes_on g s left ≡ None
-goes_not_on g text [] tail s next f h = refl
-goes_not_on g text (t ∷ us) tail s next f h = let S : Item → Type 0 = λ z. IsStop g s z in subst S f h
+goes_not_on : (g : Grammar) (text : List ℕ) (left : List Placed) (tail : ℕ) (p : Position) (next : Item)
+    → IsNext text left tail next → IsStop g p next → goes_on g (state_of p) left ≡ None
+goes_not_on g text [] tail p next f h = refl
+goes_not_on g text (t ∷ us) tail p next f h =
+    let S : Item → Type 0 = λ z. IsStop g p z in
+    let none : step g p t.token ≡ None = subst S f h in
+    next_state g p t.token ∙ ap state_at none
 
 -- what comes next at the end of a way through a text from its start on, where spaces stand
 way_comes : (text : List ℕ) (l m : Ahead) (us : List Placed) (i : Item) (to : ℕ) → l.text ≡ text
@@ -39,25 +43,25 @@ parts_of span (Some e) f h =
 
 -- where a reader of the whole text stops is the first fault
 pub stops_refused : (g : Grammar) (text : List ℕ) (l : Ahead) (r : Refusal) → IsUtf8 text → l.text ≡ text
-    → AreSpaces text 0 l.place → Stops g l (λ ts. ts ≡ []) r
+    → AreSpaces text 0 l.place → Stops g l start r
     → IfFault r (λ f. IsRefusedAt g text f.fault (Some f.span))
 stops_refused g text l r utf8 same spaces h =
-    if_fault r (StopsAt g l (λ ts. ts ≡ [])) (λ f. IsRefusedAt g text f.fault (Some f.span)) (λ f a. at f a) h
+    if_fault r (StopsAt g l start) (λ f. IsRefusedAt g text f.fault (Some f.span)) (λ f a. at f a) h
   where
-    at : (f : FaultAt) → StopsAt g l (λ ts. ts ≡ []) f → IsRefusedAt g text f.fault (Some f.span)
+    at : (f : FaultAt) → StopsAt g l start f → IsRefusedAt g text f.fault (Some f.span)
     at f a =
-        let s = a.stuck [] refl in
-        let w = way_comes text l a.stop a.us s.next s.comes.to same spaces a.path s.comes.comes in
+        let s = state_of a.q in
+        let w = way_comes text l a.stop a.us a.next a.comes.to same spaces a.path a.comes.comes in
         let c = some_cut text utf8 in
-        let left = first_left text 0 s.comes.to c.1 a.us c.0 s.next c.2 w in
+        let left = first_left text 0 a.comes.to c.1 a.us c.0 a.next c.2 w in
         let F : List ℕ → Type 0 =
-        λ z. fault_at_of g z (is_whole s.s) (last_or None (lexemes a.us)) s.next ≡ Some f in
-        let both = parts_of (span_of text (is_whole s.s) s.next)
-        (fault_of g text (is_whole s.s) (last_or None (lexemes a.us)) s.next) f
-        (subst F (path_text l a.stop a.us a.path ∙ same) s.is) in
+        λ z. fault_at_of g z (is_whole s) (last_or None (lexemes a.us)) a.next ≡ Some f in
+        let both = parts_of (span_of text (is_whole s) a.next)
+        (fault_of g text (is_whole s) (last_or None (lexemes a.us)) a.next) f
+        (subst F (path_text l a.stop a.us a.path ∙ same) (a.is (lexemes a.us) a.leads)) in
         rw (← both.1)
-        (refused_walked_at g text c.0 a.us left.0 c.1 s.s s.next f.fault c.2 left.1 s.walked
-        (goes_not_on g text left.0 c.1 s.s s.next left.2 s.stops) left.2 both.0)
+        (refused_walked_at g text c.0 a.us left.0 c.1 s a.next f.fault c.2 left.1 (led_state g (lexemes a.us) a.q a.leads)
+        (goes_not_on g text left.0 c.1 a.q a.next left.2 a.stops) left.2 both.0)
 
 -- tokens that were taken from the start up to the end are those of the cut
 pub path_cut : (text : List ℕ) (l m : Ahead) (us : List Placed) → l.text ≡ text → AreSpaces text 0 l.place

@@ -11,16 +11,16 @@ use Rattle.cargo_platform.specs.Trees.{Name, Alone, KeyPair, Tree, Not, All, Any
 use Rattle.cargo_platform.specs.Trees.{none, tree}
 use Rattle.cargo_platform.specs.Spelling.{Expressions, IsAccepted}
 use Rattle.cargo_platform.specs.Faults.{Fault, IsCompletable, IsCompletableBy}
-use Rattle.cargo_platform.specs.Walk.{is_whole}
-use Rattle.cargo_platform.specs.Inside.Parsing.{Opening, Negated, Listed, is_lone}
+use Rattle.cargo_platform.specs.Walk.{Opening, Negated, Listed, Position, Wanting, WithWord, WithKey, WithTree, at_key}
+use Rattle.cargo_platform.specs.Walk.{is_whole, is_lone, state_of}
 use Rattle.cargo_platform.specs.Earlier.{IsAcceptedReleased, released, released_members}
 use Rattle.cargo_platform.specs.Warnings.{values, members_values}
 use Rattle.cargo_platform.specs.ChangeLaws.{is_literal_key, SpelledReleasedText, IsTextRefusedForLiteralKeys}
 use Rattle.cargo_platform.specs.ChangeLaws.{KeepsFault, ComesNoLater}
 use Rattle.cargo_platform.proofs.OneCut.{one_cut_from}
 use Rattle.cargo_platform.proofs.Walk.{none_some}
-use Rattle.cargo_platform.proofs.Building.{Position, Wanting, WithWord, WithKey, WithTree, key_of, at_key, lead}
-use Rattle.cargo_platform.proofs.Building.{lead_from, state_of, state_at, walk_state, whole_leads, completable_walks}
+use Rattle.cargo_platform.proofs.Building.{key_by, lead, lead_from, state_at, walk_state, whole_leads}
+use Rattle.cargo_platform.proofs.Building.{completable_walks}
 use Rattle.cargo_platform.proofs.Completing.{ends_whole, whole_accepted}
 use Rattle.cargo_platform.proofs.Changes.{was_spelled, from_released, spelled_released, accepted_as_released}
 use Rattle.cargo_platform.proofs.Changes.{refused_for_literal_keys}
@@ -82,8 +82,8 @@ text_refused text d q =
 nowhere : (q : Position) → None ≡ Some q → ⊥
 nowhere q h = cc
 
-key_kept : (e : Tree) (gs : List Opening) (q : Position) → at_key (key_of false e) gs ≡ Some q
-    → at_key (key_of true e) gs ≡ Some q
+key_kept : (e : Tree) (gs : List Opening) (q : Position) → at_key (key_by false e) gs ≡ Some q
+    → at_key (key_by true e) gs ≡ Some q
 key_kept (Value (Alone n)) gs q h = h
 key_kept (Value (KeyPair k v)) gs q h = h
 key_kept (Not e) gs q h = h
@@ -131,12 +131,12 @@ still_accepted ts a c =
     elim (lead_from false start ts) as (λ o. lead_from false start ts ≡ o → IsAccepted Expressions ts) [
       | None ↦ λ is.
           let s = completable_walks Expressions ts c in
-          absurd (none_some (sym (walk_state ts ∙ ap state_at is) ∙ s.1))
+          absurd (none_some (sym (walk_state Expressions ts ∙ ap state_at is) ∙ s.1))
       | Some q ↦ λ is.
           let here : q ≡ WithTree t.0 [] =
           same_Some _ _ (sym (steps_kept (Wanting []) ts q is) ∙ whole_leads true t.0 ts t.1) in
           whole_accepted Expressions (state_of q) ts
-          (ap (λ p. is_whole (state_of p)) here ∙ ends_whole (is_lone t.0)) (walk_state ts ∙ ap state_at is)
+          (ap (λ p. is_whole (state_of p)) here ∙ ends_whole (is_lone t.0)) (walk_state Expressions ts ∙ ap state_at is)
     ] refl
 
 pub keeps_fault : (text : List ℕ) (fault : Fault) → KeepsFault text fault

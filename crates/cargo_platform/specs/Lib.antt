@@ -41,7 +41,7 @@ pub mod ChangeLaws
 pub mod Faults
 -- Errors: what an error says, apart from memory
 pub mod Errors
--- Walk: the automaton that tells which tokens may come next, for proofs
+-- Walk: the automaton of both grammars, its positions and the states that laws name, for proofs
 pub mod Walk
 -- FaultLaws: laws of completion and of the fault prefix
 pub mod FaultLaws

@@ -3,7 +3,8 @@
 ghost use Rattle.std.specs.Prelude.{◌≡◌, ◌≤◌, ◌+◌, ◌*◌, ◌++◌, map, IfOk, IfSome, OnOk, MatchOption, MatchResult};
 ghost use Rattle.cargo_platform.specs.Trees.{Tree, name_of, value_of, tree_of, condition_of};
 ghost use Rattle.cargo_platform.specs.ExpressionSizes.{node_count, node_counts};
-ghost use Rattle.cargo_platform.specs.Inside.Parsing.{is_all, list_tree};
+ghost use Rattle.cargo_platform.specs.Walk.{list_tree};
+ghost use Rattle.cargo_platform.specs.Inside.Parsing.{is_all};
 ghost use Rattle.cargo_platform.specs.Inside.Copying.{around, whole, left_in, work};
 
 use crate::Platform;

@@ -1,18 +1,17 @@
 //! The reader of expressions: a loop over the groups that are open.
 
 ghost use Rattle.std.specs.Prelude.{◌≡◌, ◌≤◌, ◌<◌, false, true, List, [], ◌∷◌, ◌++◌, length, map, IfOk, IfErr, OnOk};
-ghost use Rattle.std.specs.Prelude.{IfSome, IfNone, MatchOption, IsTrue, IsFalse, Some};
+ghost use Rattle.std.specs.Prelude.{IfSome, IfNone, MatchOption, IsTrue, IsFalse};
 ghost use Rattle.cargo_platform.specs.Tokens.{Ident as ident_token, Comma};
 ghost use Rattle.cargo_platform.specs.Cut.{Nothing};
 ghost use Rattle.cargo_platform.specs.Inside.Ahead.{NextIs, bytes_left};
-ghost use Rattle.cargo_platform.specs.Trees.{Tree, name_of, value_of, tree_of, Not};
+ghost use Rattle.cargo_platform.specs.Trees.{Tree, name_of, value_of, tree_of, Not, Value};
 ghost use Rattle.cargo_platform.specs.Spelling.{Grammar, Values, Expressions, is_group_word, is_literal_word, Spells};
-ghost use Rattle.cargo_platform.specs.Spelling.{value_spelling};
-ghost use Rattle.cargo_platform.specs.Walk.{Word, Named, walk};
-ghost use Rattle.cargo_platform.specs.Inside.Parsing.{LacksPunctuation, Opening, Negated, Listed, opening, stack};
-ghost use Rattle.cargo_platform.specs.Inside.Parsing.{IsFresh, is_all, list_tree, is_lone, Wants, Has, HasName};
-ghost use Rattle.cargo_platform.specs.Inside.Parsing.{HasWord, Stands, Reads, Stops, HasRead, ClearBehind, TakesToken};
-ghost use Rattle.cargo_platform.specs.Inside.Parsing.{opening_word, kinds, is_list, openings, with_last, HasLooked};
+ghost use Rattle.cargo_platform.specs.Walk.{Opening, Negated, Listed, list_tree, Wanting, WithWord, WithTree, start};
+ghost use Rattle.cargo_platform.specs.Walk.{kinds, is_lone};
+ghost use Rattle.cargo_platform.specs.Inside.Parsing.{LacksPunctuation, opening, stack, IsFresh, is_all, is_list, openings};
+ghost use Rattle.cargo_platform.specs.Inside.Parsing.{opening_word, with_last, TakesToken, at_name, at_lone_name, at_done};
+ghost use Rattle.cargo_platform.specs.Inside.Parsing.{Reads, IsClear, IsClearAfter, Stops, HasLooked};
 
 use crate::cfg::{Cfg, CfgExpr, Ident};
 use crate::reader::{Punctuation, Reader, expect_end, refuse};
@@ -191,11 +190,12 @@ fn read_value<'a>(
 ) -> Result<Cfg, Refusal<'a>>
     ensures same_text { reader.new.ahead.text ≡ reader.old.ahead.text }
     ensures value { IfOk result
-        (λ c. Reads reader.old.ahead reader.new.ahead (λ ts. ts ≡ ident_token raw name.now ∷ [])
-        (λ ts. ts ≡ value_spelling (value_of c))) }
-    ensures clear { IfOk result (λ c. ClearBehind (value_of c) reader.new.ahead) }
+        (λ c. (g : Grammar) (gs : List Opening)
+        → Reads g reader.old.ahead reader.new.ahead (at_lone_name raw name.now gs)
+        (WithTree (Value (value_of c)) gs)) }
+    ensures clear { IfOk result (λ c. IsClear (Value (value_of c)) reader.new.ahead) }
     ensures refused { IfErr result
-        (λ r. (g : Grammar) (ws : List Word) → Stops g reader.old.ahead (λ ts. walk g ts ≡ Some (Named ws)) r) }
+        (λ r. (g : Grammar) (gs : List Opening) → Stops g reader.old.ahead (at_lone_name raw name.now gs) r) }
     ensures looked { IfErr result (HasLooked reader.new) }
 {
     if !reader.eat(Punctuation::Equals) {
@@ -218,9 +218,9 @@ fn open_group<'a>(
 ) -> Result<(), Refusal<'a>>
     ensures same_text { reader.new.ahead.text ≡ reader.old.ahead.text }
     ensures opened { OnOk result
-        (Reads reader.old.ahead reader.new.ahead (HasWord (stack groups.old) (opening group))
-        (Wants (stack groups.new))) }
-    ensures refused { IfErr result (Stops Expressions reader.old.ahead (HasWord (stack groups.old) (opening group))) }
+        (Reads Expressions reader.old.ahead reader.new.ahead (WithWord (opening group) (stack groups.old))
+        (Wanting (stack groups.new))) }
+    ensures refused { IfErr result (Stops Expressions reader.old.ahead (WithWord (opening group) (stack groups.old))) }
     ensures looked { IfErr result (HasLooked reader.new) }
 {
     if !reader.eat(Punctuation::LeftParen) {
@@ -241,9 +241,10 @@ fn behind_name<'a>(
 ) -> Result<Option<CfgExpr>, Refusal<'a>>
     ensures same_text { reader.new.ahead.text ≡ reader.old.ahead.text }
     ensures begun { IfOk result
-        (λ done. Reads reader.old.ahead reader.new.ahead (HasName (stack groups.old) raw name.now)
-        (Stands (stack groups.new) done reader.new.ahead)) }
-    ensures refused { IfErr result (Stops Expressions reader.old.ahead (HasName (stack groups.old) raw name.now)) }
+        (λ done. Reads Expressions reader.old.ahead reader.new.ahead (at_name raw name.now (stack groups.old))
+        (at_done (stack groups.new) done)) }
+    ensures clear { IfOk result (λ done. IsClearAfter done reader.new.ahead) }
+    ensures refused { IfErr result (Stops Expressions reader.old.ahead (at_name raw name.now (stack groups.old))) }
     ensures looked { IfErr result (HasLooked reader.new) }
 {
     if let Some(group) = group_named(alloc, raw, name) {
@@ -261,8 +262,9 @@ fn behind_name<'a>(
 fn end_list(reader: &mut Reader<'_>, groups: &mut OpenGroups) -> Option<CfgExpr>
     ensures same_text { reader.new.ahead.text ≡ reader.old.ahead.text }
     ensures closed { IfSome result
-        (λ e. Reads reader.old.ahead reader.new.ahead (Wants (stack groups.old))
-        (Has (stack groups.new) (tree_of e) reader.new.ahead)) }
+        (λ e. Reads Expressions reader.old.ahead reader.new.ahead (Wanting (stack groups.old))
+        (WithTree (tree_of e) (stack groups.new))) }
+    ensures clear { IfSome result (λ e. IsClear (tree_of e) reader.new.ahead) }
     ensures shorter { IfSome result (λ e. bytes_left reader.new.ahead < bytes_left reader.old.ahead) }
     ensures not_closed { IfNone result
         ((reader.new.ahead ≡ reader.old.ahead)
@@ -289,9 +291,10 @@ fn begin<'a>(
 ) -> Result<Option<CfgExpr>, Refusal<'a>>
     ensures same_text { reader.new.ahead.text ≡ reader.old.ahead.text }
     ensures begun { IfOk result
-        (λ done. Reads reader.old.ahead reader.new.ahead (Wants (stack groups.old))
-        (Stands (stack groups.new) done reader.new.ahead)) }
-    ensures refused { IfErr result (Stops Expressions reader.old.ahead (Wants (stack groups.old))) }
+        (λ done. Reads Expressions reader.old.ahead reader.new.ahead (Wanting (stack groups.old))
+        (at_done (stack groups.new) done)) }
+    ensures clear { IfOk result (λ done. IsClearAfter done reader.new.ahead) }
+    ensures refused { IfErr result (Stops Expressions reader.old.ahead (Wanting (stack groups.old))) }
     ensures looked { IfErr result (HasLooked reader.new) }
     ensures shorter { OnOk result (bytes_left reader.new.ahead < bytes_left reader.old.ahead) }
 {
@@ -358,15 +361,17 @@ fn close_group<'a>(
     group: Group,
     last: CfgExpr,
 ) -> Result<CfgExpr, Refusal<'a>>
-    requires { is_list (kinds (opening group ∷ [])) ≡ true → LacksPunctuation reader.old.ahead Punctuation.Comma }
+    requires clear { IsClear (tree_of last) reader.old.ahead }
+    requires last { is_list (kinds (opening group ∷ [])) ≡ true → LacksPunctuation reader.old.ahead Punctuation.Comma }
     ensures same_text { reader.new.ahead.text ≡ reader.old.ahead.text }
     ensures closed { IfOk result
         (λ e. (gs : List Opening)
-        → Reads reader.old.ahead reader.new.ahead (Has (opening group ∷ gs) (tree_of last) reader.old.ahead)
-        (Has gs (tree_of e) reader.new.ahead)) }
+        → Reads Expressions reader.old.ahead reader.new.ahead (WithTree (tree_of last) (opening group ∷ gs))
+        (WithTree (tree_of e) gs)) }
+    ensures clear { IfOk result (λ e. IsClear (tree_of e) reader.new.ahead) }
     ensures refused { IfErr result
         (λ r. (gs : List Opening)
-        → Stops Expressions reader.old.ahead (Has (opening group ∷ gs) (tree_of last) reader.old.ahead) r) }
+        → Stops Expressions reader.old.ahead (WithTree (tree_of last) (opening group ∷ gs)) r) }
     ensures looked { IfErr result (HasLooked reader.new) }
     ensures shorter { OnOk result (bytes_left reader.new.ahead < bytes_left reader.old.ahead) }
 {
@@ -386,9 +391,9 @@ pub(crate) fn read_expression<'a>(
 ) -> Result<CfgExpr, Refusal<'a>>
     ensures same_text { reader.new.ahead.text ≡ reader.old.ahead.text }
     ensures tree { IfOk result
-        (λ e. Reads reader.old.ahead reader.new.ahead (λ ts. ts ≡ []) (Has [] (tree_of e) reader.new.ahead)) }
+        (λ e. Reads Expressions reader.old.ahead reader.new.ahead start (WithTree (tree_of e) [])) }
     ensures ended { OnOk result (NextIs reader.new.ahead Nothing) }
-    ensures refused { IfErr result (Stops Expressions reader.old.ahead (λ ts. ts ≡ [])) }
+    ensures refused { IfErr result (Stops Expressions reader.old.ahead start) }
     ensures looked { IfErr result (HasLooked reader.new) }
 {
     let mut groups = OpenGroups::new(alloc);
@@ -414,9 +419,10 @@ pub(crate) fn read_expression<'a>(
 /// Reads the name or the pair that the tokens spell.
 pub(crate) fn read_cfg<'a>(alloc: Global, reader: &mut Reader<'a>) -> Result<Cfg, Refusal<'a>>
     ensures same_text { reader.new.ahead.text ≡ reader.old.ahead.text }
-    ensures value { IfOk result (λ c. HasRead reader.old.ahead reader.new.ahead (value_spelling (value_of c))) }
+    ensures value { IfOk result
+        (λ c. Reads Values reader.old.ahead reader.new.ahead start (WithTree (Value (value_of c)) [])) }
     ensures ended { OnOk result (NextIs reader.new.ahead Nothing) }
-    ensures refused { IfErr result (Stops Values reader.old.ahead (λ ts. ts ≡ [])) }
+    ensures refused { IfErr result (Stops Values reader.old.ahead start) }
     ensures looked { IfErr result (HasLooked reader.new) }
 {
     let Some((raw, name)) = reader.eat_name() else {

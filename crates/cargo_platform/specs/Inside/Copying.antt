@@ -4,7 +4,8 @@ use Rattle.cargo_platform.specs.declared.clone.CopiedGroup.{CopiedGroup}
 use Rattle.cargo_platform.specs.declared.clone.CopiedGroup.TheVariants as group
 use Rattle.cargo_platform.specs.declared.clone.CopiedGroups.{CopiedGroups}
 use Rattle.cargo_platform.specs.Trees.{Tree, Not, tree_of}
-use Rattle.cargo_platform.specs.Inside.Parsing.{is_all, list_tree}
+use Rattle.cargo_platform.specs.Walk.{list_tree}
+use Rattle.cargo_platform.specs.Inside.Parsing.{is_all}
 use Rattle.cargo_platform.specs.ExpressionSizes.{node_counts}
 
 -- the group with this member in its place

@@ -1,5 +1,4 @@
--- What a reader of expressions has read: the groups that are open with their members so far, and the expression that
--- stands after them, if one does.
+-- What a reader takes and refuses: its tokens lead from one position of the automaton to another.
 use Rattle.std.specs.Prelude.{◌≡◌, ℕ, Bool, true, false, List, [], ◌∷◌, ◌++◌, map, reverse, codes, Option, Some, None}
 use Rattle.std.specs.Prelude.{length}
 use Rattle.std.specs.Prelude.{Result, Ok, Err, IfSome}
@@ -18,17 +17,18 @@ use Rattle.cargo_platform.specs.declared.parser.Group.{Group}
 use Rattle.cargo_platform.specs.declared.parser.Opened.{Opened}
 use Rattle.cargo_platform.specs.declared.parser.OpenGroups.{OpenGroups}
 use Rattle.cargo_platform.specs.declared.parser.Group.TheVariants as groups
-use Rattle.cargo_platform.specs.Tokens.{Lexeme, LeftParen, RightParen, Ident, Comma, Equals, String, Placed, plain}
+use Rattle.cargo_platform.specs.Tokens.{Lexeme, LeftParen, RightParen, Ident, Comma, Equals, String, Placed}
 use Rattle.cargo_platform.specs.Tokens.{placed}
 use Rattle.cargo_platform.specs.Cut.{lexemes}
 use Rattle.cargo_platform.specs.Cut.{Item, Nothing}
 use Rattle.cargo_platform.specs.Inside.Ahead.{Ahead, NextIs, GoesPast, Path, Standing, IsSeenTo}
 use Rattle.cargo_platform.specs.Cut as cut
-use Rattle.cargo_platform.specs.Trees.{CfgValue, Alone, KeyPair, Tree, All, Any, Value, trees_of, tree_of}
-use Rattle.cargo_platform.specs.Spelling.{Grammar, Spells, SpellEach}
+use Rattle.cargo_platform.specs.Trees.{Name, Alone, Tree, Value, tree_of}
+use Rattle.cargo_platform.specs.Spelling.{Grammar, role}
 use Rattle.cargo_platform.specs.Faults.{UnterminatedExpression, expected_token}
 use Rattle.cargo_platform.specs.Faults.{expected_end, lexical_span, looked_to}
-use Rattle.cargo_platform.specs.Walk.{Word, Several, Negation, State, after, walk, is_whole}
+use Rattle.cargo_platform.specs.Walk.{Opening, Negated, Listed, Position, Wanting, WithTree, start, at_role, step, steps}
+use Rattle.cargo_platform.specs.Walk.{Word, Several, is_whole, state_of}
 use Rattle.cargo_platform.specs.Inside.Refusals.{FaultAt, fault_at_of, refused_at}
 
 -- after tokens that are accepted this text is the surplus, and it lies here
@@ -87,18 +87,9 @@ LacksString l = Lacks IsString l
 
 -- ---- open groups
 
--- an open `not(`, or an open `all(` or `any(` with its members
-pub data Opening : Type 0 where
-  Negated : Opening
-  Listed : (all : Bool) (members : List Tree) → Opening
-
 abbrev pub list_word : Bool → List ℕ
 list_word true = codes "all"
 list_word false = codes "any"
-
-abbrev pub list_tree : Bool → List Tree → Tree
-list_tree true es = All (trees_of es)
-list_tree false es = Any (trees_of es)
 
 abbrev pub opening_word : Opening → List ℕ
 opening_word Negated = codes "not"
@@ -107,13 +98,6 @@ opening_word (Listed all members) = list_word all
 abbrev pub IsFresh : Opening → Type 0
 IsFresh Negated = Unit {0}
 IsFresh (Listed all members) = members ≡ []
-
-abbrev pub kind : Opening → Word
-kind Negated = Negation
-kind (Listed all members) = Several
-
-abbrev pub kinds : List Opening → List Word
-kinds gs = map kind gs
 
 -- the innermost group is a list
 abbrev pub is_list : List Word → Bool
@@ -146,75 +130,42 @@ abbrev pub with_last : List Opening → Tree → List Opening
 with_last (Listed all es ∷ gs) e = Listed all (es ++ e ∷ []) ∷ gs
 with_last gs e = gs
 
--- members, each with the comma after it
-abbrev pub finished : List (List Lexeme) → List Lexeme
-finished [] = []
-finished (s ∷ ss) = s ++ (Comma ∷ finished ss)
+-- ---- positions
 
--- The tokens that were read open these groups, the innermost first, and spell their members so far: an expression is
--- wanted next.
-abbrev pub Wants : List Opening → List Lexeme → Type 0
-Wants [] ts = ts ≡ []
-Wants (Negated ∷ gs) ts =
-    (before : List Lexeme) × Wants gs before × (ts ≡ before ++ (plain (codes "not") ∷ LeftParen ∷ []))
-Wants (Listed all es ∷ gs) ts =
-    (before : List Lexeme) × (ss : List (List Lexeme)) × Wants gs before × SpellEach (trees_of es) ss
-    × (ts ≡ before ++ (plain (list_word all) ∷ LeftParen ∷ finished ss))
+-- after an identifier of an expression
+abbrev pub at_name : Bool → List ℕ → List Opening → Position
+at_name raw name gs = let n : Name = record { raw = raw; name = name } in at_role (role n) n gs
 
--- an expression stands after them
-abbrev pub EndsWith : List Opening → Tree → List Lexeme → Type 0
-EndsWith gs e ts = (before : List Lexeme) × (s : List Lexeme) × Wants gs before × Spells e s × (ts ≡ before ++ s)
+-- after a name alone
+abbrev pub at_lone_name : Bool → List ℕ → List Opening → Position
+at_lone_name raw name gs = WithTree (Value (Alone (record { raw = raw; name = name }))) gs
 
--- the expression is a name alone, which `=` would go on with
-abbrev pub is_lone : Tree → Bool
-is_lone (Value (Alone n)) = true
-is_lone e = false
+-- after an expression, or where one is wanted
+abbrev pub at_done : List Opening → Option CfgExpr → Position
+at_done gs None = Wanting gs
+at_done gs (Some e) = WithTree (tree_of e) gs
 
--- The tokens that were read: an expression stands at their end, which the next item does not go on with.
-pub record Has (gs : List Opening) (e : Tree) (l : Ahead) (ts : List Lexeme) : Type 0 where
-  pub ends : EndsWith gs e ts
-  pub clear : is_lone e ≡ true → LacksPunctuation l punctuation.Equals
-
-abbrev pub Stands : List Opening → Option CfgExpr → Ahead → List Lexeme → Type 0
-Stands gs None l ts = Wants gs ts
-Stands gs (Some e) l ts = Has gs (tree_of e) l ts
-
--- a name was read last, where an expression is wanted
-pub record HasName (gs : List Opening) (raw : Bool) (name : List ℕ) (ts : List Lexeme) : Type 0 where
-  pub before : List Lexeme
-  pub wanted : Wants gs before
-  pub is : ts ≡ before ++ (Ident raw name ∷ [])
-
--- a group's word was read last, and the group has no members
-pub record HasWord (gs : List Opening) (o : Opening) (ts : List Lexeme) : Type 0 where
-  pub before : List Lexeme
-  pub wanted : Wants gs before
-  pub fresh : IsFresh o
-  pub is : ts ≡ before ++ (plain (opening_word o) ∷ [])
-
--- From one place to another some tokens were read. Where P holds of all tokens before them, Q holds of all tokens
--- with them.
-pub record Reads (old new : Ahead) (P Q : List Lexeme → Type 0) : Type 0 where
+-- From one place to another some tokens were read, which lead from one position to another.
+pub record Reads (g : Grammar) (old new : Ahead) (p q : Position) : Type 0 where
   pub us : List Placed
   pub path : Path old us new
-  pub leads : (ts : List Lexeme) → P ts → Q (ts ++ lexemes us)
+  pub leads : steps g (Some p) (lexemes us) ≡ Some q
+
+-- what comes next does not go on with the expression
+abbrev pub IsClear : Tree → Ahead → Type 0
+IsClear (Value (Alone n)) l = LacksPunctuation l punctuation.Equals
+IsClear e l = Unit {0}
+
+abbrev pub IsClearAfter : Option CfgExpr → Ahead → Type 0
+IsClearAfter done l = IfSome done (λ e. IsClear (tree_of e) l)
 
 -- ---- refusals
 
--- a next token does not fit
-abbrev pub IsStop : Grammar → State → Item → Type 0
-IsStop g s (cut.Token t) = after g s t.token ≡ None
-IsStop g s (cut.Lexical kind at) = Unit {0}
-IsStop g s Nothing = Unit {0}
-
--- The tokens read cannot go on with the next item.
-pub record IsStuck (g : Grammar) (l : Ahead) (ts : List Lexeme) (fault : FaultAt) : Type 0 where
-  pub next : Item
-  pub comes : NextIs l next
-  pub s : State
-  pub walked : walk g ts ≡ Some s
-  pub stops : IsStop g s next
-  pub is : fault_at_of g l.text (is_whole s) (last_or None ts) next ≡ Some fault
+-- no step takes the next token
+abbrev pub IsStop : Grammar → Position → Item → Type 0
+IsStop g p (cut.Token t) = step g p t.token ≡ None
+IsStop g p (cut.Lexical kind at) = Unit {0}
+IsStop g p Nothing = Unit {0}
 
 -- what is said of the fault that a refusal stands for, where it is no allocation failure
 abbrev pub IfFault : Refusal → (FaultAt → Type 0) → Type 0
@@ -224,15 +175,22 @@ IfFault r P = IfSome (refused_at r) P
 abbrev pub HasLooked : Standing → Refusal → Type 0
 HasLooked s r = IfFault r (λ fault. IsSeenTo s (looked_to fault.fault fault.span))
 
--- some tokens were read, and the fault is where they cannot go on
-pub record StopsAt (g : Grammar) (l : Ahead) (P : List Lexeme → Type 0) (fault : FaultAt) : Type 0 where
+-- Some tokens were read, and no step takes what comes next. The fault is that of all tokens that lead there.
+pub record StopsAt (g : Grammar) (l : Ahead) (p : Position) (fault : FaultAt) : Type 0 where
   pub us : List Placed
   pub stop : Ahead
   pub path : Path l us stop
-  pub stuck : (ts : List Lexeme) → P ts → IsStuck g stop (ts ++ lexemes us) fault
+  pub q : Position
+  pub leads : steps g (Some p) (lexemes us) ≡ Some q
+  pub next : Item
+  pub comes : NextIs stop next
+  pub stops : IsStop g q next
+  pub is :
+      (ts : List Lexeme) → steps g (Some start) ts ≡ Some q
+      → fault_at_of g stop.text (is_whole (state_of q)) (last_or None ts) next ≡ Some fault
 
-abbrev pub Stops : Grammar → Ahead → (List Lexeme → Type 0) → Refusal → Type 0
-Stops g l P r = IfFault r (StopsAt g l P)
+abbrev pub Stops : Grammar → Ahead → Position → Refusal → Type 0
+Stops g l p r = IfFault r (StopsAt g l p)
 
 -- the next item is refused, after tokens that are not accepted and after which these are the words for what is
 -- expected
@@ -247,14 +205,3 @@ abbrev pub RefusesMore : Ahead → Refusal → Type 0
 RefusesMore l r =
     (next : Item) × NextIs l next
     × ((g : Grammar) (last : Option Lexeme) → IfFault r (λ fault. fault_at_of g l.text true last next ≡ Some fault))
-
--- ---- names and pairs
-
--- from one place to another just these tokens were read
-abbrev pub HasRead : Ahead → Ahead → List Lexeme → Type 0
-HasRead old new read = Reads old new (λ ts. ts ≡ []) (λ ts. ts ≡ read)
-
--- no `=` comes after a name alone
-abbrev pub ClearBehind : CfgValue → Ahead → Type 0
-ClearBehind (Alone n) l = LacksPunctuation l punctuation.Equals
-ClearBehind (KeyPair k v) l = Unit {0}

@@ -1,11 +1,12 @@
-use Rattle.std.proofs.Common.{◌∙◌, ◌<◌, arith}
+use Rattle.std.proofs.Common.{◌∙◌, ◌<◌, refl, arith}
 use Rattle.std.proofs.lemmas.Result.{IfErr-weaker, IfOk-weaker}
 use Rattle.cargo_platform.specs.Inside.Ahead.{bytes_left}
 use Rattle.cargo_platform.specs.Tokens.{Ident}
-use Rattle.cargo_platform.specs.Inside.Parsing.{stack, Wants, HasName, Stands}
 use Rattle.cargo_platform.specs.Spelling.{Expressions}
-use Rattle.cargo_platform.proofs.Parsing.{taken_shorter, reads_shorter, reads_taken, reads_then}
-use Rattle.cargo_platform.proofs.Parsing.{stops_then, stops_untaken, wants_refusing, wants_name}
+use Rattle.cargo_platform.specs.Walk.{Wanting}
+use Rattle.cargo_platform.specs.Inside.Parsing.{stack, at_name, at_done}
+use Rattle.cargo_platform.proofs.Parsing.{taken_shorter, reads_shorter, reads_taken, reads_then, stops_then}
+use Rattle.cargo_platform.proofs.Parsing.{wanting_stops}
 use Rattle.cargo_platform.proofs.parser.begin.Goals as goal
 
 pub returns-in-Some-clause-begun : goal.returns-in-Some-clause-begun
@@ -17,9 +18,8 @@ returns-in-Some-clause-begun c =
     let raw = c.in-Some.raw in
     let name = c.in-Some.name.now in
     IfOk-weaker c.behind_name.result _ _ (λ done a.
-    reads_then l m n (Wants gs) (HasName gs raw name) (Stands (stack c.behind_name.new.groups) done n)
-    (reads_taken l m (Ident raw name) (Wants gs) (HasName gs raw name) c.in-Some.ensures.taken
-    (λ ts p. wants_name gs raw name ts p)) a)
+    reads_then Expressions l m n (Wanting gs) (at_name raw name gs) (at_done (stack c.behind_name.new.groups) done)
+    (reads_taken Expressions l m (Ident raw name) (Wanting gs) (at_name raw name gs) c.in-Some.ensures.taken refl) a)
     c.behind_name.ensures.begun
 
 pub returns-in-Some-clause-refused : goal.returns-in-Some-clause-refused
@@ -30,9 +30,8 @@ returns-in-Some-clause-refused c =
     let raw = c.in-Some.raw in
     let name = c.in-Some.name.now in
     IfErr-weaker c.behind_name.result _ _ (λ r a.
-    stops_then Expressions l m (Wants gs) (HasName gs raw name) r
-    (reads_taken l m (Ident raw name) (Wants gs) (HasName gs raw name) c.in-Some.ensures.taken
-    (λ ts p. wants_name gs raw name ts p)) a)
+    stops_then Expressions l m (Wanting gs) (at_name raw name gs) r
+    (reads_taken Expressions l m (Ident raw name) (Wanting gs) (at_name raw name gs) c.in-Some.ensures.taken refl) a)
     c.behind_name.ensures.refused
 
 pub returns-clause-refused : goal.returns-clause-refused
@@ -41,8 +40,8 @@ returns-clause-refused c =
     let gs = stack c.args.groups.now in
     let n = c.in_default.ensures.not_taken in
     let k = c.in_default-end_list.ensures.not_closed in
-    stops_untaken l c.end_list.new.reader.ahead (Wants gs) c.refuse.result _ _ (k.0 ∙ n.0) c.refuse.ensures.refused
-    (λ ts p. wants_refusing l gs ts n.1 (λ y. rw (← n.0) (k.1 y)) p)
+    wanting_stops l c.end_list.new.reader.ahead gs c.refuse.result (k.0 ∙ n.0) n.1 (λ y. rw (← n.0) (k.1 y))
+    c.refuse.ensures.refused
 
 pub returns-in-Some-clause-shorter : goal.returns-in-Some-clause-shorter
 returns-in-Some-clause-shorter c =
@@ -53,5 +52,5 @@ returns-in-Some-clause-shorter c =
     omega (
       arith,
       taken_shorter l m (Ident c.in-Some.raw c.in-Some.name.now) c.in-Some.ensures.taken,
-      reads_shorter m n _ _ a,
+      reads_shorter Expressions m n _ _ a,
     )) c.behind_name.ensures.begun

@@ -1,8 +1,10 @@
-use Rattle.std.proofs.Common.{◌≡◌, ap, ◌∙◌, ◌∷◌, map}
+use Rattle.std.proofs.Common.{◌≡◌, refl, ap, ◌∙◌, ◌∷◌, map}
 use Rattle.cargo_platform.specs.Tokens.{RightParen}
 use Rattle.cargo_platform.specs.Trees.{tree_of}
-use Rattle.cargo_platform.specs.Inside.Parsing.{Listed, opening, stack, is_all, list_tree, Wants, Has}
-use Rattle.cargo_platform.proofs.Parsing.{reads_taken, wants_close}
+use Rattle.cargo_platform.specs.Spelling.{Expressions}
+use Rattle.cargo_platform.specs.Walk.{Listed, list_tree, Wanting, WithTree}
+use Rattle.cargo_platform.specs.Inside.Parsing.{opening, stack, is_all}
+use Rattle.cargo_platform.proofs.Parsing.{reads_taken, list_clear}
 use Rattle.cargo_platform.proofs.parser.end_list.Goals as goal
 
 pub returns-else-not-eat-clause-closed : goal.returns-else-not-eat-clause-closed
@@ -16,8 +18,12 @@ returns-else-not-eat-clause-closed c =
     ∙ ap (λ z. opening z ∷ gs) c.in-Some-List.field-0-is in
     rw c.close_list.ensures
     (rw was
-    (reads_taken l m RightParen (Wants (Listed all es ∷ gs)) (Has gs (list_tree all es) m)
-    (c.eat.ensures.taken c.if-not-eat.false) (λ ts p. wants_close gs all es m ts p)))
+    (reads_taken Expressions l m RightParen (Wanting (Listed all es ∷ gs)) (WithTree (list_tree all es) gs)
+    (c.eat.ensures.taken c.if-not-eat.false) refl))
+
+pub returns-else-not-eat-clause-clear : goal.returns-else-not-eat-clause-clear
+returns-else-not-eat-clause-clear c =
+    rw c.close_list.ensures (list_clear (is_all c.in-Some-List.word) _ c.eat.new.self.ahead)
 
 pub returns-then-not-eat-clause-not_closed : goal.returns-then-not-eat-clause-not_closed
 returns-then-not-eat-clause-not_closed c = let n = c.eat.ensures.not_taken c.if-not-eat.true in (n.0, λ _. n.1)

@@ -1,6 +1,7 @@
 use Rattle.std.proofs.Common.{ap, ◌∷◌, map, reverse}
 use Rattle.std.proofs.lemmas.Result.{IfOk-weaker}
-use Rattle.cargo_platform.specs.Inside.Parsing.{Listed, opening, is_all}
+use Rattle.cargo_platform.specs.Walk.{Listed}
+use Rattle.cargo_platform.specs.Inside.Parsing.{opening, is_all}
 use Rattle.cargo_platform.proofs.parser.Opened.add.Goals as goal
 
 pub returns : goal.returns
