@@ -17,7 +17,7 @@ use Rattle.cargo_platform.specs.Cut.{lexemes}
 use Rattle.cargo_platform.specs.Trees.{Name, CfgValue, Alone, KeyPair, Tree, Not, Value}
 use Rattle.cargo_platform.specs.Spelling.{Grammar, Values, Expressions, identifier, value_spelling, name_in, MayStand}
 use Rattle.cargo_platform.specs.Spelling.{Spells}
-use Rattle.cargo_platform.specs.Faults.{Fault, expected_token, expected_end}
+use Rattle.cargo_platform.specs.Faults.{Fault, expected_token, expected_end, beginning_at_end}
 use Rattle.cargo_platform.specs.Walk.{Word, Several, Negation, State, Behind, Named, Keyed, after, after_expression}
 use Rattle.cargo_platform.specs.Walk.{walk, is_whole}
 use Rattle.cargo_platform.specs.Cut.{Item, Nothing, Comes}
@@ -197,7 +197,8 @@ stops_here {g} l P r expected at_end h f = refused_here g l h.0 P r h.1 (λ ts p
       s = a.s;
       walked = a.walked;
       unfit = a.unfit;
-      refused = rw a.unfinished (h.2 g (last_or None ts) (m.0 ∙ a.wants) (m.1 ∙ a.wants_end));
+      refused = rw a.unfinished (h.2 g (last_or None ts) (m (codes "identifier") ∙ a.wants)
+          (m (beginning_at_end g) ∙ a.wants_end));
     })
 
 pub stops_untaken : {g : Grammar} (l m : Ahead) (P : List Lexeme → Type 0) (r : Refusal) (expected at_end : List ℕ)
