@@ -16,7 +16,8 @@ use Rattle.cargo_platform.specs.Trees.{Alone, KeyPair}
 use Rattle.cargo_platform.specs.Spelling.{Grammar, Values, Expressions, IsAccepted, Role, GroupWord, LiteralWord}
 use Rattle.cargo_platform.specs.Spelling.{PlainName, role}
 use Rattle.cargo_platform.specs.Faults.{IsCompletable, IsFaultPrefix, Fault, UnexpectedToken}
-use Rattle.cargo_platform.specs.Faults.{IncompleteExpr, expected_token, expected_end, fault_of, IsRefused}
+use Rattle.cargo_platform.specs.Faults.{IncompleteExpr, expected_after, expected_token, expected_end, fault_of}
+use Rattle.cargo_platform.specs.Faults.{beginning_at_end, IsRefused}
 use Rattle.cargo_platform.specs.Walk.{Word, Several, Negation, State, Wanted, Member, Behind, Named, Keyed, Ended}
 use Rattle.cargo_platform.specs.Walk.{after_role, after_name, after_expression, after, walk_from, walk, is_whole}
 use Rattle.cargo_platform.specs.FaultLaws.{is_left_paren, IsCompletedShortly, IsOfClass, CanFollow, Names}
@@ -153,74 +154,63 @@ leads_on : (g : Grammar) (ts : List Lexeme) (s next : State) (t : Lexeme) (class
     → IsOfClass class t → IsWellWritten t → after g s t ≡ Some next → CanFollow g ts class
 leads_on g ts s next t class h is well on = (t, is, well, (kept_by_walk g ts t s h).1 (next, on))
 
-abbrev Follow : Grammar → List Lexeme → Option Lexeme → Type 0
-Follow g ts last = CanFollow g ts (expected_token g last) × CanFollow g ts (expected_end g last)
-
 abbrev an_a : Lexeme
 an_a = plain (codes "a")
 
+-- what is expected after the last token can follow, if a name is what `beginning` calls
+abbrev Follow : Grammar → List Lexeme → Option Lexeme → Type 0
+Follow g ts last = (beginning : List ℕ) → IsOfClass beginning an_a → CanFollow g ts (expected_after g beginning last)
+
 state_followed : (ts : List Lexeme) (s : State) → walk Expressions ts ≡ Some s → is_whole s ≡ false
     → Follow Expressions ts (like s)
-state_followed ts (Wanted []) h w = (
-  leads_on Expressions ts (Wanted []) (Named []) an_a (codes "identifier") h (inl refl) (refl, refl) refl,
-  leads_on Expressions ts (Wanted []) (Named []) an_a (codes "start of a cfg expression") h (inr refl)
-      (refl, refl) refl,
-)
-state_followed ts (Wanted (v ∷ ws)) h w = (
-  leads_on Expressions ts (Wanted (v ∷ ws)) (Named (v ∷ ws)) an_a (codes "identifier") h (inl refl) (refl, refl) refl,
-  leads_on Expressions ts (Wanted (v ∷ ws)) (Named (v ∷ ws)) an_a (codes "start of a cfg expression") h (inr refl)
-      (refl, refl) refl,
-)
-state_followed ts (Member ws) h w = (
-  leads_on Expressions ts (Member ws) (Named (Several ∷ ws)) an_a (codes "identifier") h (inl refl) (refl, refl) refl,
-  leads_on Expressions ts (Member ws) (Named (Several ∷ ws)) an_a (codes "start of a cfg expression") h (inr refl)
-      (refl, refl) refl,
-)
+state_followed ts (Wanted []) h w =
+    λ b is. leads_on Expressions ts (Wanted []) (Named []) an_a b h is (refl, refl) refl
+state_followed ts (Wanted (v ∷ ws)) h w =
+    λ b is. leads_on Expressions ts (Wanted (v ∷ ws)) (Named (v ∷ ws)) an_a b h is (refl, refl) refl
+state_followed ts (Member ws) h w =
+    λ b is. leads_on Expressions ts (Member ws) (Named (Several ∷ ws)) an_a b h is (refl, refl) refl
 state_followed ts (Behind Negation ws) h w =
-    let f = leads_on Expressions ts (Behind Negation ws) (Wanted (Negation ∷ ws)) LeftParen (codes "`(`") h
-    refl tt refl in (f, f)
+    λ b is. leads_on Expressions ts (Behind Negation ws) (Wanted (Negation ∷ ws)) LeftParen (codes "`(`") h refl tt refl
 state_followed ts (Behind Several ws) h w =
-    let f = leads_on Expressions ts (Behind Several ws) (Member ws) LeftParen (codes "`(`") h refl tt refl in (f, f)
+    λ b is. leads_on Expressions ts (Behind Several ws) (Member ws) LeftParen (codes "`(`") h refl tt refl
 state_followed ts (Named (v ∷ ws)) h w =
-    let f = leads_on Expressions ts (Named (v ∷ ws)) (Ended ws) RightParen (codes "`)`") h refl tt refl in (f, f)
+    λ b is. leads_on Expressions ts (Named (v ∷ ws)) (Ended ws) RightParen (codes "`)`") h refl tt refl
 state_followed ts (Keyed ws) h w =
-    let f = leads_on Expressions ts (Keyed ws) (Ended ws) (String []) (codes "a string") h refl
-    (([], (refl, refl)), refl) refl in (f, f)
+    λ b is. leads_on Expressions ts (Keyed ws) (Ended ws) (String []) (codes "a string") h refl
+    (([], (refl, refl)), refl) refl
 state_followed ts (Ended (v ∷ ws)) h w =
-    let f = leads_on Expressions ts (Ended (v ∷ ws)) (Ended ws) RightParen (codes "`)`") h refl tt refl in (f, f)
+    λ b is. leads_on Expressions ts (Ended (v ∷ ws)) (Ended ws) RightParen (codes "`)`") h refl tt refl
 state_followed ts (Named []) h w = absurd (true≢false w)
 state_followed ts (Ended []) h w = absurd (true≢false w)
 
-expression_followed : (ts : List Lexeme) (s : State) → walk Expressions ts ≡ Some s
-    → (IsAccepted Expressions ts → ⊥) → Follow Expressions ts (last_or None ts)
-expression_followed ts s h refused =
+followed : (g : Grammar) (ts : List Lexeme) (s : State) → walk g ts ≡ Some s → (IsAccepted g ts → ⊥)
+    → Follow g ts (last_or None ts)
+followed Expressions ts s h refused = λ b is.
     let unfinished : is_whole s ≡ false =
     false_from_ne_true (is_whole s) (λ w. refused (whole_accepted Expressions s ts w h)) in
-    let f = state_followed ts s h unfinished in
-    let m = walk_matches Expressions ts s h in
-    let C : List ℕ → Type 0 = λ z. CanFollow Expressions ts z in
-    (subst C (sym m.0) f.0, subst C (sym m.1) f.1)
-
-value_followed : (ts : List Lexeme) (s : State) → walk Values ts ≡ Some s → (IsAccepted Values ts → ⊥)
-    → Follow Values ts (last_or None ts)
-value_followed [] s h refused =
-    let f = leads_on Values [] (Wanted []) (Named []) an_a (codes "identifier") refl (inl refl) (refl, refl) refl in
-    (f, f)
-value_followed (Ident raw name ∷ []) s h refused = absurd (refused (Alone (record { raw = raw; name = name }), refl))
-value_followed (Ident raw name ∷ Equals ∷ []) s h refused =
-    let f = leads_on Values (Ident raw name ∷ Equals ∷ []) (Keyed []) (Ended []) (String []) (codes "a string") refl
-    refl (([], (refl, refl)), refl) refl in (f, f)
-value_followed (Ident raw name ∷ Equals ∷ String value ∷ []) s h refused =
+    rw (walk_matches Expressions ts s h b) (state_followed ts s h unfinished b is)
+followed Values [] s h refused =
+    λ b is. leads_on Values [] (Wanted []) (Named []) an_a b refl is (refl, refl) refl
+followed Values (Ident raw name ∷ []) s h refused =
+    absurd (refused (Alone (record { raw = raw; name = name }), refl))
+followed Values (Ident raw name ∷ Equals ∷ []) s h refused =
+    λ b is. leads_on Values (Ident raw name ∷ Equals ∷ []) (Keyed []) (Ended []) (String []) (codes "a string") refl
+    refl (([], (refl, refl)), refl) refl
+followed Values (Ident raw name ∷ Equals ∷ String value ∷ []) s h refused =
     absurd (refused (KeyPair (record { raw = raw; name = name }) value, refl))
-value_followed ts s h refused = none_some h
+followed Values ts s h refused = none_some h
+
+names_at_end : (g : Grammar) → IsOfClass (beginning_at_end g) an_a
+names_at_end Values = inl refl
+names_at_end Expressions = inr refl
 
 -- what is expected after a list that is completable and not accepted can follow it
 pub expected_follows : (g : Grammar) (ts : List Lexeme) → IsCompletable g ts → (IsAccepted g ts → ⊥)
-    → Follow g ts (last_or None ts)
-expected_follows Values ts p refused =
-    let s = completable_walks Values ts p in value_followed ts s.0 s.1 refused
-expected_follows Expressions ts p refused =
-    let s = completable_walks Expressions ts p in expression_followed ts s.0 s.1 refused
+    → CanFollow g ts (expected_token g (last_or None ts)) × CanFollow g ts (expected_end g (last_or None ts))
+expected_follows g ts p refused =
+    let s = completable_walks g ts p in
+    let f = followed g ts s.0 s.1 refused in
+    (f (codes "identifier") (inl refl), f (beginning_at_end g) (names_at_end g))
 
 -- ---- the fault prefix
 
@@ -258,5 +248,4 @@ named_follows g text fault r class n =
     let is = named g text r.accepted (last_or None (lexemes r.prefix)) r.next fault class r.is_fault n in
     let f = expected_follows g (lexemes r.prefix) r.is_prefix.completable
     (λ p. true≢false (sym (r.is_accepted.1 p) ∙ is.0)) in
-    let C : List ℕ → Type 0 = λ z. CanFollow g (lexemes r.prefix) z in
-    elim is.1 [ inl e ↦ subst C e f.0 | inr e ↦ subst C e f.1 ]
+    elim is.1 [ inl e ↦ rw (← e) f.0 | inr e ↦ rw (← e) f.1 ]

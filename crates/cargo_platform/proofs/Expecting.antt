@@ -8,7 +8,7 @@ use Rattle.cargo_platform.specs.Tokens.{Lexeme, LeftParen, RightParen, Ident, Co
 use Rattle.cargo_platform.specs.Trees.{Name}
 use Rattle.cargo_platform.specs.Spelling.{Grammar, Values, Expressions, is_group_word, is_literal_word, GroupWord}
 use Rattle.cargo_platform.specs.Spelling.{LiteralWord, PlainName}
-use Rattle.cargo_platform.specs.Faults.{expected_token, expected_end}
+use Rattle.cargo_platform.specs.Faults.{expected_after}
 use Rattle.cargo_platform.specs.Walk.{Word, Several, Negation, State, Wanted, Member, Behind, Named, Keyed, Ended}
 use Rattle.cargo_platform.specs.Walk.{after, after_role, after_name, after_expression, walk_from, walk}
 use Rattle.cargo_platform.proofs.Walk.{none_some}
@@ -26,30 +26,29 @@ like (Ended ws) = Some RightParen
 -- after the last token the same is expected as in the state
 abbrev pub Matches : Grammar → Option Lexeme → State → Type 0
 Matches g o s =
-    (expected_token g o ≡ expected_token g (like s)) × (expected_end g o ≡ expected_end g (like s))
+    (beginning : List ℕ) → expected_after g beginning o ≡ expected_after g beginning (like s)
 
-picks : (group literal : Bool) (name : List ℕ) (ws : List Word)
+picks : (group literal : Bool) (name beginning : List ℕ) (ws : List Word)
     → let s = after_role (if group then GroupWord else (if literal then LiteralWord else PlainName)) name ws in
-    ((if group then codes "`(`" else codes "`)`") ≡ expected_token Expressions (like s))
-    × ((if group then codes "`(`" else codes "`)`") ≡ expected_end Expressions (like s))
-picks true literal name ws = (refl, refl)
-picks false true name ws = (refl, refl)
-picks false false name ws = (refl, refl)
+    (if group then codes "`(`" else codes "`)`") ≡ expected_after Expressions beginning (like s)
+picks true literal name beginning ws = refl
+picks false true name beginning ws = refl
+picks false false name beginning ws = refl
 
 named_matches : (g : Grammar) (raw : Bool) (name : List ℕ) (ws : List Word)
     → Matches g (Some (Ident raw name)) (after_name g raw name ws)
-named_matches Values raw name ws = (refl, refl)
+named_matches Values raw name ws = λ beginning. refl
 named_matches Expressions raw name ws =
     let n : Name = record { raw = raw; name = name } in
-    picks (is_group_word n) (is_literal_word n) name ws
+    λ beginning. picks (is_group_word n) (is_literal_word n) name beginning ws
 
 moved : (g : Grammar) (o : Option Lexeme) (s t : State) → Some s ≡ Some t → Matches g o s → Matches g o t
 moved g o s t h m = let P : State → Type 0 = λ z. Matches g o z in subst P (same_Some _ _ h) m
 
 ended_matches : (g : Grammar) (ws : List Word) (t : Lexeme) (st : State) → after_expression ws t ≡ Some st
     → Matches g (Some t) st
-ended_matches g (w ∷ ws) RightParen st h = moved g (Some RightParen) (Ended ws) st h (refl, refl)
-ended_matches g (Several ∷ ws) Comma st h = moved g (Some Comma) (Member ws) st h (refl, refl)
+ended_matches g (w ∷ ws) RightParen st h = moved g (Some RightParen) (Ended ws) st h (λ _. refl)
+ended_matches g (Several ∷ ws) Comma st h = moved g (Some Comma) (Member ws) st h (λ _. refl)
 ended_matches g ws t st h = none_some h
 
 after_matches : (g : Grammar) (s : State) (t : Lexeme) (st : State) → after g s t ≡ Some st → Matches g (Some t) st
@@ -58,12 +57,12 @@ after_matches g (Wanted ws) (Ident raw name) st h =
 after_matches g (Member ws) (Ident raw name) st h =
     moved g (Some (Ident raw name)) (after_name g raw name (Several ∷ ws)) st h
     (named_matches g raw name (Several ∷ ws))
-after_matches g (Member ws) RightParen st h = moved g (Some RightParen) (Ended ws) st h (refl, refl)
+after_matches g (Member ws) RightParen st h = moved g (Some RightParen) (Ended ws) st h (λ _. refl)
 after_matches g (Behind Negation ws) LeftParen st h =
-    moved g (Some LeftParen) (Wanted (Negation ∷ ws)) st h (refl, refl)
-after_matches g (Behind Several ws) LeftParen st h = moved g (Some LeftParen) (Member ws) st h (refl, refl)
-after_matches g (Named ws) Equals st h = moved g (Some Equals) (Keyed ws) st h (refl, refl)
-after_matches g (Keyed ws) (String value) st h = moved g (Some (String value)) (Ended ws) st h (refl, refl)
+    moved g (Some LeftParen) (Wanted (Negation ∷ ws)) st h (λ _. refl)
+after_matches g (Behind Several ws) LeftParen st h = moved g (Some LeftParen) (Member ws) st h (λ _. refl)
+after_matches g (Named ws) Equals st h = moved g (Some Equals) (Keyed ws) st h (λ _. refl)
+after_matches g (Keyed ws) (String value) st h = moved g (Some (String value)) (Ended ws) st h (λ _. refl)
 after_matches g (Named ws) t st h = ended_matches g ws t st h
 after_matches g (Ended ws) t st h = ended_matches g ws t st h
 after_matches g s t st h = none_some h
@@ -78,4 +77,4 @@ from_matches g (t ∷ ts) s o st m h =
     ] refl h
 
 pub walk_matches : (g : Grammar) (ts : List Lexeme) (s : State) → walk g ts ≡ Some s → Matches g (last_or None ts) s
-walk_matches g ts s h = from_matches g ts (Wanted []) None s (refl, refl) h
+walk_matches g ts s h = from_matches g ts (Wanted []) None s (λ _. refl) h

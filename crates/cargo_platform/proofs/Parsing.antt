@@ -15,7 +15,7 @@ use Rattle.cargo_platform.specs.Tokens.{written}
 use Rattle.cargo_platform.specs.Cut.{lexemes, Item, Nothing}
 use Rattle.cargo_platform.specs.Trees.{Name, CfgValue, Alone, KeyPair, Tree, Value}
 use Rattle.cargo_platform.specs.Spelling.{Grammar, Values, Expressions, MayStand, Spells, value_spelling}
-use Rattle.cargo_platform.specs.Faults.{Fault, expected_token, expected_end}
+use Rattle.cargo_platform.specs.Faults.{Fault, expected_token, expected_end, beginning_at_end}
 use Rattle.cargo_platform.specs.Walk.{role_in, Opening, Negated, Listed, list_tree, Position, Wanting, WithWord, WithKey}
 use Rattle.cargo_platform.specs.Walk.{WithTree, start, at_role, key_of, after_tree, step, steps}
 use Rattle.cargo_platform.specs.Walk.{Word, State, is_whole, kind, kinds, ends, is_lone, state_of}
@@ -166,7 +166,7 @@ stops_here g l m p r expected at_end e h x unfit =
     let n : RefusesNext l expected at_end r = rw (← e) h in
     refused_here g l n.0 p r n.1 unfit (λ ts led.
     let m = walk_matches g ts (state_of p) (led_state g ts p led) in
-    rw x.0 (n.2 g (last_or None ts) (m.0 ∙ x.1) (m.1 ∙ x.2)))
+    rw x.0 (n.2 g (last_or None ts) (m (codes "identifier") ∙ x.1) (m (beginning_at_end g) ∙ x.2)))
 
 -- ---- names and pairs
 
