@@ -2,6 +2,7 @@
 use Rattle.std.proofs.Common.{◌≡◌, refl, sym, ap, subst, ◌∙◌, ℕ, Bool, true, false, true≢false, List, [], ◌∷◌, ◌++◌}
 use Rattle.std.proofs.Common.{Option, Some, None, codes, inl, inr, ◌⊎◌, append_assoc, append-nil}
 use Rattle.std.specs.Prelude.{IsFalse, bytes_eq, if◌then◌else◌}
+use Rattle.std.proofs.lemmas.Option.{same_Some}
 use Rattle.cargo_platform.specs.Tokens.{Lexeme, LeftParen, RightParen, Ident, Comma, Equals, String}
 use Rattle.cargo_platform.specs.Trees.{Name, CfgValue, Alone, KeyPair, Tree, Not, All, Any, Value, True, False, Trees}
 use Rattle.cargo_platform.specs.Trees.{none, tree, trees_of}
@@ -273,6 +274,17 @@ walk_state g ts = states g (Some start) ts
 pub led_state : (g : Grammar) (ts : List Lexeme) (p : Position) → steps g (Some start) ts ≡ Some p
     → walk g ts ≡ Some (state_of p)
 led_state g ts p h = walk_state g ts ∙ ap state_at h
+
+-- what is walked leads to a position of its state
+pub walked_led : (ts : List Lexeme) (s : State) → walk Expressions ts ≡ Some s
+    → (p : Position) × (state_of p ≡ s) × (steps Expressions (Some start) ts ≡ Some p)
+walked_led ts s h =
+    elim (steps Expressions (Some start) ts) as
+    (λ z. steps Expressions (Some start) ts ≡ z → state_at z ≡ Some s
+    → (p : Position) × (state_of p ≡ s) × (steps Expressions (Some start) ts ≡ Some p)) [
+      | None ↦ λ _ stops. none_some stops
+      | Some p ↦ λ is same. (p, same_Some _ _ same, is)
+    ] refl (sym (walk_state Expressions ts) ∙ h)
 
 -- what leads to a tree spells no other
 pub one_built : (keys : Bool) (e f : Tree) (ts : List Lexeme) → SpellsBy (may_of keys) SpellsLiteral e ts

@@ -8,11 +8,9 @@ use Rattle.cargo_platform.specs.Spelling.{identifier, MayStand, group, joined, I
 use Rattle.cargo_platform.specs.Spelling.{Expressions, Role, GroupWord, LiteralWord, PlainName, role}
 use Rattle.cargo_platform.specs.Walk.{Opening, Negated, Listed, list_tree, Position, Wanting, WithWord, WithKey}
 use Rattle.cargo_platform.specs.Walk.{WithTree, start, opened_by, literal_of, at_role, key_of, at_key, after_tree}
-use Rattle.cargo_platform.specs.Walk.{step, steps, State, walk, state_of}
+use Rattle.cargo_platform.specs.Walk.{step, steps}
 use Rattle.cargo_platform.specs.Inside.Parsing.{list_word, opening_word, IsFresh}
 use Rattle.cargo_platform.proofs.Roles.{IsGroupWord, IsLiteralWord, IsOfRole, of_role}
-use Rattle.cargo_platform.proofs.Walk.{none_some}
-use Rattle.cargo_platform.proofs.Building.{state_at, walk_state}
 
 -- ---- what was read before a position
 
@@ -22,7 +20,7 @@ finished [] = []
 finished (s ∷ ss) = s ++ (Comma ∷ finished ss)
 
 -- the tokens open these groups, and spell their members so far
-abbrev pub Wants : List Opening → List Lexeme → Type 0
+abbrev Wants : List Opening → List Lexeme → Type 0
 Wants [] ts = ts ≡ []
 Wants (Negated ∷ gs) ts =
     (before : List Lexeme) × Wants gs before × (ts ≡ before ++ (plain (codes "not") ∷ LeftParen ∷ []))
@@ -31,15 +29,15 @@ Wants (Listed all es ∷ gs) ts =
     × (ts ≡ before ++ (plain (list_word all) ∷ LeftParen ∷ finished ss))
 
 -- an expression stands after them
-abbrev pub EndsWith : List Opening → Tree → List Lexeme → Type 0
+abbrev EndsWith : List Opening → Tree → List Lexeme → Type 0
 EndsWith gs e ts = (before : List Lexeme) × (s : List Lexeme) × Wants gs before × Spells e s × (ts ≡ before ++ s)
 
 -- the word of a group that has no members
-pub record HasWord (gs : List Opening) (o : Opening) (ts : List Lexeme) : Type 0 where
-  pub before : List Lexeme
-  pub wanted : Wants gs before
-  pub fresh : IsFresh o
-  pub is : ts ≡ before ++ (plain (opening_word o) ∷ [])
+record HasWord (gs : List Opening) (o : Opening) (ts : List Lexeme) : Type 0 where
+  before : List Lexeme
+  wanted : Wants gs before
+  fresh : IsFresh o
+  is : ts ≡ before ++ (plain (opening_word o) ∷ [])
 
 -- ---- members
 
@@ -86,13 +84,13 @@ listed false es ss inner p q = (ss, inner, p, q, refl)
 -- ---- from one token to the next
 
 -- a key and `=` were read last
-pub record HasKey (gs : List Opening) (n : Name) (ts : List Lexeme) : Type 0 where
-  pub before : List Lexeme
-  pub wanted : Wants gs before
-  pub may : MayStand (Alone n)
-  pub is : ts ≡ before ++ (identifier n ∷ Equals ∷ [])
+record HasKey (gs : List Opening) (n : Name) (ts : List Lexeme) : Type 0 where
+  before : List Lexeme
+  wanted : Wants gs before
+  may : MayStand (Alone n)
+  is : ts ≡ before ++ (identifier n ∷ Equals ∷ [])
 
-pub word_open : (gs : List Opening) (o : Opening) (ts : List Lexeme) → HasWord gs o ts
+word_open : (gs : List Opening) (o : Opening) (ts : List Lexeme) → HasWord gs o ts
     → Wants (o ∷ gs) (ts ++ LeftParen ∷ [])
 word_open gs Negated ts h = (
   h.before,
@@ -110,11 +108,11 @@ word_open gs (Listed all es) ts h =
           ∙ append_assoc h.before (plain (list_word all) ∷ []) (LeftParen ∷ []),
     )
 
-pub name_ends : (gs : List Opening) (n : Name) (ts : List Lexeme) → Wants gs ts → MayStand (Alone n)
+name_ends : (gs : List Opening) (n : Name) (ts : List Lexeme) → Wants gs ts → MayStand (Alone n)
     → EndsWith gs (Value (Alone n)) (ts ++ identifier n ∷ [])
 name_ends gs n ts w may = (ts, identifier n ∷ [], w, (refl, may), refl)
 
-pub name_key : (gs : List Opening) (n : Name) (ts : List Lexeme) → EndsWith gs (Value (Alone n)) ts
+name_key : (gs : List Opening) (n : Name) (ts : List Lexeme) → EndsWith gs (Value (Alone n)) ts
     → HasKey gs n (ts ++ Equals ∷ [])
 name_key gs n ts h = record {
   before = h.0;
@@ -125,7 +123,7 @@ name_key gs n ts h = record {
       ∙ append_assoc h.0 (identifier n ∷ []) (Equals ∷ []);
 }
 
-pub key_pair : (gs : List Opening) (n : Name) (v : List ℕ) (ts : List Lexeme) → HasKey gs n ts
+key_pair : (gs : List Opening) (n : Name) (v : List ℕ) (ts : List Lexeme) → HasKey gs n ts
     → EndsWith gs (Value (KeyPair n v)) (ts ++ String v ∷ [])
 key_pair gs n v ts h = (
   h.before,
@@ -140,7 +138,7 @@ abbrev head : Bool → List Lexeme → List Lexeme
 head all inner = plain (list_word all) ∷ LeftParen ∷ inner
 
 -- `)` after `all(` or after a comma
-pub members_close : (gs : List Opening) (all : Bool) (es : List Tree) (ts : List Lexeme) → Wants (Listed all es ∷ gs) ts
+members_close : (gs : List Opening) (all : Bool) (es : List Tree) (ts : List Lexeme) → Wants (Listed all es ∷ gs) ts
     → EndsWith gs (list_tree all es) (ts ++ RightParen ∷ [])
 members_close gs all es ts o = (
   o.0,
@@ -150,7 +148,7 @@ members_close gs all es ts o = (
   ap (λ (z : List Lexeme). z ++ RightParen ∷ []) o.4 ∙ append_assoc o.0 (head all (finished o.1)) (RightParen ∷ []),
 )
 
-pub negation_close : (gs : List Opening) (e : Tree) (ts : List Lexeme) → EndsWith (Negated ∷ gs) e ts
+negation_close : (gs : List Opening) (e : Tree) (ts : List Lexeme) → EndsWith (Negated ∷ gs) e ts
     → EndsWith gs (Not e) (ts ++ RightParen ∷ [])
 negation_close gs e ts o =
     let b = o.2 in (
@@ -163,7 +161,7 @@ negation_close gs e ts o =
           ∙ append_assoc b.0 (plain (codes "not") ∷ LeftParen ∷ o.1) (RightParen ∷ []),
     )
 
-pub list_close : (gs : List Opening) (all : Bool) (es : List Tree) (e : Tree) (ts : List Lexeme)
+list_close : (gs : List Opening) (all : Bool) (es : List Tree) (e : Tree) (ts : List Lexeme)
     → EndsWith (Listed all es ∷ gs) e ts → EndsWith gs (list_tree all (es ++ e ∷ [])) (ts ++ RightParen ∷ [])
 list_close gs all es e ts o =
     let b = o.2 in (
@@ -177,7 +175,7 @@ list_close gs all es e ts o =
           ∙ append_assoc b.0 (head all (finished b.1 ++ o.1)) (RightParen ∷ []),
     )
 
-pub member_comma : (gs : List Opening) (all : Bool) (es : List Tree) (e : Tree) (ts : List Lexeme)
+member_comma : (gs : List Opening) (all : Bool) (es : List Tree) (e : Tree) (ts : List Lexeme)
     → EndsWith (Listed all es ∷ gs) e ts → Wants (Listed all (es ++ e ∷ []) ∷ gs) (ts ++ Comma ∷ [])
 member_comma gs all es e ts o =
     let b = o.2 in (
@@ -193,7 +191,7 @@ member_comma gs all es e ts o =
 
 -- ---- what leads to a position
 
-abbrev pub Holds : Position → List Lexeme → Type 0
+abbrev Holds : Position → List Lexeme → Type 0
 Holds (Wanting gs) ts = Wants gs ts
 Holds (WithWord o gs) ts = HasWord gs o ts
 Holds (WithKey n gs) ts = HasKey gs n ts
@@ -266,7 +264,7 @@ next_holds (WithTree e gs) Equals q ts o h = key_holds e gs q ts o h
 next_holds (WithTree e gs) t q ts o h = tree_holds e gs t q ts o h
 next_holds p t q ts o h = no_position h
 
-pub all_hold : (p : Position) (before ts : List Lexeme) (q : Position) → Holds p before
+all_hold : (p : Position) (before ts : List Lexeme) (q : Position) → Holds p before
     → steps Expressions (Some p) ts ≡ Some q → Holds q (before ++ ts)
 all_hold p before [] q o h =
     rw (append-nil before) (moved p q before h o)
@@ -279,12 +277,11 @@ all_hold p before (t ∷ ts) q o h =
           (all_hold u (before ++ t ∷ []) ts q (next_holds p t u before o is) goes)
     ] refl h
 
--- what is walked led to a position of this state
-pub walked_reached : (ts : List Lexeme) (s : State) → walk Expressions ts ≡ Some s
-    → (p : Position) × (state_of p ≡ s) × Holds p ts
-walked_reached ts s h =
-    elim (steps Expressions (Some start) ts) as
-    (λ z. steps Expressions (Some start) ts ≡ z → state_at z ≡ Some s → (p : Position) × (state_of p ≡ s) × Holds p ts) [
-      | None ↦ λ _ stops. none_some stops
-      | Some p ↦ λ is same. (p, same_Some _ _ same, all_hold (Wanting []) [] ts p refl is)
-    ] refl (sym (walk_state Expressions ts) ∙ h)
+whole_spelled : (e : Tree) (ts : List Lexeme) → EndsWith [] e ts → Spells e ts
+whole_spelled e ts (before, s, none, spelled, is) =
+    let P : List Lexeme → Type 0 = λ z. Spells e z in
+    subst P (sym (ap (λ (z : List Lexeme). z ++ s) none) ∙ sym is) spelled
+
+-- what leads to an expression with nothing open spells it
+pub tree_spelled : (e : Tree) (ts : List Lexeme) → steps Expressions (Some start) ts ≡ Some (WithTree e []) → Spells e ts
+tree_spelled e ts h = whole_spelled e ts (all_hold start [] ts (WithTree e []) refl h)

@@ -12,7 +12,7 @@ use Rattle.cargo_platform.specs.Inside.Refusals.{refused_fault, refused_span, Be
 use Rattle.cargo_platform.specs.Cut.{AreSpaces, lexemes, Nothing}
 use Rattle.cargo_platform.specs.Inside.Ahead.{Ahead, NextIs}
 use Rattle.cargo_platform.specs.Inside.Parsing.{Reads}
-use Rattle.cargo_platform.proofs.Completing.{tree_spelled}
+use Rattle.cargo_platform.proofs.Positions.{tree_spelled}
 use Rattle.cargo_platform.proofs.Parsing.{value_spelled}
 use Rattle.cargo_platform.proofs.Refusing.{path_cut}
 
