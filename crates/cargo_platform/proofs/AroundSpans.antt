@@ -11,15 +11,16 @@ use Rattle.std.specs.List.{AllByRecursion, last_or}
 use Rattle.cargo_platform.specs.declared.tokens.TokenFaultKind.TheVariants as lexical
 use Rattle.cargo_platform.specs.Chars.{is_known_start}
 use Rattle.cargo_platform.specs.Tokens.{Lexeme, LeftParen, RightParen, Ident, Comma, Equals, String, Placed}
-use Rattle.cargo_platform.specs.Cut.{IsCut, IsCutFrom, IsPiece, AreSpaces, EndsBefore, IsTail, BeginsFault}
+use Rattle.cargo_platform.specs.Cut.{IsCutFrom, IsPiece, AreSpaces, EndsBefore, BeginsFault}
 use Rattle.cargo_platform.specs.Cut.{Item, Token, Lexical, Nothing, Comes, ComesBehind, lexemes}
 use Rattle.cargo_platform.specs.Spelling.{Grammar}
 use Rattle.cargo_platform.specs.Faults.{Fault, UnterminatedExpression, IsRefused, fault_of, span_of}
 use Rattle.cargo_platform.specs.Faults.{character_start}
 use Rattle.cargo_platform.specs.FaultLaws.{IsBehindPrefix, IsSurplusAt}
 use Rattle.cargo_platform.specs.SpanLaws.{IsNothingOrMark, IsCutBefore}
-use Rattle.cargo_platform.proofs.OneCut.{char_is}
-use Rattle.cargo_platform.proofs.Paths.{IsNext, behind_is}
+use Rattle.cargo_platform.proofs.OneCut.{IsTail, char_is}
+use Rattle.cargo_platform.proofs.Paths.{next_before, behind_is}
+use Rattle.cargo_platform.proofs.SomeCut.{cut_ends, cut_cons}
 use Rattle.cargo_platform.proofs.Spans.{first_byte, marked_start, plain_start}
 
 -- ---- what is left
@@ -78,10 +79,9 @@ pub behind_prefix : (g : Grammar) (text : List ℕ) (fault : Fault) (r : IsRefus
 behind_prefix g text fault r = (
   (tokens_before text 0 r.place r.accepted r.prefix r.next r.follows).1,
   λ t others is.
-      let C : List Placed → Type 0 = λ z. IsCut text z r.tail in
-      let N : List Placed → Type 0 = λ z. IsNext text z r.tail r.next in
-      let next : r.next ≡ Token t = subst N is
-      (behind_is text 0 r.place r.tail r.prefix r.after r.next (subst C r.is_prefix.parts r.cut) r.follows) in
+      let cut = subst (λ (z : List Placed). ComesBehind text 0 z r.cut.last r.tail) r.is_prefix.parts r.cut.comes in
+      let next : r.next ≡ Token t = behind_is text 0 r.place r.tail r.prefix r.after r.cut.last r.next cut r.follows
+      ∙ ap (next_before r.cut.last) is in
       ap (λ (i : Item). (span_of text r.accepted i).start) next ∙ token_start text r.accepted t,
 )
 
@@ -126,25 +126,14 @@ ends_in_front (Ident raw name) (b ∷ bs) (suc k) h = h
 cut_in_front : (text : List ℕ) (n from to tail : ℕ) (ts : List Placed) (next : Item) → tail ≤ n
     → IsTail (drop tail (take n text)) → ((f : ℕ) → Comes text f next to → AreSpaces text f tail)
     → AllByRecursion (λ t. t.end ≤ n) ts → ComesBehind text from ts next to → IsCutFrom (take n text) from ts tail
-cut_in_front text n from to tail [] next within left spaces ends h = record {
-  written = tt;
-  apart = spaces_in_front text n from tail within (spaces from h);
-  whole = tt;
-  rest = left;
-}
+cut_in_front text n from to tail [] next within left spaces ends h =
+    cut_ends (take n text) from tail (spaces_in_front text n from tail within (spaces from h)) left
 cut_in_front text n from to tail (t ∷ ts) next within left spaces ends h =
-    let others = cut_in_front text n t.end to tail ts next within left spaces ends.1 h.1 in
     let start : t.start ≤ n = omega (arith, h.0.1.1.ordered, ends.0) in
-    record {
-      written = ((h.0.1.0, piece_in_front text n t.start t.end _ ends.0 h.0.1.1), others.written);
-      apart = (spaces_in_front text n from t.start start h.0.0, others.apart);
-      whole = (
-        rw (rest_in_front text n t.end ends.0)
-            (ends_in_front t.token (drop t.end text) (n - t.end) h.0.2),
-        others.whole,
-      );
-      rest = others.rest;
-    }
+    cut_cons (take n text) from tail t ts (spaces_in_front text n from t.start start h.0.0)
+    (h.0.1.0, piece_in_front text n t.start t.end _ ends.0 h.0.1.1)
+    (rw (rest_in_front text n t.end ends.0) (ends_in_front t.token (drop t.end text) (n - t.end) h.0.2))
+    (cut_in_front text n t.end to tail ts next within left spaces ends.1 h.1)
 
 -- the place of what comes next
 abbrev place_of : List ℕ → Item → ℕ

@@ -26,10 +26,10 @@ use Rattle.cargo_platform.specs.Inside.Scanning.{IsTokenAt}
 use Rattle.cargo_platform.specs.Inside.Parsing.{TakesToken, Lacks, lexeme_of, IsIdentifier, IsSurplus}
 use Rattle.cargo_platform.specs.declared.reader.Punctuation.{Punctuation}
 use Rattle.cargo_platform.specs.declared.reader.Punctuation.TheVariants as punctuation
-use Rattle.cargo_platform.proofs.OneCut.{same_start, starts_clear, not_both}
+use Rattle.cargo_platform.proofs.OneCut.{same_start, starts_clear, one_comes}
 use Rattle.cargo_platform.proofs.OneCut.{written_rest, token_begins, char_is, head_of}
 use Rattle.cargo_platform.proofs.SomeCut.{Outcome, lex, piece_at, rest_at}
-use Rattle.cargo_platform.proofs.Refused.{no_fault}
+use Rattle.cargo_platform.proofs.LexicalFaults.{no_fault}
 use Rattle.cargo_platform.proofs.Scanning.{starts_at, no_spaces, first_between}
 use Rattle.std.proofs.lemmas.List.Edits.{between_none}
 use Rattle.cargo_platform.proofs.Looking.{characters_end}
@@ -190,20 +190,16 @@ name_ahead text at seen c past shows is start t h =
     go (String v) r w e = absurd (other 0x22 ((v ++ codes "\"") ++ r) e (lit≤ tt) refl)
     go (Ident raw name) r w e = (raw, name, refl)
 
+-- where something else comes no token does
+pub no_token : (l : Ahead) (i : Item) (t : Placed) → is_token i ≡ false → NextIs l i → NextIs l (Token t) → ⊥
+no_token l i t none h n =
+    true≢false (ap is_token (one_comes l.text l.place n.to h.to (Token t) i n.comes h.comes).0 ∙ none)
+
 -- where a fault is found no token is next
 pub fault_lacks : (P : Lexeme → Type 0) (text : List ℕ) (at : ℕ) (k : TokenFaultKind) → at ≤ length text
     → BeginsFault (drop at text) k → Lacks P (ahead_at text at)
 fault_lacks P text at k within f = λ t h p.
-    not_both text at at t (no_spaces text at within) (inr (k, f)) h.comes.0 h.comes.1 h.comes.2
-
--- where something else comes no token does
-pub no_token : (l : Ahead) (i : Item) (t : Placed) → is_token i ≡ false → NextIs l i → NextIs l (Token t) → ⊥
-no_token l (Token u) t none h n = true≢false none
-no_token l (Lexical k at) t none h n =
-    not_both l.text l.place at t h.comes.0 (inr (k, h.comes.1)) n.comes.0 n.comes.1 n.comes.2
-no_token l Nothing t none h n =
-    not_both l.text l.place (length l.text) t h.comes.0 (inl (drop_of_length-le l.text (omega arith)))
-    n.comes.0 n.comes.1 n.comes.2
+    no_token (ahead_at text at) (Lexical k at) t refl (fault_ahead text at k within f) h
 
 -- ---- steps of a reader
 
@@ -212,9 +208,9 @@ pub token_no_fault : (text : List ℕ) (at end : ℕ) (t : Lexeme) (seen : Look)
     → IsReadingAt text at seen fault looks → IsTokenAt text t at end → fault ≡ None
 token_no_fault text at end t seen None looks r stands = refl
 token_no_fault text at end t seen (Some k) looks r stands =
-    let none = no_spaces text at r.reached.0 in
-    absurd (not_both text at at (record { token = t; start = at; end = end }) none (inr (k, r.found)) none
-    stands.written stands.whole)
+    let placed : Placed = record { token = t; start = at; end = end } in
+    absurd (no_token (ahead_at text at) (Lexical k at) placed refl (fault_ahead text at k r.reached.0 r.found)
+    (record { to = end; comes = (no_spaces text at r.reached.0, stands.written, stands.whole, refl) }))
 
 -- looks from one place to another, and from there on
 pub costs_then : (text : List ℕ) (from mid to beside more old between new : ℕ) → Costs text from mid beside old between

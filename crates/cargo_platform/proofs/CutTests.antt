@@ -13,7 +13,9 @@ use Rattle.cargo_platform.specs.Chars.{is_identifier_start, is_identifier_rest, 
 use Rattle.cargo_platform.specs.Chars.{starts}
 use Rattle.cargo_platform.specs.Tokens.{Lexeme, LeftParen, RightParen, Ident, Comma, Equals, String, Placed, written}
 use Rattle.cargo_platform.specs.Tokens.{IsWellWritten}
-use Rattle.cargo_platform.specs.Cut.{IsPiece, IsWrittenAt, AreSpaces, EndsBefore, IsTail, IsCutFrom, IsCut}
+use Rattle.cargo_platform.specs.Cut.{IsPiece, IsWrittenAt, AreSpaces, EndsBefore, ComesBehind, IsCut}
+use Rattle.cargo_platform.proofs.OneCut.{IsTail}
+use Rattle.cargo_platform.proofs.SomeCut.{last_at, no_token_at, tail_comes}
 
 -- strings here are ASCII
 abbrev pub is_well_written : Lexeme → Bool
@@ -92,21 +94,31 @@ is_cut_from text from (t ∷ ts) tail =
     are_spaces text from t.start
     && (is_written_at text t && (ends_before t.token (drop t.end text) && is_cut_from text t.end ts tail))
 
-cut_from : (text : List ℕ) (from : ℕ) (ts : List Placed) (tail : ℕ) → is_cut_from text from ts tail ≡ true
-    → IsTail (drop tail text) → IsCutFrom text from ts tail
-cut_from text from [] tail h rest = record { written = tt; apart = spaces text from tail h; whole = tt; rest = rest }
-cut_from text from (t ∷ ts) tail h rest =
+comes_from : (text : List ℕ) (from : ℕ) (ts : List Placed) (tail : ℕ) → is_cut_from text from ts tail ≡ true
+    → (rest : IsTail (drop tail text)) → ComesBehind text from ts (last_at text tail rest) tail
+comes_from text from [] tail h rest = tail_comes text from tail (spaces text from tail h) rest
+comes_from text from (t ∷ ts) tail h rest =
     let behind = (and_parts (are_spaces text from t.start) _ h).1 in
-    let token = (and_parts (is_written_at text t) _ behind).1 in
-    let others = cut_from text t.end ts tail (and_parts (ends_before t.token (drop t.end text)) _ token).1 rest in
-    record {
-      written = (written_at text t (and_parts _ _ behind).0, others.written);
-      apart = (spaces text from t.start (and_parts _ _ h).0, others.apart);
-      whole = (ends t.token (drop t.end text) (and_parts _ _ token).0, others.whole);
-      rest = rest;
-    }
+    let token = (and_parts (is_written_at text t) _ behind).1 in (
+      (
+        spaces text from t.start (and_parts _ _ h).0,
+        written_at text t (and_parts _ _ behind).0,
+        ends t.token (drop t.end text) (and_parts _ _ token).0,
+        refl,
+      ),
+      comes_from text t.end ts tail (and_parts (ends_before t.token (drop t.end text)) _ token).1 rest,
+    )
 
--- what passes the test, before a tail, is the cut
+-- what passes the test, before a tail, comes, and then the item there
+pub comes_by : (text : List ℕ) (ts : List Placed) (tail : ℕ) → is_cut_from text 0 ts tail ≡ true
+    → (rest : IsTail (drop tail text)) → ComesBehind text 0 ts (last_at text tail rest) tail
+comes_by text ts tail h rest = comes_from text 0 ts tail h rest
+
+-- so it is the cut
 pub cut_by : (text : List ℕ) (ts : List Placed) (tail : ℕ) → is_cut_from text 0 ts tail ≡ true
     → IsTail (drop tail text) → IsCut text ts tail
-cut_by text ts tail h rest = cut_from text 0 ts tail h rest
+cut_by text ts tail h rest = record {
+  last = last_at text tail rest;
+  no_token = no_token_at text tail rest;
+  comes = comes_by text ts tail h rest;
+}

@@ -8,9 +8,11 @@ pub mod Looking
 pub mod Scanning
 -- Lanes: sixteen bytes at once
 pub mod Lanes
--- Runs: calls of `next` give the cut
+-- Runs: calls of `next` give the cut, and nothing after it
 pub mod Runs
--- OneCut: a text has at most one cut
+-- LexicalFaults: a text begins at most one lexical fault
+pub mod LexicalFaults
+-- OneCut: at a place one item comes, so a text has at most one cut
 pub mod OneCut
 -- SomeCut: each text has one
 pub mod SomeCut

@@ -3,21 +3,21 @@
 use Rattle.std.proofs.Common.{◌≡◌, refl, sym, subst, ℕ, ◌+◌, Bool, true, false, not, ◌&&◌, if◌then◌else◌, List}
 use Rattle.std.proofs.Common.{[], ◌∷◌}
 use Rattle.std.proofs.Common.{◌++◌, Option, Some, None, codes, inl, inr, length, take, drop}
-use Rattle.std.specs.Prelude.{◌==◌, bytes_eq}
+use Rattle.std.specs.Prelude.{◌==◌, IsFalse, bytes_eq}
 use Rattle.std.proofs.lemmas.List.{take-append-drop}
 use Rattle.std.specs.List.{last_or}
 use Rattle.cargo_platform.specs.Chars.{is_identifier_start, is_identifier_rest, is_space, is_quote, is_number_sign}
 use Rattle.cargo_platform.specs.Tokens.{Lexeme, LeftParen, RightParen, Ident, Comma, Equals, String, Placed}
 use Rattle.cargo_platform.specs.declared.tokens.TokenFaultKind.{TokenFaultKind}
 use Rattle.cargo_platform.specs.Cut.{IsCut, lexemes, BeginsFault}
-use Rattle.cargo_platform.specs.Cut.{Item, Token, Lexical, Nothing}
+use Rattle.cargo_platform.specs.Cut.{Item, Lexical, Nothing, ComesBehind, is_token}
 use Rattle.cargo_platform.specs.Trees.{CfgValue, Tree}
 use Rattle.cargo_platform.specs.Spelling.{Grammar, IsTreeText, IsValueText, Spells, SpellsValue}
 use Rattle.cargo_platform.specs.WellFormed.{IsWellFormed}
 use Rattle.cargo_platform.specs.Faults.{Fault, fault_of, IsRefused}
 use Rattle.cargo_platform.specs.Walk.{State, Wanted, after, walk, is_whole}
-use Rattle.cargo_platform.proofs.CutTests.{is_cut_from, cut_by}
-use Rattle.cargo_platform.proofs.Paths.{IsNext}
+use Rattle.cargo_platform.proofs.CutTests.{is_cut_from, comes_by, cut_by}
+use Rattle.cargo_platform.proofs.Paths.{next_before}
 use Rattle.cargo_platform.proofs.Prefixes.{goes_on, refused_walked}
 use Rattle.cargo_platform.proofs.PrintedSpells.{canonical, canonical_spells}
 
@@ -127,16 +127,6 @@ prefix_in g text = take (fitting g (Some (Wanted [])) (tokens_in text)) (tokens_
 abbrev pub behind_in : Grammar → List ℕ → List Placed
 behind_in g text = drop (fitting g (Some (Wanted [])) (tokens_in text)) (tokens_in text)
 
--- what comes after the prefix: what is left of the tokens, and then the tail
-abbrev pub next_before : Item → List Placed → Item
-next_before last [] = last
-next_before last (t ∷ ts) = Token t
-
-next_follows : (text : List ℕ) (tail : ℕ) (last : Item) (behind : List Placed) → IsNext text [] tail last
-    → IsNext text behind tail (next_before last behind)
-next_follows text tail last [] h = h
-next_follows text tail last (t ∷ ts) h = refl
-
 -- the fault by the table, where the prefix leads to this state and does not go on
 abbrev pub fault_at : Grammar → List ℕ → Item → Option State → Option State → Option Fault
 fault_at g text last (Some s) None =
@@ -158,21 +148,20 @@ abbrev pub fault_found : Grammar → List ℕ → Option Fault
 fault_found g text = fault_before g text Nothing
 
 refused_there : (g : Grammar) (text : List ℕ) (fault : Fault) (tail : ℕ) (last : Item) (s t : Option State)
-    → walk g (lexemes (prefix_in g text)) ≡ s → further g s (behind_in g text) ≡ t → IsCut text (tokens_in text) tail
-    → IsNext text [] tail last → fault_at g text last s t ≡ Some fault → IsRefused g text fault
-refused_there g text fault tail last None t walked stops cut follows found = absurd cc
-refused_there g text fault tail last (Some s) (Some t) walked stops cut follows found = absurd cc
-refused_there g text fault tail last (Some s) None walked stops cut follows found =
-    refused_walked g text (tokens_in text) (prefix_in g text) (behind_in g text) tail s
-    (next_before last (behind_in g text)) fault
-    cut (sym (take-append-drop (fitting g (Some (Wanted [])) (tokens_in text)) (tokens_in text))) walked stops
-    (next_follows text tail last (behind_in g text) follows) found
+    → walk g (lexemes (prefix_in g text)) ≡ s → further g s (behind_in g text) ≡ t → IsFalse (is_token last)
+    → ComesBehind text 0 (tokens_in text) last tail → fault_at g text last s t ≡ Some fault → IsRefused g text fault
+refused_there g text fault tail last None t walked stops none comes found = absurd cc
+refused_there g text fault tail last (Some s) (Some t) walked stops none comes found = absurd cc
+refused_there g text fault tail last (Some s) None walked stops none comes found =
+    refused_walked g text (prefix_in g text) (behind_in g text) last tail s fault none
+    (rw (take-append-drop (fitting g (Some (Wanted [])) (tokens_in text)) (tokens_in text)) comes) walked stops found
 
 -- The text is refused with this fault, where each of its characters belongs to a token or is a space.
 pub refused_on_literal : {g : Grammar} (text : List ℕ) (fault : Fault) → is_cut_whole text ≡ true
     → fault_found g text ≡ Some fault → IsRefused g text fault
 refused_on_literal {g} text fault cut found =
-    refused_there g text fault (length text) Nothing _ _ refl refl (cut_whole text cut) refl found
+    refused_there g text fault (length text) Nothing _ _ refl refl refl
+    (comes_by text (tokens_in text) (length text) cut (inl (nothing_left text))) found
 
 -- ---- a text with a lexical fault
 
@@ -187,14 +176,10 @@ broken_in text kind = Lexical kind (tail_in text)
 abbrev pub is_cut_to_tail : List ℕ → Bool
 is_cut_to_tail text = is_cut_from text 0 (tokens_in text) (tail_in text)
 
-cut_to_tail : (text : List ℕ) (kind : TokenFaultKind) → is_cut_to_tail text ≡ true
-    → BeginsFault (drop (tail_in text) text) kind → IsCut text (tokens_in text) (tail_in text)
-cut_to_tail text kind h begins = cut_by text (tokens_in text) (tail_in text) h (inr (kind, begins))
-
 -- The text is refused with this fault, where its tail begins the lexical one.
 pub refused_on_broken_literal : {g : Grammar} (text : List ℕ) (kind : TokenFaultKind) (fault : Fault)
     → is_cut_to_tail text ≡ true → BeginsFault (drop (tail_in text) text) kind
     → fault_before g text (broken_in text kind) ≡ Some fault → IsRefused g text fault
 refused_on_broken_literal {g} text kind fault cut begins found =
-    refused_there g text fault (tail_in text) (broken_in text kind) _ _ refl refl (cut_to_tail text kind cut begins)
-    (refl, begins) found
+    refused_there g text fault (tail_in text) (broken_in text kind) _ _ refl refl refl
+    (comes_by text (tokens_in text) (tail_in text) cut (inr (kind, begins))) found

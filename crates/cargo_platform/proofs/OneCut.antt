@@ -1,6 +1,7 @@
 -- A text has at most one cut.
 use Rattle.std.proofs.Common.{◌≡◌, refl, sym, ap, subst, ◌∙◌, ℕ, ◌+◌, ◌-◌, ◌<◌, Bool, true, false, not, ◌&&◌, ◌||◌}
-use Rattle.std.proofs.Common.{List, [], ◌∷◌, ◌++◌, codes, inl, inr, true≢false, append_assoc, arith, length, drop}
+use Rattle.std.proofs.Common.{List, [], ◌∷◌, ◌++◌, codes, inl, inr, ◌⊎◌, true≢false, append_assoc, arith, length}
+use Rattle.std.proofs.Common.{drop, drop_of_length-le}
 use Rattle.std.proofs.Common.{lit≤, length-take, length-drop, take-append-drop}
 use Rattle.std.specs.Prelude.{IsFalse, bytes_eq, if◌then◌else◌, ◌==◌, slice_range}
 use Rattle.std.specs.List.{list_all}
@@ -19,8 +20,9 @@ use Rattle.cargo_platform.specs.Chars.{is_identifier_start, is_identifier_rest, 
 use Rattle.cargo_platform.specs.Chars.{is_mark, is_known_start, starts}
 use Rattle.cargo_platform.specs.Tokens.{Lexeme, LeftParen, RightParen, Ident, Comma, Equals, String, written}
 use Rattle.cargo_platform.specs.Tokens.{IsIdentifierName, IsWellWritten, Placed}
-use Rattle.cargo_platform.specs.Cut.{IsPiece, IsWrittenAt, AreSpaces, AreApart, EndsBefore, IsWhole, BeginsFault}
-use Rattle.cargo_platform.specs.Cut.{IsTail, IsCutFrom}
+use Rattle.cargo_platform.specs.Cut.{IsPiece, IsWrittenAt, AreSpaces, EndsBefore, IsWhole, BeginsFault, Item, Token}
+use Rattle.cargo_platform.specs.Cut.{Lexical, Nothing, Comes, ComesBehind, is_token, IsCutFrom}
+use Rattle.cargo_platform.proofs.LexicalFaults.{no_fault, one_lexical_fault}
 
 pub head_of : {a b : ℕ} {s t : List ℕ} → a ∷ s ≡ b ∷ t → a ≡ b
 head_of h = cc
@@ -211,6 +213,10 @@ token_is_no_fault t r (UnexpectedChar c) w e (inr f) =
     true≢false (sym b.known ∙ sym (ap is_known_start is) ∙ f.2)
 token_is_no_fault t r (UnexpectedChar c) w e (inl f) = omega (arith, sym (class_is t r w) ∙ ap class f.2)
 
+-- a rest of a text in which no token begins: it is empty, or begins a lexical fault
+abbrev pub IsTail : List ℕ → Type 0
+IsTail rest = (rest ≡ []) ⊎ ((fault : TokenFaultKind) × BeginsFault rest fault)
+
 token_is_no_tail : (t : Lexeme) (r : List ℕ) → IsWellWritten t → EndsBefore t r → IsTail (written t ++ r) → ⊥
 token_is_no_tail t r w e (inl h) = let b = token_begins t r w in nothing_begins (sym b.parts ∙ h)
   where
@@ -287,21 +293,55 @@ same_token text from t u p q v w e f =
     ∙ sym (piece_end text u.start u.end (written u.token) w.1) in
     λ i. record { token = token.0 i; start = start i; end = end i }
 
+-- ---- one item at a place, and one cut
+
+fault_at_end : (text : List ℕ) (from at : ℕ) (k : TokenFaultKind) → AreSpaces text from at
+    → BeginsFault (drop at text) k → AreSpaces text from (length text) → ⊥
+fault_at_end text from at k p f q =
+    let over : drop (length text) text ≡ [] = drop_of_length-le text (omega arith) in
+    let same : at ≡ length text = same_start text from at (length text) p q (fault_no_space (drop at text) k f)
+    (ap (starts is_space) over) in
+    no_fault k (rw (← ap (λ n. drop n text) same ∙ over) f)
+
+-- where a token comes, neither a fault comes nor the end
+no_token_beside : (text : List ℕ) (from a b : ℕ) (t : Placed) (i : Item) → is_token i ≡ false
+    → Comes text from (Token t) a → Comes text from i b → ⊥
+no_token_beside text from a b t (Token u) none p q = true≢false none
+no_token_beside text from a b t (Lexical k at) none p q =
+    not_both text from at t q.0 (inr (k, q.1)) p.0 p.1 p.2
+no_token_beside text from a b t Nothing none p q =
+    not_both text from (length text) t q.0 (inl (drop_of_length-le text (omega arith))) p.0 p.1 p.2
+
+-- from a place on one item comes, and the text goes on after it from one place
+pub one_comes : (text : List ℕ) (from a b : ℕ) (i j : Item) → Comes text from i a → Comes text from j b
+    → (i ≡ j) × (a ≡ b)
+one_comes text from a b (Token t) (Token u) p q =
+    let same = same_token text from t u p.0 q.0 p.1 q.1 p.2 q.2 in
+    (ap Token same, p.3 ∙ ap (λ (z : Placed). z.end) same ∙ sym q.3)
+one_comes text from a b (Lexical k at) (Lexical l place) p q =
+    let same : at ≡ place = same_start text from at place p.0 q.0 (fault_no_space (drop at text) k p.1)
+    (fault_no_space (drop place text) l q.1) in
+    let kind : k ≡ l = one_lexical_fault (drop at text) k l p.1 (rw same q.1) in
+    (λ i. Lexical (kind i) (same i), p.2 ∙ same ∙ sym q.2)
+one_comes text from a b Nothing Nothing p q = (refl, p.1 ∙ sym q.1)
+one_comes text from a b (Lexical k at) Nothing p q = absurd (fault_at_end text from at k p.0 p.1 q.0)
+one_comes text from a b Nothing (Lexical k at) p q = absurd (fault_at_end text from at k q.0 q.1 p.0)
+one_comes text from a b (Token t) j p q = absurd (no_token_beside text from a b t j refl p q)
+one_comes text from a b i (Token t) p q = absurd (no_token_beside text from b a t i refl q p)
+
 pub one_cut_from : (text : List ℕ) (ts us : List Placed) (from i j : ℕ) → IsCutFrom text from ts i
     → IsCutFrom text from us j → (ts ≡ us) × (i ≡ j)
-one_cut_from text [] [] from i j p q = (
-  refl,
-  same_start text from i j p.apart q.apart (tail_no_space (drop i text) p.rest)
-      (tail_no_space (drop j text) q.rest),
-)
+one_cut_from text [] [] from i j p q = (refl, (one_comes text from i j p.last q.last p.comes q.comes).1)
 one_cut_from text [] (u ∷ us) from i j p q =
-    absurd (not_both text from i u p.apart p.rest q.apart.0 q.written.0 q.whole.0)
+    absurd (no_token_beside text from u.end i u p.last p.no_token q.comes.0 p.comes)
 one_cut_from text (t ∷ ts) [] from i j p q =
-    absurd (not_both text from j t q.apart q.rest p.apart.0 p.written.0 p.whole.0)
+    absurd (no_token_beside text from t.end j t q.last q.no_token p.comes.0 q.comes)
 one_cut_from text (t ∷ ts) (u ∷ us) from i j p q =
-    let same = same_token text from t u p.apart.0 q.apart.0 p.written.0 q.written.0 p.whole.0 q.whole.0 in
-    let apart : AreApart text t.end us j = subst (λ (k : Placed). AreApart text k.end us j) (sym same) q.apart.1 in
+    let a = p.comes.0 in
+    let b = q.comes.0 in
+    let same = same_token text from t u a.0 b.0 a.1 b.1 a.2 b.2 in
+    let more = subst (λ (k : Placed). ComesBehind text k.end us q.last j) (sym same) q.comes.1 in
     let others = one_cut_from text ts us t.end i j
-    (record { written = p.written.1; apart = p.apart.1; whole = p.whole.1; rest = p.rest })
-    (record { written = q.written.1; apart = apart; whole = q.whole.1; rest = q.rest }) in
+    (record { last = p.last; no_token = p.no_token; comes = p.comes.1 })
+    (record { last = q.last; no_token = q.no_token; comes = more }) in
     (λ k. same k ∷ others.0 k, others.1)

@@ -1,19 +1,20 @@
 -- What comes ahead of a reader is what the cut has next.
-use Rattle.std.proofs.Common.{◌≡◌, refl, sym, ap, subst, ◌∙◌, ℕ, List, [], ◌∷◌, ◌++◌, inl, inr, arith, length, drop}
+use Rattle.std.proofs.Common.{◌≡◌, refl, sym, ap, subst, ◌∙◌, ℕ, List, [], ◌∷◌, ◌++◌, arith, length, drop, true≢false}
 use Rattle.std.proofs.Common.{◌+◌, append_assoc, drop_of_length-le, length-append}
 use Rattle.std.proofs.lemmas.Bool.{and_from}
 use Rattle.std.proofs.lemmas.List.Folds.{list_all-append}
-use Rattle.cargo_platform.specs.Chars.{is_space, starts}
+use Rattle.std.specs.Prelude.{IsFalse}
+use Rattle.cargo_platform.specs.Chars.{is_space}
 use Rattle.cargo_platform.specs.Tokens.{Placed}
-use Rattle.cargo_platform.specs.Cut.{IsPiece, AreSpaces, BeginsFault, IsCutFrom, ComesBehind}
+use Rattle.cargo_platform.specs.Cut.{AreSpaces, ComesBehind, is_token}
 use Rattle.cargo_platform.specs.Cut.{Item, Nothing, Comes}
 use Rattle.cargo_platform.specs.Inside.Ahead.{Ahead, Path}
 use Rattle.cargo_platform.specs.Cut as cut
-use Rattle.cargo_platform.proofs.OneCut.{piece_end, piece_rest, same_start, same_token, not_both}
-use Rattle.cargo_platform.proofs.OneCut.{tail_no_space}
+use Rattle.cargo_platform.proofs.LexicalFaults.{no_fault}
+use Rattle.cargo_platform.proofs.OneCut.{piece_end, piece_rest, same_token, one_comes}
 use Rattle.cargo_platform.proofs.SomeCut.{piece_at}
 
--- ---- what comes next, and the cut
+-- ---- spaces before an item
 
 -- spaces and spaces after them
 join : (text : List ℕ) (from mid to : ℕ) → AreSpaces text from mid → AreSpaces text mid to → AreSpaces text from to
@@ -31,79 +32,65 @@ comes_from text from at to (cut.Token t) s h = (join text from at t.start s h.0,
 comes_from text from at to (cut.Lexical k place) s h = (join text from at place s h.0, h.1, h.2)
 comes_from text from at to Nothing s h = (join text from at (length text) s h.0, h.1)
 
--- what comes next in a text that is cut so
-abbrev pub IsNext : List ℕ → List Placed → ℕ → Item → Type 0
-IsNext text (t ∷ ts) tail next = next ≡ cut.Token t
-IsNext text [] tail (cut.Token t) = ⊥
-IsNext text [] tail (cut.Lexical kind at) = (at ≡ tail) × BeginsFault (drop at text) kind
-IsNext text [] tail Nothing = tail ≡ length text
+-- ---- what comes next, and the cut
 
--- what comes is what the cut has next
-pub next_is : (text : List ℕ) (from to tail : ℕ) (i : Item) (ts : List Placed) → IsCutFrom text from ts tail
-    → Comes text from i to → IsNext text ts tail i
-next_is text from to tail (cut.Token t) [] c g = absurd (not_both text from tail t c.apart c.rest g.0 g.1 g.2)
-next_is text from to tail (cut.Token t) (u ∷ us) c g =
-    ap cut.Token (same_token text from t u g.0 c.apart.0 g.1 c.written.0 g.2 c.whole.0)
-next_is text from to tail (cut.Lexical k at) [] c g = (
-  same_start text from at tail g.0 c.apart (tail_no_space (drop at text) (inr (k, g.1)))
-      (tail_no_space (drop tail text) c.rest),
-  g.1,
-)
-next_is text from to tail (cut.Lexical k at) (u ∷ us) c g =
-    absurd (not_both text from at u g.0 (inr (k, g.1)) c.apart.0 c.written.0 c.whole.0)
-next_is text from to tail Nothing ts c g = go ts c
-  where
-    none : drop (length text) text ≡ []
-    none = drop_of_length-le text (omega arith)
+-- what comes before these tokens, and then the last item
+abbrev pub next_before : Item → List Placed → Item
+next_before last [] = last
+next_before last (t ∷ ts) = cut.Token t
 
-    go : (ts : List Placed) → IsCutFrom text from ts tail → IsNext text ts tail Nothing
-    go [] c = same_start text from tail (length text) c.apart g.0 (tail_no_space (drop tail text) c.rest)
-        (ap (starts is_space) none)
-    go (u ∷ us) c = absurd (not_both text from (length text) u g.0 (inl none) c.apart.0 c.written.0 c.whole.0)
+-- after the same tokens one item comes
+pub one_behind : (text : List ℕ) (from a b : ℕ) (ts : List Placed) (i j : Item) → ComesBehind text from ts i a
+    → ComesBehind text from ts j b → i ≡ j
+one_behind text from a b [] i j p q = (one_comes text from a b i j p q).0
+one_behind text from a b (t ∷ ts) i j p q = one_behind text t.end a b ts i j p.1 q.1
 
--- what the cut has next comes
-pub next_comes : (text : List ℕ) (from tail : ℕ) (ts : List Placed) (i : Item) → IsCutFrom text from ts tail
-    → IsNext text ts tail i → (to : ℕ) × Comes text from i to
-next_comes text from tail (t ∷ ts) i c is =
-    rw is (t.end, (c.apart.0, c.written.0, c.whole.0, refl))
-next_comes text from tail [] (cut.Token t) c is = absurd is
-next_comes text from tail [] (cut.Lexical k at) c is =
-    (at, (rw is.0 c.apart, is.1, refl))
-next_comes text from tail [] Nothing c is =
-    (length text, (rw (← is) c.apart, refl))
+-- after the first tokens of a cut comes what the cut has there
+pub comes_behind : (text : List ℕ) (from tail : ℕ) (prefix after : List Placed) (last : Item)
+    → ComesBehind text from (prefix ++ after) last tail
+    → (to : ℕ) × ComesBehind text from prefix (next_before last after) to
+comes_behind text from tail [] [] last c = (tail, c)
+comes_behind text from tail [] (t ∷ ts) last c = (t.end, c.0)
+comes_behind text from tail (t ∷ ts) after last c =
+    let others = comes_behind text t.end tail ts after last c.1 in
+    (others.0, (c.0, others.1))
 
--- what is left after a token
-pub cut_behind : (text : List ℕ) (from tail : ℕ) (t : Placed) (ts : List Placed) → IsCutFrom text from (t ∷ ts) tail
-    → IsCutFrom text t.end ts tail
-cut_behind text from tail t ts c =
-    record { written = c.written.1; apart = c.apart.1; whole = c.whole.1; rest = c.rest }
-
--- what comes after the first tokens of a cut is what the cut has there
-pub behind_is : (text : List ℕ) (from to tail : ℕ) (prefix after : List Placed) (i : Item)
-    → IsCutFrom text from (prefix ++ after) tail → ComesBehind text from prefix i to → IsNext text after tail i
-behind_is text from to tail [] after i c h = next_is text from to tail i after c h
-behind_is text from to tail (t ∷ ts) after i c h =
-    behind_is text t.end to tail ts after i (cut_behind text from tail t (ts ++ after) c) h.1
-
--- what the cut has there comes after them
-pub comes_behind : (text : List ℕ) (from tail : ℕ) (prefix after : List Placed) (i : Item)
-    → IsCutFrom text from (prefix ++ after) tail → IsNext text after tail i
-    → (to : ℕ) × ComesBehind text from prefix i to
-comes_behind text from tail [] after i c is = next_comes text from tail after i c is
-comes_behind text from tail (t ∷ ts) after i c is =
-    let others = comes_behind text t.end tail ts after i (cut_behind text from tail t (ts ++ after) c) is in
-    (others.0, ((c.apart.0, c.written.0, c.whole.0, refl), others.1))
+-- and nothing else
+pub behind_is : (text : List ℕ) (from to tail : ℕ) (prefix after : List Placed) (last i : Item)
+    → ComesBehind text from (prefix ++ after) last tail → ComesBehind text from prefix i to → i ≡ next_before last after
+behind_is text from to tail prefix after last i c h =
+    let is = comes_behind text from tail prefix after last c in
+    one_behind text from to is.0 prefix i (next_before last after) h is.1
 
 -- tokens that come one after another are the first of the cut
-pub first_left : (text : List ℕ) (from to tail : ℕ) (us ts : List Placed) (i : Item) → IsCutFrom text from ts tail
-    → ComesBehind text from us i to → (rest : List Placed) × (ts ≡ us ++ rest) × IsNext text rest tail i
-first_left text from to tail [] ts i c h = (ts, refl, next_is text from to tail i ts c h)
-first_left text from to tail (t ∷ us) [] i c h = absurd (next_is text from t.end tail (cut.Token t) [] c h.0)
-first_left text from to tail (t ∷ us) (u ∷ ts) i c h =
-    let same = same_token text from u t c.apart.0 h.0.0 c.written.0 h.0.1 c.whole.0 h.0.2 in
-    let left = first_left text t.end to tail us ts i
-    (rw (← ap (λ (z : Placed). z.end) same) (cut_behind text from tail u ts c)) h.1 in
+pub first_left : (text : List ℕ) (from to tail : ℕ) (us ts : List Placed) (i last : Item) → IsFalse (is_token last)
+    → ComesBehind text from ts last tail → ComesBehind text from us i to
+    → (rest : List Placed) × (ts ≡ us ++ rest) × (i ≡ next_before last rest)
+first_left text from to tail [] ts i last none c h = (ts, refl, behind_is text from to tail [] ts last i c h)
+first_left text from to tail (t ∷ us) [] i last none c h =
+    let same = one_comes text from t.end tail (cut.Token t) last h.0 c in
+    absurd (true≢false (ap is_token same.0 ∙ none))
+first_left text from to tail (t ∷ us) (u ∷ ts) i last none c h =
+    let same = same_token text from u t c.0.0 h.0.0 c.0.1 h.0.1 c.0.2 h.0.2 in
+    let more = subst (λ (z : Placed). ComesBehind text z.end ts last tail) same c.1 in
+    let left = first_left text t.end to tail us ts i last none more h.1 in
     (left.0, λ i. same i ∷ left.1 i, left.2)
+
+-- where nothing comes at last, the tail is the end
+pub end_is : (text : List ℕ) (from tail : ℕ) (ts : List Placed) → ComesBehind text from ts Nothing tail
+    → tail ≡ length text
+end_is text from tail [] c = c.1
+end_is text from tail (t ∷ ts) c = end_is text t.end tail ts c.1
+
+-- and where the tail is the end, nothing comes at last
+pub whole_ends : (text : List ℕ) (from tail : ℕ) (ts : List Placed) (last : Item) → tail ≡ length text
+    → IsFalse (is_token last) → ComesBehind text from ts last tail → last ≡ Nothing
+whole_ends text from tail (t ∷ ts) last end none c = whole_ends text t.end tail ts last end none c.1
+whole_ends text from tail [] (cut.Token t) end none c = absurd (true≢false none)
+whole_ends text from tail [] Nothing end none c = refl
+whole_ends text from tail [] (cut.Lexical k at) end none c =
+    let over : drop at text ≡ [] = drop_of_length-le text (omega (arith, end, c.2)) in
+    absurd (no_fault k (rw (← over) c.1))
 
 -- ---- what is ahead of a reader
 

@@ -1,14 +1,14 @@
 -- The longest prefix that is completable.
-use Rattle.std.proofs.Common.{◌≡◌, refl, sym, ap, subst, ◌∙◌, ℕ, ◌≤◌, zero-le, suc-le-suc, List, [], ◌∷◌, ◌++◌, Option}
+use Rattle.std.proofs.Common.{◌≡◌, refl, sym, ap, ◌∙◌, ℕ, ◌≤◌, zero-le, suc-le-suc, List, [], ◌∷◌, ◌++◌, Option}
 use Rattle.std.proofs.Common.{Some, None, inl, inr, ◌⊎◌, append_assoc, length, length-append, arith}
+use Rattle.std.specs.Prelude.{IsFalse}
 use Rattle.std.specs.List.{last_or}
 use Rattle.cargo_platform.specs.Tokens.{Lexeme, Placed}
-use Rattle.cargo_platform.specs.Cut.{IsCut, lexemes}
-use Rattle.cargo_platform.specs.Cut.{Item, ComesBehind}
+use Rattle.cargo_platform.specs.Cut.{lexemes, Item, ComesBehind, is_token}
 use Rattle.cargo_platform.specs.Spelling.{Grammar, IsAccepted}
 use Rattle.cargo_platform.specs.Faults.{IsCompletable, Fault, fault_of, span_of, IsRefused, IsRefusedAt}
 use Rattle.cargo_platform.specs.Walk.{State, after, walk, is_whole}
-use Rattle.cargo_platform.proofs.Paths.{IsNext, comes_behind}
+use Rattle.cargo_platform.proofs.Paths.{next_before, comes_behind}
 use Rattle.cargo_platform.proofs.Walk.{walk_next}
 use Rattle.cargo_platform.proofs.Building.{stopped}
 use Rattle.cargo_platform.proofs.Completing.{walked_completes, whole_accepted, accepted_whole}
@@ -62,24 +62,24 @@ goes_on g s [] = None
 goes_on g s (t ∷ ts) = after g s t.token
 
 -- where a prefix is walked, and what follows does not go on with it, the text is refused there
-pub refused_walked_at : (g : Grammar) (text : List ℕ) (ts prefix behind : List Placed) (tail : ℕ) (s : State)
-    (next : Item) (fault : Fault) → IsCut text ts tail → ts ≡ prefix ++ behind → walk g (lexemes prefix) ≡ Some s
-    → goes_on g s behind ≡ None → IsNext text behind tail next
-    → fault_of g text (is_whole s) (last_or None (lexemes prefix)) next ≡ Some fault
-    → IsRefusedAt g text fault (Some (span_of text (is_whole s) next))
-refused_walked_at g text ts prefix behind tail s next fault cut parts walked stops follows table = (
+pub refused_walked_at : (g : Grammar) (text : List ℕ) (prefix behind : List Placed) (last : Item) (tail : ℕ) (s : State)
+    (fault : Fault) → IsFalse (is_token last) → ComesBehind text 0 (prefix ++ behind) last tail
+    → walk g (lexemes prefix) ≡ Some s → goes_on g s behind ≡ None
+    → fault_of g text (is_whole s) (last_or None (lexemes prefix)) (next_before last behind) ≡ Some fault
+    → IsRefusedAt g text fault (Some (span_of text (is_whole s) (next_before last behind)))
+refused_walked_at g text prefix behind last tail s fault none cut walked stops table = (
   record {
-    ts = ts;
+    ts = prefix ++ behind;
     tail = tail;
-    cut = cut;
+    cut = record { last = last; no_token = none; comes = cut };
     prefix = prefix;
     after = behind;
     is_prefix = record {
-      parts = parts;
+      parts = refl;
       completable = walked_completes g (lexemes prefix) s walked;
-      longest = λ longer others h p. no_longer prefix behind s walked stops longer others (sym parts ∙ h) p;
+      longest = no_longer prefix behind s walked stops;
     };
-    next = next;
+    next = next_before last behind;
     place = comes.0;
     follows = comes.1;
     accepted = is_whole s;
@@ -90,11 +90,8 @@ refused_walked_at g text ts prefix behind tail s next fault cut parts walked sto
   refl,
 )
   where
-    C : List Placed → Type 0
-    C z = IsCut text z tail
-
-    comes : (to : ℕ) × ComesBehind text 0 prefix next to
-    comes = comes_behind text 0 tail prefix behind next (subst C parts cut) follows
+    comes : (to : ℕ) × ComesBehind text 0 prefix (next_before last behind) to
+    comes = comes_behind text 0 tail prefix behind last cut
 
     no_longer : (prefix behind : List Placed) (s : State) → walk g (lexemes prefix) ≡ Some s → goes_on g s behind ≡ None
         → (longer others : List Placed) → prefix ++ behind ≡ longer ++ others → IsCompletable g (lexemes longer)
@@ -105,9 +102,10 @@ refused_walked_at g text ts prefix behind tail s next fault cut parts walked sto
         (λ more a. stopped g (lexemes prefix ++ (t.token ∷ [])) more
         (walk_next g (lexemes prefix) t.token s walked ∙ stops) a) longer others h p
 
-pub refused_walked : (g : Grammar) (text : List ℕ) (ts prefix behind : List Placed) (tail : ℕ) (s : State) (next : Item)
-    (fault : Fault) → IsCut text ts tail → ts ≡ prefix ++ behind → walk g (lexemes prefix) ≡ Some s
-    → goes_on g s behind ≡ None → IsNext text behind tail next
-    → fault_of g text (is_whole s) (last_or None (lexemes prefix)) next ≡ Some fault → IsRefused g text fault
-refused_walked g text ts prefix behind tail s next fault cut parts walked stops follows table =
-    (refused_walked_at g text ts prefix behind tail s next fault cut parts walked stops follows table).0
+pub refused_walked : (g : Grammar) (text : List ℕ) (prefix behind : List Placed) (last : Item) (tail : ℕ) (s : State)
+    (fault : Fault) → IsFalse (is_token last) → ComesBehind text 0 (prefix ++ behind) last tail
+    → walk g (lexemes prefix) ≡ Some s → goes_on g s behind ≡ None
+    → fault_of g text (is_whole s) (last_or None (lexemes prefix)) (next_before last behind) ≡ Some fault
+    → IsRefused g text fault
+refused_walked g text prefix behind last tail s fault none cut walked stops table =
+    (refused_walked_at g text prefix behind last tail s fault none cut walked stops table).0

@@ -1,6 +1,6 @@
 -- The print of a well-formed tree spells it.
 use Rattle.std.proofs.Common.{◌≡◌, refl, sym, ap, subst, ◌∙◌, ℕ, ◌+◌, ◌-◌, ◌≤◌, Bool, true, false, not, ◌&&◌, List, []}
-use Rattle.std.proofs.Common.{◌∷◌, ◌++◌, codes, inl, append_assoc, append-nil, arith, length, take, drop, map}
+use Rattle.std.proofs.Common.{◌∷◌, ◌++◌, codes, inl, append_assoc, append-nil, arith, length, drop, map}
 use Rattle.std.proofs.Common.{length-drop}
 use Rattle.std.proofs.Math.Bool.{and-false}
 use Rattle.std.specs.Prelude.{IsTrue, IsFalse, bytes_eq}
@@ -8,14 +8,15 @@ use Rattle.std.specs.List.{list_all}
 use Rattle.cargo_platform.specs.Chars.{is_identifier_rest, is_space, is_number_sign, starts}
 use Rattle.cargo_platform.specs.Tokens.{Lexeme, LeftParen, RightParen, Ident, Comma, Equals, String, plain, written}
 use Rattle.cargo_platform.specs.Tokens.{IsWellWritten, Placed}
-use Rattle.cargo_platform.specs.Cut.{EndsBefore, IsCutFrom, lexemes}
+use Rattle.cargo_platform.specs.Cut.{EndsBefore, Nothing, IsCutFrom, lexemes}
 use Rattle.cargo_platform.specs.Trees.{CfgValue, Alone, KeyPair, Tree, Not, All, Any, Value, True, False, Trees, none}
 use Rattle.cargo_platform.specs.Trees.{tree}
 use Rattle.cargo_platform.specs.Spelling.{identifier, value_spelling, group, joined, IsMemberList, Spells, SpellEach}
 use Rattle.cargo_platform.specs.Spelling.{IsValueText, IsTreeText}
 use Rattle.cargo_platform.specs.WellFormed.{IsWellFormedValue, IsWellFormed, AreWellFormed}
 use Rattle.cargo_platform.specs.Print.{print_name, print_value, print, print_members, print_others}
-use Rattle.cargo_platform.proofs.SomeCut.{piece_at, rest_at, take_none}
+use Rattle.cargo_platform.proofs.SomeCut.{piece_at, rest_at, cut_cons}
+use Rattle.cargo_platform.proofs.Scanning.{no_spaces}
 
 -- a token, with a space before it or not
 record Piece : Type 0 where
@@ -54,33 +55,12 @@ gap_is false = refl
 cut_laid : (text : List ℕ) (from : ℕ) (ps : List Piece) → from ≤ length text → drop from text ≡ laid ps
     → AreSeparate ps → CutAs text from (tokens ps)
 cut_laid text from [] le h s =
-    let len : length (drop from text) ≡ 0 = ap length h in
+    let end : from ≡ length text = omega (arith, le, ap length h, length-drop from text) in
     record {
       places = [];
       are = refl;
-      cut = record {
-        written = tt;
-        whole = tt;
-        rest = inl (over (length text) (omega (arith, length-drop (length text) text)));
-        apart = (
-          [],
-          record {
-            ordered = le;
-            inside = omega arith;
-            bytes = ap (take (length text - from)) h
-                ∙ take_none (length text - from);
-          },
-          refl,
-        );
-      };
+      cut = record { last = Nothing; no_token = refl; comes = (rw (← end) (no_spaces text from le), refl) };
     }
-  where
-    nothing : (xs : List ℕ) → length xs ≡ 0 → xs ≡ []
-    nothing [] h = refl
-    nothing (x ∷ xs) h = absurd (omega (arith, h))
-
-    over : (k : ℕ) → length (drop k text) ≡ 0 → drop k text ≡ []
-    over k e = nothing (drop k text) e
 cut_laid text from (p ∷ ps) le h s =
     let at = from + length (gap p.space) in
     let end = at + length (written p.token) in
@@ -90,15 +70,12 @@ cut_laid text from (p ∷ ps) le h s =
     let word = piece_at text at (written p.token) (laid ps) space.inside here in
     let behind : drop end text ≡ laid ps = rest_at text at (written p.token) (laid ps) here in
     let others = cut_laid text end ps word.inside behind s.2 in
+    let t : Placed = record { token = p.token; start = at; end = end } in
     record {
-      places = record { token = p.token; start = at; end = end } ∷ others.places;
+      places = t ∷ others.places;
       are = ap (λ z. p.token ∷ z) others.are;
-      cut = record {
-        written = ((s.0, word), others.cut.written);
-        apart = ((gap p.space, space, gap_is p.space), others.cut.apart);
-        whole = (rw behind s.1, others.cut.whole);
-        rest = others.cut.rest;
-      };
+      cut = cut_cons text from (length text) t others.places (gap p.space, space, gap_is p.space) (s.0, word)
+          (rw behind s.1) others.cut;
     }
 
 -- ---- the tokens of a printed tree, and then ps

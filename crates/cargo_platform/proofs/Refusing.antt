@@ -16,14 +16,14 @@ use Rattle.cargo_platform.specs.Inside.Parsing.{IsStop, IfFault, StopsAt, Stops}
 use Rattle.cargo_platform.proofs.Building.{state_at, next_state, led_state}
 use Rattle.cargo_platform.proofs.Prefixes.{goes_on, refused_walked_at}
 use Rattle.cargo_platform.proofs.SomeCut.{some_cut}
-use Rattle.cargo_platform.proofs.Paths.{IsNext, first_left, behind_spaces, path_comes, path_text}
-use Rattle.cargo_platform.proofs.Runs.{cuts_are_read}
+use Rattle.cargo_platform.proofs.Paths.{next_before, first_left, end_is, behind_spaces, path_comes}
+use Rattle.cargo_platform.proofs.Paths.{path_text}
 use Rattle.cargo_platform.proofs.Parsing.{if_fault}
 
-goes_not_on : (g : Grammar) (text : List ℕ) (left : List Placed) (tail : ℕ) (p : Position) (next : Item)
-    → IsNext text left tail next → IsStop g p next → goes_on g (state_of p) left ≡ None
-goes_not_on g text [] tail p next f h = refl
-goes_not_on g text (t ∷ us) tail p next f h =
+goes_not_on : (g : Grammar) (left : List Placed) (p : Position) (last next : Item) → next ≡ next_before last left
+    → IsStop g p next → goes_on g (state_of p) left ≡ None
+goes_not_on g [] p last next f h = refl
+goes_not_on g (t ∷ us) p last next f h =
     let S : Item → Type 0 = λ z. IsStop g p z in
     let none : step g p t.token ≡ None = subst S f h in
     next_state g p t.token ∙ ap state_at none
@@ -53,23 +53,22 @@ stops_refused g text l r utf8 same spaces h =
         let s = state_of a.q in
         let w = way_comes text l a.stop a.us a.next a.comes.to same spaces a.path a.comes.comes in
         let c = some_cut text utf8 in
-        let left = first_left text 0 a.comes.to c.1 a.us c.0 a.next c.2 w in
+        let left = first_left text 0 a.comes.to c.1 a.us c.0 a.next c.2.last c.2.no_token c.2.comes w in
+        let cut = subst (λ (z : List Placed). ComesBehind text 0 z c.2.last c.1) left.1 c.2.comes in
         let F : List ℕ → Type 0 =
         λ z. fault_at_of g z (is_whole s) (last_or None (lexemes a.us)) a.next ≡ Some f in
         let both = parts_of (span_of text (is_whole s) a.next)
         (fault_of g text (is_whole s) (last_or None (lexemes a.us)) a.next) f
         (subst F (path_text l a.stop a.us a.path ∙ same) (a.is (lexemes a.us) a.leads)) in
         rw (← both.1)
-        (refused_walked_at g text c.0 a.us left.0 c.1 s a.next f.fault c.2 left.1 (led_state g (lexemes a.us) a.q a.leads)
-        (goes_not_on g text left.0 c.1 a.q a.next left.2 a.stops) left.2 both.0)
+        (rw left.2
+        (refused_walked_at g text a.us left.0 c.2.last c.1 s f.fault c.2.no_token cut
+        (led_state g (lexemes a.us) a.q a.leads) (goes_not_on g left.0 a.q c.2.last a.next left.2 a.stops)
+        (rw (← left.2) both.0)))
 
 -- tokens that were taken from the start up to the end are those of the cut
 pub path_cut : (text : List ℕ) (l m : Ahead) (us : List Placed) → l.text ≡ text → AreSpaces text 0 l.place
     → Path l us m → NextIs m Nothing → IsCut text us (length text)
 path_cut text l m us same spaces path done =
     let w = way_comes text l m us Nothing done.to same spaces path done.comes in
-    rw (← ends us 0 w) ((cuts_are_read text us done.to).0 (Nothing, refl, w))
-  where
-    ends : (us : List Placed) (from : ℕ) → ComesBehind text from us Nothing done.to → done.to ≡ length text
-    ends [] from h = h.1
-    ends (t ∷ us) from h = ends us t.end h.1
+    record { last = Nothing; no_token = refl; comes = rw (← end_is text 0 done.to us w) w }

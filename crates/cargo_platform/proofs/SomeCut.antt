@@ -1,9 +1,9 @@
 -- Each text has a cut.
 use Rattle.std.proofs.Common.{◌≡◌, refl, sym, ap, subst, ◌∙◌, ℕ, zero, suc, ◌+◌, ◌-◌, ◌<◌, ◌≤◌, Bool, true, false, not}
 use Rattle.std.proofs.Common.{◌&&◌, ◌||◌, List, [], ◌∷◌, ◌++◌, codes, inl, inr, ◌⊎◌, true≢false, append_assoc, arith}
-use Rattle.std.proofs.Common.{length, take, drop, length-drop, length-append, drop_of_length-le, lit≤}
+use Rattle.std.proofs.Common.{length, take, drop, length-drop, length-append, lit≤}
 use Rattle.std.proofs.Math.Seq.{take-append_seam, drop-append_seam, get_or-append_seam}
-use Rattle.std.specs.Prelude.{IsUtf8, bytes_eq, ◌==◌}
+use Rattle.std.specs.Prelude.{IsUtf8, IsFalse, bytes_eq, ◌==◌}
 use Rattle.std.specs.List.{list_all}
 use Rattle.std.specs.Char.{encode_utf8}
 use Rattle.std.specs.Str.{IsCharBoundary}
@@ -19,8 +19,9 @@ use Rattle.cargo_platform.specs.Chars.{is_identifier_start, is_identifier_rest, 
 use Rattle.cargo_platform.specs.Chars.{is_mark, is_known_start, starts, BeginsWith}
 use Rattle.cargo_platform.specs.Tokens.{Lexeme, LeftParen, RightParen, Ident, Comma, Equals, String, written}
 use Rattle.cargo_platform.specs.Tokens.{IsWellWritten, Placed}
-use Rattle.cargo_platform.specs.Cut.{IsPiece, AreSpaces, EndsBefore, IsTail, IsCutFrom, IsCut}
-use Rattle.cargo_platform.proofs.OneCut.{start_is_ascii}
+use Rattle.cargo_platform.specs.Cut.{IsPiece, IsWrittenAt, AreSpaces, EndsBefore, IsWhole, Item, Lexical, Nothing}
+use Rattle.cargo_platform.specs.Cut.{Comes, is_token, IsCutFrom, IsCut}
+use Rattle.cargo_platform.proofs.OneCut.{IsTail, start_is_ascii}
 use lib.Utf8.{scalars, scalar, encodes}
 
 pub ascii_rest : (b : ℕ) (bs : List ℕ) → b < 128 → IsUtf8 (b ∷ bs) → IsUtf8 bs
@@ -117,6 +118,11 @@ pub record Lexed (text : List ℕ) : Type 0 where
 abbrev pub Outcome : List ℕ → Type 0
 Outcome text = IsTail text ⊎ Lexed text
 
+lexed : {text : List ℕ} (t : Lexeme) (rest : List ℕ) → text ≡ written t ++ rest → IsWellWritten t → EndsBefore t rest
+    → IsUtf8 rest → Outcome text
+lexed t rest parts well ends u =
+    inr (record { token = t; rest = rest; parts = parts; well = well; ends = ends; utf8 = u })
+
 pub rest_is_ascii : IsAsciiTest is_identifier_rest
 rest_is_ascii c h =
     elim (or_cases (is_identifier_start c) (is_in_range 48 57 c) h) [
@@ -156,16 +162,8 @@ marked (d ∷ ds) u =
     elim (is_identifier_start d) as (λ v. is_identifier_start d ≡ v → Outcome (codes "r#" ++ (d ∷ ds))) [
       | true ↦ λ h.
           let r = run is_identifier_rest rest_is_ascii ds (ascii_rest d ds (start_is_ascii d h) u) in
-          inr (record {
-            token = Ident true (d ∷ r.xs);
-            rest = r.rest;
-            parts = ap
-                (λ (z : List ℕ). 0x72 ∷ 0x23 ∷ d ∷ z) r.parts;
-            well = (h, r.pass);
-            ends =
-                (r.stops, refl);
-            utf8 = r.utf8;
-          })
+          lexed (Ident true (d ∷ r.xs)) r.rest (ap (λ (z : List ℕ). 0x72 ∷ 0x23 ∷ d ∷ z) r.parts) (h, r.pass)
+          (r.stops, refl) r.utf8
       | false ↦ λ h.
           let c = first_char d ds u in
           inl (inr (
@@ -185,16 +183,7 @@ name b bs u h =
     let parts : b ∷ bs ≡ (b ∷ r.xs) ++ r.rest = ap (λ (z : List ℕ). b ∷ z) r.parts in
     let test = bytes_eq (b ∷ r.xs) (codes "r") && starts is_number_sign r.rest in
     elim test as (λ v. (bytes_eq (b ∷ r.xs) (codes "r") && starts is_number_sign r.rest) ≡ v → Outcome (b ∷ bs)) [
-      | false ↦ λ f. inr
-          (record {
-            token = Ident false (b ∷ r.xs);
-            rest = r.rest;
-            parts = parts;
-            well = (h, r.pass);
-            ends =
-                (r.stops, f);
-            utf8 = r.utf8;
-          })
+      | false ↦ λ f. lexed (Ident false (b ∷ r.xs)) r.rest parts (h, r.pass) (r.stops, f) r.utf8
       | true ↦ λ t.
           let is : b ∷ r.xs ≡ codes "r" = (bytes_eq-Decides (b ∷ r.xs) (codes "r")).0
           (and_parts (bytes_eq (b ∷ r.xs) (codes "r")) (starts is_number_sign r.rest) t).0 in
@@ -211,16 +200,8 @@ string bs u =
     elim (quoted bs) [
       | inl q ↦
           let sides = ascii_sides 0x22 bs q.0 q.1 (lit≤ tt) u q.2 in
-          inr (record {
-            token = String q.0;
-            rest = q.1;
-            parts = ap
-                (λ (z : List ℕ). 0x22 ∷ z) (q.2 ∙ sym (append_assoc q.0 (codes "\"") q.1));
-            well =
-                (sides.0, q.3);
-            ends = tt;
-            utf8 = sides.1;
-          })
+          lexed (String q.0) q.1 (ap (λ (z : List ℕ). 0x22 ∷ z) (q.2 ∙ sym (append_assoc q.0 (codes "\"") q.1)))
+          (sides.0, q.3) tt sides.1
       | inr a ↦ inl
           (inr (
             UnterminatedString,
@@ -233,15 +214,7 @@ single : (t : Lexeme) (b m : ℕ) (bs : List ℕ) → IsWellWritten t → EndsBe
     → (b == m) ≡ true → m < 128 → IsUtf8 (b ∷ bs) → Outcome (b ∷ bs)
 single t b m bs w e parts h lt u =
     let is : b ≡ m = eqb-true b m h in
-    inr (record {
-      token = t;
-      rest = bs;
-      parts = ap (λ (z : ℕ). z ∷ bs) is
-          ∙ sym parts;
-      well = w;
-      ends = e;
-      utf8 = ascii_rest b bs (omega (arith, is, lt)) u;
-    })
+    lexed t bs (ap (λ (z : ℕ). z ∷ bs) is ∙ sym parts) w e (ascii_rest b bs (omega (arith, is, lt)) u)
 
 -- what no token begins
 other : (b : ℕ) (bs : List ℕ) → IsUtf8 (b ∷ bs) → is_known_start b ≡ false → Outcome (b ∷ bs)
@@ -307,73 +280,73 @@ piece_at text i p q le h =
 pub rest_at : (text : List ℕ) (i : ℕ) (p q : List ℕ) → drop i text ≡ p ++ q → drop (i + length p) text ≡ q
 rest_at text i p q h = sym (drop-drop (length p) i text) ∙ ap (drop (length p)) h ∙ drop-append_seam p q
 
-pub take_none : (k : ℕ) → take {A = ℕ} k [] ≡ []
-take_none zero = refl
-take_none (suc k) = refl
+-- what comes at a tail
+abbrev pub last_at : (text : List ℕ) (tail : ℕ) → IsTail (drop tail text) → Item
+last_at text tail (inl none) = Nothing
+last_at text tail (inr f) = Lexical f.0 tail
+
+pub no_token_at : (text : List ℕ) (tail : ℕ) (rest : IsTail (drop tail text))
+    → IsFalse (is_token (last_at text tail rest))
+no_token_at text tail (inl none) = refl
+no_token_at text tail (inr f) = refl
+
+pub tail_comes : (text : List ℕ) (from tail : ℕ) → AreSpaces text from tail → (rest : IsTail (drop tail text))
+    → Comes text from (last_at text tail rest) tail
+tail_comes text from tail spaces (inr f) = (spaces, f.1, refl)
+tail_comes text from tail spaces (inl none) =
+    let end : tail ≡ length text = omega (arith, spaces.1.inside, ap length none, length-drop tail text) in
+    (rw (← end) spaces, end)
+
+-- up to a tail nothing but spaces is cut
+pub cut_ends : (text : List ℕ) (from tail : ℕ) → AreSpaces text from tail → IsTail (drop tail text)
+    → IsCutFrom text from [] tail
+cut_ends text from tail spaces rest = record {
+  last = last_at text tail rest;
+  no_token = no_token_at text tail rest;
+  comes = tail_comes text from tail spaces rest;
+}
+
+-- a token is cut off in front of what is cut
+pub cut_cons : (text : List ℕ) (from tail : ℕ) (t : Placed) (ts : List Placed) → AreSpaces text from t.start
+    → IsWrittenAt text t → IsWhole text t → IsCutFrom text t.end ts tail → IsCutFrom text from (t ∷ ts) tail
+cut_cons text from tail t ts spaces written whole others = record {
+  last = others.last;
+  no_token = others.no_token;
+  comes = ((spaces, written, whole, refl), others.comes);
+}
 
 pub record SomeCut (text : List ℕ) (from : ℕ) : Type 0 where
   pub ts : List Placed
   pub tail : ℕ
   pub cut : IsCutFrom text from ts tail
 
-pub cut_from : (n : ℕ) (text : List ℕ) (from : ℕ) → from ≤ length text → IsUtf8 (drop from text)
-    → length text ≤ from + n → SomeCut text from
-cut_from zero text from le u enough =
-    let over : drop from text ≡ [] = drop_of_length-le text (omega (arith, enough)) in
-    record {
-      ts = [];
-      tail = from;
-      cut = record {
-        written = tt;
-        whole = tt;
-        rest = inl over;
-        apart = (
-          [],
-          record {
-            ordered = omega arith;
-            inside = le;
-            bytes = ap (take (from - from)) over
-                ∙ take_none (from - from);
-          },
-          refl,
-        );
-      };
-    }
+cut_from : (n : ℕ) (text : List ℕ) (from : ℕ) → from ≤ length text → IsUtf8 (drop from text)
+    → length text < from + n → SomeCut text from
+cut_from zero text from le u enough = absurd (omega (arith, le, enough))
 cut_from (suc n) text from le u enough =
     let r = run is_space space_is_ascii (drop from text) u in
     let at = from + length r.xs in
     let spaces : AreSpaces text from at = (r.xs, piece_at text from r.xs r.rest le r.parts, r.pass) in
     let left : drop at text ≡ r.rest = rest_at text from r.xs r.rest r.parts in
     elim (lex r.rest r.utf8 r.stops) [
-      | inl tail ↦
-          record {
-            ts =
-                [];
-            tail = at;
-            cut = record { written = tt; whole = tt; rest = rw left tail; apart = spaces };
-          }
+      | inl tail ↦ record { ts = []; tail = at; cut = cut_ends text from at spaces (rw left tail) }
       | inr x ↦
-          let end = at + length (written x.token) in
+          let t : Placed = record { token = x.token; start = at; end = at + length (written x.token) } in
           let here : drop at text ≡ written x.token ++ x.rest = left ∙ x.parts in
-          let piece : IsPiece text at end (written x.token) = piece_at text at
+          let piece : IsPiece text at t.end (written x.token) = piece_at text at
           (written x.token) x.rest spaces.1.inside here in
-          let behind : drop end text ≡ x.rest = rest_at text at (written x.token) x.rest here in
-          let others = cut_from n text end piece.inside (rw behind x.utf8)
+          let behind : drop t.end text ≡ x.rest = rest_at text at (written x.token) x.rest here in
+          let others = cut_from n text t.end piece.inside (rw behind x.utf8)
           (omega (arith, enough, written_length x.token x.well)) in
           record {
-            ts = record { token = x.token; start = at; end = end } ∷ others.ts;
+            ts = t ∷ others.ts;
             tail = others.tail;
-            cut = record {
-              written = ((x.well, piece), others.cut.written);
-              apart = (spaces, others.cut.apart);
-              whole = (rw behind x.ends, others.cut.whole);
-              rest = others.cut.rest;
-            };
+            cut = cut_cons text from others.tail t others.ts spaces (x.well, piece) (rw behind x.ends) others.cut;
           }
     ]
 
 -- each text has a cut
 pub some_cut : (text : List ℕ) → IsUtf8 text → (ts : List Placed) × (tail : ℕ) × IsCut text ts tail
 some_cut text u =
-    let c = cut_from (length text) text 0 (omega arith) u (omega arith) in
+    let c = cut_from (suc (length text)) text 0 (omega arith) u (omega arith) in
     (c.ts, c.tail, c.cut)

@@ -1,11 +1,10 @@
 -- In each grammar a text spells something, or has a fault, and not both.
-use Rattle.std.proofs.Common.{◌≡◌, refl, ap, subst, ℕ, Bool, true, false, List, [], ◌∷◌}
-use Rattle.std.proofs.Common.{◌++◌, Option, Some, None, inl, inr, ◌⊎◌, append_assoc, append-nil, length, length-drop}
-use Rattle.std.proofs.Common.{arith}
+use Rattle.std.proofs.Common.{◌≡◌, refl, subst, ℕ, Bool, true, false, List, [], ◌∷◌, ◌++◌, Option, Some, None, inl, inr}
+use Rattle.std.proofs.Common.{◌⊎◌, append_assoc, append-nil, length}
 use Rattle.std.specs.Prelude.{◌↔◌, IsTrue, IsUtf8}
 use Rattle.std.specs.List.{last_or}
 use Rattle.cargo_platform.specs.Tokens.{Lexeme, Placed}
-use Rattle.cargo_platform.specs.Cut.{IsCut, IsCutFrom, lexemes, Item, Token, Lexical, Nothing}
+use Rattle.cargo_platform.specs.Cut.{IsCut, lexemes, Item, Token, Lexical, Nothing, ComesBehind}
 use Rattle.cargo_platform.specs.Spelling.{Grammar, Values, Expressions, IsAccepted, IsValueText, IsTreeText}
 use Rattle.cargo_platform.specs.Faults.{IsCompletable, IsFaultPrefix, Fault, fault_of, IsRefused}
 use Rattle.cargo_platform.specs.Trees.{CfgValue, Tree}
@@ -13,7 +12,7 @@ use Rattle.cargo_platform.specs.Walk.{walk, is_whole}
 use Rattle.cargo_platform.proofs.Building.{stopped, completable_walks}
 use Rattle.cargo_platform.proofs.Completing.{walked_completes, whole_accepted, accepted_whole}
 use Rattle.cargo_platform.proofs.Prefixes.{lexemes-append, none_longer, longest_before}
-use Rattle.cargo_platform.proofs.Paths.{IsNext, cut_behind, comes_behind}
+use Rattle.cargo_platform.proofs.Paths.{next_before, comes_behind, end_is}
 use Rattle.cargo_platform.proofs.SomeCut.{some_cut}
 use Rattle.cargo_platform.proofs.Completable.{none_completable}
 
@@ -76,36 +75,28 @@ prefix_from g prefix (t ∷ ts) p =
       }
     ]
 
--- something follows the prefix of a cut
-some_next : (text : List ℕ) (from : ℕ) (prefix after : List Placed) (tail : ℕ)
-    → IsCutFrom text from (prefix ++ after) tail → (next : Item) × IsNext text after tail next
-some_next text from (t ∷ prefix) after tail cut =
-    some_next text t.end prefix after tail (cut_behind text from tail t (prefix ++ after) cut)
-some_next text from [] (t ∷ after) tail cut = (Token t, refl)
-some_next text from [] [] tail cut =
-    elim cut.rest [
-      | inl none ↦ (Nothing, omega (arith, cut.apart.1.inside, ap length none, length-drop tail text))
-      | inr f ↦ (Lexical f.0 tail, (refl, f.1))
-    ]
-
 -- an accepted prefix at the end is the whole text
-whole_text : (g : Grammar) (text : List ℕ) (prefix after : List Placed) (tail : ℕ) → IsCut text (prefix ++ after) tail
-    → IsNext text after tail Nothing → IsAccepted g (lexemes prefix) → SpellsSomething g text
-whole_text g text prefix (t ∷ after) tail cut h a = absurd (let e = h in cc)
-whole_text g text prefix [] tail cut h a =
-    spelling g prefix (rw (← h) (rw (← append-nil prefix) cut)) a
+whole_text : (g : Grammar) (text : List ℕ) (prefix after : List Placed) (tail : ℕ) (last : Item)
+    → ComesBehind text 0 (prefix ++ after) last tail → next_before last after ≡ Nothing → IsAccepted g (lexemes prefix)
+    → SpellsSomething g text
+whole_text g text prefix (t ∷ after) tail last cut h a = absurd cc
+whole_text g text prefix [] tail last cut h a =
+    let whole : ComesBehind text 0 prefix Nothing tail = rw (← h) (rw (← append-nil prefix) cut) in
+    spelling g prefix
+    (record { last = Nothing; no_token = refl; comes = rw (← end_is text 0 tail prefix whole) whole }) a
   where
     spelling : (g : Grammar) (ts : List Placed) → IsCut text ts (length text) → IsAccepted g (lexemes ts)
         → SpellsSomething g text
     spelling Values ts whole a = (a.0, (ts, whole, a.1))
     spelling Expressions ts whole a = (a.0, (ts, whole, a.1))
 
-at_next : (g : Grammar) (text : List ℕ) (ts prefix after : List Placed) (tail : ℕ) (next : Item) (accepted : Bool)
-    → IsCut text ts tail → IsFaultPrefix g ts prefix after → IsNext text after tail next
-    → (IsTrue accepted ↔ IsAccepted g (lexemes prefix)) → SpellsOrIsRefused g text
-at_next g text ts prefix after tail next accepted cut is follows told =
-    let C : List Placed → Type 0 = λ z. IsCut text z tail in
-    let comes = comes_behind text 0 tail prefix after next (subst C is.parts cut) follows in
+at_next : (g : Grammar) (text : List ℕ) (ts prefix after : List Placed) (tail : ℕ) (accepted : Bool)
+    → IsCut text ts tail → IsFaultPrefix g ts prefix after → (IsTrue accepted ↔ IsAccepted g (lexemes prefix))
+    → SpellsOrIsRefused g text
+at_next g text ts prefix after tail accepted cut is told =
+    let next : Item = next_before cut.last after in
+    let whole = subst (λ (z : List Placed). ComesBehind text 0 z cut.last tail) is.parts cut.comes in
+    let comes = comes_behind text 0 tail prefix after cut.last whole in
     elim (fault_of g text accepted (last_or None (lexemes prefix)) next) as
     (λ z. fault_of g text accepted (last_or None (lexemes prefix)) next ≡ z → SpellsOrIsRefused g text) [
       | Some fault ↦ λ table. inr (
@@ -127,7 +118,7 @@ at_next g text ts prefix after tail next accepted cut is follows told =
       )
       | None ↦ λ table.
           let end = faultless g accepted (last_or None (lexemes prefix)) next table in
-          inl (whole_text g text prefix after tail (subst C is.parts cut) (rw (← end.1) follows) (told.0 end.0))
+          inl (whole_text g text prefix after tail cut.last whole end.1 (told.0 end.0))
     ] refl
   where
     faultless : (g : Grammar) (accepted : Bool) (last : Option Lexeme) (next : Item)
@@ -144,6 +135,5 @@ pub spells_or_is_refused : (g : Grammar) (text : List ℕ) → IsUtf8 text → S
 spells_or_is_refused g text utf8 =
     let c = some_cut text utf8 in
     let f = prefix_from g [] c.0 (none_completable g) in
-    let n = some_next text 0 f.prefix f.after c.1 (rw (← f.is.parts) c.2) in
     let a = accepted_or g (lexemes f.prefix) f.is.completable in
-    at_next g text c.0 f.prefix f.after c.1 n.0 a.0 c.2 f.is n.1 a.1
+    at_next g text c.0 f.prefix f.after c.1 a.0 c.2 f.is a.1

@@ -1,8 +1,8 @@
 -- What well-written tokens spell is well-formed.
-use Rattle.std.proofs.Common.{ℕ, subst, List, [], ◌∷◌, ◌++◌, codes, inl, inr}
+use Rattle.std.proofs.Common.{ℕ, subst, List, [], ◌∷◌, ◌++◌, codes, inl, inr, length}
 use Rattle.std.specs.List.{AllByRecursion}
 use Rattle.cargo_platform.specs.Tokens.{Lexeme, RightParen, Comma, Placed, IsWellWritten}
-use Rattle.cargo_platform.specs.Cut.{IsWrittenAt, lexemes}
+use Rattle.cargo_platform.specs.Cut.{Item, ComesBehind, lexemes}
 use Rattle.cargo_platform.specs.Trees.{CfgValue, Alone, KeyPair, Tree, Not, All, Any, Value, True, False, Trees, none}
 use Rattle.cargo_platform.specs.Trees.{tree}
 use Rattle.cargo_platform.specs.Spelling.{SpellsValue, group, joined, IsMemberList, Spells, SpellEach, IsValueText}
@@ -64,14 +64,17 @@ mutual
   )
 
 -- the tokens of a cut are well written
-cut_written : (text : List ℕ) (ts : List Placed) → AllByRecursion (IsWrittenAt text) ts → AreWellWritten (lexemes ts)
-cut_written text [] w = tt
-cut_written text (t ∷ ts) w = (w.0.0, cut_written text ts w.1)
+cut_written : (text : List ℕ) (from tail : ℕ) (ts : List Placed) (last : Item) → ComesBehind text from ts last tail
+    → AreWellWritten (lexemes ts)
+cut_written text from tail [] last c = tt
+cut_written text from tail (t ∷ ts) last c = (c.0.1.0, cut_written text t.end tail ts last c.1)
 
 -- A text spells only well-formed values.
 pub spelled_well_formed_value : (text : List ℕ) (c : CfgValue) → IsValueText text c → IsWellFormedValue c
-spelled_well_formed_value text c p = well_formed_value c (lexemes p.0) (cut_written text p.0 p.1.written) p.2
+spelled_well_formed_value text c p =
+    well_formed_value c (lexemes p.0) (cut_written text 0 (length text) p.0 p.1.last p.1.comes) p.2
 
 -- A text spells only well-formed trees.
 pub spelled_well_formed : (text : List ℕ) (e : Tree) → IsTreeText text e → IsWellFormed e
-spelled_well_formed text e p = well_formed e (lexemes p.0) (cut_written text p.0 p.1.written) p.2
+spelled_well_formed text e p =
+    well_formed e (lexemes p.0) (cut_written text 0 (length text) p.0 p.1.last p.1.comes) p.2

@@ -1,7 +1,7 @@
 -- How a text is cut into tokens, and what is left that no token begins.
 use Rattle.std.specs.Prelude.{◌≡◌, ◌⊎◌, ℕ, ◌≤◌, Bool, true, false, List, [], ◌∷◌, ◌++◌, map, length, drop, codes}
 use Rattle.std.specs.Prelude.{slice_range, IsTrue, IsFalse, not, ◌&&◌, bytes_eq}
-use Rattle.std.specs.List.{list_all, AllByRecursion}
+use Rattle.std.specs.List.{list_all}
 use Rattle.cargo_platform.specs.declared.tokens.TokenFaultKind.{TokenFaultKind}
 use Rattle.cargo_platform.specs.declared.tokens.TokenFaultKind.TheVariants.{UnterminatedString, UnexpectedChar}
 use Rattle.cargo_platform.specs.declared.tokens.TokenFaultKind.TheVariants.{MissingIdentifier}
@@ -23,11 +23,6 @@ IsWrittenAt text t = IsWellWritten t.token × IsPiece text t.start t.end (writte
 -- only spaces stand from one place up to another
 abbrev pub AreSpaces : List ℕ → ℕ → ℕ → Type 0
 AreSpaces text start end = (spaces : List ℕ) × IsPiece text start end spaces × IsTrue (list_all is_space spaces)
-
--- the tokens follow one another from a place on, and only spaces stand before, between and after them, up to the tail
-abbrev pub AreApart : List ℕ → ℕ → List Placed → ℕ → Type 0
-AreApart text from [] tail = AreSpaces text from tail
-AreApart text from (t ∷ ts) tail = AreSpaces text from t.start × AreApart text t.end ts tail
 
 -- what follows does not go on with the token: no rest character follows an identifier, and no `#` an unmarked `r`
 abbrev pub EndsBefore : Lexeme → List ℕ → Type 0
@@ -55,26 +50,6 @@ BeginsFault text (UnexpectedChar c) =
     ((after rest : List ℕ) × (text ≡ codes "r#" ++ after) × BeginsWith after c rest × IsFalse (is_identifier_start c))
     ⊎ ((rest : List ℕ) × BeginsWith text c rest × IsFalse (is_known_start c))
 
--- the rest of a text in which no token begins: it is empty, or begins a lexical fault
-abbrev pub IsTail : List ℕ → Type 0
-IsTail rest = (rest ≡ []) ⊎ ((fault : TokenFaultKind) × BeginsFault rest fault)
-
--- What is left of a text from a place on: its tokens in their order, and the place at which its tail begins.
-pub record IsCutFrom (text : List ℕ) (from : ℕ) (ts : List Placed) (tail : ℕ) : Type 0 where
-  pub written : AllByRecursion (IsWrittenAt text) ts
-  pub apart : AreApart text from ts tail
-  pub whole : AllByRecursion (IsWhole text) ts
-  pub rest : IsTail (drop tail text)
-
--- the cut of a text
-abbrev pub IsCut : List ℕ → List Placed → ℕ → Type 0
-IsCut text ts tail = IsCutFrom text 0 ts tail
-
-abbrev pub lexemes : List Placed → List Lexeme
-lexemes ts = map (λ t. t.token) ts
-
--- ---- one item after another
-
 -- what comes next: a token, or a lexical fault and its place, or nothing
 pub data Item : Type 0 where
   Token : (t : Placed) → Item
@@ -96,3 +71,17 @@ abbrev pub is_token : Item → Bool
 is_token (Token t) = true
 is_token (Lexical fault at) = false
 is_token Nothing = false
+
+-- What is left of a text from a place on: its tokens, one after another, and the place at which its tail begins. There
+-- comes a lexical fault, or nothing.
+pub record IsCutFrom (text : List ℕ) (from : ℕ) (ts : List Placed) (tail : ℕ) : Type 0 where
+  pub last : Item
+  pub no_token : IsFalse (is_token last)
+  pub comes : ComesBehind text from ts last tail
+
+-- the cut of a text
+abbrev pub IsCut : List ℕ → List Placed → ℕ → Type 0
+IsCut text ts tail = IsCutFrom text 0 ts tail
+
+abbrev pub lexemes : List Placed → List Lexeme
+lexemes ts = map (λ t. t.token) ts

@@ -1,12 +1,12 @@
 -- How a tokenizer goes through the cut of its text, one call of `next` after another.
-use Rattle.std.specs.Prelude.{◌≡◌, ◌⊎◌, ℕ, ◌+◌, ◌-◌, ◌≤◌, Bool, true, false, List, ◌∷◌, length, drop, Option, Some}
+use Rattle.std.specs.Prelude.{◌≡◌, ◌⊎◌, ℕ, ◌+◌, ◌-◌, ◌≤◌, Bool, true, false, List, [], ◌∷◌, length, drop, Option, Some}
 use Rattle.std.specs.Prelude.{None, Result, Ok, Err, IsFalse, if◌then◌else◌}
 use Rattle.std.specs.Str.{IsCharBoundary, chars}
 use Rattle.cargo_platform.specs.declared.tokens.Spanned.{Spanned}
 use Rattle.cargo_platform.specs.declared.tokens.TokenFault.{TokenFault}
 use Rattle.cargo_platform.specs.Chars.{is_space}
 use Rattle.cargo_platform.specs.Tokens.{Placed, placed}
-use Rattle.cargo_platform.specs.Cut.{AreSpaces, Item, Token, Lexical, Nothing, Comes, ComesBehind, is_token}
+use Rattle.cargo_platform.specs.Cut.{AreSpaces, Item, Token, Lexical, Nothing, Comes, is_token}
 
 -- how far a tokenizer came in its text, whether it has given the fault of the tail, and its looks so far
 pub record Progress : Type 0 where
@@ -73,6 +73,12 @@ pub record IsRestFrom (text : List ℕ) (from : ℕ) (rest : List ℕ) : Type 0 
   pub bytes : rest ≡ drop start text
   pub begins : (b : ℕ) × (after : List ℕ) × (rest ≡ b ∷ after) × IsFalse (is_space b)
 
--- from the start of a text these tokens come, and then a fault at this place, or nothing where the text ends
+-- from this progress on, calls give these tokens one after another, and then a fault or nothing, at this place
+abbrev pub GivesEach : Progress → List Placed → ℕ → Type 0
+GivesEach old [] tail =
+    (last : Item) × (new : Progress) × IsFalse (is_token last) × Gives old new last × (new.place ≡ tail)
+GivesEach old (t ∷ ts) tail = (new : Progress) × Gives old new (Token t) × GivesEach new ts tail
+
+-- calls from the start of a text give these tokens, and then a fault at this place, or nothing where the text ends
 abbrev pub GoesThrough : List ℕ → List Placed → ℕ → Type 0
-GoesThrough text ts tail = (last : Item) × IsFalse (is_token last) × ComesBehind text 0 ts last tail
+GoesThrough text ts tail = GivesEach (record { text = text; place = 0; failed = false; looks = 0 }) ts tail

@@ -8,10 +8,11 @@ use Rattle.cargo_platform.specs.declared.tokens.TokenFaultKind.TheVariants.{Unte
 use Rattle.cargo_platform.specs.declared.tokens.TokenFaultKind.TheVariants.{MissingIdentifier}
 use Rattle.cargo_platform.specs.Chars.{is_space, is_quote, starts}
 use Rattle.cargo_platform.specs.Tokens.{Lexeme, LeftParen, RightParen, Ident, Comma, Equals, String, Placed, plain}
-use Rattle.cargo_platform.specs.Cut.{IsPiece, IsWrittenAt, AreSpaces, AreApart, EndsBefore, IsWhole, BeginsFault}
-use Rattle.cargo_platform.specs.Cut.{IsTail, IsCut, Token, Lexical, Nothing, Comes}
+use Rattle.cargo_platform.specs.Cut.{IsPiece, IsWrittenAt, AreSpaces, EndsBefore, IsWhole, BeginsFault}
+use Rattle.cargo_platform.specs.Cut.{IsCut, Token, Lexical, Nothing, Comes}
 use Rattle.cargo_platform.specs.Reading.{IsRestFrom}
-use Rattle.cargo_platform.proofs.OneCut.{tail_no_space, one_cut_from}
+use Rattle.cargo_platform.proofs.OneCut.{IsTail, tail_no_space, one_cut_from}
+use Rattle.cargo_platform.proofs.SomeCut.{cut_ends, cut_cons}
 use Rattle.cargo_platform.proofs.CutTests.{spaces, written_at, cut_by}
 
 abbrev pub at : Lexeme → ℕ → ℕ → Placed
@@ -41,13 +42,12 @@ unfolding encode_utf8
 wide_value = (((0xE9 ∷ [], (refl, refl)), refl), record { ordered = omega arith; inside = omega arith; bytes = refl })
 
 wide_pair : IsCut wide (at (Ident true (codes "a")) 0 3 ∷ at Equals 3 4 ∷ at (String (0xC3 ∷ 0xA9 ∷ [])) 4 8 ∷ []) 8
-wide_pair = record {
-  written =
-      (written_at _ (at (Ident true (codes "a")) 0 3) refl, (written_at _ (at Equals 3 4) refl, (wide_value, tt)));
-  apart = (spaces _ _ _ refl, (spaces _ _ _ refl, (spaces _ _ _ refl, spaces _ _ _ refl)));
-  whole = ((refl, refl), (tt, (tt, tt)));
-  rest = inl refl;
-}
+wide_pair =
+    cut_cons wide 0 8 (at (Ident true (codes "a")) 0 3) _ (spaces _ _ _ refl)
+    (written_at wide (at (Ident true (codes "a")) 0 3) refl) (refl, refl)
+    (cut_cons wide 3 8 (at Equals 3 4) _ (spaces _ _ _ refl) (written_at wide (at Equals 3 4) refl) tt
+    (cut_cons wide 4 8 (at (String (0xC3 ∷ 0xA9 ∷ [])) 4 8) [] (spaces _ _ _ refl) wide_value tt
+    (cut_ends wide 8 8 (spaces _ _ _ refl) (inl refl))))
 
 string_first : IsCut (codes "\"a\"b") (at (String (codes "a")) 0 3 ∷ word (codes "b") 3 4 ∷ []) 4
 string_first = cut_by _ _ _ refl (inl refl)
@@ -97,18 +97,18 @@ one_token_short : (tail : ℕ) → IsCut (codes "a b") (word (codes "a") 0 1 ∷
 one_token_short tail p = absurd (omega (arith, ap length (one_cut_from _ _ _ 0 tail 3 p a_b).0))
 
 split_name : (tail : ℕ) → IsCut (codes "ab") (word (codes "a") 0 1 ∷ word (codes "b") 1 2 ∷ []) tail → ⊥
-split_name tail p = true≢false p.whole.0.0
+split_name tail p = true≢false p.comes.0.2.0
 
 -- the span of a marked name without its mark
 bare_span : (tail : ℕ) → IsCut (codes "r#a") (at (Ident true (codes "a")) 2 3 ∷ []) tail → ⊥
-bare_span tail p = absurd (omega (arith, ap length p.written.0.1.bytes))
+bare_span tail p = absurd (omega (arith, ap length p.comes.0.1.1.bytes))
 
 tab_is_no_space : AreSpaces (0x09 ∷ []) 0 1 → ⊥
 tab_is_no_space p = true≢false (sym p.2 ∙ sym (ap (list_all is_space) p.1.bytes))
 
 -- a token that begins before the one ahead of it ends
-no_overlap : (ts : List Placed) (tail : ℕ) → AreApart (codes "ab") 1 (word (codes "ab") 0 2 ∷ ts) tail → ⊥
-no_overlap ts tail p = absurd (omega (arith, p.0.1.ordered))
+no_overlap : (to : ℕ) → Comes (codes "ab") 1 (Token (word (codes "ab") 0 2)) to → ⊥
+no_overlap to p = absurd (omega (arith, p.0.1.ordered))
 
 no_piece_outside : (piece : List ℕ) → IsPiece (codes "a") 0 2 piece → ⊥
 no_piece_outside piece p = absurd (omega (arith, p.inside))

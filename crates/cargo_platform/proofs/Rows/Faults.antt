@@ -5,7 +5,7 @@ use Rattle.std.specs.Char.{encode_utf8}
 use Rattle.std.specs.List.{last_or}
 use Rattle.cargo_platform.specs.declared.tokens.TokenFaultKind.TheVariants as lexical
 use Rattle.cargo_platform.specs.Tokens.{Lexeme, LeftParen, RightParen, Ident, Comma, Equals, String, Placed, plain}
-use Rattle.cargo_platform.specs.Cut.{BeginsFault, IsTail, lexemes}
+use Rattle.cargo_platform.specs.Cut.{BeginsFault, lexemes}
 use Rattle.cargo_platform.specs.Cut.{Item, Token, Lexical, Nothing, ComesBehind}
 use Rattle.cargo_platform.specs.Trees.{Alone, Value}
 use Rattle.cargo_platform.specs.Spelling.{Grammar, Values, Expressions}
@@ -17,11 +17,13 @@ use Rattle.cargo_platform.specs.Walk.{Several, State, Named, Keyed, walk, is_who
 use Rattle.cargo_platform.proofs.Walk.{none_some}
 use Rattle.cargo_platform.proofs.Building.{completable_walks}
 use Rattle.cargo_platform.proofs.Completing.{walked_completes}
-use Rattle.cargo_platform.proofs.Paths.{IsNext}
+use Rattle.cargo_platform.proofs.Paths.{next_before}
+use Rattle.cargo_platform.proofs.OneCut.{IsTail}
 use Rattle.cargo_platform.proofs.Prefixes.{goes_on, refused_walked}
 use Rattle.cargo_platform.proofs.Refused.{refused_spells_none}
 use Rattle.cargo_platform.proofs.OneFault.{one_fault}
-use Rattle.cargo_platform.proofs.CutTests.{is_cut_from, cut_by, spaces, written_at}
+use Rattle.cargo_platform.proofs.CutTests.{is_cut_from, comes_by, spaces, written_at}
+use Rattle.cargo_platform.proofs.SomeCut.{last_at, no_token_at}
 use Rattle.cargo_platform.proofs.Rows.Cut.{at, word, lone_a, something_comes}
 
 -- ---- what can be completed
@@ -126,13 +128,14 @@ accepted_at_end = refl
 
 -- a text, by its fault prefix and the tokens after it
 row : (text : List ℕ) (prefix behind : List Placed) (tail : ℕ) (s : State) (next : Item) (fault : Fault)
-    → is_cut_from text 0 (prefix ++ behind) tail ≡ true → IsTail (drop tail text)
-    → walk Expressions (lexemes prefix) ≡ Some s → goes_on Expressions s behind ≡ None → IsNext text behind tail next
+    → is_cut_from text 0 (prefix ++ behind) tail ≡ true → (rest : IsTail (drop tail text))
+    → walk Expressions (lexemes prefix) ≡ Some s
+    → goes_on Expressions s behind ≡ None → next_before (last_at text tail rest) behind ≡ next
     → fault_of Expressions text (is_whole s) (last_or None (lexemes prefix)) next ≡ Some fault
     → IsRefused Expressions text fault
 row text prefix behind tail s next fault cut rest walked stops follows table =
-    refused_walked Expressions text (prefix ++ behind) prefix behind tail s next fault
-    (cut_by text (prefix ++ behind) tail cut rest) refl walked stops follows table
+    refused_walked Expressions text prefix behind (last_at text tail rest) tail s fault (no_token_at text tail rest)
+    (comes_by text (prefix ++ behind) tail cut rest) walked stops (rw follows table)
 
 one_space : IsRefused Expressions (codes " ") (IncompleteExpr (codes "start of a cfg expression"))
 one_space = row _ [] [] 1 _ Nothing _ refl (inl refl) refl refl refl refl
@@ -251,7 +254,7 @@ string_in_group =
     ([], record { scalar = refl; parts = refl }, refl) in
     row _ (word (codes "all") 0 3 ∷ at LeftParen 3 4 ∷ word (codes "a") 4 5 ∷ []) [] 6 _
     (Lexical lexical.UnterminatedString 6) _ refl (inr (lexical.UnterminatedString, begins)) refl refl
-    (refl, begins) refl
+    refl refl
 
 string_behind : IsRefused Expressions (codes "a \"") (UnterminatedExpression (codes "\""))
 unfolding encode_utf8
@@ -259,18 +262,18 @@ string_behind =
     let begins : BeginsFault (codes "\"") lexical.UnterminatedString =
     ([], record { scalar = refl; parts = refl }, refl) in
     row _ (word (codes "a") 0 1 ∷ []) [] 2 _ (Lexical lexical.UnterminatedString 2) _ refl
-    (inr (lexical.UnterminatedString, begins)) refl refl (refl, begins) refl
+    (inr (lexical.UnterminatedString, begins)) refl refl refl refl
 
 -- a mark with no name is called a missing identifier, also where none may come
 mark_behind_word : IsRefused Expressions (codes "all r#") (IncompleteExpr (codes "identifier"))
 mark_behind_word =
     row _ (word (codes "all") 0 3 ∷ []) [] 4 _ (Lexical lexical.MissingIdentifier 4) _ refl
-    (inr (lexical.MissingIdentifier, refl)) refl refl (refl, refl) refl
+    (inr (lexical.MissingIdentifier, refl)) refl refl refl refl
 
 mark_behind_name : IsRefused Expressions (codes "a r#") (UnterminatedExpression (codes "r#"))
 mark_behind_name =
     row _ (word (codes "a") 0 1 ∷ []) [] 2 _ (Lexical lexical.MissingIdentifier 2) _ refl
-    (inr (lexical.MissingIdentifier, refl)) refl refl (refl, refl) refl
+    (inr (lexical.MissingIdentifier, refl)) refl refl refl refl
 
 -- a text has no second fault
 no_other_fault : (rest : List ℕ) → IsRefused Expressions (codes "all(a b \"") (UnterminatedExpression rest) → ⊥

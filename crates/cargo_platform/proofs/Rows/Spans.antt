@@ -1,19 +1,21 @@
 -- The spans of some faults.
-use Rattle.std.proofs.Common.{◌≡◌, refl, subst, ℕ, true, false, List, [], ◌∷◌, ◌++◌, Some, None, codes, inl, inr, drop}
+use Rattle.std.proofs.Common.{◌≡◌, refl, ℕ, true, false, List, [], ◌∷◌, ◌++◌, Some, None, codes, inl, inr, drop}
 use Rattle.std.specs.Char.{encode_utf8}
 use Rattle.std.specs.List.{last_or}
 use Rattle.std.specs.declared.ops.Range.{Range}
 use Rattle.cargo_platform.specs.declared.tokens.TokenFaultKind.TheVariants as lexical
 use Rattle.cargo_platform.specs.Tokens.{LeftParen, RightParen, Placed}
-use Rattle.cargo_platform.specs.Cut.{BeginsFault, IsTail, lexemes}
+use Rattle.cargo_platform.specs.Cut.{BeginsFault, lexemes}
 use Rattle.cargo_platform.specs.Cut.{Item, Lexical, Nothing}
 use Rattle.cargo_platform.specs.Spelling.{Expressions}
 use Rattle.cargo_platform.specs.Faults.{Fault, UnterminatedString, UnexpectedToken, IncompleteExpr}
 use Rattle.cargo_platform.specs.Faults.{UnterminatedExpression, fault_of, IsRefusedAt, from_to, span_of}
 use Rattle.cargo_platform.specs.Walk.{State, walk, is_whole}
-use Rattle.cargo_platform.proofs.Paths.{IsNext}
+use Rattle.cargo_platform.proofs.Paths.{next_before}
+use Rattle.cargo_platform.proofs.OneCut.{IsTail}
 use Rattle.cargo_platform.proofs.Prefixes.{goes_on, refused_walked_at}
-use Rattle.cargo_platform.proofs.CutTests.{is_cut_from, cut_by}
+use Rattle.cargo_platform.proofs.CutTests.{is_cut_from, comes_by}
+use Rattle.cargo_platform.proofs.SomeCut.{last_at, no_token_at}
 use Rattle.cargo_platform.proofs.Rows.Cut.{at, word}
 
 -- a character that begins no token, and one after a mark, where the mark is not meant
@@ -32,15 +34,16 @@ marked_behind = refl
 
 -- a text, by its fault prefix and the tokens after it, with its span
 row : (text : List ℕ) (prefix behind : List Placed) (tail : ℕ) (s : State) (next : Item) (fault : Fault)
-    (span : Range ℕ) → is_cut_from text 0 (prefix ++ behind) tail ≡ true → IsTail (drop tail text)
-    → walk Expressions (lexemes prefix) ≡ Some s → goes_on Expressions s behind ≡ None → IsNext text behind tail next
+    (span : Range ℕ) → is_cut_from text 0 (prefix ++ behind) tail ≡ true → (rest : IsTail (drop tail text))
+    → walk Expressions (lexemes prefix) ≡ Some s
+    → goes_on Expressions s behind ≡ None → next_before (last_at text tail rest) behind ≡ next
     → fault_of Expressions text (is_whole s) (last_or None (lexemes prefix)) next ≡ Some fault
     → span_of text (is_whole s) next ≡ span → IsRefusedAt Expressions text fault (Some span)
 row text prefix behind tail s next fault span cut rest walked stops follows table is =
-    let R : Range ℕ → Type 0 = λ z. IsRefusedAt Expressions text fault (Some z) in
-    subst R is
-    (refused_walked_at Expressions text (prefix ++ behind) prefix behind tail s next fault
-    (cut_by text (prefix ++ behind) tail cut rest) refl walked stops follows table)
+    rw (← is)
+    (rw (← follows)
+    (refused_walked_at Expressions text prefix behind (last_at text tail rest) tail s fault
+    (no_token_at text tail rest) (comes_by text (prefix ++ behind) tail cut rest) walked stops (rw follows table)))
 
 -- `all(a`
 abbrev all_a : List Placed
@@ -65,9 +68,9 @@ open_string =
     let begins : BeginsFault (codes "\"") lexical.UnterminatedString =
     ([], record { scalar = refl; parts = refl }, refl) in
     row _ all_a [] 6 _ (Lexical lexical.UnterminatedString 6) _ _ refl (inr (lexical.UnterminatedString, begins)) refl
-    refl (refl, begins) refl refl
+    refl refl refl refl
 
 empty_mark : IsRefusedAt Expressions (codes "all r#") (IncompleteExpr (codes "identifier")) (Some (from_to 6 6))
 empty_mark =
     row _ (word (codes "all") 0 3 ∷ []) [] 4 _ (Lexical lexical.MissingIdentifier 4) _ _ refl
-    (inr (lexical.MissingIdentifier, refl)) refl refl (refl, refl) refl refl
+    (inr (lexical.MissingIdentifier, refl)) refl refl refl refl refl
