@@ -1,5 +1,5 @@
 -- The print of a well-formed tree spells it.
-use Rattle.std.proofs.Common.{◌≡◌, refl, sym, ap, subst, ◌∙◌, ℕ, ◌+◌, ◌-◌, ◌≤◌, Bool, true, false, not, ◌&&◌, List, []}
+use Rattle.std.proofs.Common.{◌≡◌, refl, sym, ap, subst, ◌∙◌, ℕ, ◌+◌, ◌≤◌, Bool, true, false, not, ◌&&◌, List, []}
 use Rattle.std.proofs.Common.{◌∷◌, ◌++◌, codes, inl, append_assoc, append-nil, arith, length, drop, map}
 use Rattle.std.proofs.Common.{length-drop}
 use Rattle.std.proofs.Math.Bool.{and-false}
