@@ -1,5 +1,5 @@
 -- What comes at a place is what its bytes tell.
-use Rattle.std.proofs.Common.{◌≡◌, ◌≢◌, refl, sym, ap, subst, ◌∙◌, ℕ, ◌+◌, ◌-◌, ◌^◌, ◌<◌, ◌≤◌, true, false}
+use Rattle.std.proofs.Common.{◌≡◌, ◌≢◌, refl, sym, ap, ◌∙◌, ℕ, ◌+◌, ◌-◌, ◌^◌, ◌<◌, ◌≤◌, true, false}
 use Rattle.std.proofs.Common.{List, [], ◌∷◌}
 use Rattle.std.proofs.Common.{◌++◌, codes, inl, inr, true≢false, arith, length, drop, None}
 use Rattle.std.proofs.Common.{Some, Option}
@@ -15,7 +15,7 @@ use Rattle.cargo_platform.specs.Chars.{is_identifier_start, is_space}
 use Rattle.cargo_platform.specs.Chars.{starts}
 use Rattle.cargo_platform.specs.Tokens.{Lexeme, LeftParen, RightParen, Ident, Comma, Equals, String, written}
 use Rattle.cargo_platform.specs.Tokens.{IsWellWritten, Placed}
-use Rattle.cargo_platform.specs.Cut.{IsPiece, AreSpaces, EndsBefore, BeginsFault}
+use Rattle.cargo_platform.specs.Cut.{IsPiece, AreSpaces, BeginsFault}
 use Rattle.cargo_platform.specs.Reading.{characters_from}
 use Rattle.cargo_platform.specs.Cut.{Item, Token, Lexical, Nothing, is_token}
 use Rattle.cargo_platform.specs.Faults.{from_to}
@@ -86,11 +86,10 @@ rest_ahead text at u b past within = go (lex (drop at text) (IsUtf8-drop text at
     go (inl (inr f)) = (Lexical f.0 at, fault_ahead text at f.0 b.0 f.1, λ g last. refl)
     go (inr x) =
         let t : Placed = record { token = x.token; start = at; end = at + length (written x.token) } in
-        let E : List ℕ → Type 0 = λ z. EndsBefore x.token z in
-        let whole = subst E (sym (rest_at text at (written x.token) x.rest x.parts)) x.ends in
+        let behind = rest_at text at (written x.token) x.rest x.parts in
         let piece = piece_at text at (written x.token) x.rest b.0 x.parts in (
           Token t,
-          record { to = t.end; comes = (no_spaces text at b.0, (x.well, piece), whole, refl) },
+          record { to = t.end; comes = (no_spaces text at b.0, (x.well, piece), rw behind x.ends, refl) },
           λ g last. refl,
         )
 
@@ -106,8 +105,8 @@ whole_read text at seen fault looks r none = go fault r
     go : (fault : Option TokenFaultKind) → IsReadingAt text at seen fault looks → looks ≡ characters_from text 0 + 1
     go None r = omega (arith, r.each refl, characters_end text at at_end)
     go (Some k) r =
-        let B : List ℕ → Type 0 = λ z. BeginsFault z k in
-        absurd (no_fault k (subst B (drop_of_length-le text (omega (arith, at_end))) r.found))
+        let over : drop at text ≡ [] = drop_of_length-le text (omega (arith, at_end)) in
+        absurd (no_fault k (rw (← over) r.found))
 
 -- ---- what is not ahead
 
@@ -157,11 +156,10 @@ name_begins t r bs b w e (true, name, is) =
 name_begins t r bs b w e (false, name, is) = go name is
   where
     go : (name : List ℕ) → t ≡ Ident false name → is_identifier_start b ≡ true
-    go [] is = absurd (let W : Lexeme → Type 0 = λ z. IsWellWritten z in subst W is w)
+    go [] is = absurd (rw is at w)
     go (c ∷ cs) is =
-        let W : Lexeme → Type 0 = λ z. IsWellWritten z in
         let h : c ≡ b = head_of (sym (ap (λ (z : Lexeme). written z ++ r) is) ∙ e) in
-        sym (ap is_identifier_start h) ∙ (subst W is w).0
+        sym (ap is_identifier_start h) ∙ (rw is at w).0
 
 -- where no identifier may begin none is next
 pub lacks_name : (text : List ℕ) (at : ℕ) (seen : Look) → slice_index text at ≢ 0x20 → Shows text at seen

@@ -1,5 +1,5 @@
 -- Lists of tokens that can be completed: their prefixes, how many tokens complete them, and what can follow them.
-use Rattle.std.proofs.Common.{◌≡◌, refl, sym, ap, subst, ◌∙◌, ℕ, ◌+◌, ◌≤◌, suc, arith, Bool, true, false}
+use Rattle.std.proofs.Common.{◌≡◌, refl, sym, ap, ◌∙◌, ℕ, ◌+◌, ◌≤◌, suc, arith, Bool, true, false}
 use Rattle.std.proofs.Common.{true≢false, List, [], ◌∷◌, ◌++◌, Option, Some, None, codes, inl, inr, ◌⊎◌}
 use Rattle.std.proofs.Common.{append_assoc, length, length-append, cond}
 use Rattle.std.proofs.lemmas.Bool.{false_from_ne_true}
@@ -85,7 +85,7 @@ abbrev Opens : State → Lexeme → State → Type 0
 Opens s t st = depth st ≤ depth s + opened t
 
 moved : (s u : State) (t : Lexeme) (st : State) → Some u ≡ Some st → Opens s t u → Opens s t st
-moved s u t st h o = let P : State → Type 0 = λ z. Opens s t z in subst P (same_Some _ _ h) o
+moved s u t st h o = rw (← same_Some _ _ h) o
 
 ended_opens : (s : State) (ws : List Word) (t : Lexeme) (st : State) → depth s ≡ length ws
     → after_expression ws t ≡ Some st → Opens s t st

@@ -36,19 +36,15 @@ expression_span text inner (errors.Memory e) h orig span = tt
 pub read_expression : (text : List ℕ) (p : Platform) (e : CfgExpr) → p ≡ platform.Cfg e
     → IsConditionText text (condition_of p) → IsConditionText text (Expression (tree_of e))
 read_expression text p e is r =
-    let P : Platform → Type 0 = λ z. IsConditionText text (condition_of z) in
-    subst P is r
+    rw is at r
 
 pub name_is_no_expression : (text : List ℕ) (p : Platform) (s : String Global) → p ≡ platform.Name s
     → IsConditionText text (condition_of p) → (t : Tree) → IsConditionText text (Expression t) → ⊥
 name_is_no_expression text p s is r t q =
-    let P : Platform → Type 0 = λ z. IsConditionText text (condition_of z) in
-    (subst P is r).1 q.0 q.1
+    (rw is at r).1 q.0 q.1
 
 pub refused_is_no_expression : (text : List ℕ) (x : ReadError) (e : ParseError) → x ≡ errors.Parse e
     → IfParse {A = Platform} (Err x) (λ _. (c : Condition) → IsConditionText text c → ⊥)
     → (t : Tree) → IsConditionText text (Expression t) → ⊥
 refused_is_no_expression text x e is none t q =
-    let P : ReadError → Type 0 = λ z. IfParse {A = Platform} (Err z)
-    (λ _. (c : Condition) → IsConditionText text c → ⊥) in
-    (subst P is none) (Expression t) q
+    (rw is at none) (Expression t) q

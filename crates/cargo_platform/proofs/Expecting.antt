@@ -1,5 +1,5 @@
 -- The last token of a list that is walked tells what is expected after it, and so does the state.
-use Rattle.std.proofs.Common.{◌≡◌, refl, subst, ℕ, Bool, true, false, List, [], ◌∷◌, Option}
+use Rattle.std.proofs.Common.{◌≡◌, refl, ℕ, Bool, true, false, List, [], ◌∷◌, Option}
 use Rattle.std.proofs.Common.{Some, None, codes}
 use Rattle.std.specs.Prelude.{if◌then◌else◌}
 use Rattle.std.specs.List.{last_or}
@@ -43,7 +43,7 @@ named_matches Expressions raw name ws =
     λ beginning. picks (is_group_word n) (is_literal_word n) name beginning ws
 
 moved : (g : Grammar) (o : Option Lexeme) (s t : State) → Some s ≡ Some t → Matches g o s → Matches g o t
-moved g o s t h m = let P : State → Type 0 = λ z. Matches g o z in subst P (same_Some _ _ h) m
+moved g o s t h m = λ beginning. rw (← same_Some _ _ h) (m beginning)
 
 ended_matches : (g : Grammar) (ws : List Word) (t : Lexeme) (st : State) → after_expression ws t ≡ Some st
     → Matches g (Some t) st

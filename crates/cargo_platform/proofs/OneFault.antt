@@ -1,12 +1,12 @@
 -- A text has at most one fault.
-use Rattle.std.proofs.Common.{◌≡◌, refl, sym, subst, ◌∙◌, ℕ, Bool, true, false, List, ◌++◌, None, arith, length}
+use Rattle.std.proofs.Common.{◌≡◌, refl, sym, ◌∙◌, ℕ, Bool, true, false, List, ◌++◌, None, arith, length}
 use Rattle.std.proofs.Common.{take, drop}
 use Rattle.std.proofs.Math.Seq.{take-append_seam, drop-append_seam}
 use Rattle.std.specs.List.{last_or}
 use Rattle.std.proofs.lemmas.Option.{same_Some}
 use Rattle.cargo_platform.specs.Tokens.{Placed}
-use Rattle.cargo_platform.specs.Cut.{lexemes, ComesBehind}
-use Rattle.cargo_platform.specs.Spelling.{Grammar, IsAccepted}
+use Rattle.cargo_platform.specs.Cut.{lexemes}
+use Rattle.cargo_platform.specs.Spelling.{Grammar}
 use Rattle.cargo_platform.specs.Faults.{Fault, fault_of, IsRefused}
 use Rattle.cargo_platform.proofs.OneCut.{one_cut_from}
 use Rattle.cargo_platform.proofs.Paths.{one_behind}
@@ -33,14 +33,12 @@ one_place g text e f p q =
     let no_longer = q.is_prefix.longest p.prefix p.after (sym cut.0 ∙ p.is_prefix.parts) p.is_prefix.completable in
     let no_shorter = p.is_prefix.longest q.prefix q.after (cut.0 ∙ q.is_prefix.parts) q.is_prefix.completable in
     let same = same_prefix p.prefix p.after q.prefix q.after parts (omega (arith, no_longer, no_shorter)) in
-    let A : List Placed → Type 0 = λ z. IsAccepted g (lexemes z) in
     let accepted : p.accepted ≡ q.accepted =
-    same_truth p.accepted q.accepted (λ h. q.is_accepted.1 (subst A same.0 (p.is_accepted.0 h)))
-    (λ h. p.is_accepted.1 (subst A (sym same.0) (q.is_accepted.0 h))) in
-    let B : List Placed → Type 0 = λ z. ComesBehind text 0 z p.next p.place in (
+    same_truth p.accepted q.accepted (λ h. q.is_accepted.1 (rw (← same.0) (p.is_accepted.0 h)))
+    (λ h. p.is_accepted.1 (rw same.0 (q.is_accepted.0 h))) in (
       same.0,
       accepted,
-      one_behind text 0 p.place q.place q.prefix p.next q.next (subst B same.0 p.follows) q.follows,
+      one_behind text 0 p.place q.place q.prefix p.next q.next (rw (← same.0) p.follows) q.follows,
     )
 
 -- a text has at most one fault

@@ -36,7 +36,7 @@ use Rattle.cargo_platform.proofs.SomeCut.{written_length}
 -- ---- reading
 
 path_join : (l m n : Ahead) (us vs : List Placed) → Path l us m → Path m vs n → Path l (us ++ vs) n
-path_join l m n [] vs p q = let P : Ahead → Type 0 = λ z. Path z vs n in subst P p q
+path_join l m n [] vs p q = rw (← p) q
 path_join l m n (t ∷ us) vs p q = (p.0, p.1, path_join p.0 m n us vs p.2 q)
 
 leads_then : (g : Grammar) (p q r : Position) (us vs : List Placed) → steps g (Some p) (lexemes us) ≡ Some q
@@ -94,7 +94,7 @@ if_fault r P Q f p = IfSome_then (refused_at r) p f
 
 -- what is said of the fault, where there is one
 fault_is : (r : Refusal) (f : FaultAt) (P : FaultAt → Type 0) → refused_at r ≡ Some f → IfFault r P → P f
-fault_is r f P h p = let I : Option FaultAt → Type 0 = λ o. IfSome o P in subst I h p
+fault_is r f P h p = subst (λ (o : Option FaultAt). IfSome o P) h p
 
 -- a fault and its span, each by itself
 moved : (a f : Fault) (x : Range ℕ) (s : Option (Range ℕ)) (P : Fault → Option (Range ℕ) → Type 0) → Some a ≡ Some f

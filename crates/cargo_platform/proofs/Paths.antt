@@ -104,11 +104,9 @@ behind_spaces text from at to (t ∷ us) i s h = (comes_from text from at t.end 
 pub path_comes : (l m : Ahead) (us : List Placed) (i : Item) (to : ℕ) → Path l us m → Comes m.text m.place i to
     → ComesBehind l.text l.place us i to
 path_comes l m [] i to p c =
-    let C : Ahead → Type 0 = λ z. Comes z.text z.place i to in
-    subst C p c
+    rw (← p) c
 path_comes l m (t ∷ us) i to p c =
-    let B : List ℕ → Type 0 = λ z. ComesBehind z p.0.place us i to in
-    let others = subst B p.1.same_text (path_comes p.0 m us i to p.2 c) in
+    let others = rw p.1.same_text at (path_comes p.0 m us i to p.2 c) in
     (p.1.comes, behind_spaces l.text t.end p.0.place to us i p.1.spaces others)
 
 pub path_text : (l m : Ahead) (us : List Placed) → Path l us m → m.text ≡ l.text

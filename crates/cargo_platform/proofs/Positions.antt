@@ -98,15 +98,14 @@ word_open gs Negated ts h = (
   ap (λ (z : List Lexeme). z ++ LeftParen ∷ []) h.is
       ∙ append_assoc h.before (plain (codes "not") ∷ []) (LeftParen ∷ []),
 )
-word_open gs (Listed all es) ts h =
-    let E : List Tree → Type 0 = λ z. SpellEach (trees_of z) [] in (
-      h.before,
-      [],
-      h.wanted,
-      subst E (sym h.fresh) tt,
-      ap (λ (z : List Lexeme). z ++ LeftParen ∷ []) h.is
-          ∙ append_assoc h.before (plain (list_word all) ∷ []) (LeftParen ∷ []),
-    )
+word_open gs (Listed all es) ts h = (
+  h.before,
+  [],
+  h.wanted,
+  rw h.fresh tt,
+  ap (λ (z : List Lexeme). z ++ LeftParen ∷ []) h.is
+      ∙ append_assoc h.before (plain (list_word all) ∷ []) (LeftParen ∷ []),
+)
 
 name_ends : (gs : List Opening) (n : Name) (ts : List Lexeme) → Wants gs ts → MayStand (Alone n)
     → EndsWith gs (Value (Alone n)) (ts ++ identifier n ∷ [])
@@ -198,7 +197,7 @@ Holds (WithKey n gs) ts = HasKey gs n ts
 Holds (WithTree e gs) ts = EndsWith gs e ts
 
 moved : (p q : Position) (ts : List Lexeme) → Some p ≡ Some q → Holds p ts → Holds q ts
-moved p q ts h o = let H : Position → Type 0 = λ z. Holds z ts in subst H (same_Some _ _ h) o
+moved p q ts h o = rw (← same_Some _ _ h) o
 
 no_position : {A : Type 0} {p : Position} → None ≡ Some p → A
 no_position h = absurd cc
@@ -279,8 +278,7 @@ all_hold p before (t ∷ ts) q o h =
 
 whole_spelled : (e : Tree) (ts : List Lexeme) → EndsWith [] e ts → Spells e ts
 whole_spelled e ts (before, s, none, spelled, is) =
-    let P : List Lexeme → Type 0 = λ z. Spells e z in
-    subst P (sym (ap (λ (z : List Lexeme). z ++ s) none) ∙ sym is) spelled
+    rw is (rw none spelled)
 
 -- what leads to an expression with nothing open spells it
 pub tree_spelled : (e : Tree) (ts : List Lexeme) → steps Expressions (Some start) ts ≡ Some (WithTree e []) → Spells e ts

@@ -187,21 +187,19 @@ module _ {W : Type 0} (took : W → List ℕ → W → Type 0) where
   pub end_written : (f g h : Formatter W) (text : List ℕ) (n m : ℕ) → HasWrittenBut took f text (closed n) g
       → HasWritten took g (codes ")") h → n ≡ suc m → HasWrittenBut took f text (closed m) h
   end_written f g h text n m so_far one is =
-      let P : ℕ → Type 0 = λ z. HasWrittenBut took f text (closed z) g in
-      piece_written took f g h text (codes ")") (closed m) (subst P is so_far) one
+      piece_written took f g h text (codes ")") (closed m) (rw is at so_far) one
 
   pub all_ends_written : (f g : Formatter W) (text : List ℕ) (n : ℕ) → HasWrittenBut took f text (closed n) g → n ≡ zero
       → HasWritten took f text g
   all_ends_written f g text n so_far is =
-      let P : ℕ → Type 0 = λ z. HasWrittenBut took f text (closed z) g in
-      all_written took f g text (subst P is so_far)
+      all_written took f g text (rw is at so_far)
 
   -- no member is left
   pub no_member_left : (f g : Formatter W) (text : List ℕ) (ls : List CfgExpr) → length ls ≡ 0
       → HasWrittenBut took f text (begun_members (trees_of (map tree_of ls))) g → HasWrittenBut took f text [] g
   no_member_left f g text ls gone so_far =
-      let P : List CfgExpr → Type 0 = λ z. HasWrittenBut took f text (begun_members (trees_of (map tree_of z))) g in
-      subst P (nil_from_length ls gone) so_far
+      subst (λ (z : List CfgExpr). HasWrittenBut took f text (begun_members (trees_of (map tree_of z))) g)
+      (nil_from_length ls gone) so_far
 
   -- the beginning of an expression, and the parentheses that end it
   pub whole_written : (f g h : Formatter W) (e : Tree) → HasWrittenBut took f (begun e) [] g

@@ -1,5 +1,5 @@
 -- A text with a first fault spells nothing of the grammar.
-use Rattle.std.proofs.Common.{◌≡◌, ℕ, refl, sym, ap, subst, ◌∙◌, ◌≤◌, true, List, [], ◌∷◌, ◌++◌, Some, None, append-nil}
+use Rattle.std.proofs.Common.{◌≡◌, ℕ, refl, sym, ap, ◌∙◌, ◌≤◌, true, List, [], ◌∷◌, ◌++◌, Some, None, append-nil}
 use Rattle.std.proofs.Common.{arith, length, length-append}
 use Rattle.std.specs.List.{last_or}
 use Rattle.cargo_platform.specs.Tokens.{Lexeme, Placed}
@@ -12,8 +12,7 @@ use Rattle.cargo_platform.proofs.Paths.{next_before, behind_is, whole_ends}
 
 -- what is accepted needs no further tokens
 pub accepted_completes : (g : Grammar) (ts : List Lexeme) → IsAccepted g ts → IsCompletable g ts
-accepted_completes g ts p = let A : List Lexeme
-    → Type 0 = λ z. IsAccepted g z in ([], tt, subst A (sym (append-nil ts)) p)
+accepted_completes g ts p = ([], tt, rw (append-nil ts) p)
 
 -- nothing is after a prefix that is as long as the list
 no_more : (prefix after : List Placed) → length (prefix ++ after) ≤ length prefix → after ≡ []
@@ -28,17 +27,13 @@ pub refused_accepts_none : (g : Grammar) (text : List ℕ) (f : Fault) (ts : Lis
     → IsCut text ts (length text) → IsAccepted g (lexemes ts) → ⊥
 refused_accepts_none g text f ts r cut p =
     let same = one_cut_from text r.ts ts 0 r.tail (length text) r.cut cut in
-    let A : List Placed → Type 0 = λ z. IsAccepted g (lexemes z) in
-    let whole : IsAccepted g (lexemes r.ts) = subst A (sym same.0) p in
+    let whole : IsAccepted g (lexemes r.ts) = rw same.0 p in
     let none = no_more r.prefix r.after
-    (let L : List Placed
-    → Type 0 =
-    λ z. length z ≤ length r.prefix in
-    subst L r.is_prefix.parts
+    (rw (← r.is_prefix.parts)
     (r.is_prefix.longest r.ts [] (sym (append-nil r.ts)) (accepted_completes g (lexemes r.ts) whole))) in
     let prefix_is : r.ts ≡ r.prefix = r.is_prefix.parts ∙ ap (λ (z : List Placed). r.prefix ++ z) none
     ∙ append-nil r.prefix in
-    let yes : r.accepted ≡ true = r.is_accepted.1 (subst A prefix_is whole) in
+    let yes : r.accepted ≡ true = r.is_accepted.1 (rw (← prefix_is) whole) in
     let next = behind_is text 0 r.place r.tail r.prefix r.after r.cut.last r.next
     (rw (← r.is_prefix.parts) r.cut.comes) r.follows in
     let end = whole_ends text 0 r.tail r.ts r.cut.last same.1 r.cut.no_token r.cut.comes in

@@ -11,7 +11,7 @@ use Rattle.cargo_platform.specs.Spelling.{Grammar}
 use Rattle.cargo_platform.specs.Faults.{Fault, fault_of, span_of, IsRefusedAt}
 use Rattle.cargo_platform.specs.Walk.{Position, start, step, is_whole, state_of}
 use Rattle.cargo_platform.specs.Inside.Ahead.{Ahead, NextIs, Path}
-use Rattle.cargo_platform.specs.Inside.Refusals.{FaultAt, placed_fault, fault_at_of}
+use Rattle.cargo_platform.specs.Inside.Refusals.{FaultAt, placed_fault}
 use Rattle.cargo_platform.specs.Inside.Parsing.{IsStop, IfFault, StopsAt, Stops}
 use Rattle.cargo_platform.proofs.Building.{state_at, next_state, led_state}
 use Rattle.cargo_platform.proofs.Prefixes.{goes_on, refused_walked_at}
@@ -24,8 +24,7 @@ goes_not_on : (g : Grammar) (left : List Placed) (p : Position) (last next : Ite
     → IsStop g p next → goes_on g (state_of p) left ≡ None
 goes_not_on g [] p last next f h = refl
 goes_not_on g (t ∷ us) p last next f h =
-    let S : Item → Type 0 = λ z. IsStop g p z in
-    let none : step g p t.token ≡ None = subst S f h in
+    let none : step g p t.token ≡ None = rw f at h in
     next_state g p t.token ∙ ap state_at none
 
 -- what comes next at the end of a way through a text from its start on, where spaces stand
@@ -55,11 +54,9 @@ stops_refused g text l r utf8 same spaces h =
         let c = some_cut text utf8 in
         let left = first_left text 0 a.comes.to c.1 a.us c.0 a.next c.2.last c.2.no_token c.2.comes w in
         let cut = subst (λ (z : List Placed). ComesBehind text 0 z c.2.last c.1) left.1 c.2.comes in
-        let F : List ℕ → Type 0 =
-        λ z. fault_at_of g z (is_whole s) (last_or None (lexemes a.us)) a.next ≡ Some f in
         let both = parts_of (span_of text (is_whole s) a.next)
         (fault_of g text (is_whole s) (last_or None (lexemes a.us)) a.next) f
-        (subst F (path_text l a.stop a.us a.path ∙ same) (a.is (lexemes a.us) a.leads)) in
+        (rw (path_text l a.stop a.us a.path ∙ same) at (a.is (lexemes a.us) a.leads)) in
         rw (← both.1)
         (rw left.2
         (refused_walked_at g text a.us left.0 c.2.last c.1 s f.fault c.2.no_token cut

@@ -1,10 +1,10 @@
 -- One call of `next` after another gives the cut.
-use Rattle.std.proofs.Common.{◌≡◌, refl, sym, ap, subst, ◌∙◌, ℕ, Bool, true, false, true≢false, List, [], ◌∷◌, inl}
+use Rattle.std.proofs.Common.{◌≡◌, refl, sym, ap, ◌∙◌, ℕ, Bool, true, false, true≢false, List, [], ◌∷◌, inl}
 use Rattle.std.proofs.Common.{inr, arith, length, Option, Some, None, Result, Ok, Err}
 use Rattle.cargo_platform.specs.declared.tokens.Spanned.{Spanned}
 use Rattle.cargo_platform.specs.declared.tokens.TokenFault.{TokenFault}
 use Rattle.cargo_platform.specs.Tokens.{Placed}
-use Rattle.cargo_platform.specs.Cut.{Nothing, Comes, ComesBehind, IsCutFrom}
+use Rattle.cargo_platform.specs.Cut.{Nothing, Comes, IsCutFrom}
 use Rattle.cargo_platform.specs.Reading.{Progress, given, is_lexical, GivesEach}
 use Rattle.cargo_platform.specs.CutLaws.{CutsAreRead, IsReadAlike, GivesNoMore, EndsForGood, FailsOnce}
 use Rattle.cargo_platform.proofs.OneCut.{one_comes, one_cut_from}
@@ -18,13 +18,11 @@ read_cut p [] tail (last, new, none, g, at) =
     record { last = last; no_token = none; comes = rw (← at) g.comes }
 read_cut p (t ∷ ts) tail (new, g, more) =
     let others = read_cut new ts tail more in
-    let C : List ℕ → Type 0 = λ z. ComesBehind z new.place ts others.last tail in
-    let D : ℕ → Type 0 = λ k. ComesBehind p.text k ts others.last tail in
     cut_cons p.text p.place tail t ts g.comes.0 g.comes.1 g.comes.2
     (record {
       last = others.last;
       no_token = others.no_token;
-      comes = subst D g.comes.3 (subst C g.same_text others.comes);
+      comes = rw (← g.comes.3) (rw (← g.same_text) others.comes);
     })
 
 -- ---- the cut is read

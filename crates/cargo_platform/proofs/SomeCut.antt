@@ -1,5 +1,5 @@
 -- Each text has a cut.
-use Rattle.std.proofs.Common.{◌≡◌, refl, sym, ap, subst, ◌∙◌, ℕ, zero, suc, ◌+◌, ◌-◌, ◌<◌, ◌≤◌, Bool, true, false, not}
+use Rattle.std.proofs.Common.{◌≡◌, refl, sym, ap, ◌∙◌, ℕ, zero, suc, ◌+◌, ◌-◌, ◌<◌, ◌≤◌, Bool, true, false, not}
 use Rattle.std.proofs.Common.{◌&&◌, ◌||◌, List, [], ◌∷◌, ◌++◌, codes, inl, inr, ◌⊎◌, true≢false, append_assoc, arith}
 use Rattle.std.proofs.Common.{length, take, drop, length-drop, length-append, lit≤}
 use Rattle.std.proofs.Math.Seq.{take-append_seam, drop-append_seam, get_or-append_seam}
@@ -81,13 +81,12 @@ quoted (b ∷ bs) =
 pub ascii_sides : (b : ℕ) (text v rest : List ℕ) → b < 128 → IsUtf8 text → text ≡ v ++ (b ∷ rest)
     → IsUtf8 v × IsUtf8 rest
 ascii_sides b text v rest ascii u h =
-    let P : List ℕ → Type 0 = λ z. IsUtf8 z in
-    let w : IsUtf8 (v ++ (b ∷ rest)) = subst P h u in
+    let w : IsUtf8 (v ++ (b ∷ rest)) = rw (← h) u in
     let at : IsCharBoundary (v ++ (b ∷ rest)) (length v) =
     IsCharBoundary-before_ascii (v ++ (b ∷ rest)) (length v) (omega (arith, length-append v (b ∷ rest)))
     (omega (arith, ascii, get_or-append_seam v b rest 0)) in (
-      subst P (take-append_seam v (b ∷ rest)) (IsUtf8-take (v ++ (b ∷ rest)) (length v) w at),
-      ascii_rest b rest ascii (subst P (drop-append_seam v (b ∷ rest)) (IsUtf8-drop (v ++ (b ∷ rest)) (length v) w at)),
+      rw (take-append_seam v (b ∷ rest)) at (IsUtf8-take (v ++ (b ∷ rest)) (length v) w at),
+      ascii_rest b rest ascii (rw (drop-append_seam v (b ∷ rest)) at (IsUtf8-drop (v ++ (b ∷ rest)) (length v) w at)),
     )
 
 -- the first character

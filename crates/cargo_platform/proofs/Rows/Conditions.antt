@@ -1,5 +1,5 @@
 -- Which texts are target names and conditions, which are not, and what is said of those that are refused.
-use Rattle.std.proofs.Common.{◌≡◌, refl, sym, ap, ◌∙◌, subst, ℕ, true, false, true≢false, List, [], ◌∷◌, codes, map}
+use Rattle.std.proofs.Common.{◌≡◌, refl, sym, ap, ◌∙◌, ℕ, true, false, true≢false, List, [], ◌∷◌, codes, map}
 use Rattle.std.proofs.Common.{inl, inr, arith, length, length-append, get_or}
 use Rattle.std.specs.Prelude.{IsTrue, IsFalse, ◌==◌}
 use Rattle.std.specs.Char.{encode_utf8}
@@ -13,8 +13,7 @@ use Rattle.unicode.specs.GeneralCategory.{general_category}
 use Rattle.unicode.specs.declared.properties.GeneralCategory.TheVariants.{DecimalNumber, OtherNumber, NonspacingMark}
 use Rattle.cargo_platform.specs.Chars.{starts}
 use Rattle.cargo_platform.specs.Trees.{Condition, Target, Expression}
-use Rattle.cargo_platform.specs.Spelling.{Expressions}
-use Rattle.cargo_platform.specs.Faults.{Fault, UnexpectedToken, InvalidTarget, IsRefused}
+use Rattle.cargo_platform.specs.Faults.{Fault, UnexpectedToken, InvalidTarget}
 use Rattle.cargo_platform.specs.Platforms.{is_number_category, is_target_char, IsTargetName, IsCfgOf, IsBare}
 use Rattle.cargo_platform.specs.Platforms.{IsConditionText, IsFirstRefused, IsTargetMessage, IsRefusedCondition}
 use Rattle.cargo_platform.proofs.TargetNames.{name_is_bare, refused_is_no_name}
@@ -177,6 +176,5 @@ refused_expression = inl (refl, lone_parenthesis)
 
 whole_condition : (orig : List ℕ) (fault : Fault) → IsRefusedCondition (codes "cfg(a)") orig fault → ⊥
 whole_condition orig fault (inl p) =
-    let R : List ℕ → Type 0 = λ z. IsRefused Expressions z fault in
-    whole_is_not_refused fault (subst R (one_inner (codes "cfg(a)") orig (codes "a") p.0 cfg_of_a) p.1)
+    whole_is_not_refused fault (rw (one_inner (codes "cfg(a)") orig (codes "a") p.0 cfg_of_a) at p.1)
 whole_condition orig fault (inr p) = cfg_is_not_bare p.0

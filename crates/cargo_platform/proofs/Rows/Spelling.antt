@@ -1,5 +1,5 @@
 -- What some lists of tokens and some texts spell, and that others spell nothing.
-use Rattle.std.proofs.Common.{◌≡◌, refl, sym, ap, subst, Bool, true, false, true≢false, List, [], ◌∷◌, None, codes, inl}
+use Rattle.std.proofs.Common.{◌≡◌, refl, sym, ap, Bool, true, false, true≢false, List, [], ◌∷◌, None, codes, inl}
 use Rattle.std.proofs.Common.{inr, append-nil, arith, length}
 use Rattle.std.specs.Prelude.{IsTrue, IsFalse}
 use Rattle.cargo_platform.specs.Tokens.{Lexeme, LeftParen, RightParen, Ident, Comma, Equals, String, plain}
@@ -126,8 +126,7 @@ two_commas (inr p) = absurd (omega (arith, ap length p))
 
 -- where no walk is, nothing is spelled
 unwalked : (ts : List Lexeme) → walk Expressions ts ≡ None → IsAccepted Expressions ts → ⊥
-unwalked ts h p = let A : List Lexeme
-    → Type 0 = λ z. IsAccepted Expressions z in stopped Expressions ts [] h (subst A (sym (append-nil ts)) p)
+unwalked ts h p = stopped Expressions ts [] h (rw (append-nil ts) p)
 
 no_tokens : IsAccepted Expressions [] → ⊥
 no_tokens p = true≢false (sym (accepted_whole Expressions _ [] refl p))

@@ -1,9 +1,8 @@
-use Rattle.std.proofs.Common.{sym, subst}
 use Rattle.std.proofs.lemmas.Result.{err_from_is_err_and}
-use Rattle.cargo_platform.specs.Trees.{Tree, Value, tree_of, value_of}
+use Rattle.cargo_platform.specs.Trees.{Value, tree_of, value_of}
 use Rattle.cargo_platform.specs.Spelling.{Expressions}
 use Rattle.cargo_platform.specs.Walk.{Wanting, WithWord, WithTree}
-use Rattle.cargo_platform.specs.Inside.Parsing.{opening, stack, at_name, at_lone_name, Reads, IsClear}
+use Rattle.cargo_platform.specs.Inside.Parsing.{opening, stack, at_name, at_lone_name}
 use Rattle.cargo_platform.proofs.TreeViews.{tree_of-Value}
 use Rattle.cargo_platform.proofs.Parsing.{reads_same, reads_then, stops_then, at_word, at_literal, at_plain}
 use Rattle.cargo_platform.proofs.parser.behind_name.Goals as goal
@@ -52,8 +51,7 @@ returns-clause-begun c =
     let raw = c.args.raw in
     let name = c.args.name.now in
     let v = c.in_ok-value.value in
-    let H : Tree → Type 0 = λ z. Reads Expressions l m (at_name raw name gs) (WithTree z gs) in
-    subst H (sym (tree_of-Value v))
+    rw (tree_of-Value v)
     (reads_then Expressions l l m (at_name raw name gs) (at_lone_name raw name gs) (WithTree (Value (value_of v)) gs)
     (reads_same Expressions l (at_name raw name gs) (at_lone_name raw name gs)
     (at_plain raw name gs (c.in_default.ensures, c.in_default-literal_named.ensures)))
@@ -61,8 +59,7 @@ returns-clause-begun c =
 
 pub returns-clause-clear : goal.returns-clause-clear
 returns-clause-clear c =
-    let C : Tree → Type 0 = λ z. IsClear z c.read_value.new.reader.ahead in
-    subst C (sym (tree_of-Value c.in_ok-value.value)) c.in_ok-value.ensures.clear
+    rw (tree_of-Value c.in_ok-value.value) c.in_ok-value.ensures.clear
 
 pub returns-in_err-open_group-clause-refused : goal.returns-in_err-open_group-clause-refused
 returns-in_err-open_group-clause-refused c =

@@ -1,8 +1,8 @@
-use Rattle.std.proofs.Common.{◌≡◌, refl, sym, subst}
+use Rattle.std.proofs.Common.{◌≡◌, refl}
 use Rattle.cargo_platform.specs.Tokens.{Equals, String}
-use Rattle.cargo_platform.specs.Trees.{Name, CfgValue, KeyPair, Value}
+use Rattle.cargo_platform.specs.Trees.{Name, KeyPair, Value}
 use Rattle.cargo_platform.specs.Walk.{WithKey, WithTree}
-use Rattle.cargo_platform.specs.Inside.Parsing.{at_lone_name, Reads}
+use Rattle.cargo_platform.specs.Inside.Parsing.{at_lone_name}
 use Rattle.cargo_platform.proofs.Parsing.{reads_taken, reads_then, stops_then, key_stops}
 use Rattle.cargo_platform.proofs.parser.read_value.Goals as goal
 
@@ -26,8 +26,7 @@ returns-clause-value c = λ g gs.
     let v = c.in-Some.value.now in
     let p = at_lone_name c.args.raw c.args.name.now gs in
     let is : KeyPair _ _ ≡ KeyPair _ _ = λ i. KeyPair (c.in_ok-key.ensures i) (c.in_ok-value.ensures.ok i) in
-    let Q : CfgValue → Type 0 = λ z. Reads g l n p (WithTree (Value z) gs) in
-    subst Q (sym is)
+    rw is
     (reads_then g l m n p (WithKey k gs) (WithTree (Value (KeyPair k v)) gs)
     (reads_taken g l m Equals p (WithKey k gs) (c.eat.ensures.taken c.if-not-eat.false) refl)
     (reads_taken g m n (String v) (WithKey k gs) (WithTree (Value (KeyPair k v)) gs) c.in-Some.ensures.taken refl))

@@ -1,8 +1,8 @@
 use Rattle.std.proofs.Common.{◌≡◌, refl, sym, ap, subst, ◌∙◌, ◌+◌, ℕ, List, ◌++◌, arith}
 use Rattle.cargo_platform.specs.Tokens.{Lexeme, written}
-use Rattle.cargo_platform.specs.Inside.Ahead.{Ahead, Standing}
+use Rattle.cargo_platform.specs.Inside.Ahead.{Standing}
 use Rattle.cargo_platform.specs.Inside.Looking.{IsReadingAt}
-use Rattle.cargo_platform.specs.Inside.Parsing.{TakesToken, Lacks, lexeme_of}
+use Rattle.cargo_platform.specs.Inside.Parsing.{TakesToken, lexeme_of}
 use Rattle.cargo_platform.proofs.OneCut.{head_of}
 use Rattle.cargo_platform.proofs.Looking.{ascii_step}
 use Rattle.cargo_platform.proofs.Coming.{ahead_at, lacks, punctuation_stands, token_no_fault, reads_on, takes}
@@ -12,10 +12,9 @@ pub returns-then-not-is_byte-clause-not_taken : goal.returns-then-not-is_byte-cl
 returns-then-not-is_byte-clause-not_taken c = λ _.
     let r = c.self.inside in
     let i = c.self.invariant in
-    let P : Lexeme → Type 0 = λ t. t ≡ lexeme_of c.args.wanted in
-    let L : Ahead → Type 0 = λ z. Lacks P z in (
+    let P : Lexeme → Type 0 = λ t. t ≡ lexeme_of c.args.wanted in (
       refl,
-      subst L (ap (λ (z : Standing). z.ahead) c.self.view_is)
+      rw (← ap (λ (z : Standing). z.ahead) c.self.view_is)
           (lacks P r.source.text.now r.place r.seen i.past i.sees (λ t b bs rest p w e s.
           let first : c.byte_of.result ≡ b = head_of
           (sym (ap (λ (z : Lexeme). written z ++ rest) p ∙ ap (λ (z : List ℕ). z ++ rest) c.byte_of.ensures) ∙ e) in

@@ -4,10 +4,9 @@ use Rattle.std.specs.List.{between}
 use Rattle.cargo_platform.specs.declared.source.Look.TheVariants.{Ascii}
 use Rattle.cargo_platform.specs.Chars.{is_identifier_start}
 use Rattle.cargo_platform.specs.Tokens.{Ident}
-use Rattle.cargo_platform.specs.Inside.Ahead.{Ahead, Standing}
+use Rattle.cargo_platform.specs.Inside.Ahead.{Standing}
 use Rattle.cargo_platform.specs.Inside.Looking.{IsReadingAt}
-use Rattle.cargo_platform.specs.Inside.Parsing.{IsIdentifier}
-use Rattle.cargo_platform.specs.Inside.Parsing.{TakesToken, Lacks}
+use Rattle.cargo_platform.specs.Inside.Parsing.{TakesToken}
 use Rattle.cargo_platform.specs.Inside.Scanning.{IsTokenAt}
 use Rattle.cargo_platform.proofs.Looking.{ascii_step}
 use Rattle.cargo_platform.proofs.Scanning.{plain_stands}
@@ -40,10 +39,9 @@ eat_name_with_r-requires c = λ t is.
 pub returns-then-not-begins_identifier-clause-not_taken : goal.returns-then-not-begins_identifier-clause-not_taken
 returns-then-not-begins_identifier-clause-not_taken c =
     let r = c.self.inside in
-    let i = c.self.invariant in
-    let L : Ahead → Type 0 = λ z. Lacks IsIdentifier z in (
+    let i = c.self.invariant in (
       refl,
-      subst L (ap (λ (z : Standing). z.ahead) c.self.view_is)
+      rw (← ap (λ (z : Standing). z.ahead) c.self.view_is)
           (lacks_name r.source.text.now r.place r.seen i.past i.sees (λ b s h.
           let same : Ascii c.in-Ascii.first ≡ Ascii b = sym c.in-Ascii.is ∙ s in
           let byte : c.in-Ascii.first ≡ b = cc in

@@ -2,10 +2,10 @@ use Rattle.std.proofs.Common.{◌≡◌, refl, sym, ap, subst, ◌∙◌, ◌+�
 use Rattle.std.specs.List.{between}
 use Rattle.cargo_platform.specs.declared.tokens.TokenFaultKind.TheVariants.{UnterminatedString}
 use Rattle.cargo_platform.specs.Tokens.{Lexeme, String, written}
-use Rattle.cargo_platform.specs.Inside.Ahead.{Ahead, Standing}
+use Rattle.cargo_platform.specs.Inside.Ahead.{Standing}
 use Rattle.cargo_platform.specs.Inside.Looking.{IsReadingAt}
 use Rattle.cargo_platform.specs.Inside.Parsing.{IsString}
-use Rattle.cargo_platform.specs.Inside.Parsing.{TakesToken, Lacks}
+use Rattle.cargo_platform.specs.Inside.Parsing.{TakesToken}
 use Rattle.cargo_platform.proofs.OneCut.{head_of}
 use Rattle.cargo_platform.proofs.Looking.{ascii_step}
 use Rattle.cargo_platform.proofs.Scanning.{string_stands, unterminated}
@@ -15,10 +15,9 @@ use Rattle.cargo_platform.proofs.reader.Reader.eat_string.Goals as goal
 pub returns-then-not-is_byte-clause-not_taken : goal.returns-then-not-is_byte-clause-not_taken
 returns-then-not-is_byte-clause-not_taken c =
     let r = c.self.inside in
-    let i = c.self.invariant in
-    let L : Ahead → Type 0 = λ z. Lacks IsString z in (
+    let i = c.self.invariant in (
       refl,
-      subst L (ap (λ (z : Standing). z.ahead) c.self.view_is)
+      rw (← ap (λ (z : Standing). z.ahead) c.self.view_is)
           (lacks IsString r.source.text.now r.place r.seen i.past i.sees (λ t b bs rest p w e s.
           let first : 0x22 ≡ b = head_of (sym (ap (λ (z : Lexeme). written z ++ rest) p.1) ∙ e) in
           c.is_byte.ensures.no c.if-not-is_byte.true (rw first s))),
@@ -55,10 +54,9 @@ returns-in_default-closing_quote-clause-not_taken c =
     let i = c.self.invariant in
     let text = r.source.text.now in
     let here = rw (c.is_byte.ensures.yes c.if-not-is_byte.false) at i.sees in
-    let ends = c.in_default-closing_quote.ensures in
-    let L : Ahead → Type 0 = λ z. Lacks IsString z in (
+    let ends = c.in_default-closing_quote.ensures in (
       rw (← ap (λ (z : Standing). z.ahead) c.self.view_is) (ap (λ z. ahead_at z.now r.place) ends.same),
-      subst L (ap (λ (z : Standing). z.ahead) c.self.view_is)
+      rw (← ap (λ (z : Standing). z.ahead) c.self.view_is)
           (fault_lacks IsString text r.place UnterminatedString i.reached.0
           (unterminated text r.place here.1 ends.none)),
     )

@@ -1,7 +1,6 @@
 use Rattle.std.proofs.Common.{refl, sym, ap, subst, ◌∙◌}
-use Rattle.cargo_platform.specs.Cut.{Lexical}
 use Rattle.cargo_platform.specs.Tokens.{lexeme, Placed}
-use Rattle.cargo_platform.specs.Inside.Ahead.{Ahead, Standing, NextIs, GoesPast}
+use Rattle.cargo_platform.specs.Inside.Ahead.{Standing, GoesPast}
 use Rattle.cargo_platform.proofs.Coming.{ahead_at, fault_ahead, end_ahead, nothing_seen, goes_past}
 use Rattle.cargo_platform.proofs.reader.Reader.take.Goals as goal
 
@@ -38,9 +37,8 @@ returns-in-Ok-clause-taken c =
 pub returns-in-Err-clause-taken : goal.returns-in-Err-clause-taken
 returns-in-Err-clause-taken c =
     let r = c.self.inside in
-    let i = c.self.invariant in
-    let N : Ahead → Type 0 = λ z. NextIs z (Lexical c.in-Err.kind z.place) in (
+    let i = c.self.invariant in (
       rw (← ap (λ (z : Standing). z.ahead) c.self.view_is) (ap (λ z. ahead_at z.now r.place) c.in-Err.ensures.same),
-      subst N (ap (λ (z : Standing). z.ahead) c.self.view_is)
+      rw (← ap (λ (z : Standing). z.ahead) c.self.view_is)
           (fault_ahead r.source.text.now r.place c.in-Err.kind i.reached.0 c.in-Err.ensures.fault),
     )
