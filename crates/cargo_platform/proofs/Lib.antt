@@ -8,14 +8,16 @@ pub mod Looking
 pub mod Scanning
 -- Lanes: sixteen bytes at once
 pub mod Lanes
--- Runs: calls of `next` give the cut, and nothing after it
-pub mod Runs
 -- LexicalFaults: a text begins at most one lexical fault
 pub mod LexicalFaults
 -- OneCut: at a place one item comes, so a text has at most one cut
 pub mod OneCut
 -- SomeCut: each text has one
 pub mod SomeCut
+-- Paths: what comes next, after tokens of the cut and along a reader's way
+pub mod Paths
+-- Runs: calls of `next` give the cut, and nothing after it
+pub mod Runs
 -- CutTests: a test of cuts that computes, for worked rows
 mod CutTests
 -- ---- grammar
@@ -36,12 +38,12 @@ pub mod WellFormedness
 -- ---- faults
 -- Completing: what is walked can be completed
 pub mod Completing
+-- Expecting: what is expected after it
+pub mod Expecting
 -- Completable: lists that can be completed
 pub mod Completable
 -- Prefixes: the longest such prefix
 pub mod Prefixes
--- Expecting: what is expected after it
-pub mod Expecting
 -- Refused: a text with a fault spells nothing
 pub mod Refused
 -- OneFault: it has at most one
@@ -54,23 +56,15 @@ pub mod Spans
 pub mod AroundSpans
 -- Snippets: the lines of a snippet
 pub mod Snippets
--- KeySpans: where an error's text stands in a key
-pub mod KeySpans
--- FoundInKeys: the span lies in the key
-pub mod FoundInKeys
 -- ---- the readers
 -- Coming: what comes, from the bytes at a place
 pub mod Coming
--- Paths: what comes ahead is what the cut has next
-pub mod Paths
 -- Parsing: a reader of expressions, step by step
 pub mod Parsing
 -- Refusing: where it stops is the first fault
 pub mod Refusing
 -- ReaderAnswers: what it answers
 pub mod ReaderAnswers
--- TextLaws: the laws of texts, for each grammar
-pub mod TextLaws
 -- ---- printing
 -- Printing: a print grows piece by piece
 pub mod Printing
@@ -85,12 +79,19 @@ pub mod Conditions
 pub mod ConditionFaults
 -- ConditionSpans: and where
 pub mod ConditionSpans
+-- TextLaws: the laws of texts, for each grammar
+pub mod TextLaws
 -- ConditionAnswers: what is answered, case by case
 pub mod ConditionAnswers
 -- Changes: what the grammar changed
 pub mod Changes
 -- ToToday: from the Rust crate's grammar to today's
 pub mod ToToday
+-- ---- keys
+-- KeySpans: where an error's text stands in a key
+pub mod KeySpans
+-- FoundInKeys: the span lies in the key
+pub mod FoundInKeys
 -- ---- facts
 -- FactSets: the set that a list means
 pub mod FactSets

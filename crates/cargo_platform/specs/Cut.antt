@@ -1,4 +1,4 @@
--- How a text is cut into tokens, and what is left that no token begins.
+-- How a text is cut into tokens: what comes next at a place, and what is left that no token begins.
 use Rattle.std.specs.Prelude.{◌≡◌, ◌⊎◌, ℕ, ◌≤◌, Bool, true, false, List, [], ◌∷◌, ◌++◌, map, length, drop, codes}
 use Rattle.std.specs.Prelude.{slice_range, IsTrue, IsFalse, not, ◌&&◌, bytes_eq}
 use Rattle.std.specs.List.{list_all}

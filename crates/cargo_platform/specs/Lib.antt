@@ -1,12 +1,12 @@
--- The definitions, in the order in which a reader needs them. For `CfgExpr::from_str` read Chars, Tokens, Cut, Trees,
--- Spelling, WellFormed and Faults; for `matches` Trees and Facts; for a print Trees and Print.
+-- The definitions. Each module stands on those before it. For `CfgExpr::from_str` read Chars, Tokens, Cut, Trees,
+-- Spelling, Faults, Print, Errors and WellFormed; for `matches` Trees and Facts; for a print Tokens, Trees and Print.
 
 -- ---- text and tokens
 -- Chars: classes of characters
 pub mod Chars
 -- Tokens: the tokens, and how each is written
 pub mod Tokens
--- Cut: how a text is cut into tokens, and what is left
+-- Cut: what comes next in a text, and how it is cut into tokens
 pub mod Cut
 -- Reading: one call of `next` after another
 pub mod Reading
@@ -26,38 +26,35 @@ pub mod Parts
 -- ---- grammar
 -- Spelling: which tokens spell which tree
 pub mod Spelling
--- WellFormed: the values that a text can spell
-pub mod WellFormed
--- Platforms: target names, and the text of a condition
-pub mod Platforms
--- GrammarLaws: tokens spell at most one thing
-pub mod GrammarLaws
--- Earlier: the earlier grammars
-pub mod Earlier
--- ChangeLaws: what the grammar changed
-pub mod ChangeLaws
 -- ---- faults
 -- Faults: why a text is refused, and where
 pub mod Faults
--- Errors: what an error says, apart from memory
-pub mod Errors
 -- Walk: the automaton of both grammars, its positions and the states that laws name, for proofs
 pub mod Walk
 -- FaultLaws: laws of completion and of the fault prefix
 pub mod FaultLaws
--- SpanLaws: laws of what stands around a span
-pub mod SpanLaws
--- Snippets: two lines that show the place of a fault
-pub mod Snippets
--- KeySpans: that place in the key of a manifest
-pub mod KeySpans
--- TextLaws: a text spells something or has a fault, and one of them
-pub mod TextLaws
 -- ---- printing
 -- Print: what is printed, of every tree and fault
 pub mod Print
+-- Errors: what an error says, apart from memory
+pub mod Errors
+-- Snippets: two lines that show the place of a fault
+pub mod Snippets
+-- ---- conditions
+-- Platforms: target names, and the text of a condition
+pub mod Platforms
+-- WellFormed: the values that a text can spell
+pub mod WellFormed
+-- GrammarLaws: tokens spell at most one thing
+pub mod GrammarLaws
+-- TextLaws: a text spells something or has a fault, and one of them
+pub mod TextLaws
+-- KeySpans: the place of a fault in the key of a manifest
+pub mod KeySpans
 -- Json: conditions as JSON texts
 pub mod Json
+-- Earlier: the earlier grammars
+pub mod Earlier
 -- ---- matching
 -- Facts: sets of facts, and the truth over one
 pub mod Facts
@@ -65,16 +62,15 @@ pub mod Facts
 pub mod Asks
 -- FactLaws: what truth rests on
 pub mod FactLaws
+-- Holders: words for the sets that holders of one's own mean
+pub mod Holders
+-- ---- lines of facts
 -- Lines: the lines of a text
 pub mod Lines
 -- FactLines: facts, one a line
 pub mod FactLines
--- Holders: words for the sets that holders of one's own mean
-pub mod Holders
--- FactIndexes: what an index keeps
-pub mod FactIndexes
--- LengthOrder: the order in which it keeps it
-pub mod LengthOrder
+-- SpanLaws: laws of what stands around a span, and of spans in lines of facts
+pub mod SpanLaws
 -- ---- equality, order and hash
 -- Key: what they see of a value: all but the raw marks
 pub mod Key
@@ -82,9 +78,16 @@ pub mod Key
 pub mod OrderLaws
 -- Hashing: what a hasher is fed
 pub mod Hashing
+-- ---- an index of facts
+-- LengthOrder: the order in which an index keeps facts
+pub mod LengthOrder
+-- FactIndexes: what it keeps
+pub mod FactIndexes
 -- ---- warnings
 -- Warnings: the values of a tree, and the warnings on them
 pub mod Warnings
+-- ChangeLaws: what the grammar changed
+pub mod ChangeLaws
 -- ---- for private functions
 -- Inside: what their contracts cite, and no promise rests on
 pub mod Inside

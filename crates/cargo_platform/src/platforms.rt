@@ -98,8 +98,8 @@ impl Platform {
 
 impl CfgExpr {
     /// Whether `key` reads as a `cfg(..)` condition whose expression is true over the facts in `cfg`. It is false for
-    /// every other key: an expression that is not true, the name of a target, and a text that is refused. Want of
-    /// memory is the only error, and is never taken for false.
+    /// every other key: an expression that is not true, the name of a target, and a text that is refused. An
+    /// allocation failure is the only error, and is never taken for false.
     pub fn matches_key(alloc: Global, key: &str, cfg: &[Cfg]) -> Result<bool, AllocError>
         // The key spells a tree that is true over the facts.
         ensures yes { IfOk result
