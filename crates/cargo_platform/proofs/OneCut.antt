@@ -5,9 +5,7 @@ use Rattle.std.proofs.Common.{drop, drop_of_length-le}
 use Rattle.std.proofs.Common.{lit≤, length-take, length-drop, take-append-drop}
 use Rattle.std.specs.Prelude.{IsFalse, bytes_eq, if◌then◌else◌, ◌==◌, slice_range}
 use Rattle.std.specs.List.{list_all}
-use Rattle.std.specs.Char.{encode_utf8, is_ascii_alphabetic}
-use Rattle.std.specs.Int.{is_in_range}
-use Rattle.std.proofs.Math.Dec.{leb}
+use Rattle.std.specs.Char.{encode_utf8}
 use Rattle.std.proofs.Math.Bool.{or-true, and-false}
 use Rattle.std.proofs.lemmas.Bool.{and_parts, eqb-true, false_from_ne_true, leb-true, or_cases}
 use Rattle.std.proofs.lemmas.Str.{char_from_byte, encode_ascii}
@@ -124,14 +122,7 @@ tokens_same t u r s v w e f h = absurd (omega (arith, sym (class_is t r v) ∙ a
 
 -- an identifier start is ASCII
 pub start_is_ascii : (c : ℕ) → is_identifier_start c ≡ true → c < 128
-start_is_ascii c h =
-    elim (or_cases (c == 0x5F) (is_ascii_alphabetic c) h) [
-      | inl e ↦ omega (arith, eqb-true c 0x5F e)
-      | inr e ↦ elim (or_cases (is_in_range 65 90 c) (is_in_range 97 122 c) e) [
-        | inl f ↦ omega (arith, leb-true c 90 (and_parts (leb 65 c) (leb c 90) f).1)
-        | inr f ↦ omega (arith, leb-true c 122 (and_parts (leb 97 c) (leb c 122) f).1)
-      ]
-    ]
+start_is_ascii c h = grind (arith, h, or_cases, and_parts, eqb-true, leb-true)
 
 start_is_no_space : (c : ℕ) → is_identifier_start c ≡ true → is_space c ≡ false
 start_is_no_space c h =

@@ -11,12 +11,10 @@ use Rattle.std.proofs.lemmas.Str.{encode_ascii, IsUtf8-past_char, IsUtf8-take, I
 use Rattle.std.proofs.lemmas.Slice.Eq.{bytes_eq-Decides}
 use Rattle.std.proofs.lemmas.List.{drop-drop}
 use Rattle.std.proofs.lemmas.Bool.{and_parts, eqb-true, false_from_ne_true, leb-true, or_cases}
-use Rattle.std.proofs.Math.Dec.{leb}
-use Rattle.std.specs.Int.{is_in_range}
 use Rattle.cargo_platform.specs.declared.tokens.TokenFaultKind.TheVariants.{UnterminatedString, UnexpectedChar}
 use Rattle.cargo_platform.specs.declared.tokens.TokenFaultKind.TheVariants.{MissingIdentifier}
 use Rattle.cargo_platform.specs.Chars.{is_identifier_start, is_identifier_rest, is_space, is_quote, is_number_sign}
-use Rattle.cargo_platform.specs.Chars.{is_mark, is_known_start, starts, BeginsWith}
+use Rattle.cargo_platform.specs.Chars.{is_known_start, starts, BeginsWith}
 use Rattle.cargo_platform.specs.Tokens.{Lexeme, LeftParen, RightParen, Ident, Comma, Equals, String, written}
 use Rattle.cargo_platform.specs.Tokens.{IsWellWritten, Placed}
 use Rattle.cargo_platform.specs.Cut.{IsPiece, IsWrittenAt, AreSpaces, EndsBefore, IsWhole, Item, Lexical, Nothing}
@@ -123,36 +121,13 @@ lexed t rest parts well ends u =
     inr (record { token = t; rest = rest; parts = parts; well = well; ends = ends; utf8 = u })
 
 pub rest_is_ascii : IsAsciiTest is_identifier_rest
-rest_is_ascii c h =
-    elim (or_cases (is_identifier_start c) (is_in_range 48 57 c) h) [
-      | inl e ↦ start_is_ascii c e
-      | inr e ↦ omega (arith, leb-true c 57 (and_parts (leb 48 c) (leb c 57) e).1)
-    ]
+rest_is_ascii c h = grind (arith, h, or_cases, and_parts, leb-true, start_is_ascii)
 
 pub space_is_ascii : IsAsciiTest is_space
 space_is_ascii c h = omega (arith, eqb-true c 0x20 h)
 
 pub known_is_ascii : IsAsciiTest is_known_start
-known_is_ascii c h =
-    elim (or_cases (is_space c || is_mark c || is_quote c) (is_identifier_start c) h) [
-      | inr e ↦ start_is_ascii c e
-      | inl e ↦ elim (or_cases (is_space c || is_mark c) (is_quote c) e) [
-        | inr f ↦ omega (arith, eqb-true c 0x22 f)
-        | inl f ↦ elim (or_cases (is_space c) (is_mark c) f) [
-          | inl g ↦ space_is_ascii c g
-          | inr g ↦ elim (or_cases (c == 0x28 || c == 0x29 || c == 0x2C) (c == 0x3D) g) [
-            | inr k ↦ omega (arith, eqb-true c 0x3D k)
-            | inl k ↦ elim (or_cases (c == 0x28 || c == 0x29) (c == 0x2C) k) [
-              | inr l ↦ omega (arith, eqb-true c 0x2C l)
-              | inl l ↦ elim (or_cases (c == 0x28) (c == 0x29) l) [
-                | inl m ↦ omega (arith, eqb-true c 0x28 m)
-                | inr m ↦ omega (arith, eqb-true c 0x29 m)
-              ]
-            ]
-          ]
-        ]
-      ]
-    ]
+known_is_ascii c h = grind (arith, h, or_cases, eqb-true, start_is_ascii)
 
 -- after `r#`
 marked : (after : List ℕ) → IsUtf8 after → Outcome (codes "r#" ++ after)
@@ -208,12 +183,16 @@ string bs u =
           ))
     ]
 
--- at a byte that is one of the marks
-single : (t : Lexeme) (b m : ℕ) (bs : List ℕ) → IsWellWritten t → EndsBefore t bs → written t ++ bs ≡ m ∷ bs
-    → (b == m) ≡ true → m < 128 → IsUtf8 (b ∷ bs) → Outcome (b ∷ bs)
-single t b m bs w e parts h lt u =
-    let is : b ≡ m = eqb-true b m h in
-    lexed t bs (ap (λ (z : ℕ). z ∷ bs) is ∙ sym parts) w e (ascii_rest b bs (omega (arith, is, lt)) u)
+-- at a byte that is the mark, or not
+or_mark : (t : Lexeme) (b m : ℕ) (bs : List ℕ) → IsWellWritten t → EndsBefore t bs → written t ++ bs ≡ m ∷ bs → m < 128
+    → IsUtf8 (b ∷ bs) → ((b == m) ≡ false → Outcome (b ∷ bs)) → Outcome (b ∷ bs)
+or_mark t b m bs w e parts lt u otherwise =
+    elim (b == m) as (λ v. (b == m) ≡ v → Outcome (b ∷ bs)) [
+      | true ↦ λ h.
+          let is : b ≡ m = eqb-true b m h in
+          lexed t bs (ap (λ (z : ℕ). z ∷ bs) is ∙ sym parts) w e (ascii_rest b bs (omega (arith, is, lt)) u)
+      | false ↦ otherwise
+    ] refl
 
 -- what no token begins
 other : (b : ℕ) (bs : List ℕ) → IsUtf8 (b ∷ bs) → is_known_start b ≡ false → Outcome (b ∷ bs)
@@ -233,23 +212,11 @@ lex (b ∷ bs) u h =
                 let is : b ≡ 0x22 = eqb-true b 0x22 q in
                 rw (ap (λ (z : ℕ). z ∷ bs) is) (string bs (ascii_rest b bs (omega (arith, is)) u))
             | false ↦ λ q.
-                elim (b == 0x28) as (λ v. (b == 0x28) ≡ v → Outcome (b ∷ bs)) [
-                  | true ↦ λ m. single LeftParen b 0x28 bs tt tt refl m (lit≤ tt) u
-                  | false ↦ λ m0.
-                      elim (b == 0x29) as (λ v. (b == 0x29) ≡ v → Outcome (b ∷ bs)) [
-                        | true ↦ λ m. single RightParen b 0x29 bs tt tt refl m (lit≤ tt) u
-                        | false ↦ λ m1.
-                            elim (b == 0x2C) as (λ v. (b == 0x2C) ≡ v → Outcome (b ∷ bs)) [
-                              | true ↦ λ m. single Comma b 0x2C bs tt tt refl m (lit≤ tt) u
-                              | false ↦ λ m2.
-                                  elim (b == 0x3D) as (λ v. (b == 0x3D) ≡ v → Outcome (b ∷ bs)) [
-                                    | true ↦ λ m. single Equals b 0x3D bs tt tt refl m (lit≤ tt) u
-                                    | false ↦ λ m3. other b bs u
-                                        (λ i. h i || (m0 i || m1 i || m2 i || m3 i) || q i || e i)
-                                  ] refl
-                            ] refl
-                      ] refl
-                ] refl
+                or_mark LeftParen b 0x28 bs tt tt refl (lit≤ tt) u (λ m0.
+                or_mark RightParen b 0x29 bs tt tt refl (lit≤ tt) u (λ m1.
+                or_mark Comma b 0x2C bs tt tt refl (lit≤ tt) u (λ m2.
+                or_mark Equals b 0x3D bs tt tt refl (lit≤ tt) u (λ m3.
+                other b bs u (λ i. h i || (m0 i || m1 i || m2 i || m3 i) || q i || e i)))))
           ] refl
     ] refl
 

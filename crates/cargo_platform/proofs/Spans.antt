@@ -94,6 +94,14 @@ stands_end text at c s =
 pub marked_start : (text : List ℕ) (at : ℕ) → slice_index text at ≡ 0x72 → character_start text at ≡ at + 2
 marked_start text at h = ap (λ b. if b then at + 2 else at) (eq-eqb _ _ h)
 
+-- the character after a mark ends at a character
+pub marked_end : (text : List ℕ) (at c : ℕ) → IsUtf8 text → IsCharBoundary text at
+    → BeginsFault (drop at text) (lexical.UnexpectedChar c) → slice_index text at ≡ 0x72
+    → IsCharBoundary text (at + 2 + len_utf8 c)
+marked_end text at c utf8 boundary begins mark =
+    rw (marked_start text at mark) at
+    (stands_end text (character_start text at) c (character_stands text at c utf8 boundary begins))
+
 pub plain_start : (text : List ℕ) (at : ℕ) → (slice_index text at ≡ 0x72 → ⊥) → character_start text at ≡ at
 plain_start text at h =
     elim (slice_index text at == 0x72) as (λ b. (slice_index text at == 0x72) ≡ b → (if b then at + 2 else at) ≡ at) [
