@@ -12,7 +12,8 @@ use Rattle.cargo_platform.specs.Spelling.{IsMemberList, SpellsLiteral, SpellsBy,
 use Rattle.cargo_platform.specs.Spelling.{Expressions, IsAccepted}
 use Rattle.cargo_platform.specs.Faults.{IsCompletable}
 use Rattle.cargo_platform.specs.Earlier.{MayStandTransitional}
-use Rattle.cargo_platform.specs.Walk.{role_in, Opening, Negated, Listed, list_tree, Position, Wanting, WithWord, WithKey}
+use Rattle.cargo_platform.specs.Walk.{role_in, Opening, Negated, Listed, list_tree, Position, Wanting, WithWord}
+use Rattle.cargo_platform.specs.Walk.{WithKey}
 use Rattle.cargo_platform.specs.Walk.{WithTree, start, at_role, key_of, after_tree, step_by, steps_by, step, steps}
 use Rattle.cargo_platform.specs.Walk.{Word, Several, Negation, State, Wanted, Behind, Ended, after, after_role}
 use Rattle.cargo_platform.specs.Walk.{after_expression, walk_from, walk, kind, kinds, ends, is_lone, state_of}

@@ -16,7 +16,8 @@ use Rattle.cargo_platform.specs.Cut.{lexemes, Item, Nothing}
 use Rattle.cargo_platform.specs.Trees.{Name, CfgValue, Alone, KeyPair, Tree, Value}
 use Rattle.cargo_platform.specs.Spelling.{Grammar, Values, Expressions, MayStand, Spells, value_spelling}
 use Rattle.cargo_platform.specs.Faults.{Fault, expected_token, expected_end, beginning_at_end}
-use Rattle.cargo_platform.specs.Walk.{role_in, Opening, Negated, Listed, list_tree, Position, Wanting, WithWord, WithKey}
+use Rattle.cargo_platform.specs.Walk.{role_in, Opening, Negated, Listed, list_tree, Position, Wanting, WithWord}
+use Rattle.cargo_platform.specs.Walk.{WithKey}
 use Rattle.cargo_platform.specs.Walk.{WithTree, start, at_role, key_of, after_tree, step, steps}
 use Rattle.cargo_platform.specs.Walk.{Word, State, is_whole, kind, kinds, ends, is_lone, state_of}
 use Rattle.cargo_platform.specs.Inside.Ahead.{Ahead, NextIs, GoesPast, Path, bytes_left}
@@ -296,7 +297,8 @@ pub word_stops : (l m : Ahead) (o : Opening) (gs : List Opening) (r : Refusal) �
     → LacksPunctuation l punctuation.LeftParen → RefusesNext m (codes "`(`") (codes "`(`") r
     → Stops Expressions l (WithWord o gs) r
 word_stops l m o gs r e lacks h =
-    stops_here Expressions l m (WithWord o gs) r _ _ e h (refl, refl, refl) (λ t is. after_word o gs t.token (lacks t is))
+    stops_here Expressions l m (WithWord o gs) r _ _ e h (refl, refl, refl)
+    (λ t is. after_word o gs t.token (lacks t is))
 
 unclosed : (n : Bool) (w : Word) (ws : List Word) → Expects Expressions (ends n (w ∷ ws)) (codes "`)`") (codes "`)`")
 unclosed true w ws = (refl, refl, refl)

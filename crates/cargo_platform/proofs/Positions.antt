@@ -281,5 +281,6 @@ whole_spelled e ts (before, s, none, spelled, is) =
     rw is (rw none spelled)
 
 -- what leads to an expression with nothing open spells it
-pub tree_spelled : (e : Tree) (ts : List Lexeme) → steps Expressions (Some start) ts ≡ Some (WithTree e []) → Spells e ts
+pub tree_spelled : (e : Tree) (ts : List Lexeme) → steps Expressions (Some start) ts ≡ Some (WithTree e [])
+    → Spells e ts
 tree_spelled e ts h = whole_spelled e ts (all_hold start [] ts (WithTree e []) refl h)

@@ -27,7 +27,8 @@ use Rattle.cargo_platform.specs.Trees.{Name, Alone, Tree, Value, tree_of}
 use Rattle.cargo_platform.specs.Spelling.{Grammar, role}
 use Rattle.cargo_platform.specs.Faults.{UnterminatedExpression, expected_token}
 use Rattle.cargo_platform.specs.Faults.{expected_end, lexical_span, looked_to}
-use Rattle.cargo_platform.specs.Walk.{Opening, Negated, Listed, Position, Wanting, WithTree, start, at_role, step, steps}
+use Rattle.cargo_platform.specs.Walk.{Opening, Negated, Listed, Position, Wanting, WithTree, start, at_role, step}
+use Rattle.cargo_platform.specs.Walk.{steps}
 use Rattle.cargo_platform.specs.Walk.{Word, Several, is_whole, state_of}
 use Rattle.cargo_platform.specs.Inside.Refusals.{FaultAt, fault_at_of, refused_at}
 

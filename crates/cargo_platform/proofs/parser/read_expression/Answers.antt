@@ -6,7 +6,8 @@ use Rattle.cargo_platform.specs.Tokens.{Comma}
 use Rattle.cargo_platform.specs.Trees.{Tree, tree_of}
 use Rattle.cargo_platform.specs.Spelling.{Expressions}
 use Rattle.cargo_platform.specs.Walk.{Opening, Wanting, WithTree, start, Word, Several, Negation, kind, kinds}
-use Rattle.cargo_platform.specs.Inside.Parsing.{is_list, opening, stack, with_last, at_done, Reads, IsClear, IsClearAfter}
+use Rattle.cargo_platform.specs.Inside.Parsing.{is_list, opening, stack, with_last, at_done, Reads, IsClear}
+use Rattle.cargo_platform.specs.Inside.Parsing.{IsClearAfter}
 use Rattle.cargo_platform.proofs.Parsing.{reads_taken, reads_then, stops_then, whole_stops, comma_step}
 use Rattle.cargo_platform.proofs.parser.read_expression.Goals as goal
 
