@@ -2,3 +2,4 @@ pub mod Reports
 pub mod Rustcs
 pub mod Standings
 pub mod Verdicts
+pub mod MoreKinds

@@ -1,7 +1,9 @@
 -- What is found of the keys of a manifest, and which findings are told of them.
-use Rattle.std.specs.Prelude.{◌≡◌, ◌⊎◌, ◌↔◌, ℕ, Bool, false, IsTrue, List}
+use Rattle.std.specs.Prelude.{◌≡◌, ◌⊎◌, ◌↔◌, ℕ, Bool, true, false, IsTrue, List}
 use Rattle.std.specs.Prelude.{[], ◌∷◌, ◌++◌, map, length, cond, Option, Some}
+use Rattle.std.specs.List.{list_any}
 use Rattle.cargo_platform.specs.Trees.{Condition, condition_of}
+use Rattle.cargo_platform.specs.Warnings.{condition_values}
 use Rattle.cargo_platform.specs.Facts.{FactSet, fact_set}
 use Rattle.cargo_platform.specs.Platforms.{IsConditionText}
 use Rattle.cargo_platform.specs.Print.{print_condition}
@@ -18,6 +20,7 @@ use Rattle.manifests.specs.declared.spelled.Spelled.{Spelled}
 use Rattle.manifests.specs.declared.spelled.Spelled.TheVariants as spelled
 use Rattle.manifests.specs.declared.subjects.Read.{Read}
 use Rattle.manifests.specs.declared.tables.TargetKey.{TargetKey}
+use Rattle.manifests.specs.Standings.{is_unsupported, is_mistaken, may_be_mistaken, is_other}
 use Rattle.manifests.specs.Hiding.{is_told, told_codes, IsUnspelled}
 use Rattle.manifests.specs.Tables.{is_no_table}
 use Rattle.manifests.specs.Truths.{IsNever, IsAlways, IsUnknownTarget}
@@ -52,6 +55,10 @@ AllowsRustcs k =
 
 pub record IsFoundOfCondition (k : Known) (text : List ℕ) (c : Condition) (h : Holding) : Type 0 where
   pub refused : h.refused ≡ false
+  pub unsupported : h.unsupported ≡ list_any is_unsupported (condition_values c)
+  pub unknown_fact : list_any is_mistaken (condition_values c) ≡ true → IsTrue h.unknown_fact
+  pub may_be_mistaken : IsTrue h.unknown_fact → list_any may_be_mistaken (condition_values c) ≡ true
+  pub custom : IsTrue h.custom → list_any is_other (condition_values c) ≡ true
   pub never : IsTrue h.never → IsNever k c
   pub always : IsTrue h.always → IsAlways k c
   pub unknown_target : IsTrue h.unknown_target ↔ IsUnknownTarget c

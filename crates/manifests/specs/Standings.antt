@@ -1,15 +1,15 @@
 -- What the names and pairs of a condition are to rustc and to Cargo.
-use Rattle.std.specs.Prelude.{◌≡◌, ℕ, Bool, true, false, List, map, cond, codes, bytes_eq}
+use Rattle.std.specs.Prelude.{◌≡◌, ℕ, Bool, true, false, ◌||◌, List, map, cond, codes, bytes_eq, IsTrue}
 use Rattle.std.specs.List.{list_any}
 use Rattle.std.specs.Borrow.{Bor}
 use Rattle.cargo_platform.specs.Trees.{Name, CfgValue, Alone, KeyPair, value_of}
-use Rattle.cargo_platform.specs.Key.{value_key}
 use Rattle.cargo_platform.specs.declared.cfg.Cfg.{Cfg}
 use Rattle.cargo_platform.specs.Warnings.{is_unsupported_name}
 use Rattle.partial_facts.specs.Partly.{is_named}
 use Rattle.known_targets.specs.Rows.{plain}
 use Rattle.known_targets.specs.Table.{table_keys}
 use Rattle.known_targets.specs.Listed.{is_had}
+use Rattle.manifests.specs.declared.facts.Kinds.{Kinds}
 use Rattle.manifests.specs.declared.standing.TheConstants.{VALUED, FLAGGED, PLAIN, NAMED_BY_VALUE}
 use Rattle.manifests.specs.declared.standing.Standing.{Standing}
 use Rattle.manifests.specs.declared.standing.Standing.TheVariants as standing
@@ -97,9 +97,17 @@ is_other c = is_other_sort (sort_of c)
 
 -- ---- the facts of a condition
 
+-- one is taken for rustc's, or its name may be near to one of rustc's
+abbrev pub may_be_mistaken : CfgValue → Bool
+may_be_mistaken c = is_mistaken c || is_other c
+
+-- what is said of the facts of a condition: exactly whether Cargo warns of one; a mistake where one is, and where one may
+-- be; a custom one only where no known target has one
+pub record HasKinds (kinds : Kinds) (cs : List CfgValue) : Type 0 where
+  pub unsupported : kinds.unsupported ≡ list_any is_unsupported cs
+  pub mistaken : list_any is_mistaken cs ≡ true → IsTrue kinds.mistaken
+  pub may_be_mistaken : IsTrue kinds.mistaken → list_any may_be_mistaken cs ≡ true
+  pub custom : IsTrue kinds.custom → list_any is_other cs ≡ true
+
 abbrev pub values_at : List (Bor Cfg) → List CfgValue
 values_at cs = map (λ c. value_of c.now) cs
-
--- a test in which raw marks play no part
-abbrev pub SeesNoMarks : (CfgValue → Bool) → Type 0
-SeesNoMarks p = (c : CfgValue) → p c ≡ p (value_key c)

@@ -1,6 +1,6 @@
 //! What a name or pair that a condition asks for is to rustc: one of its own, a mistake, or a custom one.
 
-ghost use Rattle.std.specs.Prelude.{◌≡◌, IfOk, is_some};
+ghost use Rattle.std.specs.Prelude.{◌≡◌, ◌||◌, true, IfOk, IsTrue, is_some};
 ghost use Rattle.std.specs.List.{list_any};
 ghost use Rattle.cargo_platform.specs.Trees.{Alone, KeyPair, value_of};
 ghost use Rattle.cargo_platform.specs.Warnings.{is_unsupported_name};
@@ -8,7 +8,8 @@ ghost use Rattle.partial_facts.specs.Partly.{is_named};
 ghost use Rattle.known_targets.specs.Listed.{is_had};
 ghost use Rattle.known_targets.specs.Rows.{names_of, plain};
 ghost use Rattle.known_targets.specs.Table.{table_keys};
-ghost use Rattle.manifests.specs.Standings.{has_as_value, sort_of, sort_in, sort_of_key, Other};
+ghost use Rattle.manifests.specs.Standings.{has_as_value, sort_of, sort_in, sort_of_key, Other, is_unsupported_sort};
+ghost use Rattle.manifests.specs.Standings.{is_mistaken_sort, is_other_sort};
 
 use cargo_platform::{Cfg, Ident};
 use known_targets::having;
@@ -74,8 +75,18 @@ pub enum Standing {
 }
 
 impl Standing {
+    /// Whether Cargo warns of it.
+    pub fn is_unsupported(self) -> bool
+        ensures { result ≡ is_unsupported_sort (sort_in self) }
+    {
+        matches!(self, Standing::Unsupported)
+    }
+
     /// Whether it is taken for one of rustc's, and none.
-    pub fn is_mistake(self) -> bool {
+    pub fn is_mistake(self) -> bool
+        ensures all { is_mistaken_sort (sort_in self) ≡ true → IsTrue result }
+        ensures right { IsTrue result → (is_mistaken_sort (sort_in self) || is_other_sort (sort_in self)) ≡ true }
+    {
         match self {
             Standing::ValueAsName(_)
             | Standing::NoValue
@@ -87,9 +98,16 @@ impl Standing {
         }
     }
 
+    /// Whether only `--cfg` sets it.
+    pub fn is_custom(self) -> bool
+        ensures { IsTrue result → is_other_sort (sort_in self) ≡ true }
+    {
+        matches!(self, Standing::Custom)
+    }
+
     /// Whether it is open what is said of it.
     pub fn is_open(self) -> bool {
-        matches!(self, Standing::Unsupported | Standing::Custom)
+        self.is_unsupported() || self.is_custom()
     }
 }
 
