@@ -1,5 +1,5 @@
 -- One more key, and one more code, of a report.
-use Rattle.std.proofs.Common.{◌≡◌, ◌∙◌, refl, sym, ap, subst, ℕ, ◌+◌, ◌<◌, ◌≤◌, Bool, true, false, arith}
+use Rattle.std.proofs.Common.{◌≡◌, ◌∙◌, refl, sym, ap, subst, ℕ, ◌+◌, ◌<◌, Bool, true, false, arith}
 use Rattle.std.proofs.Common.{List, [], ◌∷◌, ◌++◌, append_assoc, map, take, length, get_or, Some}
 use Rattle.std.specs.List.{All, filter}
 use Rattle.std.proofs.lemmas.List.{take_more, map-append, append-nil, length-map, length-take-le}

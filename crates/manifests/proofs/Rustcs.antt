@@ -3,7 +3,7 @@ use Rattle.std.proofs.Common.{◌≡◌, ◌∙◌, ◌↔◌, sym, ap, subst, t
 use Rattle.std.specs.Borrow.{Bor}
 use Rattle.std.specs.FinSet.{contains, contains-from_list}
 use Rattle.cargo_platform.specs.Trees.{tree_of, value_of}
-use Rattle.cargo_platform.specs.Facts.{Pair, FactSet, pair_of, fact_set, truth}
+use Rattle.cargo_platform.specs.Facts.{Pair, FactSet, fact_set, truth}
 use Rattle.cargo_platform.specs.declared.cfg.Cfg.{Cfg}
 use Rattle.cargo_platform.proofs.FactSets.{pairs_total}
 use Rattle.partial_facts.specs.Partly.{is_named}

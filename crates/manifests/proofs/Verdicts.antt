@@ -1,5 +1,5 @@
 -- What is said to hold of a condition.
-use Rattle.std.proofs.Common.{◌≡◌, true, false, true≢false}
+use Rattle.std.proofs.Common.{◌≡◌, true}
 use Rattle.cargo_platform.specs.Trees.{Condition}
 use Rattle.exact_answers.specs.declared.known.Known.{Known}
 use Rattle.manifests.specs.declared.deciding.Decided.{Decided}

@@ -1,5 +1,5 @@
 -- Which findings there are of a key, and which of them hide which.
-use Rattle.std.specs.Prelude.{◌≡◌, Bool, true, false, not, ◌&&◌, List, [], ◌∷◌}
+use Rattle.std.specs.Prelude.{◌≡◌, Bool, false, not, ◌&&◌, List, [], ◌∷◌}
 use Rattle.std.specs.List.{list_any, filter}
 use Rattle.manifests.specs.declared.findings.Code.{Code}
 use Rattle.manifests.specs.declared.findings.Code.TheVariants as code

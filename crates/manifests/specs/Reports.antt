@@ -1,5 +1,5 @@
 -- What is found of the keys of a manifest, and which findings are told of them.
-use Rattle.std.specs.Prelude.{◌≡◌, ◌⊎◌, ◌↔◌, ℕ, Bool, true, false, IsTrue, List}
+use Rattle.std.specs.Prelude.{◌≡◌, ◌≤◌, ◌⊎◌, ◌↔◌, ℕ, true, false, IsTrue, List}
 use Rattle.std.specs.Prelude.{[], ◌∷◌, ◌++◌, map, length, cond, Option, Some}
 use Rattle.std.specs.List.{list_any}
 use Rattle.cargo_platform.specs.Trees.{Condition, condition_of}
@@ -19,11 +19,12 @@ use Rattle.manifests.specs.declared.hiding.Holding.{Holding}
 use Rattle.manifests.specs.declared.spelled.Spelled.{Spelled}
 use Rattle.manifests.specs.declared.spelled.Spelled.TheVariants as spelled
 use Rattle.manifests.specs.declared.subjects.Read.{Read}
+use Rattle.manifests.specs.declared.subjects.TheConstants.{MANY}
 use Rattle.manifests.specs.declared.tables.TargetKey.{TargetKey}
-use Rattle.manifests.specs.Standings.{is_unsupported, is_mistaken, may_be_mistaken, is_other}
+use Rattle.manifests.specs.Standings.{is_unsupported, is_mistaken, may_be_mistaken, is_other, AreOpen}
 use Rattle.manifests.specs.Hiding.{is_told, told_codes, IsUnspelled}
 use Rattle.manifests.specs.Tables.{is_no_table}
-use Rattle.manifests.specs.Truths.{IsNever, IsAlways, IsUnknownTarget}
+use Rattle.manifests.specs.Truths.{IsNever, IsAlways, IsNowhere, IsEverywhere, IsUnknownTarget}
 
 -- a key, and what stands at it
 abbrev pub Entry : Type 0
@@ -61,6 +62,12 @@ pub record IsFoundOfCondition (k : Known) (text : List ℕ) (c : Condition) (h :
   pub custom : IsTrue h.custom → list_any is_other (condition_values c) ≡ true
   pub never : IsTrue h.never → IsNever k c
   pub always : IsTrue h.always → IsAlways k c
+  pub open_keys : List (List ℕ)
+  pub are_open : AreOpen open_keys (condition_values c)
+  pub nowhere : IsTrue h.nowhere → IsNowhere open_keys c
+  pub everywhere : IsTrue h.everywhere → IsEverywhere open_keys c
+  pub all_told : length open_keys ≤ MANY
+      → (IsNowhere open_keys c → IsTrue h.nowhere) × (IsEverywhere open_keys c → IsTrue h.everywhere)
   pub unknown_target : IsTrue h.unknown_target ↔ IsUnknownTarget c
   pub not_canonical : IsTrue h.not_canonical ↔ (print_condition c ≡ text → ⊥)
 

@@ -1,15 +1,17 @@
 -- What the names and pairs of a condition are to rustc and to Cargo.
-use Rattle.std.specs.Prelude.{◌≡◌, ℕ, Bool, true, false, ◌||◌, List, map, cond, codes, bytes_eq, IsTrue}
+use Rattle.std.specs.Prelude.{◌≡◌, ℕ, Bool, true, false, ◌||◌, ◌&&◌, List, map, cond, codes, bytes_eq, IsTrue}
 use Rattle.std.specs.List.{list_any}
 use Rattle.std.specs.Borrow.{Bor}
-use Rattle.cargo_platform.specs.Trees.{Name, CfgValue, Alone, KeyPair, value_of}
+use Rattle.cargo_platform.specs.Trees.{CfgValue, Alone, KeyPair, value_of}
 use Rattle.cargo_platform.specs.declared.cfg.Cfg.{Cfg}
+use Rattle.cargo_platform.specs.Spelling.{name_in}
 use Rattle.cargo_platform.specs.Warnings.{is_unsupported_name}
 use Rattle.partial_facts.specs.Partly.{is_named}
 use Rattle.known_targets.specs.Rows.{plain}
 use Rattle.known_targets.specs.Table.{table_keys}
 use Rattle.known_targets.specs.Listed.{is_had}
 use Rattle.manifests.specs.declared.facts.Kinds.{Kinds}
+use Rattle.manifests.specs.declared.facts.TheConstants.{OPEN}
 use Rattle.manifests.specs.declared.standing.TheConstants.{VALUED, FLAGGED, PLAIN, NAMED_BY_VALUE}
 use Rattle.manifests.specs.declared.standing.Standing.{Standing}
 use Rattle.manifests.specs.declared.standing.Standing.TheVariants as standing
@@ -108,6 +110,37 @@ pub record HasKinds (kinds : Kinds) (cs : List CfgValue) : Type 0 where
   pub mistaken : list_any is_mistaken cs ≡ true → IsTrue kinds.mistaken
   pub may_be_mistaken : IsTrue kinds.mistaken → list_any may_be_mistaken cs ≡ true
   pub custom : IsTrue kinds.custom → list_any is_other cs ≡ true
+
+-- ---- what is open of a condition
+
+abbrev pub flag_names : List (List ℕ)
+flag_names = map (λ w. w.now) OPEN
+
+-- whether it is open what is said of a fact
+abbrev pub is_open_standing : Standing → Bool
+is_open_standing standing.Unsupported = true
+is_open_standing standing.Custom = true
+is_open_standing s = false
+
+-- a fact of this name or key that Cargo warns of, and one of which it is open
+abbrev pub warns_of : List ℕ → CfgValue → Bool
+warns_of n c = bytes_eq n (name_in c).name && is_unsupported c
+
+abbrev pub may_be_open : List ℕ → CfgValue → Bool
+may_be_open n c = bytes_eq n (name_in c).name && (is_unsupported c || is_other c)
+
+-- With one more fact its name or key is added, where that is open.
+abbrev pub AddsOpen : List (List ℕ) → List (List ℕ) → Standing → CfgValue → Type 0
+AddsOpen old new s c =
+    (n : List ℕ) → is_named n new ≡ (is_named n old || (bytes_eq n (name_in c).name && is_open_standing s))
+
+-- Open are the names and keys of flags, those that Cargo warns of, and no others than those and of facts that no known
+-- target has.
+pub record AreOpen (open_keys : List (List ℕ)) (cs : List CfgValue) : Type 0 where
+  pub flags : (n : List ℕ) → is_named n flag_names ≡ true → is_named n open_keys ≡ true
+  pub warned : (n : List ℕ) → list_any (warns_of n) cs ≡ true → is_named n open_keys ≡ true
+  pub no_other : (n : List ℕ) → is_named n open_keys ≡ true
+      → (is_named n flag_names || list_any (may_be_open n) cs) ≡ true
 
 abbrev pub values_at : List (Bor Cfg) → List CfgValue
 values_at cs = map (λ c. value_of c.now) cs

@@ -2,7 +2,7 @@
 use Rattle.std.specs.Prelude.{ℕ, Bool, true, false, List, [], ◌∷◌, codes}
 use Rattle.std.specs.Prelude.{not, ◌&&◌, ◌||◌, Option, Some, None, is_some, bytes_eq}
 use Rattle.std.specs.List.{list_any}
-use Rattle.toml.specs.Data.{Data, string, integer, float, boolean, datetime, array, table, Members, no_members, member}
+use Rattle.toml.specs.Data.{Data, Members, no_members, member}
 use Rattle.toml.specs.Data.{get, as_bool, as_table}
 use Rattle.manifests.specs.declared.tables.Kind.{Kind}
 use Rattle.manifests.specs.declared.tables.Kind.TheVariants.{Normal, Development, Build}

@@ -1,9 +1,11 @@
 //! The names and pairs that a condition asks for, by what they are.
 
-ghost use Rattle.std.specs.Prelude.{◌≡◌, ◌||◌, true, IfOk, IsTrue};
+ghost use Rattle.std.specs.Prelude.{◌≡◌, ◌||◌, true, IfOk, OnOk, IsTrue};
 ghost use Rattle.std.specs.List.{list_any};
-ghost use Rattle.cargo_platform.specs.Trees.{condition_of};
+ghost use Rattle.cargo_platform.specs.Trees.{condition_of, value_of};
 ghost use Rattle.cargo_platform.specs.Warnings.{condition_values};
+ghost use Rattle.known_targets.specs.Rows.{names_of};
+ghost use Rattle.manifests.specs.Standings.{AddsOpen, AreOpen, flag_names};
 ghost use Rattle.manifests.specs.Standings.{HasKinds, sort_in, is_unsupported_sort, is_mistaken_sort, is_other_sort};
 
 use crate::declared::Declared;
@@ -53,7 +55,7 @@ pub struct Facts<'a> {
     pub custom: Vec<&'a Cfg>,
     // `r#true` and `r#false` alone.
     pub literals: Vec<&'a Cfg>,
-    pub open: Vec<&'a str>,
+    pub open_names: Vec<&'a str>,
     pub count: usize,
 }
 
@@ -65,13 +67,59 @@ fn is_marked_literal(c: &Cfg) -> bool {
     }
 }
 
+impl<'a> Facts<'a> {
+    /// Adds a fact that was not seen before.
+    fn add(&mut self, c: &'a Cfg, standing: Standing, is_declared: bool) -> Result<(), AllocError>
+        ensures kinds { OnOk result (self.new.kinds ≡ self.old.kinds) }
+        ensures open_names { OnOk result (self.new.open_names.items ≡ self.old.open_names.items) }
+    {
+        if is_marked_literal(c) {
+            self.literals.push(c)?;
+        }
+        match standing {
+            Standing::Rustc => {}
+            Standing::Unsupported => self.unsupported.push(c)?,
+            Standing::Custom => {
+                if !is_declared {
+                    self.custom.push(c)?;
+                }
+            }
+            _ => self.mistakes.push((c, standing))?,
+        }
+        Ok(())
+    }
+}
+
+/// The names and keys that flags, profiles and Cargo change.
+fn open_flags<'a>(alloc: Global) -> Result<Vec<&'a str>, AllocError>
+    ensures { IfOk result (λ names. names_of names.items ≡ flag_names) }
+{
+    let mut open = Vec::new(alloc);
+    'names: for name in &OPEN {
+        open.push(*name)?;
+    }
+    Ok(open)
+}
+
+/// Adds the name or key of a fact where what is said of it is open.
+fn push_open<'a>(names: &mut Vec<&'a str>, c: &'a Cfg, standing: Standing) -> Result<(), AllocError>
+    ensures { OnOk result (AddsOpen (names_of names.old.items) (names_of names.new.items) standing (value_of c.now)) }
+{
+    if standing.is_open() {
+        names.push(name_in(c))?;
+    }
+    Ok(())
+}
+
 /// Sorts the facts of a condition by what they are.
 pub fn facts_in<'a>(
     alloc: Global,
     platform: &'a Platform,
     declared: &Declared<'_>,
 ) -> Result<Facts<'a>, AllocError>
-    ensures { IfOk result (λ facts. HasKinds facts.kinds (condition_values (condition_of platform.now))) }
+    ensures kinds { IfOk result (λ facts. HasKinds facts.kinds (condition_values (condition_of platform.now))) }
+    ensures open_names { IfOk result
+        (λ facts. AreOpen (names_of facts.open_names.items) (condition_values (condition_of platform.now))) }
 {
     let values = values_of(alloc, platform)?;
     let mut kinds = Kinds {
@@ -79,45 +127,28 @@ pub fn facts_in<'a>(
         mistaken: false,
         custom: false,
     };
+    let mut open_names = open_flags(alloc)?;
     let mut facts = Facts {
         kinds,
         unsupported: Vec::new(alloc),
         mistakes: Vec::new(alloc),
         custom: Vec::new(alloc),
         literals: Vec::new(alloc),
-        open: Vec::new(alloc),
+        open_names: Vec::new(alloc),
         count: values.len(),
     };
-    for name in &OPEN {
-        facts.open.push(*name)?;
-    }
     let mut seen: BTreeSet<&'a Cfg> = BTreeSet::new(alloc);
-    let mut names: BTreeSet<&'a str> = BTreeSet::new(alloc);
     'values: for each in &values {
         let c: &'a Cfg = *each;
         let standing = standing_of(alloc, c)?;
         let is_declared = declared.declares(c);
         kinds = kinds.with(standing, is_declared);
-        if !seen.insert(c)? {
-            continue;
-        }
-        if is_marked_literal(c) {
-            facts.literals.push(c)?;
-        }
-        if standing.is_open() && names.insert(name_in(c))? {
-            facts.open.push(name_in(c))?;
-        }
-        match standing {
-            Standing::Rustc => {}
-            Standing::Unsupported => facts.unsupported.push(c)?,
-            Standing::Custom => {
-                if !is_declared {
-                    facts.custom.push(c)?;
-                }
-            }
-            _ => facts.mistakes.push((c, standing))?,
+        push_open(&mut open_names, c, standing)?;
+        if seen.insert(c)? {
+            facts.add(c, standing, is_declared)?;
         }
     }
     facts.kinds = kinds;
+    facts.open_names = open_names;
     Ok(facts)
 }

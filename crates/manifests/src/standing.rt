@@ -3,13 +3,14 @@
 ghost use Rattle.std.specs.Prelude.{◌≡◌, ◌||◌, true, IfOk, IsTrue, is_some};
 ghost use Rattle.std.specs.List.{list_any};
 ghost use Rattle.cargo_platform.specs.Trees.{Alone, KeyPair, value_of};
+ghost use Rattle.cargo_platform.specs.Spelling.{name_in};
 ghost use Rattle.cargo_platform.specs.Warnings.{is_unsupported_name};
 ghost use Rattle.partial_facts.specs.Partly.{is_named};
 ghost use Rattle.known_targets.specs.Listed.{is_had};
 ghost use Rattle.known_targets.specs.Rows.{names_of, plain};
 ghost use Rattle.known_targets.specs.Table.{table_keys};
 ghost use Rattle.manifests.specs.Standings.{has_as_value, sort_of, sort_in, sort_of_key, Other, is_unsupported_sort};
-ghost use Rattle.manifests.specs.Standings.{is_mistaken_sort, is_other_sort};
+ghost use Rattle.manifests.specs.Standings.{is_mistaken_sort, is_other_sort, is_open_standing};
 
 use cargo_platform::{Cfg, Ident};
 use known_targets::having;
@@ -106,8 +107,10 @@ impl Standing {
     }
 
     /// Whether it is open what is said of it.
-    pub fn is_open(self) -> bool {
-        self.is_unsupported() || self.is_custom()
+    pub fn is_open(self) -> bool
+        ensures { result ≡ is_open_standing self }
+    {
+        matches!(self, Standing::Unsupported | Standing::Custom)
     }
 }
 
@@ -263,7 +266,9 @@ pub fn standing_of(alloc: Global, c: &Cfg) -> Result<Standing, AllocError>
 }
 
 /// The name, or the key of a pair.
-pub fn name_in(c: &Cfg) -> &str {
+pub fn name_in(c: &Cfg) -> &str
+    ensures { result.now ≡ (name_in (value_of c.now)).name }
+{
     match c {
         Cfg::Name(name) | Cfg::KeyPair(name, _) => name.as_str(),
     }

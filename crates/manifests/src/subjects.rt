@@ -1,6 +1,6 @@
 //! The keys of a manifest, each with what was found of it.
 
-ghost use Rattle.std.specs.Prelude.{◌≡◌, ◌↔◌, IsTrue, IfOk, false, string_bytes};
+ghost use Rattle.std.specs.Prelude.{◌≡◌, ◌≤◌, ◌↔◌, length, IsTrue, IfOk, false, string_bytes};
 ghost use Rattle.cargo_platform.specs.Trees.{condition_of};
 ghost use Rattle.cargo_platform.specs.Print.{print_condition};
 ghost use Rattle.known_targets.specs.Rows.{names_of};
@@ -124,6 +124,9 @@ fn places(
     ensures nowhere { IfOk result (λ h. IsTrue h.0 → IsNowhere (names_of open_keys.now) (condition_of platform.now)) }
     ensures everywhere { IfOk result
         (λ h. IsTrue h.1 → IsEverywhere (names_of open_keys.now) (condition_of platform.now)) }
+    ensures all { length open_keys.now ≤ MANY → IfOk result
+        (λ h. (IsNowhere (names_of open_keys.now) (condition_of platform.now) → IsTrue h.0)
+        × (IsEverywhere (names_of open_keys.now) (condition_of platform.now) → IsTrue h.1)) }
 {
     if open_keys.len() > MANY {
         return Ok((false, false));
@@ -173,7 +176,7 @@ fn look_at<'a>(
 {
     let facts = facts_in(alloc, platform, asking.declared)?;
     let canonical = canonical(alloc, platform)?;
-    let (nowhere, everywhere) = places(alloc, platform, &facts.open)?;
+    let (nowhere, everywhere) = places(alloc, platform, &facts.open_names)?;
     let budget = budget_for(facts.count);
     let (never, always, unknown) = asked(alloc, platform, asking.known, budget, may_ask)?;
     let holding = Holding {
@@ -192,7 +195,7 @@ fn look_at<'a>(
         custom: facts.kinds.custom,
         not_canonical: is_other_text(canonical.as_str(), key),
     };
-    let undecided = unknown || facts.open.len() > MANY;
+    let undecided = unknown || facts.open_names.len() > MANY;
     Ok(Seen {
         holding,
         facts,

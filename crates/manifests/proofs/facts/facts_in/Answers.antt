@@ -1,19 +1,24 @@
-use Rattle.std.proofs.Common.{◌∙◌, ap}
+use Rattle.std.proofs.Common.{◌∙◌, ap, subst}
 use Rattle.cargo_platform.specs.Trees.{value_of}
-use Rattle.manifests.specs.Standings.{sort_in, sort_of}
-use Rattle.manifests.proofs.MoreKinds.{one_kind}
+use Rattle.known_targets.specs.Rows.{names_of}
+use Rattle.manifests.specs.Standings.{sort_in, sort_of, AddsOpen}
+use Rattle.manifests.proofs.MoreKinds.{one_kind, one_open}
 use Rattle.manifests.proofs.facts.facts_in.Goals as goal
-
-pub values-preserved-then-not-branch : goal.values-preserved-then-not-branch
-values-preserved-then-not-branch c =
-    one_kind c.deref-each-items.result.now c.values.each-index c.each-item.result c.values-test.true c.values.kinds
-    c.with-kinds.result (sort_in c.in_ok-standing.standing)
-    (c.in_ok-standing.ensures ∙ ap (λ z. sort_of (value_of z.now)) c.each-item.is) c.with-kinds.ensures.unsupported
-    c.with-kinds.ensures.all c.with-kinds.ensures.right c.with-kinds.ensures.custom c.values.invariant
 
 pub values-preserved : goal.values-preserved
 values-preserved c =
-    one_kind c.deref-each-items.result.now c.values.each-index c.each-item.result c.values-test.true c.values.kinds
-    c.with-kinds.result (sort_in c.in_ok-standing.standing)
-    (c.in_ok-standing.ensures ∙ ap (λ z. sort_of (value_of z.now)) c.each-item.is) c.with-kinds.ensures.unsupported
-    c.with-kinds.ensures.all c.with-kinds.ensures.right c.with-kinds.ensures.custom c.values.invariant
+    let cs = c.deref-each-items.result.now in
+    let i = c.values.each-index in
+    let s = c.in_ok-standing.standing in
+    let is = c.in_ok-standing.ensures ∙ ap (λ z. sort_of (value_of z.now)) c.each-item.is in
+    record {
+      kinds =
+          one_kind cs i c.each-item.result c.values-test.true c.values.kinds c.with-kinds.result (sort_in s) is
+          c.with-kinds.ensures.unsupported c.with-kinds.ensures.all c.with-kinds.ensures.right
+          c.with-kinds.ensures.custom c.values.invariant.kinds;
+      open_keys =
+          one_open cs i c.each-item.result c.values-test.true (names_of c.values.open_names.items)
+          (names_of c.push_open.new.names.items) s is
+          (subst (λ z. AddsOpen (names_of c.values.open_names.items) (names_of c.push_open.new.names.items) s
+          (value_of z.now)) c.each-item.is c.in_ok-push_open.ensures) c.values.invariant.open_keys;
+    }

@@ -1,7 +1,11 @@
 use Rattle.std.proofs.Common.{take}
-use Rattle.manifests.specs.Standings.{HasKinds, values_at}
+use Rattle.known_targets.specs.Rows.{names_of}
+use Rattle.manifests.specs.Standings.{HasKinds, AreOpen, values_at}
 use Rattle.manifests.proofs.facts.facts_in.Given as goal
 
--- the kinds of the facts so far
+-- the kinds of the facts so far, and what is open of them
 abbrev pub invariant-values : goal.invariant-values
-invariant-values l = HasKinds l.kinds (values_at (take l.each-index l.each-items))
+invariant-values l = record {
+  kinds : HasKinds l.kinds (values_at (take l.each-index l.each-items));
+  open_keys : AreOpen (names_of l.open_names.items) (values_at (take l.each-index l.each-items));
+}

@@ -1,5 +1,5 @@
 -- What is known of each target allows each set of facts that rustc may set.
-use Rattle.std.proofs.Common.{◌≡◌, ◌↔◌, ◌∙◌, true, refl, sym, ap, subst, ℕ, List, [], Result, Ok, Err, IfOk, map}
+use Rattle.std.proofs.Common.{◌≡◌, ◌↔◌, ◌∙◌, true, refl, sym, ap, subst, List, [], Result, Ok, Err, IfOk, map}
 use Rattle.std.specs.List.{All}
 use Rattle.cargo_platform.specs.Facts.{FactSet, truth}
 use Rattle.cargo_platform.specs.Trees.{tree_of}

@@ -1,4 +1,10 @@
-use Rattle.std.proofs.Common.{◌≡◌, ◌∙◌, ◌↔◌, IsTrue, refl, subst}
+use Rattle.std.proofs.Common.{◌≡◌, ◌∙◌, ◌↔◌, ◌≤◌, IsTrue, refl, sym, subst}
+use Rattle.std.proofs.lemmas.List.{length-map}
+use Rattle.manifests.specs.declared.subjects.TheConstants.{MANY}
+use Rattle.cargo_platform.specs.Trees.{condition_of}
+use Rattle.cargo_platform.specs.Warnings.{condition_values}
+use Rattle.manifests.specs.Standings.{AreOpen}
+use Rattle.known_targets.specs.Rows.{names_of}
 use Rattle.manifests.proofs.subjects.look_at.Goals as goal
 
 pub returns : goal.returns
@@ -6,12 +12,19 @@ returns c =
     let text = c.as_str.ensures.value ∙ c.in_ok-canonical.ensures in
     record {
       refused = refl;
-      unsupported = c.in_ok-facts.ensures.unsupported;
-      unknown_fact = c.in_ok-facts.ensures.mistaken;
-      may_be_mistaken = c.in_ok-facts.ensures.may_be_mistaken;
-      custom = c.in_ok-facts.ensures.custom;
+      unsupported = c.in_ok-facts.ensures.kinds.unsupported;
+      unknown_fact = c.in_ok-facts.ensures.kinds.mistaken;
+      may_be_mistaken = c.in_ok-facts.ensures.kinds.may_be_mistaken;
+      custom = c.in_ok-facts.ensures.kinds.custom;
       never = c.in_ok-never.ensures.never;
       always = c.in_ok-never.ensures.always;
+      open_keys = names_of c.deref.result.now;
+      are_open = subst (λ z. AreOpen (names_of z) (condition_values (condition_of c.args.platform.now)))
+          (sym c.deref.ensures.value) c.in_ok-facts.ensures.open_names;
+      nowhere = c.in_ok-nowhere.ensures.nowhere;
+      everywhere = c.in_ok-nowhere.ensures.everywhere;
+      all_told = λ few. c.in_ok-nowhere.ensures.all
+          (subst (λ n. n ≤ MANY) (length-map c.deref.result.now (λ t. t.now)) few);
       unknown_target = c.is_unknown_target.ensures;
       not_canonical =
           subst (λ t. IsTrue c.is_other_text.result ↔ (t ≡ c.args.key.now → ⊥)) text c.is_other_text.ensures;
