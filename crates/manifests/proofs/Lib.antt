@@ -3,3 +3,4 @@ pub mod Rustcs
 pub mod Standings
 pub mod Verdicts
 pub mod MoreKinds
+pub mod MoreSames

@@ -12,6 +12,8 @@ use Rattle.manifests.specs.declared.hiding.Holding.{Holding}
 use Rattle.manifests.specs.declared.subjects.Read.{Read}
 use Rattle.manifests.specs.Reports.{Entry, Mark, AreFindingsOn, on_more, IsFoundOf, IsRead, entry_of, mark, marks}
 use Rattle.manifests.specs.Reports.{told_marks}
+use Rattle.manifests.specs.declared.earlier.Keys.{Keys}
+use Rattle.manifests.specs.Sames.{AreNoted, TellsSame}
 
 abbrev pub read_entry : Read → Entry
 read_entry r = entry_of r.key
@@ -20,19 +22,29 @@ pub one_more : (k : Known) (reads : List Read) (i : ℕ) (d : Read) (h : Holding
     → i < length reads → All IsRead reads
     → (All IsRead reads → AreFindingsOn k (map read_entry (take i reads)) old)
     → (IsRead (get_or reads i d) → IsFoundOf k (read_entry (get_or reads i d)) h)
+    → (IsRead (get_or reads i d) → TellsSame (map read_entry (take i reads)) (read_entry (get_or reads i d)) h)
     → new ≡ old ++ told_marks i h
     → AreFindingsOn k (map read_entry (take (i + 1) reads)) new
-one_more k reads i d h old new within all before found now =
+one_more k reads i d h old new within all before found same now =
     let x = get_or reads i d in
     let es = map read_entry (take i reads) in
     let long : length es ≡ i = length-map (take i reads) read_entry ∙ length-take-le i reads (omega arith) in
     let more : AreFindingsOn k (es ++ read_entry x ∷ []) (old ++ told_marks (length es) h) =
-    on_more es (read_entry x) h old (before all) (found (all i d within)) in
+    on_more es (read_entry x) h old (before all) (found (all i d within)) (same (all i d within)) in
     let entries : es ++ read_entry x ∷ [] ≡ map read_entry (take (i + 1) reads) =
     sym (map-append read_entry (take i reads) (x ∷ [])) ∙ ap (map read_entry) (sym (take_more reads i d within)) in
     subst (λ fs. AreFindingsOn k fs new) entries
     (subst (λ ms. AreFindingsOn k (es ++ read_entry x ∷ []) ms)
     (ap (λ n. old ++ told_marks n h) long ∙ sym now) more)
+
+-- and of the keys that are noted
+pub one_more_noted : (reads : List Read) (i : ℕ) (d : Read) (keys : Keys) → i < length reads
+    → AreNoted (map read_entry (take i reads) ++ read_entry (get_or reads i d) ∷ []) keys
+    → AreNoted (map read_entry (take (i + 1) reads)) keys
+one_more_noted reads i d keys within noted =
+    subst (λ es. AreNoted es keys)
+    (sym (map-append read_entry (take i reads) (get_or reads i d ∷ []))
+    ∙ ap (map read_entry) (sym (take_more reads i d within))) noted
 
 abbrev marked : ℕ → List Code → List Mark
 marked n cs = map (λ c. (Some n, c)) cs

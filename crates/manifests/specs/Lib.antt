@@ -4,4 +4,6 @@ pub mod Choosing
 pub mod Truths
 pub mod Hiding
 pub mod Standings
+pub mod Entries
+pub mod Sames
 pub mod Reports

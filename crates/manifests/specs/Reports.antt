@@ -11,8 +11,6 @@ use Rattle.exact_answers.specs.declared.known.Known.{Known}
 use Rattle.partial_facts.specs.declared.one_valued.TheConstants.{ONE_VALUED}
 use Rattle.exact_answers.specs.Possible.{HasOneValue, IsAllowed}
 use Rattle.exact_answers.specs.Families.{KeepsFamilyRule}
-use Rattle.toml.specs.Data.{Data}
-use Rattle.toml.specs.View.{view}
 use Rattle.manifests.specs.declared.findings.Code.{Code}
 use Rattle.manifests.specs.declared.findings.Finding.{Finding}
 use Rattle.manifests.specs.declared.hiding.Holding.{Holding}
@@ -20,18 +18,12 @@ use Rattle.manifests.specs.declared.spelled.Spelled.{Spelled}
 use Rattle.manifests.specs.declared.spelled.Spelled.TheVariants as spelled
 use Rattle.manifests.specs.declared.subjects.Read.{Read}
 use Rattle.manifests.specs.declared.subjects.TheConstants.{MANY}
-use Rattle.manifests.specs.declared.tables.TargetKey.{TargetKey}
 use Rattle.manifests.specs.Standings.{is_unsupported, is_mistaken, may_be_mistaken, is_other, AreOpen}
+pub use Rattle.manifests.specs.Entries.{Entry, entry_of}
+use Rattle.manifests.specs.Sames.{TellsSame}
 use Rattle.manifests.specs.Hiding.{is_told, told_codes, IsUnspelled}
 use Rattle.manifests.specs.Tables.{is_no_table}
 use Rattle.manifests.specs.Truths.{IsNever, IsAlways, IsNowhere, IsEverywhere, IsUnknownTarget}
-
--- a key, and what stands at it
-abbrev pub Entry : Type 0
-Entry = List ℕ × Data
-
-abbrev pub entry_of : TargetKey → Entry
-entry_of k = (k.key.now, view k.value.now)
 
 -- ---- what a key spells
 
@@ -109,7 +101,7 @@ told_marks n h = map (λ c. (Some n, c)) (told_codes h)
 pub data AreFindingsOn (k : Known) : List Entry → List Mark → Type 0 where
   on_none : AreFindingsOn k [] []
   on_more : (es : List Entry) (e : Entry) (h : Holding) (ms : List Mark) → AreFindingsOn k es ms
-      → IsFoundOf k e h → AreFindingsOn k (es ++ e ∷ []) (ms ++ told_marks (length es) h)
+      → IsFoundOf k e h → TellsSame es e h → AreFindingsOn k (es ++ e ∷ []) (ms ++ told_marks (length es) h)
 
 -- the same, by what is known of each target
 abbrev pub AreFindings : List Entry → List Mark → Type 0

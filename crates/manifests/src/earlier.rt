@@ -1,5 +1,10 @@
 //! How a key stands to those before it: the same condition, or one that is as true.
 
+ghost use Rattle.std.specs.Prelude.{◌≡◌, ◌↔◌, false, None, IfOk, OnOk, IsTrue, IsSome};
+ghost use Rattle.std.specs.Borrow.{Bor};
+ghost use Rattle.cargo_platform.specs.declared.Platform.{Platform as Shown};
+ghost use Rattle.manifests.specs.Sames.{is_same, noted, Notes};
+
 use crate::standing::{FLAGGED, PLAIN, VALUED, is_among, name_in};
 use cargo_platform::{Cfg, CfgExpr, Platform};
 use exact_answers::{Known, MustSelect, ONE_VALUED, equivalent_platform};
@@ -26,6 +31,15 @@ pub enum Earlier {
     Undecided,
 }
 
+impl Earlier {
+    /// Whether an earlier key is the same.
+    pub fn is_same(self) -> bool
+        ensures { result ≡ is_same self }
+    {
+        matches!(self, Earlier::Same(_))
+    }
+}
+
 /// What equivalent conditions share: their truths at the known targets and over the sets of facts that are tried.
 type Class = [u64; 6];
 
@@ -46,7 +60,9 @@ pub struct Keys<'a> {
 
 impl<'a> Keys<'a> {
     /// No keys.
-    pub fn new(alloc: Global) -> Keys<'a> {
+    pub fn new(alloc: Global) -> Keys<'a>
+        ensures { (q : Bor Shown) → noted result q ≡ None }
+    {
         Keys {
             seen: BTreeMap::new(alloc),
             classes: BTreeMap::new(alloc),
@@ -63,11 +79,41 @@ impl<'a> Keys<'a> {
         known: &'a Known<'a>,
         budget: u64,
         may_ask: bool,
-    ) -> Result<Earlier, AllocError> {
+    ) -> Result<Earlier, AllocError>
+        ensures same { IfOk result (λ r. IsTrue (is_same r) ↔ IsSome (noted self.old platform.entry)) }
+        ensures notes { OnOk result (Notes self.old self.new platform.entry) }
+    {
+        match self.note(index, platform)? {
+            Some(first) => Ok(Earlier::Same(first)),
+            None => self.compare(alloc, index, platform, known, budget, may_ask),
+        }
+    }
+
+    /// Notes a condition, and answers the place of the same one where there is one.
+    fn note(&mut self, index: usize, platform: &'a Platform) -> Result<Option<usize>, AllocError>
+        ensures first { IfOk result (λ first. first ≡ noted self.old platform.entry) }
+        ensures notes { OnOk result (Notes self.old self.new platform.entry) }
+    {
         if let Some(first) = self.seen.get(&platform) {
-            return Ok(Earlier::Same(*first));
+            return Ok(Some(*first));
         }
         let _none = self.seen.insert(platform, index)?;
+        Ok(None)
+    }
+
+    /// Compares a condition with those of its class.
+    fn compare(
+        &mut self,
+        alloc: Global,
+        index: usize,
+        platform: &'a Platform,
+        known: &'a Known<'a>,
+        budget: u64,
+        may_ask: bool,
+    ) -> Result<Earlier, AllocError>
+        ensures other { IfOk result (λ r. is_same r ≡ false) }
+        ensures noted { OnOk result ((q : Bor Shown) → noted self.new q ≡ noted self.old q) }
+    {
         let Platform::Cfg(e) = platform else {
             return Ok(Earlier::Unlike);
         };

@@ -1,10 +1,13 @@
 //! The keys of a manifest, each with what was found of it.
 
-ghost use Rattle.std.specs.Prelude.{◌≡◌, ◌≤◌, ◌↔◌, length, IsTrue, IfOk, false, string_bytes};
+ghost use Rattle.std.specs.Prelude.{◌≡◌, ◌≤◌, ◌↔◌, ◌++◌, ◌∷◌, [], List, length, IsTrue, IsSome, IfOk, OnOk, false};
+ghost use Rattle.std.specs.Prelude.{string_bytes};
 ghost use Rattle.cargo_platform.specs.Trees.{condition_of};
 ghost use Rattle.cargo_platform.specs.Print.{print_condition};
 ghost use Rattle.known_targets.specs.Rows.{names_of};
 ghost use Rattle.manifests.specs.Truths.{IsNever, IsAlways, IsNowhere, IsEverywhere, IsUnknownTarget};
+ghost use Rattle.manifests.specs.Entries.{Entry};
+ghost use Rattle.manifests.specs.Sames.{noted, Notes, AreNoted, TellsSame};
 ghost use Rattle.manifests.specs.Reports.{entry_of, IsFoundOf, IsFoundOfCondition, IsRead};
 ghost use Rattle.manifests.specs.Hiding.{IsUnspelled};
 ghost use Rattle.manifests.specs.Tables.{is_no_table};
@@ -224,8 +227,10 @@ fn seen_after<'a>(
     platform: &'a Platform,
     before: &mut Keys<'a>,
 ) -> Result<(Seen<'a>, Earlier), AllocError>
-    ensures { IfOk result
+    ensures found { IfOk result
         (λ s. IsFoundOfCondition asking.now.known.now key.now (condition_of platform.now) s.0.holding) }
+    ensures same { IfOk result (λ s. IsTrue s.0.holding.same ↔ IsSome (noted before.old platform.entry)) }
+    ensures notes { OnOk result (Notes before.old before.new platform.entry) }
 {
     let may_ask = may_ask(alloc, key)?;
     let mut seen = look_at(alloc, asking, key, platform, may_ask)?;
@@ -239,7 +244,7 @@ fn seen_after<'a>(
         budget,
         may_ask && !decides,
     )?;
-    seen.holding.same = matches!(earlier, Earlier::Same(_));
+    seen.holding.same = earlier.is_same();
     seen.holding.equivalent = matches!(earlier, Earlier::Equivalent(_));
     seen.undecided = seen.undecided || (earlier == Earlier::Undecided && !decides);
     Ok((seen, earlier))
@@ -258,6 +263,8 @@ fn of_condition<'a>(
     ensures no_table { IfOk result (λ s. s.holding.no_table ≡ is_no_table (view key.entry.value.now)) }
     ensures found { IfOk result
         (λ s. IsFoundOfCondition asking.now.known.now key.entry.key.now (condition_of platform.now) s.holding) }
+    ensures same { IfOk result (λ s. IsTrue s.holding.same ↔ IsSome (noted before.old platform.entry)) }
+    ensures notes { OnOk result (Notes before.old before.new platform.entry) }
 {
     let no_tables = no_tables(alloc, &key)?;
     let (seen, earlier) = seen_after(alloc, asking, index, key.key, platform, before)?;
@@ -313,6 +320,9 @@ pub fn subject_of<'a>(
     ensures place { IfOk result (λ s. s.index ≡ index) }
     ensures found { IsRead read.now
         → IfOk result (λ s. IsFoundOf asking.now.known.now (entry_of read.now.key) s.holding) }
+    ensures same { IsRead read.now → (es : List Entry) → AreNoted es before.old
+        → IfOk result (λ s. TellsSame es (entry_of read.now.key) s.holding
+        × AreNoted (es ++ entry_of read.now.key ∷ []) before.new) }
 {
     match &read.spelled {
         Spelled::Condition(platform) => of_condition(

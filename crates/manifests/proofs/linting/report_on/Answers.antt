@@ -1,22 +1,40 @@
-use Rattle.std.proofs.Common.{◌≡◌, ◌∙◌, sym, ap, subst, List, [], ◌++◌}
+use Rattle.std.proofs.Common.{◌≡◌, ◌∙◌, sym, ap, subst, List, [], ◌∷◌, ◌++◌, take, map}
 use Rattle.exact_answers.specs.declared.known.Known.{Known}
 use Rattle.manifests.specs.declared.findings.Finding.{Finding}
+use Rattle.manifests.specs.declared.subjects.Read.{Read}
+use Rattle.manifests.specs.Sames.{AreNoted, TellsSame}
 use Rattle.manifests.specs.Reports.{AreFindingsOn, on_none, IsFoundOf, IsRead, marks, told_marks}
-use Rattle.manifests.proofs.Reports.{one_more, read_entry}
+use Rattle.manifests.proofs.MoreSames.{none_noted}
+use Rattle.manifests.proofs.Reports.{one_more, one_more_noted, read_entry}
 use Rattle.manifests.proofs.linting.report_on.Goals as goal
 
 none_yet : (k : Known) (fs : List Finding) → fs ≡ [] → AreFindingsOn k [] (marks fs)
 none_yet k fs is = subst (λ gs. AreFindingsOn k [] (marks gs)) (sym is) on_none
 
 pub keys-init : goal.keys-init
-keys-init c = λ all. none_yet c.args.known.now c.new-findings.result.items c.new-findings.ensures.items
+keys-init c = record {
+  findings = λ all. none_yet c.args.known.now c.new-findings.result.items c.new-findings.ensures.items;
+  noted_keys = λ all. none_noted c.new-before.result c.new-before.ensures;
+}
 
 pub keys-preserved : goal.keys-preserved
 keys-preserved c =
     let k = c.args.known.now in
     let h = c.in_ok-subject.subject.holding in
-    λ all.
-    one_more k c.args.read.now c.keys.index c.index-read-index.result h _ _ c.keys-test.true all c.keys.invariant
-    (subst (λ r. IsRead r → IsFoundOf k (read_entry r) h) c.index-read-index.is c.in_ok-subject.ensures.found)
-    (c.in_ok-add_findings.ensures
-    ∙ ap (λ n. marks c.keys.findings.items ++ told_marks n h) c.in_ok-subject.ensures.place)
+    let i = c.keys.index in
+    let es = map read_entry (take i c.args.read.now) in
+    let new = c.subject_of.new.before in
+    let S : Read → Type 0 = λ r. IsRead r → AreNoted es c.keys.before
+    → TellsSame es (read_entry r) h × AreNoted (es ++ read_entry r ∷ []) new in
+    let same = subst S c.index-read-index.is (λ r. c.in_ok-subject.ensures.same r es) in
+    record {
+      findings = λ all.
+          one_more k c.args.read.now i c.index-read-index.result h _ _ c.keys-test.true all c.keys.invariant.findings
+          (subst (λ r. IsRead r → IsFoundOf k (read_entry r) h) c.index-read-index.is c.in_ok-subject.ensures.found)
+          (λ r. (same r (c.keys.invariant.noted_keys all)).0)
+          (c.in_ok-add_findings.ensures
+          ∙ ap (λ n. marks c.keys.findings.items ++ told_marks n h) c.in_ok-subject.ensures.place);
+      noted_keys = λ all.
+          one_more_noted c.args.read.now i c.index-read-index.result new c.keys-test.true
+          (same (all i c.index-read-index.result c.keys-test.true) (c.keys.invariant.noted_keys all)).1;
+    }

@@ -1,9 +1,13 @@
 use Rattle.std.proofs.Common.{map, take}
 use Rattle.std.specs.List.{All}
+use Rattle.manifests.specs.Sames.{AreNoted}
 use Rattle.manifests.specs.Reports.{AreFindingsOn, IsRead, entry_of, marks}
 use Rattle.manifests.proofs.linting.report_on.Given as goal
 
 abbrev pub invariant-keys : goal.invariant-keys
-invariant-keys l =
-    All IsRead l.read
-    → AreFindingsOn l.asking.known.now (map (λ r. entry_of r.key) (take l.index l.read)) (marks l.findings.items)
+invariant-keys l = record {
+  findings :
+      All IsRead l.read
+      → AreFindingsOn l.asking.known.now (map (λ r. entry_of r.key) (take l.index l.read)) (marks l.findings.items);
+  noted_keys : All IsRead l.read → AreNoted (map (λ r. entry_of r.key) (take l.index l.read)) l.before;
+}

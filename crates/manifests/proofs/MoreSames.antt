@@ -1,0 +1,115 @@
+-- One more key among those that were noted.
+use Rattle.std.proofs.Common.{◌≡◌, ◌∙◌, refl, sym, ap, subst, ℕ, true≢false, cond, List, [], ◌∷◌}
+use Rattle.std.proofs.Common.{◌++◌, ◌↔◌, ◌⊎◌, inl, inr, Option, Some, None, IsTrue, IsSome}
+use Rattle.std.specs.Ordering.{is_eq}
+use Rattle.std.specs.Borrow.{Bor}
+use Rattle.std.specs.declared.cmp.Ordering.{Ordering}
+use Rattle.std.specs.declared.cmp.Ordering.TheVariants.{Less, Equal, Greater}
+use Rattle.cargo_platform.specs.declared.Platform.{Platform}
+use Rattle.cargo_platform.specs.Trees.{Condition, condition_of}
+use Rattle.cargo_platform.specs.Key.{condition_key, condition_cmp}
+use Rattle.cargo_platform.specs.OrderLaws.{condition_equal_iff}
+use Rattle.cargo_platform.specs.Platforms.{IsConditionText}
+use Rattle.cargo_platform.proofs.Conditions.{one_condition}
+use Rattle.manifests.specs.declared.earlier.Keys.{Keys}
+use Rattle.manifests.specs.declared.hiding.Holding.{Holding}
+use Rattle.manifests.specs.Entries.{Entry}
+use Rattle.manifests.specs.Reports.{SpellsNothing}
+use Rattle.manifests.specs.Sames.{noted, NotesBy, Notes, SpellsSame, HasSame, AreNoted, TellsSame}
+
+-- ---- a map in which one key is set
+
+set_by : (o : Ordering) (n : ℕ) (old : Option ℕ)
+    → IsSome (cond (is_eq o) (Some n) old) ↔ ((o ≡ Equal) ⊎ IsSome old)
+set_by Less n old = (λ h. inr h, λ h. elim h [ inl e ↦ absurd cc | inr s ↦ s ])
+set_by Equal n old = (λ h. inl refl, λ h. refl)
+set_by Greater n old = (λ h. inr h, λ h. elim h [ inl e ↦ absurd cc | inr s ↦ s ])
+
+pub set_one : (c d : Condition) (n : ℕ) (old new : Option ℕ)
+    → new ≡ cond (is_eq (condition_cmp c d)) (Some n) old
+    → IsSome new ↔ ((condition_key c ≡ condition_key d) ⊎ IsSome old)
+set_one c d n old new is =
+    let s = set_by (condition_cmp c d) n old in
+    let k = condition_equal_iff c d in (
+      λ h. elim (s.0 (subst IsSome is h)) [ inl e ↦ inl (k.0 e) | inr o ↦ inr o ],
+      λ h. subst IsSome (sym is) (s.1 (elim h [ inl e ↦ inl (k.1 e) | inr o ↦ inr o ])),
+    )
+
+-- ---- the keys so far
+
+has_more : (es : List Entry) (e : Entry) (c : Condition) → SpellsSame e.0 c ⊎ HasSame es c
+    → HasSame (es ++ e ∷ []) c
+has_more [] e c (inl s) = inl s
+has_more [] e c (inr h) = absurd h
+has_more (f ∷ es) e c (inl s) = inr (has_more es e c (inl s))
+has_more (f ∷ es) e c (inr (inl s)) = inl s
+has_more (f ∷ es) e c (inr (inr h)) = inr (has_more es e c (inr h))
+
+has_last : (es : List Entry) (e : Entry) (c : Condition) → HasSame (es ++ e ∷ []) c
+    → SpellsSame e.0 c ⊎ HasSame es c
+has_last [] e c (inl s) = inl s
+has_last [] e c (inr h) = absurd h
+has_last (f ∷ es) e c (inl s) = inr (inl s)
+has_last (f ∷ es) e c (inr h) = elim (has_last es e c h) [ inl s ↦ inl s | inr k ↦ inr (inr k) ]
+
+has_moved : (es : List Entry) (c d : Condition) → condition_key c ≡ condition_key d → HasSame es c → HasSame es d
+has_moved [] c d same h = absurd h
+has_moved (e ∷ es) c d same (inl (x, text, key)) = inl (x, text, key ∙ same)
+has_moved (e ∷ es) c d same (inr h) = inr (has_moved es c d same h)
+
+-- what the text of a condition spells is it
+spelled_key : (text : List ℕ) (c d : Condition) → IsConditionText text c → SpellsSame text d
+    → condition_key c ≡ condition_key d
+spelled_key text c d t (x, u, key) = ap condition_key (one_condition text c x t u) ∙ key
+
+pub none_noted : (keys : Keys) → ((q : Bor Platform) → noted keys q ≡ None) → AreNoted [] keys
+none_noted keys none = λ q. (λ h. absurd (true≢false (sym (subst IsSome (none q) h))), λ h. absurd h)
+
+module _ (es : List Entry) (e : Entry) (old new : Keys) (p : Bor Platform) (before : AreNoted es old)
+    (text : IsConditionText e.0 (condition_of p.now)) where
+  noted_by : (o : Option ℕ) → noted old p ≡ o → NotesBy o old new (condition_of p.now) → AreNoted (es ++ e ∷ []) new
+  noted_by (Some first) is stays = λ q. (
+    λ h. has_more es e (condition_of q.now) (inr ((before q).0 (subst IsSome (stays q) h))),
+    λ h. subst IsSome (sym (stays q)) ((before q).1 (elim (has_last es e (condition_of q.now) h) [
+      | inl s ↦
+          has_moved es (condition_of p.now) (condition_of q.now)
+          (spelled_key e.0 (condition_of p.now) (condition_of q.now) text s)
+          ((before p).0 (subst IsSome (sym is) refl))
+      | inr k ↦ k
+    ])),
+  )
+  noted_by None is adds = λ q. (
+    λ h. has_more es e (condition_of q.now) (elim ((adds q).0 h) [
+      | inl key ↦ inl (condition_of p.now, text, key)
+      | inr was ↦ inr ((before q).0 was)
+    ]),
+    λ h. (adds q).1 (elim (has_last es e (condition_of q.now) h) [
+      | inl s ↦ inl (spelled_key e.0 (condition_of p.now) (condition_of q.now) text s)
+      | inr k ↦ inr ((before q).1 k)
+    ]),
+  )
+
+  -- the key's condition was noted
+  pub one_noted : Notes old new p → AreNoted (es ++ e ∷ []) new
+  one_noted notes = noted_by (noted old p) refl notes
+
+  pub tells_same : (h : Holding) → (IsTrue h.same ↔ IsSome (noted old p)) → TellsSame es e h
+  tells_same h same = λ c t.
+      let is : condition_of p.now ≡ c = one_condition e.0 (condition_of p.now) c text t in (
+        λ s. subst (HasSame es) is ((before p).0 (same.0 s)),
+        λ s. same.1 ((before p).1 (subst (HasSame es) (sym is) s)),
+      )
+
+-- a key that spells nothing is the same as none
+pub none_more : (es : List Entry) (e : Entry) (keys : Keys) → AreNoted es keys → SpellsNothing e.0
+    → AreNoted (es ++ e ∷ []) keys
+none_more es e keys before nothing = λ q. (
+  λ h. has_more es e (condition_of q.now) (inr ((before q).0 h)),
+  λ h. (before q).1 (elim (has_last es e (condition_of q.now) h) [
+    | inl s ↦ absurd (nothing s.0 s.1)
+    | inr k ↦ k
+  ]),
+)
+
+pub tells_none : (es : List Entry) (e : Entry) (h : Holding) → SpellsNothing e.0 → TellsSame es e h
+tells_none es e h nothing = λ c t. absurd (nothing c t)

@@ -1,0 +1,15 @@
+use Rattle.std.proofs.Common.{subst}
+use Rattle.cargo_platform.specs.Trees.{condition_of}
+use Rattle.manifests.specs.declared.earlier.Keys.{Keys}
+use Rattle.manifests.specs.Sames.{noted, NotesBy}
+use Rattle.manifests.proofs.MoreSames.{set_one}
+use Rattle.manifests.proofs.earlier.Keys.note.Goals as goal
+
+pub returns-clause-notes : goal.returns-clause-notes
+returns-clause-notes c =
+    let old = c.args.self.now in
+    let new : Keys = record { seen = c.insert.new.self; classes = old.classes } in
+    let p = c.args.platform in
+    subst (λ o. NotesBy o old new (condition_of p.now)) c.in_default.ensures.value
+    (λ q. set_one (condition_of p.now) (condition_of q.now) c.args.index (noted old q) (noted new q)
+    (c.in_ok-_none.ensures.updates.0 q))
