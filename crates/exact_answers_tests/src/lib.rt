@@ -6,6 +6,8 @@ pub mod audit;
 mod budgets;
 pub mod linter;
 #[cfg(test)]
+mod sizes;
+#[cfg(test)]
 mod support;
 #[cfg(test)]
 mod tables;
