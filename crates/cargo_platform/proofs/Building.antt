@@ -7,8 +7,7 @@ use Rattle.cargo_platform.specs.Tokens.{Lexeme, LeftParen, RightParen, Ident, Co
 use Rattle.cargo_platform.specs.Trees.{Name, CfgValue, Alone, KeyPair, Tree, Not, All, Any, Value, True, False, Trees}
 use Rattle.cargo_platform.specs.Trees.{none, tree, trees_of}
 use Rattle.cargo_platform.specs.Spelling.{Role, GroupWord, LiteralWord, PlainName, role, is_group_word, MayStand}
-use Rattle.cargo_platform.specs.Spelling.{joined}
-use Rattle.cargo_platform.specs.Spelling.{IsMemberList, SpellsLiteral, SpellsBy, SpellEachBy, Grammar, Values}
+use Rattle.cargo_platform.specs.Spelling.{SpellsLiteral, SpellsBy, SpellMembersBy, Grammar, Values}
 use Rattle.cargo_platform.specs.Spelling.{Expressions, IsAccepted}
 use Rattle.cargo_platform.specs.Faults.{IsCompletable}
 use Rattle.cargo_platform.specs.Earlier.{MayStandTransitional}
@@ -101,26 +100,6 @@ same_trees (tree e es) = ap (λ z. tree e z) (same_trees es)
 abbrev Leads : Bool → Position → List Lexeme → List Lexeme → Position → Type 0
 Leads keys p s x q = lead_from keys (Some p) (s ++ x) ≡ lead_from keys (Some q) x
 
--- what may follow the first member of a group, up to its `)`
-abbrev IsAfter : List (List Lexeme) → List Lexeme → Type 0
-IsAfter [] ts = (ts ≡ []) ⊎ (ts ≡ Comma ∷ [])
-IsAfter (s ∷ ss) ts = (rest : List Lexeme) × (ts ≡ Comma ∷ (s ++ rest)) × IsAfter ss rest
-
--- members and commas, as what stands after the first member
-after_first : (s : List Lexeme) (ss : List (List Lexeme)) (ts : List Lexeme) → IsMemberList (s ∷ ss) ts
-    → (rest : List Lexeme) × (ts ≡ s ++ rest) × IsAfter ss rest
-after_first s [] ts (inl h) = ([], h ∙ sym (append-nil s), inl refl)
-after_first s [] ts (inr h) = (Comma ∷ [], h, inr refl)
-after_first s (t ∷ ss) ts (inl h) =
-    let r = after_first t ss (joined (t ∷ ss)) (inl refl) in
-    (Comma ∷ joined (t ∷ ss), h, (r.0, ap (λ (z : List Lexeme). Comma ∷ z) r.1, r.2))
-after_first s (t ∷ ss) ts (inr h) =
-    let r = after_first t ss (joined (t ∷ ss) ++ Comma ∷ []) (inr refl) in (
-      Comma ∷ (joined (t ∷ ss) ++ Comma ∷ []),
-      h ∙ append_assoc s (Comma ∷ joined (t ∷ ss)) (Comma ∷ []),
-      (r.0, ap (λ (z : List Lexeme). Comma ∷ z) r.1, r.2),
-    )
-
 -- the tokens of a member, and those after it up to `)`
 member_first : (keys : Bool) (p : Position) (i s rest x : List Lexeme) → i ≡ s ++ rest
     → lead_from keys (Some p) ((i ++ RightParen ∷ []) ++ x)
@@ -138,12 +117,12 @@ mutual
       ∙ ap (lead_from keys (Some (Wanting (Negated ∷ gs)))) (append_assoc p.0 (RightParen ∷ []) x)
       ∙ tree_leads keys e p.0 (Negated ∷ gs) (RightParen ∷ x) p.1
   tree_leads keys (All es) s gs x p =
-      ap (λ (z : List Lexeme). lead_from keys (Some (Wanting gs)) (z ++ x)) p.4
-      ∙ members_lead keys true es p.0 p.1 [] gs x p.2 p.3
+      ap (λ (z : List Lexeme). lead_from keys (Some (Wanting gs)) (z ++ x)) p.2
+      ∙ members_lead keys true es p.0 [] gs x p.1
       ∙ ap (λ z. lead_from keys (Some (WithTree (All z) gs)) x) (same_trees es)
   tree_leads keys (Any es) s gs x p =
-      ap (λ (z : List Lexeme). lead_from keys (Some (Wanting gs)) (z ++ x)) p.4
-      ∙ members_lead keys false es p.0 p.1 [] gs x p.2 p.3
+      ap (λ (z : List Lexeme). lead_from keys (Some (Wanting gs)) (z ++ x)) p.2
+      ∙ members_lead keys false es p.0 [] gs x p.1
       ∙ ap (λ z. lead_from keys (Some (WithTree (Any z) gs)) x) (same_trees es)
   tree_leads keys (Value (Alone n)) s gs x p =
       ap (λ (z : List Lexeme). lead_from keys (Some (Wanting gs)) (z ++ x)) p.0
@@ -153,43 +132,23 @@ mutual
   tree_leads keys True s gs x p = ap (λ (z : List Lexeme). lead_from keys (Some (Wanting gs)) (z ++ x)) p
   tree_leads keys False s gs x p = ap (λ (z : List Lexeme). lead_from keys (Some (Wanting gs)) (z ++ x)) p
 
-  members_lead : (keys all : Bool) (es : Trees) (ms : List (List Lexeme)) (i : List Lexeme) (before : List Tree)
-      (gs : List Opening) (x : List Lexeme) → SpellEachBy (may_of keys) SpellsLiteral es ms → IsMemberList ms i
+  members_lead : (keys all : Bool) (es : Trees) (i : List Lexeme) (before : List Tree) (gs : List Opening)
+      (x : List Lexeme) → SpellMembersBy (may_of keys) SpellsLiteral es i
       → Leads keys (Wanting (Listed all before ∷ gs)) (i ++ RightParen ∷ []) x
       (WithTree (list_tree all (before ++ list_of es)) gs)
-  members_lead keys all none [] i before gs x p q =
-      ap (λ (z : List Lexeme). lead_from keys (Some (Wanting (Listed all before ∷ gs))) ((z ++ RightParen ∷ []) ++ x)) q
+  members_lead keys all none i before gs x p =
+      ap (λ (z : List Lexeme). lead_from keys (Some (Wanting (Listed all before ∷ gs))) ((z ++ RightParen ∷ []) ++ x)) p
       ∙ ap (λ (z : List Tree). lead_from keys (Some (WithTree (list_tree all z) gs)) x) (sym (append-nil before))
-  members_lead keys all none (s ∷ ss) i before gs x p q = absurd p
-  members_lead keys all (tree e es) [] i before gs x p q = absurd p
-  members_lead keys all (tree e es) (s ∷ ss) i before gs x p q =
-      let d = after_first s ss i q in
-      member_first keys (Wanting (Listed all before ∷ gs)) i s d.0 x d.1
-      ∙ tree_leads keys e s (Listed all before ∷ gs) ((d.0 ++ RightParen ∷ []) ++ x) p.0
-      ∙ others_lead keys all e es ss d.0 before gs x p.1 d.2
-
-  others_lead : (keys all : Bool) (e : Tree) (es : Trees) (ms : List (List Lexeme)) (i : List Lexeme)
-      (before : List Tree) (gs : List Opening) (x : List Lexeme) → SpellEachBy (may_of keys) SpellsLiteral es ms
-      → IsAfter ms i
-      → Leads keys (WithTree e (Listed all before ∷ gs)) (i ++ RightParen ∷ []) x
-      (WithTree (list_tree all (before ++ e ∷ list_of es)) gs)
-  others_lead keys all e none [] i before gs x p (inl q) =
-      ap (λ (z : List Lexeme). lead_from keys (Some (WithTree e (Listed all before ∷ gs)))
-      ((z ++ RightParen ∷ []) ++ x))
-      q
-  others_lead keys all e none [] i before gs x p (inr q) =
-      ap (λ (z : List Lexeme). lead_from keys (Some (WithTree e (Listed all before ∷ gs)))
-      ((z ++ RightParen ∷ []) ++ x))
-      q
-  others_lead keys all e none (s ∷ ss) i before gs x p q = absurd p
-  others_lead keys all e (tree f es) [] i before gs x p q = absurd p
-  others_lead keys all e (tree f es) (s ∷ ss) i before gs x p q =
-      let more = before ++ e ∷ [] in
-      member_first keys (WithTree e (Listed all before ∷ gs)) i (Comma ∷ s) q.0 x q.1
-      ∙ tree_leads keys f s (Listed all more ∷ gs) ((q.0 ++ RightParen ∷ []) ++ x) p.0
-      ∙ others_lead keys all f es ss q.0 more gs x p.1 q.2
+  members_lead keys all (tree e es) i before gs x (s, p, inl (last, is)) =
+      member_first keys (Wanting (Listed all before ∷ gs)) i s [] x (is ∙ sym (append-nil s))
+      ∙ tree_leads keys e s (Listed all before ∷ gs) (RightParen ∷ x) p
+      ∙ ap (λ (z : Trees). lead_from keys (Some (WithTree (list_tree all (before ++ e ∷ list_of z)) gs)) x) (sym last)
+  members_lead keys all (tree e es) i before gs x (s, p, inr (others, is, q)) =
+      member_first keys (Wanting (Listed all before ∷ gs)) i s (Comma ∷ others) x is
+      ∙ tree_leads keys e s (Listed all before ∷ gs) (((Comma ∷ others) ++ RightParen ∷ []) ++ x) p
+      ∙ members_lead keys all es others (before ++ e ∷ []) gs x q
       ∙ ap (λ (z : List Tree). lead_from keys (Some (WithTree (list_tree all z) gs)) x)
-      (append_assoc before (e ∷ []) (f ∷ list_of es))
+      (append_assoc before (e ∷ []) (list_of es))
 
 pub whole_leads : (keys : Bool) (e : Tree) (ts : List Lexeme) → SpellsBy (may_of keys) SpellsLiteral e ts
     → lead_from keys (Some (Wanting [])) ts ≡ Some (WithTree e [])

@@ -12,11 +12,11 @@ use Rattle.cargo_platform.specs.Cut.{lexemes}
 use Rattle.cargo_platform.specs.Trees.{Name, CfgValue, Alone, KeyPair, Tree, Not, All, Any, Value, True, False, Trees}
 use Rattle.cargo_platform.specs.Trees.{none, tree, Condition, Target, Expression}
 use Rattle.cargo_platform.specs.Spelling.{Grammar, Expressions, is_group_word, is_literal_word, MayStand, Spells}
-use Rattle.cargo_platform.specs.Spelling.{SpellEach, SpellEachBy}
+use Rattle.cargo_platform.specs.Spelling.{SpellMembers, SpellMembersBy}
 use Rattle.cargo_platform.specs.WellFormed.{IsWellFormedBy, AreWellFormedBy, IsWellFormed, AreWellFormed}
 use Rattle.cargo_platform.specs.Faults.{Fault, IsRefusedBy}
 use Rattle.cargo_platform.specs.Earlier.{IsAcceptedTransitional, MayStandTransitional, SpellsTransitional}
-use Rattle.cargo_platform.specs.Earlier.{SpellEachTransitional, IsTransitionalConditionText, is_literal_name}
+use Rattle.cargo_platform.specs.Earlier.{SpellMembersTransitional, IsTransitionalConditionText, is_literal_name}
 use Rattle.cargo_platform.specs.Earlier.{IsAcceptedReleased, MayStandReleased, SpellsReleasedLiteral, SpellsReleased}
 use Rattle.cargo_platform.specs.Earlier.{IsReleasedConditionText, released, released_members}
 use Rattle.cargo_platform.specs.Warnings.{values, members_values, keyword_warning, keyword_warning_at}
@@ -40,23 +40,23 @@ mutual
   -- what spells a tree spelled it then
   pub was_spelled : (e : Tree) (s : List Lexeme) → Spells e s → SpellsTransitional e s
   was_spelled (Not e) s p = (p.0, was_spelled e p.0 p.1, p.2)
-  was_spelled (All es) s p = (p.0, p.1, each_was_spelled es p.0 p.2, p.3, p.4)
-  was_spelled (Any es) s p = (p.0, p.1, each_was_spelled es p.0 p.2, p.3, p.4)
+  was_spelled (All es) s p = (p.0, members_were_spelled es p.0 p.1, p.2)
+  was_spelled (Any es) s p = (p.0, members_were_spelled es p.0 p.1, p.2)
   was_spelled (Value (Alone n)) s p = p
   was_spelled (Value (KeyPair k v)) s p = (p.0, p.1.0)
   was_spelled True s p = p
   was_spelled False s p = p
 
-  each_was_spelled : (es : Trees) (ss : List (List Lexeme)) → SpellEach es ss → SpellEachTransitional es ss
-  each_was_spelled none [] p = tt
-  each_was_spelled none (s ∷ ss) p = absurd p
-  each_was_spelled (tree e es) [] p = absurd p
-  each_was_spelled (tree e es) (s ∷ ss) p = (was_spelled e s p.0, each_was_spelled es ss p.1)
+  members_were_spelled : (es : Trees) (s : List Lexeme) → SpellMembers es s → SpellMembersTransitional es s
+  members_were_spelled none s p = p
+  members_were_spelled (tree e es) s (first, p, inl last) = (first, was_spelled e first p, inl last)
+  members_were_spelled (tree e es) s (first, p, inr (others, is, q)) =
+      (first, was_spelled e first p, inr (others, is, members_were_spelled es others q))
 
 -- ---- marked literals
 
-abbrev SpellEachReleased : Trees → List (List Lexeme) → Type 0
-SpellEachReleased = SpellEachBy MayStandReleased SpellsReleasedLiteral
+abbrev SpellMembersReleased : Trees → List Lexeme → Type 0
+SpellMembersReleased = SpellMembersBy MayStandReleased SpellsReleasedLiteral
 
 -- what a name alone spelled
 lone_released : (raw : Bool) (name : List ℕ) → IsFalse (is_group_word (record { raw = raw; name = name }))
@@ -84,20 +84,21 @@ lone_released true name g l =
 mutual
   to_released : (e : Tree) (s : List Lexeme) → SpellsTransitional e s → SpellsReleased (released e) s
   to_released (Not e) s p = (p.0, to_released e p.0 p.1, p.2)
-  to_released (All es) s p = (p.0, p.1, each_to_released es p.0 p.2, p.3, p.4)
-  to_released (Any es) s p = (p.0, p.1, each_to_released es p.0 p.2, p.3, p.4)
+  to_released (All es) s p = (p.0, members_to_released es p.0 p.1, p.2)
+  to_released (Any es) s p = (p.0, members_to_released es p.0 p.1, p.2)
   to_released (Value (Alone n)) s p =
       rw p.0 (lone_released n.raw n.name p.1.0 p.1.1)
   to_released (Value (KeyPair k v)) s p = p
   to_released True s p = (false, p)
   to_released False s p = (false, p)
 
-  each_to_released : (es : Trees) (ss : List (List Lexeme)) → SpellEachTransitional es ss
-      → SpellEachReleased (released_members es) ss
-  each_to_released none [] p = tt
-  each_to_released none (s ∷ ss) p = absurd p
-  each_to_released (tree e es) [] p = absurd p
-  each_to_released (tree e es) (s ∷ ss) p = (to_released e s p.0, each_to_released es ss p.1)
+  members_to_released : (es : Trees) (s : List Lexeme) → SpellMembersTransitional es s
+      → SpellMembersReleased (released_members es) s
+  members_to_released none s p = p
+  members_to_released (tree e es) s (first, p, inl (last, is)) =
+      (first, to_released e first p, inl (ap released_members last, is))
+  members_to_released (tree e es) s (first, p, inr (others, is, q)) =
+      (first, to_released e first p, inr (others, is, members_to_released es others q))
 
 picks : {A : Type 0} (m t f : Bool) (x y z : A) → (m && (t || f)) ≡ false
     → (if m && t then x else (if m && f then y else z)) ≡ z
@@ -120,8 +121,8 @@ SpelledNow d s = (e : Tree) × SpellsTransitional e s × (released e ≡ d)
 mutual
   pub from_released : (d : Tree) (s : List Lexeme) → SpellsReleased d s → SpelledNow d s
   from_released (Not d) s p = let r = from_released d p.0 p.1 in (Not r.0, (p.0, r.1, p.2), ap Not r.2)
-  from_released (All ds) s p = let r = each_from_released ds p.0 p.2 in (All r.0, (p.0, p.1, r.1, p.3, p.4), ap All r.2)
-  from_released (Any ds) s p = let r = each_from_released ds p.0 p.2 in (Any r.0, (p.0, p.1, r.1, p.3, p.4), ap Any r.2)
+  from_released (All ds) s p = let r = members_from_released ds p.0 p.1 in (All r.0, (p.0, r.1, p.2), ap All r.2)
+  from_released (Any ds) s p = let r = members_from_released ds p.0 p.1 in (Any r.0, (p.0, r.1, p.2), ap Any r.2)
   from_released (Value (Alone n)) s p = (
     Value (Alone n),
     (p.0, (p.1.0, and-false-right (not n.raw) (is_literal_name n) p.1.1)),
@@ -134,15 +135,16 @@ mutual
       (Value (Alone (record { raw = true; name = codes "false" })), (p, (refl, refl)), refl)
   from_released False s (false, p) = (False, p, refl)
 
-  each_from_released : (ds : Trees) (ss : List (List Lexeme)) → SpellEachReleased ds ss
-      → (es : Trees) × SpellEachTransitional es ss × (released_members es ≡ ds)
-  each_from_released none [] p = (none, tt, refl)
-  each_from_released none (s ∷ ss) p = absurd p
-  each_from_released (tree d ds) [] p = absurd p
-  each_from_released (tree d ds) (s ∷ ss) p =
-      let r = from_released d s p.0 in
-      let o = each_from_released ds ss p.1 in
-      (tree r.0 o.0, (r.1, o.1), λ i. tree (r.2 i) (o.2 i))
+  members_from_released : (ds : Trees) (s : List Lexeme) → SpellMembersReleased ds s
+      → (es : Trees) × SpellMembersTransitional es s × (released_members es ≡ ds)
+  members_from_released none s p = (none, p, refl)
+  members_from_released (tree d ds) s (first, p, inl (last, is)) =
+      let r = from_released d first p in
+      (tree r.0 none, (first, r.1, inl (refl, is)), λ i. tree (r.2 i) (sym last i))
+  members_from_released (tree d ds) s (first, p, inr (others, is, q)) =
+      let r = from_released d first p in
+      let o = members_from_released ds others q in
+      (tree r.0 o.0, (first, r.1, inr (others, is, o.1)), λ i. tree (r.2 i) (o.2 i))
 
 -- What a list of tokens spelled is told by what it spells.
 pub spelled_released : (ts : List Lexeme) → SpelledReleased ts
@@ -281,36 +283,39 @@ none_in_both a b h k = list_any-append is_literal_key a b ∙ λ i. h i || k i
 mutual
   keyless : (e : Tree) (s : List Lexeme) → Spells e s → has_literal_key (values e) ≡ false
   keyless (Not e) s p = keyless e p.0 p.1
-  keyless (All es) s p = each_keyless es p.0 p.2
-  keyless (Any es) s p = each_keyless es p.0 p.2
+  keyless (All es) s p = members_keyless es p.0 p.1
+  keyless (Any es) s p = members_keyless es p.0 p.1
   keyless (Value c) s p = none_in c (no_key c p.1)
   keyless True s p = refl
   keyless False s p = refl
 
-  each_keyless : (es : Trees) (ss : List (List Lexeme)) → SpellEach es ss → has_literal_key (members_values es) ≡ false
-  each_keyless none [] p = refl
-  each_keyless none (s ∷ ss) p = absurd p
-  each_keyless (tree e es) [] p = absurd p
-  each_keyless (tree e es) (s ∷ ss) p =
-      none_in_both (values e) (members_values es) (keyless e s p.0) (each_keyless es ss p.1)
+  members_keyless : (es : Trees) (s : List Lexeme) → SpellMembers es s → has_literal_key (members_values es) ≡ false
+  members_keyless none s p = refl
+  members_keyless (tree e es) s (first, p, inl (last, is)) =
+      none_in_both (values e) (members_values es) (keyless e first p) (rw last refl)
+  members_keyless (tree e es) s (first, p, inr (others, is, q)) =
+      none_in_both (values e) (members_values es) (keyless e first p) (members_keyless es others q)
+
+no_key_in : (e : Tree) (es : Trees) → has_literal_key (members_values (tree e es)) ≡ false
+    → (has_literal_key (values e) ≡ false) × (has_literal_key (members_values es) ≡ false)
+no_key_in e es h = or_parts _ _ (sym (list_any-append is_literal_key (values e) (members_values es)) ∙ h)
 
 mutual
   still : (e : Tree) (s : List Lexeme) → SpellsTransitional e s → has_literal_key (values e) ≡ false → Spells e s
   still (Not e) s p h = (p.0, still e p.0 p.1 h, p.2)
-  still (All es) s p h = (p.0, p.1, each_still es p.0 p.2 h, p.3, p.4)
-  still (Any es) s p h = (p.0, p.1, each_still es p.0 p.2 h, p.3, p.4)
+  still (All es) s p h = (p.0, members_still es p.0 p.1 h, p.2)
+  still (Any es) s p h = (p.0, members_still es p.0 p.1 h, p.2)
   still (Value c) s p h = (p.0, may_stand c p.1 (or_parts (is_literal_key c) false h).0)
   still True s p h = p
   still False s p h = p
 
-  each_still : (es : Trees) (ss : List (List Lexeme)) → SpellEachTransitional es ss
-      → has_literal_key (members_values es) ≡ false → SpellEach es ss
-  each_still none [] p h = tt
-  each_still none (s ∷ ss) p h = absurd p
-  each_still (tree e es) [] p h = absurd p
-  each_still (tree e es) (s ∷ ss) p h =
-      let b = or_parts _ _ (sym (list_any-append is_literal_key (values e) (members_values es)) ∙ h) in
-      (still e s p.0 b.0, each_still es ss p.1 b.1)
+  members_still : (es : Trees) (s : List Lexeme) → SpellMembersTransitional es s
+      → has_literal_key (members_values es) ≡ false → SpellMembers es s
+  members_still none s p h = p
+  members_still (tree e es) s (first, p, inl last) h = (first, still e first p (no_key_in e es h).0, inl last)
+  members_still (tree e es) s (first, p, inr (others, is, q)) h =
+      let b = no_key_in e es h in
+      (first, still e first p b.0, inr (others, is, members_still es others q b.1))
 
 -- A list of tokens that spelled a tree is refused where a literal is a key in it.
 pub refused_for_literal_keys : (ts : List Lexeme) → IsRefusedForLiteralKeys ts

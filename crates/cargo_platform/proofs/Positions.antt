@@ -4,7 +4,7 @@ use Rattle.std.proofs.Common.{None, codes, inl, inr, append_assoc, append-nil}
 use Rattle.std.proofs.lemmas.Option.{same_Some}
 use Rattle.cargo_platform.specs.Tokens.{Lexeme, LeftParen, RightParen, Ident, Comma, Equals, String, plain}
 use Rattle.cargo_platform.specs.Trees.{Name, Alone, KeyPair, Tree, Not, Value, trees_of}
-use Rattle.cargo_platform.specs.Spelling.{identifier, MayStand, group, joined, IsMemberList, Spells, SpellEach}
+use Rattle.cargo_platform.specs.Spelling.{identifier, MayStand, group, Spells, SpellMembers}
 use Rattle.cargo_platform.specs.Spelling.{Expressions, Role, GroupWord, LiteralWord, PlainName, role}
 use Rattle.cargo_platform.specs.Walk.{Opening, Negated, Listed, list_tree, Position, Wanting, WithWord, WithKey}
 use Rattle.cargo_platform.specs.Walk.{WithTree, start, opened_by, literal_of, at_role, key_of, at_key, after_tree}
@@ -15,9 +15,10 @@ use Rattle.cargo_platform.proofs.Roles.{IsGroupWord, IsLiteralWord, IsOfRole, of
 -- ---- what was read before a position
 
 -- members, each with the comma after it
-abbrev finished : List (List Lexeme) → List Lexeme
-finished [] = []
-finished (s ∷ ss) = s ++ (Comma ∷ finished ss)
+abbrev AreFinished : List Tree → List Lexeme → Type 0
+AreFinished [] ts = ts ≡ []
+AreFinished (e ∷ es) ts =
+    (s : List Lexeme) × (rest : List Lexeme) × Spells e s × (ts ≡ s ++ Comma ∷ rest) × AreFinished es rest
 
 -- the tokens open these groups, and spell their members so far
 abbrev Wants : List Opening → List Lexeme → Type 0
@@ -25,8 +26,8 @@ Wants [] ts = ts ≡ []
 Wants (Negated ∷ gs) ts =
     (before : List Lexeme) × Wants gs before × (ts ≡ before ++ (plain (codes "not") ∷ LeftParen ∷ []))
 Wants (Listed all es ∷ gs) ts =
-    (before : List Lexeme) × (ss : List (List Lexeme)) × Wants gs before × SpellEach (trees_of es) ss
-    × (ts ≡ before ++ (plain (list_word all) ∷ LeftParen ∷ finished ss))
+    (before : List Lexeme) × (inside : List Lexeme) × Wants gs before × AreFinished es inside
+    × (ts ≡ before ++ (plain (list_word all) ∷ LeftParen ∷ inside))
 
 -- an expression stands after them
 abbrev EndsWith : List Opening → Tree → List Lexeme → Type 0
@@ -41,45 +42,40 @@ record HasWord (gs : List Opening) (o : Opening) (ts : List Lexeme) : Type 0 whe
 
 -- ---- members
 
-each_snoc : (es : List Tree) (ss : List (List Lexeme)) (f : Tree) (s : List Lexeme) → SpellEach (trees_of es) ss
-    → Spells f s → SpellEach (trees_of (es ++ f ∷ [])) (ss ++ s ∷ [])
-each_snoc [] [] f s p q = (q, tt)
-each_snoc [] (t ∷ ss) f s p q = absurd p
-each_snoc (e ∷ es) [] f s p q = absurd p
-each_snoc (e ∷ es) (t ∷ ss) f s p q = (p.0, each_snoc es ss f s p.1 q)
+-- one more, with its comma
+finished_snoc : (es : List Tree) (ts : List Lexeme) (f : Tree) (s : List Lexeme) → AreFinished es ts → Spells f s
+    → AreFinished (es ++ f ∷ []) (ts ++ (s ++ Comma ∷ []))
+finished_snoc [] ts f s p q = (s, [], q, ap (λ (z : List Lexeme). z ++ (s ++ Comma ∷ [])) p, refl)
+finished_snoc (e ∷ es) ts f s (t, rest, p, is, q) r = (
+  t,
+  rest ++ (s ++ Comma ∷ []),
+  p,
+  ap (λ (z : List Lexeme). z ++ (s ++ Comma ∷ [])) is ∙ append_assoc t (Comma ∷ rest) (s ++ Comma ∷ []),
+  finished_snoc es rest f s q r,
+)
 
-finished_snoc : (ss : List (List Lexeme)) (s : List Lexeme)
-    → finished (ss ++ s ∷ []) ≡ finished ss ++ (s ++ Comma ∷ [])
-finished_snoc [] s = refl
-finished_snoc (t ∷ ss) s =
-    ap (λ (z : List Lexeme). t ++ (Comma ∷ z)) (finished_snoc ss s)
-    ∙ sym (append_assoc t (Comma ∷ finished ss) (s ++ Comma ∷ []))
+-- one more, and no comma after it
+members_snoc : (es : List Tree) (ts : List Lexeme) (f : Tree) (s : List Lexeme) → AreFinished es ts → Spells f s
+    → SpellMembers (trees_of (es ++ f ∷ [])) (ts ++ s)
+members_snoc [] ts f s p q = (s, q, inl (refl, ap (λ (z : List Lexeme). z ++ s) p))
+members_snoc (e ∷ es) ts f s (t, rest, p, is, q) r = (
+  t,
+  p,
+  inr (
+    rest ++ s,
+    ap (λ (z : List Lexeme). z ++ s) is ∙ append_assoc t (Comma ∷ rest) s,
+    members_snoc es rest f s q r,
+  ),
+)
 
--- the members with one more, and no comma after it
-joined_snoc : (ss : List (List Lexeme)) (s : List Lexeme) → finished ss ++ s ≡ joined (ss ++ s ∷ [])
-joined_snoc [] s = refl
-joined_snoc (t ∷ []) s = append_assoc t (Comma ∷ []) s
-joined_snoc (t ∷ u ∷ ss) s =
-    append_assoc t (Comma ∷ finished (u ∷ ss)) s ∙ ap (λ (z : List Lexeme). t ++ (Comma ∷ z)) (joined_snoc (u ∷ ss) s)
+finished_members : (es : List Tree) (ts : List Lexeme) → AreFinished es ts → SpellMembers (trees_of es) ts
+finished_members [] ts p = p
+finished_members (e ∷ es) ts (t, rest, p, is, q) = (t, p, inr (rest, is, finished_members es rest q))
 
-list_snoc : (ss : List (List Lexeme)) (s : List Lexeme) → IsMemberList (ss ++ s ∷ []) (finished ss ++ s)
-list_snoc [] s = inl refl
-list_snoc (t ∷ ss) s = inl (joined_snoc (t ∷ ss) s)
-
-joined_comma : (s : List Lexeme) (ss : List (List Lexeme)) → finished (s ∷ ss) ≡ joined (s ∷ ss) ++ Comma ∷ []
-joined_comma s [] = refl
-joined_comma s (t ∷ ss) =
-    ap (λ (z : List Lexeme). s ++ (Comma ∷ z)) (joined_comma t ss)
-    ∙ sym (append_assoc s (Comma ∷ joined (t ∷ ss)) (Comma ∷ []))
-
-list_finished : (ss : List (List Lexeme)) → IsMemberList ss (finished ss)
-list_finished [] = refl
-list_finished (s ∷ ss) = inr (joined_comma s ss)
-
-listed : (all : Bool) (es : List Tree) (ss : List (List Lexeme)) (inner : List Lexeme) → SpellEach (trees_of es) ss
-    → IsMemberList ss inner → Spells (list_tree all es) (group (list_word all) inner)
-listed true es ss inner p q = (ss, inner, p, q, refl)
-listed false es ss inner p q = (ss, inner, p, q, refl)
+listed : (all : Bool) (es : List Tree) (inner : List Lexeme) → SpellMembers (trees_of es) inner
+    → Spells (list_tree all es) (group (list_word all) inner)
+listed true es inner p = (inner, p, refl)
+listed false es inner p = (inner, p, refl)
 
 -- ---- from one token to the next
 
@@ -102,7 +98,7 @@ word_open gs (Listed all es) ts h = (
   h.before,
   [],
   h.wanted,
-  rw h.fresh tt,
+  rw h.fresh refl,
   ap (λ (z : List Lexeme). z ++ LeftParen ∷ []) h.is
       ∙ append_assoc h.before (plain (list_word all) ∷ []) (LeftParen ∷ []),
 )
@@ -141,10 +137,10 @@ members_close : (gs : List Opening) (all : Bool) (es : List Tree) (ts : List Lex
     → EndsWith gs (list_tree all es) (ts ++ RightParen ∷ [])
 members_close gs all es ts o = (
   o.0,
-  group (list_word all) (finished o.1),
+  group (list_word all) o.1,
   o.2,
-  listed all es o.1 (finished o.1) o.3 (list_finished o.1),
-  ap (λ (z : List Lexeme). z ++ RightParen ∷ []) o.4 ∙ append_assoc o.0 (head all (finished o.1)) (RightParen ∷ []),
+  listed all es o.1 (finished_members es o.1 o.3),
+  ap (λ (z : List Lexeme). z ++ RightParen ∷ []) o.4 ∙ append_assoc o.0 (head all o.1) (RightParen ∷ []),
 )
 
 negation_close : (gs : List Opening) (e : Tree) (ts : List Lexeme) → EndsWith (Negated ∷ gs) e ts
@@ -165,13 +161,12 @@ list_close : (gs : List Opening) (all : Bool) (es : List Tree) (e : Tree) (ts : 
 list_close gs all es e ts o =
     let b = o.2 in (
       b.0,
-      group (list_word all) (finished b.1 ++ o.1),
+      group (list_word all) (b.1 ++ o.1),
       b.2,
-      listed all (es ++ e ∷ []) (b.1 ++ o.1 ∷ []) (finished b.1 ++ o.1) (each_snoc es b.1 e o.1 b.3 o.3)
-          (list_snoc b.1 o.1),
+      listed all (es ++ e ∷ []) (b.1 ++ o.1) (members_snoc es b.1 e o.1 b.3 o.3),
       ap (λ (z : List Lexeme). z ++ RightParen ∷ [])
-          (o.4 ∙ ap (λ (z : List Lexeme). z ++ o.1) b.4 ∙ append_assoc b.0 (head all (finished b.1)) o.1)
-          ∙ append_assoc b.0 (head all (finished b.1 ++ o.1)) (RightParen ∷ []),
+          (o.4 ∙ ap (λ (z : List Lexeme). z ++ o.1) b.4 ∙ append_assoc b.0 (head all b.1) o.1)
+          ∙ append_assoc b.0 (head all (b.1 ++ o.1)) (RightParen ∷ []),
     )
 
 member_comma : (gs : List Opening) (all : Bool) (es : List Tree) (e : Tree) (ts : List Lexeme)
@@ -179,13 +174,12 @@ member_comma : (gs : List Opening) (all : Bool) (es : List Tree) (e : Tree) (ts 
 member_comma gs all es e ts o =
     let b = o.2 in (
       b.0,
-      b.1 ++ o.1 ∷ [],
+      b.1 ++ (o.1 ++ Comma ∷ []),
       b.2,
-      each_snoc es b.1 e o.1 b.3 o.3,
+      finished_snoc es b.1 e o.1 b.3 o.3,
       ap (λ (z : List Lexeme). z ++ Comma ∷ []) (o.4 ∙ ap (λ (z : List Lexeme). z ++ o.1) b.4)
-          ∙ append_assoc (b.0 ++ head all (finished b.1)) o.1 (Comma ∷ [])
-          ∙ append_assoc b.0 (head all (finished b.1)) (o.1 ++ Comma ∷ [])
-          ∙ ap (λ (z : List Lexeme). b.0 ++ head all z) (sym (finished_snoc b.1 o.1)),
+          ∙ append_assoc (b.0 ++ head all b.1) o.1 (Comma ∷ [])
+          ∙ append_assoc b.0 (head all b.1) (o.1 ++ Comma ∷ []),
     )
 
 -- ---- what leads to a position

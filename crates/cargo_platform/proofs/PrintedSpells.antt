@@ -1,6 +1,6 @@
 -- The print of a well-formed tree spells it.
 use Rattle.std.proofs.Common.{◌≡◌, refl, sym, ap, subst, ◌∙◌, ℕ, ◌+◌, ◌≤◌, Bool, true, false, not, ◌&&◌, List, []}
-use Rattle.std.proofs.Common.{◌∷◌, ◌++◌, codes, inl, append_assoc, append-nil, arith, length, drop, map}
+use Rattle.std.proofs.Common.{◌∷◌, ◌++◌, codes, inl, inr, append_assoc, append-nil, arith, length, drop, map}
 use Rattle.std.proofs.Common.{length-drop}
 use Rattle.std.proofs.Math.Bool.{and-false}
 use Rattle.std.specs.Prelude.{IsTrue, IsFalse, bytes_eq}
@@ -11,7 +11,7 @@ use Rattle.cargo_platform.specs.Tokens.{IsWellWritten, Placed}
 use Rattle.cargo_platform.specs.Cut.{EndsBefore, Nothing, IsCutFrom, lexemes}
 use Rattle.cargo_platform.specs.Trees.{CfgValue, Alone, KeyPair, Tree, Not, All, Any, Value, True, False, Trees, none}
 use Rattle.cargo_platform.specs.Trees.{tree}
-use Rattle.cargo_platform.specs.Spelling.{identifier, value_spelling, group, joined, IsMemberList, Spells, SpellEach}
+use Rattle.cargo_platform.specs.Spelling.{identifier, value_spelling, group, Spells, SpellMembers}
 use Rattle.cargo_platform.specs.Spelling.{IsValueText, IsTreeText}
 use Rattle.cargo_platform.specs.WellFormed.{IsWellFormedValue, IsWellFormed, AreWellFormed}
 use Rattle.cargo_platform.specs.Print.{print_name, print_value, print, print_members, print_others}
@@ -89,16 +89,16 @@ abbrev mutual
   pieces (Not e) b ps =
       piece b (plain (codes "not")) ∷ piece false LeftParen ∷ pieces e false (piece false RightParen ∷ ps)
   pieces (All es) b ps =
-      piece b (plain (codes "all")) ∷ piece false LeftParen ∷ members es (piece false RightParen ∷ ps)
+      piece b (plain (codes "all")) ∷ piece false LeftParen ∷ members false es (piece false RightParen ∷ ps)
   pieces (Any es) b ps =
-      piece b (plain (codes "any")) ∷ piece false LeftParen ∷ members es (piece false RightParen ∷ ps)
+      piece b (plain (codes "any")) ∷ piece false LeftParen ∷ members false es (piece false RightParen ∷ ps)
   pieces (Value c) b ps = value_pieces b c ps
   pieces True b ps = piece b (plain (codes "true")) ∷ ps
   pieces False b ps = piece b (plain (codes "false")) ∷ ps
 
-  members : Trees → List Piece → List Piece
-  members none ps = ps
-  members (tree e es) ps = pieces e false (others es ps)
+  members : Bool → Trees → List Piece → List Piece
+  members b none ps = ps
+  members b (tree e es) ps = pieces e b (others es ps)
 
   others : Trees → List Piece → List Piece
   others none ps = ps
@@ -128,7 +128,7 @@ mutual
   laid_is True b ps = refl
   laid_is False b ps = refl
 
-  laid_members : (es : Trees) (ps : List Piece) → laid (members es ps) ≡ print_members es ++ laid ps
+  laid_members : (es : Trees) (ps : List Piece) → laid (members false es ps) ≡ print_members es ++ laid ps
   laid_members none ps = refl
   laid_members (tree e es) ps =
       laid_is e false (others es ps) ∙ ap (λ (z : List ℕ). print e ++ z) (laid_others es ps)
@@ -182,7 +182,7 @@ mutual
   separate False b ps w c s = ((refl, refl), ends false (codes "false") (laid ps) c.0 c.1, s)
 
   separate_members : (es : Trees) (ps : List Piece) → AreWellFormed es → IsClean ps → AreSeparate ps
-      → AreSeparate (members es ps)
+      → AreSeparate (members false es ps)
   separate_members none ps w c s = s
   separate_members (tree e es) ps w c s =
       separate e false (others es ps) w.0 (others_clean es ps c) (separate_others es ps w.1 c s)
@@ -197,15 +197,6 @@ mutual
 
 abbrev Spelled : Tree → List Lexeme → List Lexeme → Type 0
 Spelled e ts after = (s : List Lexeme) × Spells e s × (ts ≡ s ++ after)
-
--- the further members, each after its comma
-abbrev behind_commas : List (List Lexeme) → List Lexeme
-behind_commas [] = []
-behind_commas (s ∷ ss) = Comma ∷ (s ++ behind_commas ss)
-
-joined_is : (s : List Lexeme) (ss : List (List Lexeme)) → s ++ behind_commas ss ≡ joined (s ∷ ss)
-joined_is s [] = append-nil s
-joined_is s (t ∷ ss) = ap (λ (z : List Lexeme). s ++ (Comma ∷ z)) (joined_is t ss)
 
 group_is : (w : List ℕ) (inner after : List Lexeme)
     → plain w ∷ LeftParen ∷ (inner ++ (RightParen ∷ after)) ≡ group w inner ++ after
@@ -227,46 +218,34 @@ mutual
             ∙ group_is (codes "not") r.0 (tokens ps),
       )
   spelled (All es) b ps w =
-      let r = spelled_members es (piece false RightParen ∷ ps) w in (
-        group (codes "all") r.1,
-        (r.0, r.1, r.2, r.3, refl),
-        ap (λ (z : List Lexeme). plain (codes "all") ∷ LeftParen ∷ z) r.4 ∙ group_is (codes "all") r.1 (tokens ps),
+      let r = spelled_members es false (piece false RightParen ∷ ps) w in (
+        group (codes "all") r.0,
+        (r.0, r.1, refl),
+        ap (λ (z : List Lexeme). plain (codes "all") ∷ LeftParen ∷ z) r.2 ∙ group_is (codes "all") r.0 (tokens ps),
       )
   spelled (Any es) b ps w =
-      let r = spelled_members es (piece false RightParen ∷ ps) w in (
-        group (codes "any") r.1,
-        (r.0, r.1, r.2, r.3, refl),
-        ap (λ (z : List Lexeme). plain (codes "any") ∷ LeftParen ∷ z) r.4 ∙ group_is (codes "any") r.1 (tokens ps),
+      let r = spelled_members es false (piece false RightParen ∷ ps) w in (
+        group (codes "any") r.0,
+        (r.0, r.1, refl),
+        ap (λ (z : List Lexeme). plain (codes "any") ∷ LeftParen ∷ z) r.2 ∙ group_is (codes "any") r.0 (tokens ps),
       )
   spelled (Value c) b ps w = value_spelled c b ps w
   spelled True b ps w = (plain (codes "true") ∷ [], refl, refl)
   spelled False b ps w = (plain (codes "false") ∷ [], refl, refl)
 
-  spelled_members : (es : Trees) (ps : List Piece) → AreWellFormed es
-      → (ss : List (List Lexeme)) × (inner : List Lexeme) × SpellEach es ss × IsMemberList ss inner
-      × (tokens (members es ps) ≡ inner ++ tokens ps)
-  spelled_members none ps w = ([], [], tt, refl, refl)
-  spelled_members (tree e es) ps w =
-      let r = spelled e false (others es ps) w.0 in
-      let o = spelled_others es ps w.1 in (
-        r.0 ∷ o.0,
-        r.0 ++ behind_commas o.0,
-        (r.1, o.1),
-        inl (joined_is r.0 o.0),
+  spelled_members : (es : Trees) (b : Bool) (ps : List Piece) → AreWellFormed es
+      → (inner : List Lexeme) × SpellMembers es inner × (tokens (members b es ps) ≡ inner ++ tokens ps)
+  spelled_members none b ps w = ([], refl, refl)
+  spelled_members (tree e none) b ps w =
+      let r = spelled e b ps w.0 in
+      (r.0, (r.0, r.1, inl (refl, refl)), r.2)
+  spelled_members (tree e (tree f es)) b ps w =
+      let r = spelled e b (others (tree f es) ps) w.0 in
+      let o = spelled_members (tree f es) true ps w.1 in (
+        r.0 ++ Comma ∷ o.0,
+        (r.0, r.1, inr (o.0, refl, o.1)),
         r.2
-            ∙ ap (λ (z : List Lexeme). r.0 ++ z) o.2 ∙ sym (append_assoc r.0 (behind_commas o.0) (tokens ps)),
-      )
-
-  spelled_others : (es : Trees) (ps : List Piece) → AreWellFormed es
-      → (ss : List (List Lexeme)) × SpellEach es ss × (tokens (others es ps) ≡ behind_commas ss ++ tokens ps)
-  spelled_others none ps w = ([], tt, refl)
-  spelled_others (tree e es) ps w =
-      let r = spelled e true (others es ps) w.0 in
-      let o = spelled_others es ps w.1 in (
-        r.0 ∷ o.0,
-        (r.1, o.1),
-        ap (λ (z : List Lexeme). Comma ∷ z)
-            (r.2 ∙ ap (λ (z : List Lexeme). r.0 ++ z) o.2 ∙ sym (append_assoc r.0 (behind_commas o.0) (tokens ps))),
+            ∙ ap (λ (z : List Lexeme). r.0 ++ (Comma ∷ z)) o.2 ∙ sym (append_assoc r.0 (Comma ∷ o.0) (tokens ps)),
       )
 
 -- the tokens of a tree as it is printed

@@ -5,7 +5,7 @@ use Rattle.cargo_platform.specs.Tokens.{Lexeme, RightParen, Comma, Placed, IsWel
 use Rattle.cargo_platform.specs.Cut.{Item, ComesBehind, lexemes}
 use Rattle.cargo_platform.specs.Trees.{CfgValue, Alone, KeyPair, Tree, Not, All, Any, Value, True, False, Trees, none}
 use Rattle.cargo_platform.specs.Trees.{tree}
-use Rattle.cargo_platform.specs.Spelling.{SpellsValue, group, joined, IsMemberList, Spells, SpellEach, IsValueText}
+use Rattle.cargo_platform.specs.Spelling.{SpellsValue, group, Spells, SpellMembers, IsValueText}
 use Rattle.cargo_platform.specs.Spelling.{IsTreeText}
 use Rattle.cargo_platform.specs.WellFormed.{IsWellFormedValue, IsWellFormed, AreWellFormed}
 
@@ -24,12 +24,6 @@ back_written (x ∷ s) t w = back_written s t w.1
 inside_written : (word : List ℕ) (inner : List Lexeme) → AreWellWritten (group word inner) → AreWellWritten inner
 inside_written word inner w = prefix_written inner (RightParen ∷ []) w.1.1
 
-members_written : (ms : List (List Lexeme)) (inner : List Lexeme) → IsMemberList ms inner → AreWellWritten inner
-    → AreWellWritten (joined ms)
-members_written [] inner p w = tt
-members_written (m ∷ ms) inner (inl h) w = subst AreWellWritten h w
-members_written (m ∷ ms) inner (inr h) w = prefix_written (joined (m ∷ ms)) (Comma ∷ []) (subst AreWellWritten h w)
-
 -- A list of well-written tokens spells only well-formed values.
 pub well_formed_value : (c : CfgValue) (ts : List Lexeme) → AllByRecursion IsWellWritten ts → SpellsValue c ts
     → IsWellFormedValue c
@@ -43,25 +37,22 @@ mutual
   pub well_formed : (e : Tree) (ts : List Lexeme) → AllByRecursion IsWellWritten ts → Spells e ts → IsWellFormed e
   well_formed (Not e) ts w p = well_formed e p.0 (inside_written (codes "not") p.0 (subst AreWellWritten p.2 w)) p.1
   well_formed (All es) ts w p =
-      well_formed_members es p.0
-      (members_written p.0 p.1 p.3 (inside_written (codes "all") p.1 (subst AreWellWritten p.4 w))) p.2
+      well_formed_members es p.0 (inside_written (codes "all") p.0 (subst AreWellWritten p.2 w)) p.1
   well_formed (Any es) ts w p =
-      well_formed_members es p.0
-      (members_written p.0 p.1 p.3 (inside_written (codes "any") p.1 (subst AreWellWritten p.4 w))) p.2
+      well_formed_members es p.0 (inside_written (codes "any") p.0 (subst AreWellWritten p.2 w)) p.1
   well_formed (Value c) ts w p = (well_formed_value c ts w p.0, p.1)
   well_formed True ts w p = tt
   well_formed False ts w p = tt
 
-  well_formed_members : (es : Trees) (ms : List (List Lexeme)) → AreWellWritten (joined ms) → SpellEach es ms
-      → AreWellFormed es
-  well_formed_members none ms w p = tt
-  well_formed_members (tree e es) [] w p = absurd p
-  well_formed_members (tree e none) (m ∷ []) w p = (well_formed e m w p.0, tt)
-  well_formed_members (tree e (tree f es)) (m ∷ []) w p = absurd p.1
-  well_formed_members (tree e es) (m ∷ n ∷ ms) w p = (
-    well_formed e m (prefix_written m (Comma ∷ joined (n ∷ ms)) w) p.0,
-    well_formed_members es (n ∷ ms) (back_written m (Comma ∷ joined (n ∷ ms)) w).1 p.1,
-  )
+  well_formed_members : (es : Trees) (ts : List Lexeme) → AreWellWritten ts → SpellMembers es ts → AreWellFormed es
+  well_formed_members none ts w p = tt
+  well_formed_members (tree e es) ts w (first, p, inl (last, is)) =
+      (well_formed e first (subst AreWellWritten is w) p, rw last tt)
+  well_formed_members (tree e es) ts w (first, p, inr (others, is, q)) =
+      let v = subst AreWellWritten is w in (
+        well_formed e first (prefix_written first (Comma ∷ others) v) p,
+        well_formed_members es others (back_written first (Comma ∷ others) v).1 q,
+      )
 
 -- the tokens of a cut are well written
 cut_written : (text : List ℕ) (from tail : ℕ) (ts : List Placed) (last : Item) → ComesBehind text from ts last tail

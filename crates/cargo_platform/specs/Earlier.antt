@@ -3,7 +3,7 @@ use Rattle.std.specs.Prelude.{◌≡◌, ℕ, Bool, ◌&&◌, ◌||◌, if◌the
 use Rattle.cargo_platform.specs.Tokens.{Lexeme, Ident}
 use Rattle.cargo_platform.specs.Trees.{Name, CfgValue, Alone, KeyPair, Tree, Not, All, Any, Value, True, False, Trees}
 use Rattle.cargo_platform.specs.Trees.{none, tree, Condition}
-use Rattle.cargo_platform.specs.Spelling.{is_group_word, is_literal_word, SpellsLiteral, SpellsBy, SpellEachBy}
+use Rattle.cargo_platform.specs.Spelling.{is_group_word, is_literal_word, SpellsLiteral, SpellsBy, SpellMembersBy}
 use Rattle.cargo_platform.specs.Spelling.{TextSpells}
 use Rattle.cargo_platform.specs.WellFormed.{IsWellFormedBy}
 use Rattle.cargo_platform.specs.Platforms.{IsConditionTextBy}
@@ -59,8 +59,8 @@ MayStandTransitional (KeyPair k v) = IsFalse (is_group_word k)
 abbrev pub SpellsTransitional : Tree → List Lexeme → Type 0
 SpellsTransitional = SpellsBy MayStandTransitional SpellsLiteral
 
-abbrev pub SpellEachTransitional : Trees → List (List Lexeme) → Type 0
-SpellEachTransitional = SpellEachBy MayStandTransitional SpellsLiteral
+abbrev pub SpellMembersTransitional : Trees → List Lexeme → Type 0
+SpellMembersTransitional = SpellMembersBy MayStandTransitional SpellsLiteral
 
 abbrev pub IsTransitionalTreeText : List ℕ → Tree → Type 0
 IsTransitionalTreeText text e = TextSpells SpellsTransitional text e

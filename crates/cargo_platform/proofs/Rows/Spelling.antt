@@ -1,12 +1,12 @@
 -- What some lists of tokens and some texts spell, and that others spell nothing.
-use Rattle.std.proofs.Common.{◌≡◌, refl, sym, ap, Bool, true, false, true≢false, List, [], ◌∷◌, None, codes, inl}
+use Rattle.std.proofs.Common.{◌≡◌, refl, sym, ap, Bool, true, false, true≢false, List, [], ◌∷◌, ◌++◌, None, codes, inl}
 use Rattle.std.proofs.Common.{inr, append-nil, arith, length}
 use Rattle.std.specs.Prelude.{IsTrue, IsFalse}
 use Rattle.cargo_platform.specs.Tokens.{Lexeme, LeftParen, RightParen, Ident, Comma, Equals, String, plain}
 use Rattle.cargo_platform.specs.Trees.{CfgValue, Alone, KeyPair, Not, All, Any, Value, True, False, none, tree}
 use Rattle.cargo_platform.specs.Trees.{trees_of}
-use Rattle.cargo_platform.specs.Spelling.{SpellsValue, is_group_word, is_literal_word, MayStand, group, joined}
-use Rattle.cargo_platform.specs.Spelling.{IsMemberList, Spells, SpellEach, Values, Expressions, IsAccepted, IsValueText}
+use Rattle.cargo_platform.specs.Spelling.{SpellsValue, is_group_word, is_literal_word, MayStand, group}
+use Rattle.cargo_platform.specs.Spelling.{Spells, SpellMembers, Values, Expressions, IsAccepted, IsValueText}
 use Rattle.cargo_platform.specs.Spelling.{IsTreeText}
 use Rattle.cargo_platform.specs.Walk.{walk}
 use Rattle.cargo_platform.proofs.OneCut.{one_cut_from}
@@ -75,25 +75,25 @@ a_spelled = (refl, (refl, refl))
 
 -- `all()`
 none_spelled : Spells (All none) (group (codes "all") [])
-none_spelled = ([], [], tt, refl, refl)
+none_spelled = ([], refl, refl)
 
 -- `all(a, )`
 all_a_spelled : Spells (All (tree a none)) (plain (codes "all") ∷ LeftParen ∷ word_a ∷ Comma ∷ RightParen ∷ [])
-all_a_spelled = ((word_a ∷ []) ∷ [], word_a ∷ Comma ∷ [], (a_spelled, tt), inr refl, refl)
+all_a_spelled = (word_a ∷ Comma ∷ [], (word_a ∷ [], a_spelled, inr ([], refl, refl)), refl)
 
 -- `any(a, not(true), b = "1")`
 any_spelled : Spells (Any (trees_of (a ∷ Not True ∷ Value (KeyPair (name (codes "b")) (codes "1")) ∷ [])))
     (plain (codes "any") ∷ LeftParen ∷ word_a ∷ Comma ∷ plain (codes "not") ∷ LeftParen ∷ plain
     (codes "true") ∷ RightParen ∷ Comma ∷ plain (codes "b") ∷ Equals ∷ String (codes "1") ∷ RightParen ∷ [])
-any_spelled = (
-  (word_a ∷ []) ∷ group (codes "not") (plain (codes "true") ∷ []) ∷
-      (plain (codes "b") ∷ Equals ∷ String (codes "1") ∷ []) ∷ [],
-  word_a ∷ Comma ∷ plain (codes "not") ∷ LeftParen ∷ plain (codes "true") ∷ RightParen ∷ Comma ∷ plain
-      (codes "b") ∷ Equals ∷ String (codes "1") ∷ [],
-  (a_spelled, ((plain (codes "true") ∷ [], refl, refl), ((refl, (refl, refl)), tt))),
-  inl refl,
-  refl,
-)
+any_spelled =
+    let truth : List Lexeme = plain (codes "true") ∷ [] in
+    let pair : List Lexeme = plain (codes "b") ∷ Equals ∷ String (codes "1") ∷ [] in
+    let last : SpellMembers (tree (Value (KeyPair (name (codes "b")) (codes "1"))) none) pair =
+    (pair, (refl, (refl, refl)), inl (refl, refl)) in
+    let two : SpellMembers (tree (Not True) (tree (Value (KeyPair (name (codes "b")) (codes "1"))) none))
+    (group (codes "not") truth ++ Comma ∷ pair) =
+    (group (codes "not") truth, (truth, refl, refl), inr (pair, refl, last)) in
+    (_, (word_a ∷ [], a_spelled, inr (_, refl, two)), refl)
 
 false_spelled : Spells False (plain (codes "false") ∷ [])
 false_spelled = refl
@@ -110,19 +110,12 @@ marked_is_no_literal p = true≢false (ap is_raw p)
 literal_is_no_value : Spells (Value (Alone (name (codes "true")))) (plain (codes "true") ∷ []) → ⊥
 literal_is_no_value p = true≢false p.1.1
 
--- as many lists as trees
-no_list_left : SpellEach none ((word_a ∷ []) ∷ []) → ⊥
-no_list_left p = p
+-- one comma after the last member, and none after no members
+comma_at_end : SpellMembers (tree a none) (word_a ∷ Comma ∷ [])
+comma_at_end = (word_a ∷ [], a_spelled, inr ([], refl, refl))
 
-joined_two : joined ((word_a ∷ []) ∷ (plain (codes "b") ∷ []) ∷ []) ≡ word_a ∷ Comma ∷ plain (codes "b") ∷ []
-joined_two = refl
-
-comma_of_none : IsMemberList [] (Comma ∷ []) → ⊥
+comma_of_none : SpellMembers none (Comma ∷ []) → ⊥
 comma_of_none p = absurd (omega (arith, ap length p))
-
-two_commas : IsMemberList ((word_a ∷ []) ∷ []) (word_a ∷ Comma ∷ Comma ∷ []) → ⊥
-two_commas (inl p) = absurd (omega (arith, ap length p))
-two_commas (inr p) = absurd (omega (arith, ap length p))
 
 -- where no walk is, nothing is spelled
 unwalked : (ts : List Lexeme) → walk Expressions ts ≡ None → IsAccepted Expressions ts → ⊥
