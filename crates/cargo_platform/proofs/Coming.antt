@@ -218,7 +218,7 @@ costs_then text from mid to beside more old between new a b = record {
   grows = omega (arith, a.grows, b.grows);
   at_most = omega (arith, a.at_most, b.at_most);
   at_least = λ small.
-      let still : between < 2 ^ 128 - 1 = omega (arith, small, b.grows) in
+      let still : between < 2 ^ 64 - 1 = omega (arith, small, b.grows) in
       omega (arith, a.at_least still, b.at_least small);
 }
 
@@ -231,8 +231,8 @@ pub reads_on : (text : List ℕ) (at from end to : ℕ) (seen next : Look) (faul
 reads_on text at from end to seen next fault looks mid new r none one a b boundary sees past =
     let before = r.each none in
     let most : new ≤ characters_from text 0 + 1 = omega (arith, a.at_most, b.at_most, one, before) in
-    let small : new < 2 ^ 128 - 1 = omega (arith, most, r.short) in
-    let still : mid < 2 ^ 128 - 1 = omega (arith, small, b.grows) in
+    let small : new < 2 ^ 64 - 1 = omega (arith, most, r.short) in
+    let still : mid < 2 ^ 64 - 1 = omega (arith, small, b.grows) in
     record {
       utf8 = r.utf8;
       short = r.short;

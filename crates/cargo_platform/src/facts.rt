@@ -1,6 +1,7 @@
 //! Facts, and the truth of an expression over them.
 
-ghost use Rattle.std.specs.Prelude.{◌≡◌, ◌≤◌, ◌-◌, ◌^◌, min, map, length, IfOk, MatchResult};
+ghost use Rattle.std.specs.Prelude.{◌≡◌, ◌≤◌, ◌-◌, ◌^◌, min, map, length, IfOk};
+ghost use Rattle.std.specs.ControlFlow.{MatchControlFlow, ForContinue};
 ghost use Rattle.std.proofs.Props.{props};
 ghost use Rattle.std.specs.List.Sorted.{IsSorted};
 ghost use Rattle.std.specs.Ordering.{eq_by_cmp, on};
@@ -18,6 +19,7 @@ use crate::cfg::{Cfg, CfgExpr, Ident};
 use crate::search::{Sorted, Sought};
 use std::alloc::{AllocError, Global};
 use std::cmp::Ordering;
+use std::ops::ControlFlow;
 
 /// A set of facts, however it is kept.
 pub trait Facts {
@@ -251,13 +253,13 @@ impl CfgExpr {
                 }
                 CfgExpr::All(members) => CfgExpr::all_but_last(members, facts, tally),
                 CfgExpr::Any(members) => CfgExpr::any_but_last(members, facts, tally),
-                CfgExpr::Value(c) => Err(facts.ask(tally, c)),
-                CfgExpr::True => Err(true),
-                CfgExpr::False => Err(false),
+                CfgExpr::Value(c) => ControlFlow::Break(facts.ask(tally, c)),
+                CfgExpr::True => ControlFlow::Break(true),
+                CfgExpr::False => ControlFlow::Break(false),
             };
             match rest {
-                Ok(last) => e = last,
-                Err(is_true) => return if is_asked { is_true } else { !is_true },
+                ControlFlow::Continue(last) => e = last,
+                ControlFlow::Break(is_true) => return if is_asked { is_true } else { !is_true },
             }
         }
     }
@@ -283,29 +285,29 @@ impl CfgExpr {
         members: &'a [CfgExpr],
         facts: &F,
         tally: &mut T,
-    ) -> Result<&'a CfgExpr, bool>
-        ensures truth { MatchResult result
+    ) -> ControlFlow<bool, &'a CfgExpr>
+        ensures truth { MatchControlFlow result
             (λ last. truth (F.meant facts.now) (tree_of last.now)
             ≡ all_true (F.meant facts.now) (trees_of (map tree_of members.now)))
             (λ is_true. is_true ≡ all_true (F.meant facts.now) (trees_of (map tree_of members.now))) }
-        ensures asks { MatchResult result
+        ensures asks { MatchControlFlow result
             (λ last. Counts (asks_of_all (F.meant facts.now) (trees_of (map tree_of members.now)))
             (asks (F.meant facts.now) (tree_of last.now)) (T.asks tally.old) (T.asks tally.new))
             (λ is_true. Counts (asks_of_all (F.meant facts.now) (trees_of (map tree_of members.now))) 0
             (T.asks tally.old) (T.asks tally.new)) }
-        ensures size { IfOk result (λ last. node_count last.now ≤ node_counts members.now) }
+        ensures size { ForContinue result (λ last. node_count last.now ≤ node_counts members.now) }
     {
         let mut left = members;
         'members: while let Some((first, others)) = left.split_first() {
             if others.is_empty() {
-                return Ok(first);
+                return ControlFlow::Continue(first);
             }
             if !first.is_true_member(facts, tally) {
-                return Err(false);
+                return ControlFlow::Break(false);
             }
             left = others;
         }
-        Err(true)
+        ControlFlow::Break(true)
     }
 
     /// The last member, which any of them hangs on, or whether one is true.
@@ -316,28 +318,28 @@ impl CfgExpr {
         members: &'a [CfgExpr],
         facts: &F,
         tally: &mut T,
-    ) -> Result<&'a CfgExpr, bool>
-        ensures truth { MatchResult result
+    ) -> ControlFlow<bool, &'a CfgExpr>
+        ensures truth { MatchControlFlow result
             (λ last. truth (F.meant facts.now) (tree_of last.now)
             ≡ any_true (F.meant facts.now) (trees_of (map tree_of members.now)))
             (λ is_true. is_true ≡ any_true (F.meant facts.now) (trees_of (map tree_of members.now))) }
-        ensures asks { MatchResult result
+        ensures asks { MatchControlFlow result
             (λ last. Counts (asks_of_any (F.meant facts.now) (trees_of (map tree_of members.now)))
             (asks (F.meant facts.now) (tree_of last.now)) (T.asks tally.old) (T.asks tally.new))
             (λ is_true. Counts (asks_of_any (F.meant facts.now) (trees_of (map tree_of members.now))) 0
             (T.asks tally.old) (T.asks tally.new)) }
-        ensures size { IfOk result (λ last. node_count last.now ≤ node_counts members.now) }
+        ensures size { ForContinue result (λ last. node_count last.now ≤ node_counts members.now) }
     {
         let mut left = members;
         'members: while let Some((first, others)) = left.split_first() {
             if others.is_empty() {
-                return Ok(first);
+                return ControlFlow::Continue(first);
             }
             if first.is_true_member(facts, tally) {
-                return Err(true);
+                return ControlFlow::Break(true);
             }
             left = others;
         }
-        Err(false)
+        ControlFlow::Break(false)
     }
 }

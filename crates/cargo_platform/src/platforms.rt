@@ -201,6 +201,8 @@ fn is_number(c: char) -> bool
 }
 
 /// The error of a target name, whose first refused character is given.
+#[cold]
+#[inline(never)]
 fn target_error(alloc: Global, name: &str, refused: char) -> Result<ParseError, AllocError>
     requires { IsFirstRefused name.now refused }
     ensures of { IfOk result (λ e. orig_of e ≡ name.now) }

@@ -16,8 +16,8 @@ ghost use Rattle.cargo_platform.specs.Inside.Parsing.{SeesTaken, HasLooked};
 use crate::Looks;
 use crate::classes::begins_identifier;
 use crate::refusal::{Refusal, Unread};
-use crate::source::{Look, Source};
-use crate::tokens::{Spanned, Token, TokenFaultKind, character_of, token_at};
+use crate::source::{Look, Source, character_of};
+use crate::tokens::{Spanned, Token, TokenFaultKind, token_at};
 use std::marker::Model;
 use std::ops::Range;
 

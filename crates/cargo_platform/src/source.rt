@@ -14,7 +14,7 @@ ghost use Rattle.cargo_platform.specs.Cut.{AreSpaces};
 ghost use Rattle.cargo_platform.specs.Reading.{characters_from};
 ghost use Rattle.std.specs.List.{count_by};
 ghost use Rattle.cargo_platform.specs.Inside.Looking.{IsCharAt, Shows, Costs, IsFirstQuote, IsRun, is_no_quote};
-ghost use Rattle.cargo_platform.specs.Inside.Looking.{IsCountedTo};
+ghost use Rattle.cargo_platform.specs.Inside.Looking.{IsCountedTo, character_of};
 
 mod rest;
 
@@ -26,7 +26,7 @@ use std::simd::prelude::*;
 /// How many looks a source was asked for. Only a source that is spent makes one.
 #[derive(Drop)]
 pub struct Looks {
-    count: u128,
+    count: usize,
 }
 
 impl Model for Looks {
@@ -38,11 +38,11 @@ impl Model for Looks {
 }
 
 impl Looks {
-    /// The number of looks; the greatest `u128` stands for that many or more.
+    /// The number of looks.
     pub fn count(&self) -> u128
         ensures { result ≡ self.now }
     {
-        self.count
+        self.count as u128
     }
 }
 
@@ -56,11 +56,23 @@ pub(crate) enum Look {
     Wide(char),
 }
 
+/// The character that a look gave, unless it was the end.
+#[inline(always)]
+pub(crate) fn character_of(look: Look) -> Option<char>
+    ensures { result ≡ character_of look }
+{
+    match look {
+        Look::End => None,
+        Look::Ascii(byte) => Some(byte as char),
+        Look::Wide(c) => Some(c),
+    }
+}
+
 /// A text, and how often it was looked at.
 #[derive(Drop)]
 pub(crate) struct Source<'a> {
     text: &'a str,
-    looks: u128,
+    looks: usize,
 }
 
 impl<'a> Source<'a> {
@@ -203,9 +215,9 @@ impl<'a> Source<'a> {
         ensures same { self.new.text ≡ self.old.text }
         ensures grows { self.old.looks ≤ self.new.looks }
         ensures at_most { self.new.looks ≤ self.old.looks + looks }
-        ensures at_least { self.new.looks < 2 ^ 128 - 1 → self.old.looks + looks ≤ self.new.looks }
+        ensures at_least { self.new.looks < 2 ^ 64 - 1 → self.old.looks + looks ≤ self.new.looks }
     {
-        self.looks = self.looks.saturating_add(looks as u128);
+        self.looks = self.looks.saturating_add(looks);
     }
 }
 

@@ -12,13 +12,13 @@ ghost use Rattle.cargo_platform.specs.Chars.{is_identifier_start};
 ghost use Rattle.cargo_platform.specs.Tokens.{lexeme, called};
 ghost use Rattle.cargo_platform.specs.Cut.{AreSpaces, BeginsFault};
 ghost use Rattle.cargo_platform.specs.Reading.{IsRestFrom, characters_from};
-ghost use Rattle.cargo_platform.specs.Inside.Looking.{IsCharAt, Shows, Costs, ShowedBefore, unseen, character_of};
+ghost use Rattle.cargo_platform.specs.Inside.Looking.{IsCharAt, Shows, Costs, ShowedBefore, unseen};
 ghost use Rattle.cargo_platform.specs.Inside.Looking.{FindsFault, IsCountedTo};
 ghost use Rattle.cargo_platform.specs.Inside.Scanning.{IsTokenAt, IsCutAt};
 
 use crate::classes::begins_identifier;
 pub use crate::source::Looks;
-use crate::source::{Look, Source};
+use crate::source::{Look, Source, character_of};
 use std::marker::Model;
 
 /// A token. Names and values are the bytes of the text that they were written by; equality looks at all parts.
@@ -161,18 +161,6 @@ impl<'a> Iterator for Tokenizer<'a> {
                 Some(Err(TokenFault { kind, at: start }))
             }
         }
-    }
-}
-
-/// The character that a look gave, unless it was the end.
-#[inline(always)]
-pub(crate) fn character_of(look: Look) -> Option<char>
-    ensures { result ≡ character_of look }
-{
-    match look {
-        Look::End => None,
-        Look::Ascii(byte) => Some(byte as char),
-        Look::Wide(c) => Some(c),
     }
 }
 

@@ -55,16 +55,16 @@ pub record Costs (text : List ℕ) (from to beside old new : ℕ) : Type 0 where
   pub grows : old ≤ new
   pub at_most : new + characters_from text to ≤ old + characters_from text from + beside
   -- below the greatest count
-  pub at_least : new < 2 ^ 128 - 1 → old + characters_from text from + beside ≤ new + characters_from text to
+  pub at_least : new < 2 ^ 64 - 1 → old + characters_from text from + beside ≤ new + characters_from text to
 
 -- below the greatest count, no fewer looks were made than characters stand before the place
 abbrev pub IsCountedTo : List ℕ → ℕ → ℕ → Type 0
-IsCountedTo text to looks = looks < 2 ^ 128 - 1 → IsLookedTo text to looks
+IsCountedTo text to looks = looks < 2 ^ 64 - 1 → IsLookedTo text to looks
 
 -- where a tokenizer stands: until a fault each character before the place was looked at once, and once it began what is
 -- at the place too
 pub record IsStanding (text : List ℕ) (place : ℕ) (seen : Option Look) (failed : Bool) (looks : ℕ) : Type 0 where
-  pub short : characters_from text 0 < 2 ^ 64
+  pub short : characters_from text 0 < 2 ^ 63
   pub reached : IsCharBoundary text place
   pub sees : ShowedBefore text place seen
   pub each : failed ≡ false → looks + characters_from text place + unseen seen ≡ characters_from text 0 + 1
@@ -87,7 +87,7 @@ pub record FindsFault (text : List ℕ) (at : ℕ) (kind : TokenFaultKind) (befo
   pub grows : old ≤ new
   -- below the greatest count
   pub at_least :
-      new < 2 ^ 128 - 1
+      new < 2 ^ 64 - 1
       → old + characters_from text at ≤ new + characters_from text (lexical_span text at kind).end + before
 
 -- Where a reader stands: at no space, with what is there seen. Until a fault is found each character before the place
@@ -95,7 +95,7 @@ pub record FindsFault (text : List ℕ) (at : ℕ) (kind : TokenFaultKind) (befo
 pub record IsReadingAt (text : List ℕ) (place : ℕ) (seen : Look) (fault : Option TokenFaultKind) (looks : ℕ)
     : Type 0 where
   pub utf8 : IsUtf8 text
-  pub short : characters_from text 0 < 2 ^ 64
+  pub short : characters_from text 0 < 2 ^ 63
   pub reached : IsCharBoundary text place
   pub sees : Shows text place seen
   pub past : slice_index text place ≢ 0x20

@@ -19,7 +19,7 @@ invariant_of-result c =
     let look = rw c.new-source.ensures.text at c.look-first.ensures.cost in
     let first = ap (λ t. t.now) c.look-first.ensures.same ∙ c.new-source.ensures.text in
     let found = rw first at c.past_spaces-place.ensures in
-    let fits : characters_from c.args.text.now 0 < 2 ^ 64 = omega (arith, chars_fit c.args.text.now c.utf8.text) in
+    let fits : characters_from c.args.text.now 0 < 2 ^ 63 = omega (arith, chars_fit c.args.text.now c.utf8.text) in
     let I : List ℕ → Type 0 = λ z. IsReadingAt z c.past_spaces-place.result.0 c.past_spaces-place.result.1 None
     c.past_spaces-place.new.self.looks in
     subst I (sym (ap (λ t. t.now) c.past_spaces-place.ensures.same ∙ first)) (record {

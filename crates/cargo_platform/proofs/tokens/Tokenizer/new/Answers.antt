@@ -6,7 +6,7 @@ use Rattle.cargo_platform.proofs.tokens.Tokenizer.new.Goals as goal
 
 pub invariant_of-result : goal.invariant_of-result
 invariant_of-result c =
-    let fits : characters_from c.args.text.now 0 < 2 ^ 64 = omega (arith, chars_fit c.args.text.now c.utf8.text) in
+    let fits : characters_from c.args.text.now 0 < 2 ^ 63 = omega (arith, chars_fit c.args.text.now c.utf8.text) in
     rw c.new.ensures.text (record {
       short = fits;
       reached = IsCharBoundary-start c.args.text.now c.utf8.text;
