@@ -52,7 +52,7 @@ alone_plain : (keys : Bool) (n : Name) → may_of keys (Alone n) → role n ≡ 
 alone_plain true n may = plain_name n may
 alone_plain false n may = plain_name n may
 
-abbrev word : List ℕ → Name
+abbrev pub word : List ℕ → Name
 word name = record { raw = false; name = name }
 
 -- a key and its string

@@ -87,6 +87,8 @@ pub mod ConditionAnswers
 pub mod Changes
 -- ToToday: from the Rust crate's grammar to today's
 pub mod ToToday
+-- AfterLiterals: where today's fault lies, and what the Rust crate's grammar has there
+pub mod AfterLiterals
 -- ---- keys
 -- KeySpans: where an error's text stands in a key
 pub mod KeySpans

@@ -24,7 +24,7 @@ lexemes-append [] us = refl
 lexemes-append (t ∷ ts) us = ap (λ z. t.token ∷ z) (lexemes-append ts us)
 
 -- of two prefixes of one list, the second is no longer, or goes on with the next token
-longer_or : (prefix others longer rest : List Placed) (t : Placed) → prefix ++ (t ∷ rest) ≡ longer ++ others
+pub longer_or : (prefix others longer rest : List Placed) (t : Placed) → prefix ++ (t ∷ rest) ≡ longer ++ others
     → (length longer ≤ length prefix) ⊎ ((more : List Placed) × (longer ≡ prefix ++ (t ∷ more)))
 longer_or prefix others [] rest t h = inl (zero-le)
 longer_or [] others (u ∷ us) rest t h = inr (us, λ i. sym (head_is h) i ∷ us)

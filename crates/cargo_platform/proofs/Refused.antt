@@ -6,13 +6,13 @@ use Rattle.cargo_platform.specs.Tokens.{Lexeme, Placed}
 use Rattle.cargo_platform.specs.Cut.{IsCut, lexemes, Nothing}
 use Rattle.cargo_platform.specs.Trees.{CfgValue, Tree}
 use Rattle.cargo_platform.specs.Spelling.{Grammar, Values, Expressions, IsAccepted, IsValueText, IsTreeText}
-use Rattle.cargo_platform.specs.Faults.{IsCompletable, Fault, fault_of, IsRefused}
+use Rattle.cargo_platform.specs.Faults.{IsCompletableBy, Fault, fault_of, IsRefusedBy, IsRefused}
 use Rattle.cargo_platform.proofs.OneCut.{one_cut_from}
 use Rattle.cargo_platform.proofs.Paths.{next_before, behind_is, whole_ends}
 
 -- what is accepted needs no further tokens
-pub accepted_completes : (g : Grammar) (ts : List Lexeme) → IsAccepted g ts → IsCompletable g ts
-accepted_completes g ts p = ([], tt, rw (append-nil ts) p)
+accepted_completes : (accepts : List Lexeme → Type 0) (ts : List Lexeme) → accepts ts → IsCompletableBy accepts ts
+accepted_completes accepts ts p = ([], tt, rw (append-nil ts) p)
 
 -- nothing is after a prefix that is as long as the list
 no_more : (prefix after : List Placed) → length (prefix ++ after) ≤ length prefix → after ≡ []
@@ -23,14 +23,14 @@ none_some : {A : Type 0} {f : Fault} → None ≡ Some f → A
 none_some h = absurd cc
 
 -- the tokens of a refused text, where it has an empty tail, are not accepted
-pub refused_accepts_none : (g : Grammar) (text : List ℕ) (f : Fault) (ts : List Placed) → IsRefused g text f
-    → IsCut text ts (length text) → IsAccepted g (lexemes ts) → ⊥
-refused_accepts_none g text f ts r cut p =
+pub refused_accepts_none : (accepts : List Lexeme → Type 0) (g : Grammar) (text : List ℕ) (f : Fault) (ts : List Placed)
+    → IsRefusedBy accepts g text f → IsCut text ts (length text) → accepts (lexemes ts) → ⊥
+refused_accepts_none accepts g text f ts r cut p =
     let same = one_cut_from text r.ts ts 0 r.tail (length text) r.cut cut in
-    let whole : IsAccepted g (lexemes r.ts) = rw same.0 p in
+    let whole : accepts (lexemes r.ts) = rw same.0 p in
     let none = no_more r.prefix r.after
     (rw (← r.is_prefix.parts)
-    (r.is_prefix.longest r.ts [] (sym (append-nil r.ts)) (accepted_completes g (lexemes r.ts) whole))) in
+    (r.is_prefix.longest r.ts [] (sym (append-nil r.ts)) (accepted_completes accepts (lexemes r.ts) whole))) in
     let prefix_is : r.ts ≡ r.prefix = r.is_prefix.parts ∙ ap (λ (z : List Placed). r.prefix ++ z) none
     ∙ append-nil r.prefix in
     let yes : r.accepted ≡ true = r.is_accepted.1 (rw (← prefix_is) whole) in
@@ -42,9 +42,9 @@ refused_accepts_none g text f ts r cut p =
 
 -- a text that is refused as an expression spells no tree
 pub refused_spells_none : (text : List ℕ) (f : Fault) (e : Tree) → IsRefused Expressions text f → IsTreeText text e → ⊥
-refused_spells_none text f e r t = refused_accepts_none Expressions text f t.0 r t.1 (e, t.2)
+refused_spells_none text f e r t = refused_accepts_none (IsAccepted Expressions) Expressions text f t.0 r t.1 (e, t.2)
 
 -- a text that is refused as a value spells none
 pub refused_spells_no_value : (text : List ℕ) (f : Fault) (c : CfgValue) → IsRefused Values text f → IsValueText text c
     → ⊥
-refused_spells_no_value text f c r t = refused_accepts_none Values text f t.0 r t.1 (c, t.2)
+refused_spells_no_value text f c r t = refused_accepts_none (IsAccepted Values) Values text f t.0 r t.1 (c, t.2)

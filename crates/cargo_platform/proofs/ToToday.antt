@@ -79,7 +79,7 @@ text_refused text d q =
 
 -- ---- faults
 
-nowhere : (q : Position) → None ≡ Some q → ⊥
+pub nowhere : (q : Position) → None ≡ Some q → ⊥
 nowhere q h = cc
 
 key_kept : (e : Tree) (gs : List Opening) (q : Position) → at_key (key_by false e) gs ≡ Some q
@@ -106,7 +106,7 @@ step_kept (WithKey n gs) t q h = h
 step_kept (WithTree e gs) Equals q h = key_kept e gs q h
 step_kept (WithTree e gs) t q h = h
 
-steps_kept : (p : Position) (ts : List Lexeme) (q : Position) → lead_from false (Some p) ts ≡ Some q
+pub steps_kept : (p : Position) (ts : List Lexeme) (q : Position) → lead_from false (Some p) ts ≡ Some q
     → lead_from true (Some p) ts ≡ Some q
 steps_kept p [] q h = h
 steps_kept p (t ∷ ts) q h =
@@ -117,14 +117,14 @@ steps_kept p (t ∷ ts) q h =
           ∙ steps_kept r ts q (sym (ap (λ o. lead_from false o ts) is) ∙ h)
     ] refl
 
-was_accepted : (ts : List Lexeme) → IsAccepted Expressions ts → IsAcceptedReleased ts
+pub was_accepted : (ts : List Lexeme) → IsAccepted Expressions ts → IsAcceptedReleased ts
 was_accepted ts a = (accepted_as_released ts).0 (a.0, was_spelled a.0 ts a.1)
 
-was_completable : (ts : List Lexeme) → IsCompletable Expressions ts → IsCompletableBy IsAcceptedReleased ts
+pub was_completable : (ts : List Lexeme) → IsCompletable Expressions ts → IsCompletableBy IsAcceptedReleased ts
 was_completable ts c = (c.0, c.1, was_accepted _ c.2)
 
 -- what was accepted still is, if it can be completed
-still_accepted : (ts : List Lexeme) → IsAcceptedReleased ts → IsCompletable Expressions ts → IsAccepted Expressions ts
+pub still_accepted : (ts : List Lexeme) → IsAcceptedReleased ts → IsCompletable Expressions ts → IsAccepted Expressions ts
 still_accepted ts a c =
     let t = (accepted_as_released ts).1 a in
     let start : Option Position = Some (Wanting []) in

@@ -1,12 +1,14 @@
 -- Laws of the changes of the grammar of expressions: from the released one to the transitional, and from that to
 -- today's.
-use Rattle.std.specs.Prelude.{◌≡◌, ◌↔◌, ◌&&◌, ◌≤◌, ℕ, Bool, false, List, [], IsTrue, IsFalse, length}
+use Rattle.std.specs.Prelude.{◌≡◌, ◌⊎◌, ◌↔◌, ◌&&◌, ◌≤◌, ◌<◌, ℕ, Bool, false, List, [], ◌∷◌, ◌++◌, IsTrue, IsFalse}
+use Rattle.std.specs.Prelude.{length, drop, codes}
 use Rattle.std.specs.List.{list_any}
-use Rattle.cargo_platform.specs.Tokens.{Lexeme}
-use Rattle.cargo_platform.specs.Trees.{CfgValue, Alone, KeyPair, Tree, Condition}
-use Rattle.cargo_platform.specs.Cut.{lexemes}
-use Rattle.cargo_platform.specs.Spelling.{is_literal_word, Spells, Expressions, IsAccepted, IsTreeText}
-use Rattle.cargo_platform.specs.Faults.{Fault, IsRefusedBy, IsRefused, IsCompletable}
+use Rattle.cargo_platform.specs.Tokens.{Lexeme, Equals, Placed}
+use Rattle.cargo_platform.specs.Trees.{Name, CfgValue, Alone, KeyPair, Tree, Condition}
+use Rattle.cargo_platform.specs.Cut.{lexemes, Token}
+use Rattle.cargo_platform.specs.Spelling.{identifier, is_literal_word, Spells, Expressions, IsAccepted, IsTreeText}
+use Rattle.cargo_platform.specs.Faults.{Fault, UnexpectedToken, UnterminatedExpression, IsRefusedBy, IsRefused}
+use Rattle.cargo_platform.specs.Faults.{IsCompletable, IsCompletableBy, span_of}
 use Rattle.cargo_platform.specs.WellFormed.{IsWellFormed}
 use Rattle.cargo_platform.specs.Platforms.{IsConditionText, IsRefusedConditionBy}
 use Rattle.cargo_platform.specs.Earlier.{is_literal_name, released, SpellsReleased, IsAcceptedReleased}
@@ -102,6 +104,42 @@ abbrev pub ComesNoLater : List ℕ → Fault → Fault → Type 0
 ComesNoLater text before now =
     (r : IsRefusedBy IsAcceptedReleased Expressions text before) (q : IsRefused Expressions text now)
     → length q.prefix ≤ length r.prefix
+
+-- the fault was the same, behind the same tokens and with the same span
+abbrev pub WasThere : {text : List ℕ} {fault : Fault} → IsRefused Expressions text fault → Type 0
+WasThere {text = text} {fault = fault} q =
+    (r : IsRefusedBy IsAcceptedReleased Expressions text fault) × (r.prefix ≡ q.prefix)
+    × (span_of text r.accepted r.next ≡ span_of text q.accepted q.next)
+
+-- the fault is at `=` behind unmarked `true` or `false`, which the Rust crate takes as a key
+pub record IsAtLiteralKey (text : List ℕ) (fault : Fault) (q : IsRefused Expressions text fault) : Type 0 where
+  pub before : List Lexeme
+  pub key : Name
+  pub equals : Placed
+  pub literal : IsTrue (is_literal_word key)
+  pub prefix : lexemes q.prefix ≡ before ++ identifier key ∷ []
+  pub next : q.next ≡ Token equals
+  pub is_equals : equals.token ≡ Equals
+  -- with `=` the tokens could still be completed
+  pub went_on : IsCompletableBy IsAcceptedReleased (lexemes q.prefix ++ Equals ∷ [])
+  -- a literal that begins the text is a whole expression; in a group `)` is expected after it
+  pub at_start : before ≡ [] → fault ≡ UnterminatedExpression (drop equals.start text)
+  pub in_group : (before ≡ [] → ⊥) → fault ≡ UnexpectedToken (codes "`)`") (codes "`=`")
+
+-- today's fault was there, or it is at `=` behind a literal
+abbrev pub WasThereOrIsAtKey : List ℕ → Fault → Type 0
+WasThereOrIsAtKey text fault = (q : IsRefused Expressions text fault) → WasThere q ⊎ IsAtLiteralKey text fault q
+
+-- where today's fault is at `=` behind a literal, more tokens stood before the fault of then
+abbrev pub CameLaterAtKey : List ℕ → Fault → Fault → Type 0
+CameLaterAtKey text before now =
+    (r : IsRefusedBy IsAcceptedReleased Expressions text before) (q : IsRefused Expressions text now)
+    → IsAtLiteralKey text now q → length q.prefix < length r.prefix
+
+-- it is there where the text spelled a tree
+abbrev pub IsAtKeyWhereRead : List ℕ → Fault → Type 0
+IsAtKeyWhereRead text now =
+    (d : Tree) (q : IsRefused Expressions text now) → IsReleasedTreeText text d → IsAtLiteralKey text now q
 
 -- ---- well-formed trees, and warnings
 

@@ -31,6 +31,7 @@ ghost use Rattle.cargo_platform.specs.ChangeLaws.{KeepsCondition, SpelledTransit
 ghost use Rattle.cargo_platform.specs.ChangeLaws.{WasWellFormedWithoutMarkedLiterals, IsWellFormedWithoutLiteralKeys};
 ghost use Rattle.cargo_platform.specs.ChangeLaws.{GivesNoKeyword, IsConditionRefusedAsReleased, SpelledReleasedText};
 ghost use Rattle.cargo_platform.specs.ChangeLaws.{IsTextRefusedForLiteralKeys, KeepsFault, ComesNoLater};
+ghost use Rattle.cargo_platform.specs.ChangeLaws.{WasThereOrIsAtKey, CameLaterAtKey, IsAtKeyWhereRead};
 ghost use Rattle.cargo_platform.specs.ViewLaws.{IsNotOf, IsAllOf, IsAnyOf, IsValueOf, AreLiterals};
 ghost use Rattle.cargo_platform.specs.Sizes.{size, depth};
 ghost use Rattle.cargo_platform.specs.Facts.{Pair, pair_cmp, FactSet, fact_set, truth};
@@ -239,11 +240,16 @@ pub fn literals_are_no_keys()
 /// From the Rust crate's grammar of expressions to today's. What a text spelled there is told by what it spells now. It
 /// spells nothing now exactly where an unmarked `true` or `false` is a key. A text that was refused there is refused,
 /// at the same token or an earlier one, and with the same fault where what stands before it can still be completed.
+/// Today's fault was the fault there, or it is at `=` right after an unmarked `true` or `false`. Then that was a key,
+/// and the text was read on: its fault there comes later, or it spelled an expression.
 pub fn texts_as_released()
     ensures spelled { (text : List ℕ) → SpelledReleasedText text }
     ensures refused { (text : List ℕ) → IsTextRefusedForLiteralKeys text }
     ensures fault { (text : List ℕ) (fault : Fault) → KeepsFault text fault }
     ensures no_later { (text : List ℕ) (before now : Fault) → ComesNoLater text before now }
+    ensures there_or_key { (text : List ℕ) (fault : Fault) → WasThereOrIsAtKey text fault }
+    ensures later_at_key { (text : List ℕ) (before now : Fault) → CameLaterAtKey text before now }
+    ensures read_at_key { (text : List ℕ) (now : Fault) → IsAtKeyWhereRead text now }
 {}
 
 /// Which trees are well-formed in the Rust crate's grammar, in the transitional one, and today: the first without
