@@ -1,14 +1,16 @@
 -- The definitions. Each module stands on those before it. For `CfgExpr::from_str` read Chars, Tokens, Cut, Trees,
 -- Spelling, Faults, Print, Errors and WellFormed; for `matches` Trees and Facts; for a print Tokens, Trees and Print.
+-- Contracts stand in src: cfg.rt (facts, expressions, looks), platforms.rt, fact_lines.rt, facts.rt (matching) and
+-- warnings.rt.
 
 -- ---- text and tokens
 -- Chars: classes of characters
 pub mod Chars
 -- Tokens: the tokens, and how each is written
 pub mod Tokens
--- Cut: what comes next in a text, and how it is cut into tokens
+-- Cut: what comes next in a text, a token or a lexical fault, and how it is cut into tokens
 pub mod Cut
--- Reading: one call of `next` after another
+-- Reading: one call of `next` after another, with its looks
 pub mod Reading
 -- CutLaws: each text has one cut, and the tokenizer gives it
 pub mod CutLaws
@@ -27,7 +29,7 @@ pub mod Parts
 -- Spelling: which tokens spell which tree
 pub mod Spelling
 -- ---- faults
--- Faults: why a text is refused, and where
+-- Faults: why a text is refused, what is expected, and the span of each fault but of a target name
 pub mod Faults
 -- Walk: the automaton of both grammars, its positions and the states that laws name, for proofs
 pub mod Walk
@@ -41,7 +43,7 @@ pub mod Errors
 -- Snippets: two lines that show the place of a fault
 pub mod Snippets
 -- ---- conditions
--- Platforms: target names, and the text of a condition
+-- Platforms: target names, the text of a condition, and the fault and span of a refused name
 pub mod Platforms
 -- WellFormed: the values that a text can spell
 pub mod WellFormed
@@ -65,9 +67,9 @@ pub mod FactLaws
 -- Holders: words for the sets that holders of one's own mean
 pub mod Holders
 -- ---- lines of facts
--- Lines: the lines of a text
+-- Lines: where a line ends: at U+000A alone, so that a carriage return is a part of it
 pub mod Lines
--- FactLines: facts, one a line
+-- FactLines: facts, one on each line; none is skipped
 pub mod FactLines
 -- SpanLaws: laws of what stands around a span, and of spans in lines of facts
 pub mod SpanLaws
