@@ -1,6 +1,7 @@
 //! Facts, as many as each size: read from lines, and asked for in lists and indexes.
 
-use crate::made::{members, named, pair, word};
+use crate::made::{all_of, named, numbered, pair, word};
+use crate::support::{assert_holds, index_of, push};
 use cargo_platform::{Cfg, CfgExpr, FactIndex, Facts, read_facts};
 use std::alloc::Global;
 use std::process::Abort;
@@ -10,37 +11,40 @@ use test_support::sizes::{SIZES, counts};
 /// The name `m` with a number after it, or for each third number the pair of the key `k` and the number.
 fn fact(rt: &impl Abort, alloc: Global, number: usize) -> Cfg {
     if number % 3 == 0 {
-        return pair(
-            rt,
-            alloc,
-            "k",
-            &number.to_string(alloc).expect(rt, "memory"),
-        );
+        return numbered_pair(rt, alloc, number);
     }
-    let text = format!(in alloc; "m{number}").expect(rt, "memory");
-    named(rt, alloc, &text)
+    numbered(rt, alloc, number)
+}
+
+fn numbered_pair(rt: &impl Abort, alloc: Global, number: usize) -> Cfg {
+    let text = number.to_string(alloc).expect(rt, "memory");
+    pair(rt, alloc, "k", &text)
 }
 
 /// So many such facts, each twice.
 fn facts(rt: &impl Abort, alloc: Global, size: usize) -> Vec<Cfg> {
     let mut facts = Vec::new(alloc);
     for i in 0..size {
-        facts.push(fact(rt, alloc, i / 2)).expect(rt, "memory");
+        push(rt, &mut facts, fact(rt, alloc, i / 2));
     }
     facts
+}
+
+/// Adds the line of the fact with a number.
+fn add_line(rt: &impl Abort, text: &mut String, number: usize) {
+    let written = if number % 3 == 0 {
+        writeln!(text, "k = \"{number}\"")
+    } else {
+        writeln!(text, "m{number}")
+    };
+    written.expect(rt, "memory");
 }
 
 /// These facts, one a line.
 fn lines(rt: &impl Abort, alloc: Global, size: usize) -> String {
     let mut text = String::new(alloc);
     for i in 0..size {
-        let number = i / 2;
-        let written = if number % 3 == 0 {
-            writeln!(text, "k = \"{number}\"")
-        } else {
-            writeln!(text, "m{number}")
-        };
-        written.expect(rt, "memory");
+        add_line(rt, &mut text, i / 2);
     }
     text
 }
@@ -57,75 +61,103 @@ fn are_same(some: &[Cfg], others: &[Cfg]) -> bool {
     true
 }
 
+fn read(rt: &impl Abort, alloc: Global, text: &str) -> Vec<Cfg> {
+    read_facts(alloc, text).expect(rt, "facts")
+}
+
 #[test]
 fn lines_are_read(rt: HostRuntime) {
-    let alloc = rt.alloc();
     for size in counts() {
-        let text = lines(&rt, alloc, *size);
-        let read = read_facts(alloc, &text).expect(&rt, "facts");
-        assert!(rt; are_same(&read, &facts(&rt, alloc, *size)), "{size} lines");
+        let read = read(&rt, rt.alloc(), &lines(&rt, rt.alloc(), *size));
+        let wanted = facts(&rt, rt.alloc(), *size);
+        assert_holds(&rt, are_same(&read, &wanted), *size, "lines");
     }
+}
+
+fn holds(index: &FactIndex, fact: &Cfg) -> bool {
+    index.holds(fact)
+}
+
+/// Whether an index of facts holds each of them.
+fn holds_each(index: &FactIndex, facts: &[Cfg]) -> bool {
+    for fact in facts {
+        if !holds(index, fact) {
+            return false;
+        }
+    }
+    true
 }
 
 /// Whether an index of facts holds each of them, and neither one that is missing nor the start of one.
 fn holds_just(rt: &impl Abort, alloc: Global, index: &FactIndex, facts: &[Cfg]) -> bool {
-    for fact in facts {
-        if !index.holds(fact) {
-            return false;
-        }
-    }
-    !index.holds(&fact(rt, alloc, facts.len()))
-        && !index.holds(&named(rt, alloc, "m"))
-        && !index.holds(&pair(rt, alloc, "k", ""))
+    holds_each(index, facts)
+        && !holds(index, &fact(rt, alloc, facts.len()))
+        && !holds(index, &named(rt, alloc, "m"))
+        && !holds(index, &pair(rt, alloc, "k", ""))
 }
 
 #[test]
 fn indexes(rt: HostRuntime) {
-    let alloc = rt.alloc();
     for size in counts() {
-        let facts = facts(&rt, alloc, *size);
-        let index = FactIndex::new(alloc, &facts).expect(&rt, "memory");
-        assert!(rt; holds_just(&rt, alloc, &index, &facts), "{size} facts");
+        let facts = facts(&rt, rt.alloc(), *size);
+        let index = index_of(&rt, rt.alloc(), &facts);
+        let holds = holds_just(&rt, rt.alloc(), &index, &facts);
+        assert_holds(&rt, holds, *size, "facts");
     }
+}
+
+/// Asserts that an index of a name and a pair of so many bytes each holds just these.
+fn assert_long_facts(rt: &impl Abort, alloc: Global, size: usize) {
+    let text = word(rt, alloc, size);
+    let mut facts = Vec::new(alloc);
+    push(rt, &mut facts, named(rt, alloc, &text));
+    push(rt, &mut facts, pair(rt, alloc, &text, &text));
+    let index = index_of(rt, alloc, &facts);
+    let just = holds_just(rt, alloc, &index, &facts);
+    assert_holds(rt, just, size, "bytes");
+    let longer = word(rt, alloc, size.saturating_add(1));
+    let longer = pair(rt, alloc, &text, &longer);
+    assert_holds(rt, !holds(&index, &longer), size, "bytes and one");
 }
 
 #[test]
 fn long_facts(rt: HostRuntime) {
-    let alloc = rt.alloc();
     for size in &SIZES {
-        let text = word(&rt, alloc, *size);
-        let mut facts = vec![in alloc; named(&rt, alloc, &text)].expect(&rt, "memory");
-        facts
-            .push(pair(&rt, alloc, &text, &text))
-            .expect(&rt, "memory");
-        let index = FactIndex::new(alloc, &facts).expect(&rt, "memory");
-        assert!(rt; holds_just(&rt, alloc, &index, &facts), "{size} bytes");
-        let longer = word(&rt, alloc, size.saturating_add(1));
-        assert!(rt;
-            !index.holds(&pair(&rt, alloc, &text, &longer)),
-            "{size} bytes and one"
-        );
+        assert_long_facts(&rt, rt.alloc(), *size);
     }
+}
+
+/// The names `m0`, `m1` and so on as facts, as many as the size.
+fn names(rt: &impl Abort, alloc: Global, size: usize) -> Vec<Cfg> {
+    let mut facts = Vec::new(alloc);
+    for number in 0..size {
+        push(rt, &mut facts, numbered(rt, alloc, number));
+    }
+    facts
+}
+
+/// Whether an expression is true, and how many facts it asked for.
+fn matches_counted(e: &CfgExpr, index: &FactIndex) -> (bool, u128) {
+    let (holds, asks) = e.matches_counted(index);
+    (holds, asks.count())
+}
+
+fn matches(e: &CfgExpr, index: &FactIndex) -> bool {
+    e.matches_in(index)
 }
 
 /// Asserts that all of so many names are facts where so many names are, and asked for once each.
 fn assert_matches(rt: &impl Abort, alloc: Global, size: usize) {
-    let mut facts = Vec::new(alloc);
-    for number in 0..size {
-        let text = format!(in alloc; "m{number}").expect(rt, "memory");
-        facts.push(named(rt, alloc, &text)).expect(rt, "memory");
-    }
-    let index = FactIndex::new(alloc, &facts).expect(rt, "memory");
-    let (holds, asks) = CfgExpr::All(members(rt, alloc, size)).matches_counted(&index);
-    assert!(rt; holds && asks.count() == size as u128, "{size} members");
-    let more = CfgExpr::All(members(rt, alloc, size.saturating_add(1)));
-    assert!(rt; !more.matches_in(&index), "{size} members and one");
+    let index = index_of(rt, alloc, &names(rt, alloc, size));
+    let (holds, asks) = matches_counted(&all_of(rt, alloc, size), &index);
+    assert_holds(rt, holds && asks == size as u128, size, "members");
+    let more = all_of(rt, alloc, size.saturating_add(1));
+    assert_holds(rt, !matches(&more, &index), size, "members and one");
 }
 
 #[test]
 fn members_match(rt: HostRuntime) {
-    let alloc = rt.alloc();
     for size in counts() {
-        assert_matches(&rt, alloc, *size);
+        assert_matches(&rt, rt.alloc(), *size);
     }
 }

@@ -16,6 +16,8 @@ mod refusals;
 #[cfg(test)]
 mod snippets;
 #[cfg(test)]
+mod support;
+#[cfg(test)]
 mod values;
 #[cfg(test)]
 mod warnings;

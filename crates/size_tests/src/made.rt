@@ -1,9 +1,9 @@
 //! Inputs of a size, and what has to be answered for them, made without a reader or a print of the library.
 
-use cargo_platform::{Cfg, CfgExpr, CfgExprParts};
+use crate::support::{owned, repeated, start_of};
+use cargo_platform::{Cfg, CfgExpr, CfgExprParts, Ident};
 use std::alloc::Global;
 use std::process::Abort;
-use test_support::made::{name, repeated};
 
 /// The characters that an identifier goes on with. As their number is odd, a text of them in turn has something else at
 /// each power of two.
@@ -12,46 +12,76 @@ const CHARACTERS: &str = "abcdefghijklmnopqrstuvwxyz_0123456789";
 /// A name of so many bytes.
 pub fn word(rt: &impl Abort, alloc: Global, size: usize) -> String {
     // They are more than 32.
-    let text = repeated(alloc, CHARACTERS, (size / 32).saturating_add(1)).expect(rt, "memory");
-    let word = text.get(..size).expect(rt, "characters");
-    String::from_str(alloc, word).expect(rt, "memory")
+    let text = repeated(rt, alloc, CHARACTERS, (size / 32).saturating_add(1));
+    owned(rt, alloc, start_of(rt, &text, size))
 }
 
 /// A text of so many characters past ASCII, each of two bytes.
 pub fn wide_word(rt: &impl Abort, alloc: Global, size: usize) -> String {
-    repeated(alloc, "é", size).expect(rt, "memory")
+    repeated(rt, alloc, "é", size)
+}
+
+/// A name with this text.
+pub fn name(rt: &impl Abort, alloc: Global, raw: bool, text: &str) -> Ident {
+    test_support::made::name(alloc, raw, text).expect(rt, "memory")
 }
 
 /// The name that is unmarked and has this text.
 pub fn named(rt: &impl Abort, alloc: Global, text: &str) -> Cfg {
-    Cfg::Name(name(alloc, false, text).expect(rt, "memory"))
+    Cfg::Name(name(rt, alloc, false, text))
 }
 
 /// The pair of an unmarked key and a value.
 pub fn pair(rt: &impl Abort, alloc: Global, key: &str, value: &str) -> Cfg {
-    let key = name(alloc, false, key).expect(rt, "memory");
-    Cfg::KeyPair(key, String::from_str(alloc, value).expect(rt, "memory"))
+    Cfg::KeyPair(name(rt, alloc, false, key), owned(rt, alloc, value))
+}
+
+/// The name `m` with a number after it.
+pub fn numbered(rt: &impl Abort, alloc: Global, number: usize) -> Cfg {
+    let text = format!(in alloc; "m{number}").expect(rt, "memory");
+    named(rt, alloc, &text)
+}
+
+fn push(rt: &impl Abort, members: &mut Vec<CfgExpr>, member: CfgExpr) {
+    members.push(member).expect(rt, "memory");
 }
 
 /// The names `m0`, `m1` and so on, as many as the size.
 pub fn members(rt: &impl Abort, alloc: Global, size: usize) -> Vec<CfgExpr> {
     let mut members = Vec::new(alloc);
     for i in 0..size {
-        let text = format!(in alloc; "m{i}").expect(rt, "memory");
-        members
-            .push(CfgExpr::Value(named(rt, alloc, &text)))
-            .expect(rt, "memory");
+        push(rt, &mut members, CfgExpr::Value(numbered(rt, alloc, i)));
     }
     members
 }
 
+/// The group of all of these members.
+pub fn all_of(rt: &impl Abort, alloc: Global, size: usize) -> CfgExpr {
+    CfgExpr::All(members(rt, alloc, size))
+}
+
+/// The group of any of these members.
+pub fn any_of(rt: &impl Abort, alloc: Global, size: usize) -> CfgExpr {
+    CfgExpr::Any(members(rt, alloc, size))
+}
+
+fn add_member(rt: &impl Abort, text: &mut String, number: usize) {
+    write!(text, ", m{number}").expect(rt, "memory");
+}
+
+/// Adds a text to another.
+pub fn add(rt: &impl Abort, text: &mut String, more: &str) {
+    text.push_str(more).expect(rt, "memory");
+}
+
 /// The text of these members in a group of the word.
 pub fn members_text(rt: &impl Abort, alloc: Global, word: &str, size: usize) -> String {
-    let mut text = format!(in alloc; "{word}(m0").expect(rt, "memory");
+    let mut text = owned(rt, alloc, word);
+    add(rt, &mut text, "(m0");
     for i in 1..size {
-        write!(text, ", m{i}").expect(rt, "memory");
+        add_member(rt, &mut text, i);
     }
-    text.push(')').expect(rt, "memory");
+    add(rt, &mut text, ")");
     text
 }
 
@@ -66,13 +96,12 @@ pub fn nest(rt: &impl Abort, alloc: Global, levels: usize) -> CfgExpr {
 
 /// The text of these levels.
 pub fn nest_text(rt: &impl Abort, alloc: Global, levels: usize) -> String {
-    let mut text = repeated(alloc, "not(any(", levels / 2).expect(rt, "memory");
+    let mut text = repeated(rt, alloc, "not(any(", levels / 2);
     if levels % 2 == 1 {
-        text.push_str("not(").expect(rt, "memory");
+        add(rt, &mut text, "not(");
     }
-    text.push('m').expect(rt, "memory");
-    text.push_str(&repeated(alloc, ")", levels).expect(rt, "memory"))
-        .expect(rt, "memory");
+    add(rt, &mut text, "m");
+    add(rt, &mut text, &repeated(rt, alloc, ")", levels));
     text
 }
 
@@ -98,7 +127,22 @@ pub fn is_nest(e: CfgExpr, levels: usize) -> bool {
         };
         e = inner;
     }
-    matches!(&e, CfgExpr::Value(Cfg::Name(m)) if !m.raw && m.name.as_str() == "m")
+    is_m(&e)
+}
+
+/// Whether an expression is the name `m`.
+fn is_m(e: &CfgExpr) -> bool {
+    match e {
+        CfgExpr::Value(value) => is_name_m(value),
+        _ => false,
+    }
+}
+
+fn is_name_m(value: &Cfg) -> bool {
+    match value {
+        Cfg::Name(m) => !m.raw && m.name.as_str() == "m",
+        Cfg::KeyPair(_, _) => false,
+    }
 }
 
 /// What stands in a level, if it is of this form.

@@ -1,63 +1,96 @@
 //! What values of each size print, as a text of their own and behind what a text holds.
 
-use crate::made::{members, members_text, named, nest, nest_text, pair, wide_word, word};
-use cargo_platform::{CfgExpr, Platform};
+use crate::made::{
+    all_of, any_of, members_text, name, named, nest, nest_text, pair, wide_word, word,
+};
+use crate::support::{assert_holds, between, owned, printed};
+use cargo_platform::{Cfg, CfgExpr, Ident, Platform};
 use serde_json::Value;
 use std::alloc::Global;
 use std::fmt::Display;
 use std::process::Abort;
-use test_support::made::name;
 use test_support::sizes::{SIZES, counts};
+
+/// A text that holds something, and behind it what a value prints.
+fn printed_behind<T: Display>(rt: &impl Abort, alloc: Global, value: &T) -> String {
+    let mut text = owned(rt, alloc, "held ");
+    write!(text, "{value}").expect(rt, "printed");
+    text
+}
+
+fn is_behind(text: &str, wanted: &str) -> bool {
+    text.strip_prefix("held ") == Some(wanted)
+}
+
+/// Asserts what a value prints, and that it prints so behind what a text holds.
+fn assert_printed(rt: &impl Abort, alone: &str, behind: &str, wanted: &str) {
+    let size = wanted.len();
+    assert_holds(rt, alone == wanted, size, "bytes");
+    assert_holds(rt, is_behind(behind, wanted), size, "bytes behind others");
+}
 
 /// Asserts what a value prints.
 fn assert_prints<T: Display>(rt: &impl Abort, alloc: Global, value: &T, wanted: &str) {
-    let size = wanted.len();
-    let printed = value.to_string(alloc).expect(rt, "memory");
-    assert!(rt; printed.as_str() == wanted, "{size} bytes");
-    let mut text = String::from_str(alloc, "held ").expect(rt, "memory");
-    write!(text, "{value}").expect(rt, "printed");
-    assert!(rt;
-        text.strip_prefix("held ") == Some(wanted),
-        "{size} bytes behind others"
-    );
+    let alone = printed(rt, alloc, value);
+    let behind = printed_behind(rt, alloc, value);
+    assert_printed(rt, &alone, &behind, wanted);
+}
+
+fn assert_name_prints(rt: &impl Abort, alloc: Global, name: &Ident, wanted: &str) {
+    assert_prints(rt, alloc, name, wanted);
+}
+
+fn assert_fact_prints(rt: &impl Abort, alloc: Global, fact: &Cfg, wanted: &str) {
+    assert_prints(rt, alloc, fact, wanted);
+}
+
+fn assert_platform_prints(rt: &impl Abort, alloc: Global, platform: &Platform, wanted: &str) {
+    assert_prints(rt, alloc, platform, wanted);
+}
+
+/// Asserts what a name prints: as a fact, with a mark, and as that of a target.
+fn assert_text_prints(rt: &impl Abort, alloc: Global, text: &str) {
+    assert_fact_prints(rt, alloc, &named(rt, alloc, text), text);
+    let marked = name(rt, alloc, true, text);
+    assert_name_prints(rt, alloc, &marked, &between(rt, alloc, "r#", text, ""));
+    let target = Platform::Name(owned(rt, alloc, text));
+    assert_platform_prints(rt, alloc, &target, text);
 }
 
 #[test]
 fn names(rt: HostRuntime) {
-    let alloc = rt.alloc();
     for size in &SIZES {
-        for text in [word(&rt, alloc, *size), wide_word(&rt, alloc, *size)] {
-            assert_prints(&rt, alloc, &named(&rt, alloc, &text), &text);
-            let marked = name(alloc, true, &text).expect(&rt, "memory");
-            assert_prints(
-                &rt,
-                alloc,
-                &marked,
-                &format!(in alloc; "r#{text}").expect(&rt, "memory"),
-            );
-            assert_prints(
-                &rt,
-                alloc,
-                &Platform::Name(text.clone().expect(&rt, "memory")),
-                &text,
-            );
-        }
+        assert_text_prints(&rt, rt.alloc(), &word(&rt, rt.alloc(), *size));
+        assert_text_prints(&rt, rt.alloc(), &wide_word(&rt, rt.alloc(), *size));
     }
+}
+
+/// Asserts what the pair of a text with itself prints.
+fn assert_pair_prints(rt: &impl Abort, alloc: Global, text: &str) {
+    let wanted = format!(in alloc; "{text} = \"{text}\"").expect(rt, "memory");
+    assert_fact_prints(rt, alloc, &pair(rt, alloc, text, text), &wanted);
 }
 
 #[test]
 fn pairs(rt: HostRuntime) {
-    let alloc = rt.alloc();
     for size in &SIZES {
-        for text in [word(&rt, alloc, *size), wide_word(&rt, alloc, *size)] {
-            let pair = pair(&rt, alloc, &text, &text);
-            assert_prints(
-                &rt,
-                alloc,
-                &pair,
-                &format!(in alloc; "{text} = \"{text}\"").expect(&rt, "memory"),
-            );
-        }
+        assert_pair_prints(&rt, rt.alloc(), &word(&rt, rt.alloc(), *size));
+        assert_pair_prints(&rt, rt.alloc(), &wide_word(&rt, rt.alloc(), *size));
+    }
+}
+
+fn debugged(rt: &impl Abort, alloc: Global, e: &CfgExpr) -> String {
+    format!(in alloc; "{e:?}").expect(rt, "memory")
+}
+
+fn json_of(rt: &impl Abort, alloc: Global, condition: &Platform) -> Value {
+    condition.to_json(alloc).expect(rt, "memory")
+}
+
+fn is_text(json: &Value, wanted: &str) -> bool {
+    match json {
+        Value::String(text) => text.as_str() == wanted,
+        _ => false,
     }
 }
 
@@ -65,26 +98,23 @@ fn pairs(rt: HostRuntime) {
 fn assert_expression_prints(rt: &impl Abort, alloc: Global, e: CfgExpr, wanted: &str) {
     assert_prints(rt, alloc, &e, wanted);
     let size = wanted.len();
-    let debugged = format!(in alloc; "{e:?}").expect(rt, "memory");
-    assert!(rt; debugged.as_str() == wanted, "{size} bytes for debugging");
+    let debugged = debugged(rt, alloc, &e);
+    assert_holds(rt, debugged.as_str() == wanted, size, "bytes for debugging");
     let condition = Platform::Cfg(e);
-    let key = format!(in alloc; "cfg({wanted})").expect(rt, "memory");
-    assert_prints(rt, alloc, &condition, &key);
-    let json = condition.to_json(alloc).expect(rt, "memory");
-    assert!(rt;
-        matches!(&json, Value::String(text) if text == &key),
-        "{size} bytes of JSON"
-    );
+    let key = between(rt, alloc, "cfg(", wanted, ")");
+    assert_platform_prints(rt, alloc, &condition, &key);
+    let json = json_of(rt, alloc, &condition);
+    assert_holds(rt, is_text(&json, &key), size, "bytes of JSON");
 }
 
 #[test]
 fn members_of_groups(rt: HostRuntime) {
     let alloc = rt.alloc();
     for size in counts() {
-        let all = CfgExpr::All(members(&rt, alloc, *size));
-        assert_expression_prints(&rt, alloc, all, &members_text(&rt, alloc, "all", *size));
-        let any = CfgExpr::Any(members(&rt, alloc, *size));
-        assert_expression_prints(&rt, alloc, any, &members_text(&rt, alloc, "any", *size));
+        let text = members_text(&rt, alloc, "all", *size);
+        assert_expression_prints(&rt, alloc, all_of(&rt, alloc, *size), &text);
+        let text = members_text(&rt, alloc, "any", *size);
+        assert_expression_prints(&rt, alloc, any_of(&rt, alloc, *size), &text);
     }
 }
 

@@ -1,39 +1,49 @@
 //! What is read of texts of each size.
 
-use crate::made::{is_nest, members, members_text, named, nest_text, pair, wide_word, word};
+use crate::made::{
+    all_of, any_of, is_nest, members_text, name, named, nest_text, pair, wide_word, word,
+};
+use crate::support::{
+    assert_holds, between, is_named, key_matches, owned, push, read_expression, read_fact,
+    read_json, read_platform, reading, repeated,
+};
 use cargo_platform::{Cfg, CfgExpr, Platform, ReadError};
 use serde_json::Value;
 use std::alloc::Global;
 use std::process::Abort;
 use test_support::compared::{same, same_value};
-use test_support::made::name;
 use test_support::sizes::{SIZES, counts};
+
+/// Whether an expression is this fact.
+fn is_fact(e: &CfgExpr, wanted: &Cfg) -> bool {
+    match e {
+        CfgExpr::Value(c) => same_value(c, wanted),
+        _ => false,
+    }
+}
 
 /// Whether a condition is of this fact.
 fn is_of_fact(condition: &Platform, wanted: &Cfg) -> bool {
-    matches!(condition, Platform::Cfg(CfgExpr::Value(c)) if same_value(c, wanted))
+    match condition {
+        Platform::Cfg(e) => is_fact(e, wanted),
+        Platform::Name(_) => false,
+    }
 }
 
 /// Asserts that a text is read as this fact: alone, as an expression, and as a condition, also from JSON.
 fn assert_is_read(rt: &impl Abort, alloc: Global, text: &str, wanted: &Cfg) {
     let size = text.len();
-    let fact = Cfg::from_str(alloc, text).expect(rt, "a fact");
-    assert!(rt; same_value(&fact, wanted), "a fact of {size} bytes");
-    let e = CfgExpr::from_str(alloc, text).expect(rt, "an expression");
-    assert!(rt;
-        matches!(&e, CfgExpr::Value(c) if same_value(c, wanted)),
-        "an expression of {size} bytes"
-    );
-    let key = format!(in alloc; "cfg({text})").expect(rt, "memory");
-    let condition = Platform::from_str(alloc, &key).expect(rt, "a condition");
-    assert!(rt;
-        is_of_fact(&condition, wanted),
-        "a condition of {size} bytes"
-    );
-    let condition = Platform::from_json(alloc, &Value::String(key))
-        .ok()
-        .expect(rt, "a condition");
-    assert!(rt; is_of_fact(&condition, wanted), "JSON of {size} bytes");
+    let fact = read_fact(rt, alloc, text);
+    assert_holds(rt, same_value(&fact, wanted), size, "bytes of a fact");
+    let e = read_expression(rt, alloc, text);
+    assert_holds(rt, is_fact(&e, wanted), size, "bytes of an expression");
+    let key = between(rt, alloc, "cfg(", text, ")");
+    let condition = read_platform(rt, alloc, &key);
+    let is_wanted = is_of_fact(&condition, wanted);
+    assert_holds(rt, is_wanted, size, "bytes of a condition");
+    let condition = read_json(rt, alloc, &Value::String(key));
+    let is_wanted = is_of_fact(&condition, wanted);
+    assert_holds(rt, is_wanted, size, "bytes of JSON");
 }
 
 #[test]
@@ -42,10 +52,16 @@ fn names(rt: HostRuntime) {
     for size in &SIZES {
         let word = word(&rt, alloc, *size);
         assert_is_read(&rt, alloc, &word, &named(&rt, alloc, &word));
-        let marked = format!(in alloc; "r#{word}").expect(&rt, "memory");
-        let wanted = Cfg::Name(name(alloc, true, &word).expect(&rt, "memory"));
+        let marked = between(&rt, alloc, "r#", &word, "");
+        let wanted = Cfg::Name(name(&rt, alloc, true, &word));
         assert_is_read(&rt, alloc, &marked, &wanted);
     }
+}
+
+/// Asserts what the text of a pair is read as.
+fn assert_pair_is_read(rt: &impl Abort, alloc: Global, key: &str, value: &str) {
+    let text = format!(in alloc; "{key} = \"{value}\"").expect(rt, "memory");
+    assert_is_read(rt, alloc, &text, &pair(rt, alloc, key, value));
 }
 
 #[test]
@@ -53,50 +69,46 @@ fn pairs(rt: HostRuntime) {
     let alloc = rt.alloc();
     for size in &SIZES {
         let key = word(&rt, alloc, *size);
-        for value in [word(&rt, alloc, *size), wide_word(&rt, alloc, *size)] {
-            let text = format!(in alloc; "{key} = \"{value}\"").expect(&rt, "memory");
-            assert_is_read(&rt, alloc, &text, &pair(&rt, alloc, &key, &value));
-        }
+        assert_pair_is_read(&rt, alloc, &key, &word(&rt, alloc, *size));
+        assert_pair_is_read(&rt, alloc, &key, &wide_word(&rt, alloc, *size));
     }
+}
+
+/// A pair with these spaces before, between and after its tokens.
+fn spaced(rt: &impl Abort, alloc: Global, spaces: &str) -> String {
+    format!(in alloc; "{spaces}a{spaces}={spaces}\"b\"{spaces}").expect(rt, "memory")
 }
 
 #[test]
 fn spaces(rt: HostRuntime) {
     let alloc = rt.alloc();
     for size in &SIZES {
-        let spaces = " ".repeat(alloc, *size).expect(&rt, "memory");
-        let text = format!(in alloc; "{spaces}a{spaces}={spaces}\"b\"{spaces}").expect(
-            &rt, "memory",
-        );
+        let text = spaced(&rt, alloc, &repeated(&rt, alloc, " ", *size));
         assert_is_read(&rt, alloc, &text, &pair(&rt, alloc, "a", "b"));
     }
 }
 
+fn matches_target(target: &Platform, name: &str) -> bool {
+    target.matches(name, &[])
+}
+
 /// Asserts that a text is read as the name of a target, also from JSON.
-fn assert_is_target(rt: &impl Abort, alloc: Global, text: String) {
+fn assert_is_target(rt: &impl Abort, alloc: Global, text: &str) {
     let size = text.len();
-    let target = Platform::from_str(alloc, &text).expect(rt, "a target");
-    assert!(rt;
-        matches!(&target, Platform::Name(name) if name == &text),
-        "a target of {size} bytes"
-    );
-    assert!(rt; target.matches(&text, &[]), "a target of {size} bytes");
-    let json = Value::String(text.clone().expect(rt, "memory"));
-    let target = Platform::from_json(alloc, &json)
-        .ok()
-        .expect(rt, "a target");
-    assert!(rt;
-        matches!(&target, Platform::Name(name) if name == &text),
-        "JSON of {size} bytes"
-    );
+    let target = read_platform(rt, alloc, text);
+    assert_holds(rt, is_named(&target, text), size, "bytes of a target");
+    let matches = matches_target(&target, text);
+    assert_holds(rt, matches, size, "bytes of a target that matches");
+    let target = read_json(rt, alloc, &Value::String(owned(rt, alloc, text)));
+    assert_holds(rt, is_named(&target, text), size, "bytes of JSON");
 }
 
 #[test]
 fn targets(rt: HostRuntime) {
     let alloc = rt.alloc();
     for size in &SIZES {
-        assert_is_target(&rt, alloc, word(&rt, alloc, *size));
-        assert_is_target(&rt, alloc, wide_word(&rt, alloc, *size));
+        assert_is_target(&rt, alloc, &word(&rt, alloc, *size));
+        assert_is_target(&rt, alloc, &wide_word(&rt, alloc, *size));
     }
 }
 
@@ -109,18 +121,12 @@ fn is_read_as(read: &Result<CfgExpr, ReadError>, wanted: &CfgExpr) -> bool {
 fn members_of_groups(rt: HostRuntime) {
     let alloc = rt.alloc();
     for size in counts() {
-        let all = CfgExpr::All(members(&rt, alloc, *size));
-        let text = members_text(&rt, alloc, "all", *size);
-        assert!(rt;
-            is_read_as(&CfgExpr::from_str(alloc, &text), &all),
-            "all of {size}"
-        );
-        let any = CfgExpr::Any(members(&rt, alloc, *size));
-        let text = members_text(&rt, alloc, "any", *size);
-        assert!(rt;
-            is_read_as(&CfgExpr::from_str(alloc, &text), &any),
-            "any of {size}"
-        );
+        let read = reading(alloc, &members_text(&rt, alloc, "all", *size));
+        let all = all_of(&rt, alloc, *size);
+        assert_holds(&rt, is_read_as(&read, &all), *size, "members of all");
+        let read = reading(alloc, &members_text(&rt, alloc, "any", *size));
+        let any = any_of(&rt, alloc, *size);
+        assert_holds(&rt, is_read_as(&read, &any), *size, "members of any");
     }
 }
 
@@ -128,10 +134,22 @@ fn members_of_groups(rt: HostRuntime) {
 fn levels_of_groups(rt: HostRuntime) {
     let alloc = rt.alloc();
     for size in &SIZES {
-        let text = nest_text(&rt, alloc, *size);
-        let e = CfgExpr::from_str(alloc, &text).expect(&rt, "a nest");
-        assert!(rt; is_nest(e, *size), "{size} levels");
+        let e = read_expression(&rt, alloc, &nest_text(&rt, alloc, *size));
+        assert_holds(&rt, is_nest(e, *size), *size, "levels");
     }
+}
+
+/// Asserts which keys hold where the only fact is a name.
+fn assert_keys(rt: &impl Abort, alloc: Global, word: &str, facts: &[Cfg]) {
+    let size = word.len();
+    let key = between(rt, alloc, "cfg(", word, ")");
+    let holds = key_matches(rt, alloc, &key, facts);
+    assert_holds(rt, holds, size, "bytes of a key");
+    let refused = between(rt, alloc, "cfg(a ", word, ")");
+    let holds = key_matches(rt, alloc, &refused, facts);
+    assert_holds(rt, !holds, size, "bytes of a refused key");
+    let holds = key_matches(rt, alloc, word, facts);
+    assert_holds(rt, !holds, size, "bytes of a target");
 }
 
 #[test]
@@ -139,16 +157,8 @@ fn keys(rt: HostRuntime) {
     let alloc = rt.alloc();
     for size in &SIZES {
         let word = word(&rt, alloc, *size);
-        let facts = vec![in alloc; named(&rt, alloc, &word)].expect(&rt, "memory");
-        let key = format!(in alloc; "cfg({word})").expect(&rt, "memory");
-        let holds = CfgExpr::matches_key(alloc, &key, &facts).expect(&rt, "memory");
-        assert!(rt; holds, "a key of {size} bytes");
-        let refused = format!(in alloc; "cfg(a {word})").expect(&rt, "memory");
-        let holds = CfgExpr::matches_key(alloc, &refused, &facts).expect(&rt, "memory");
-        assert!(rt; !holds, "a refused key of {size} bytes");
-        assert!(rt;
-            !CfgExpr::matches_key(alloc, &word, &facts).expect(&rt, "memory"),
-            "a target of {size} bytes"
-        );
+        let mut facts = Vec::new(alloc);
+        push(&rt, &mut facts, named(&rt, alloc, &word));
+        assert_keys(&rt, alloc, &word, &facts);
     }
 }

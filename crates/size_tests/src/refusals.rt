@@ -1,25 +1,25 @@
 //! Refused texts of each size: the error holds the whole text, and prints it.
 
-use crate::made::{wide_word, word};
+use crate::made::{add, wide_word, word};
+use crate::support::{
+    assert_holds, between, owned, refusal_of_expression, refusal_of_fact, refusal_of_platform,
+    repeated,
+};
 use cargo_platform::{
-    Cfg, CfgExpr, FactsError, JsonError, ParseError, ParseErrorKind, Platform, ReadError,
-    read_facts,
+    FactsError, JsonError, ParseError, ParseErrorKind, Platform, ReadError, read_facts,
 };
 use serde_json::Value;
 use std::alloc::Global;
+use std::ops::Range;
 use std::process::Abort;
 use test_support::faults::{Fault, is_fault, is_refused};
-use test_support::made::repeated;
 use test_support::sizes::{SIZES, counts};
 
 /// Asserts that a text is refused for a fault, as a fact and as an expression, alone and between `cfg(` and `)`.
 fn assert_refused(rt: &impl Abort, alloc: Global, text: &str, fault: Fault<'_>, message: &str) {
-    let size = text.len();
-    let refusal = Cfg::from_str(alloc, text).err();
-    assert!(rt;
-        is_refused(alloc, &refusal, text, fault, message),
-        "a fact of {size} bytes"
-    );
+    let refusal = refusal_of_fact(alloc, text);
+    let is_wanted = is_refused(alloc, &refusal, text, fault, message);
+    assert_holds(rt, is_wanted, text.len(), "bytes of a fact");
     assert_refused_expression(rt, alloc, text, fault, message);
 }
 
@@ -31,18 +31,24 @@ fn assert_refused_expression(
     fault: Fault<'_>,
     message: &str,
 ) {
-    let size = text.len();
-    let refusal = CfgExpr::from_str(alloc, text).err();
-    assert!(rt;
-        is_refused(alloc, &refusal, text, fault, message),
-        "an expression of {size} bytes"
-    );
-    let key = format!(in alloc; "cfg({text})").expect(rt, "memory");
-    let refusal = Platform::from_str(alloc, &key).err();
-    assert!(rt;
-        is_refused(alloc, &refusal, text, fault, message),
-        "a condition of {size} bytes"
-    );
+    let refusal = refusal_of_expression(alloc, text);
+    let is_wanted = is_refused(alloc, &refusal, text, fault, message);
+    assert_holds(rt, is_wanted, text.len(), "bytes of an expression");
+    let key = between(rt, alloc, "cfg(", text, ")");
+    let refusal = refusal_of_platform(alloc, &key);
+    let is_wanted = is_refused(alloc, &refusal, text, fault, message);
+    assert_holds(rt, is_wanted, text.len(), "bytes of a condition");
+}
+
+/// The message on what is left over.
+fn on_surplus(rt: &impl Abort, alloc: Global, content: &str) -> String {
+    between(
+        rt,
+        alloc,
+        "unexpected content `",
+        content,
+        "` found after cfg expression",
+    )
 }
 
 #[test]
@@ -50,34 +56,21 @@ fn surplus_texts(rt: HostRuntime) {
     let alloc = rt.alloc();
     for size in &SIZES {
         let word = word(&rt, alloc, *size);
-        let text = format!(in alloc; "a {word}").expect(&rt, "memory");
-        let message = format!(in alloc;
-            "unexpected content `{word}` found after cfg expression"
-        ).expect(&rt, "memory");
-        assert_refused(
-            &rt,
-            alloc,
-            &text,
-            Fault::UnterminatedExpression(&word),
-            &message,
-        );
+        let text = between(&rt, alloc, "a ", &word, "");
+        let message = on_surplus(&rt, alloc, &word);
+        let fault = Fault::UnterminatedExpression(&word);
+        assert_refused(&rt, alloc, &text, fault, &message);
     }
 }
 
 #[test]
 fn open_strings(rt: HostRuntime) {
     let alloc = rt.alloc();
+    let message = "unterminated string in cfg";
     for size in &SIZES {
-        let text = format!(in alloc; "k = \"{}", wide_word(&rt, alloc, *size)).expect(
-            &rt, "memory",
-        );
-        assert_refused(
-            &rt,
-            alloc,
-            &text,
-            Fault::UnterminatedString,
-            "unterminated string in cfg",
-        );
+        let value = wide_word(&rt, alloc, *size);
+        let text = between(&rt, alloc, "k = \"", &value, "");
+        assert_refused(&rt, alloc, &text, Fault::UnterminatedString, message);
     }
 }
 
@@ -85,15 +78,11 @@ fn open_strings(rt: HostRuntime) {
 fn tokens_that_do_not_fit(rt: HostRuntime) {
     let alloc = rt.alloc();
     let fault = Fault::UnexpectedToken("`)`", "an identifier");
+    let message = "expected `)`, found an identifier";
     for size in &SIZES {
-        let text = format!(in alloc; "not({} b", word(&rt, alloc, *size)).expect(&rt, "memory");
-        assert_refused_expression(
-            &rt,
-            alloc,
-            &text,
-            fault,
-            "expected `)`, found an identifier",
-        );
+        let word = word(&rt, alloc, *size);
+        let text = between(&rt, alloc, "not(", &word, " b");
+        assert_refused_expression(&rt, alloc, &text, fault, message);
     }
 }
 
@@ -103,38 +92,54 @@ fn open_groups(rt: HostRuntime) {
     let fault = Fault::IncompleteExpr("start of a cfg expression");
     let message = "expected start of a cfg expression, but cfg expression ended";
     for size in &SIZES {
-        let text = repeated(alloc, "not(", *size).expect(&rt, "memory");
+        let text = repeated(&rt, alloc, "not(", *size);
         assert_refused_expression(&rt, alloc, &text, fault, message);
     }
 }
 
+/// Why a value of JSON is refused, if it is.
+fn refusal_of_json(alloc: Global, json: &Value) -> Option<JsonError> {
+    Platform::from_json(alloc, json).err()
+}
+
+/// Whether an error is of this text, for the fault.
+fn is_error(error: &ParseError, text: &str, fault: Fault<'_>) -> bool {
+    is_fault(error.kind(), fault) && error.orig() == text
+}
+
 /// Whether a value of JSON is refused as the text that it is.
-fn is_refused_json(alloc: Global, json: &Value, text: &str, fault: Fault<'_>) -> bool {
-    match Platform::from_json(alloc, json) {
-        Err(JsonError::Parse(error)) => is_fault(error.kind(), fault) && error.orig() == text,
+fn is_refused_json(refusal: &Option<JsonError>, text: &str, fault: Fault<'_>) -> bool {
+    match refusal {
+        Some(JsonError::Parse(error)) => is_error(error, text, fault),
         _ => false,
     }
+}
+
+/// Asserts that a text is refused as the name of a target, also from JSON.
+fn assert_refused_target(rt: &impl Abort, alloc: Global, text: &str) {
+    let fault = Fault::InvalidTarget("unexpected character € in target name");
+    let printed = "invalid target specifier: unexpected character € in target name";
+    let refusal = refusal_of_platform(alloc, text);
+    let is_wanted = is_refused(alloc, &refusal, text, fault, printed);
+    assert_holds(rt, is_wanted, text.len(), "bytes of a target");
+    let refusal = refusal_of_json(alloc, &Value::String(owned(rt, alloc, text)));
+    let is_wanted = is_refused_json(&refusal, text, fault);
+    assert_holds(rt, is_wanted, text.len(), "bytes of JSON");
 }
 
 #[test]
 fn targets(rt: HostRuntime) {
     let alloc = rt.alloc();
-    let message = "unexpected character € in target name";
-    let printed = "invalid target specifier: unexpected character € in target name";
-    let fault = Fault::InvalidTarget(message);
     for size in &SIZES {
-        let text = format!(in alloc; "{}€", word(&rt, alloc, *size)).expect(&rt, "memory");
-        let refusal = Platform::from_str(alloc, &text).err();
-        assert!(rt;
-            is_refused(alloc, &refusal, &text, fault, printed),
-            "a target of {size} bytes"
-        );
-        let json = Value::String(text.clone().expect(&rt, "memory"));
-        assert!(rt;
-            is_refused_json(alloc, &json, &text, fault),
-            "JSON of {size} bytes"
-        );
+        let text = between(&rt, alloc, "", &word(&rt, alloc, *size), "€");
+        assert_refused_target(&rt, alloc, &text);
     }
+}
+
+/// An error made by hand, of an expression that something is left over of.
+fn error_of(rt: &impl Abort, alloc: Global, text: &str, content: &str) -> ParseError {
+    let kind = ParseErrorKind::UnterminatedExpression(owned(rt, alloc, content));
+    ParseError::new(alloc, text, kind).expect(rt, "memory")
 }
 
 #[test]
@@ -142,19 +147,18 @@ fn errors_made_by_hand(rt: HostRuntime) {
     let alloc = rt.alloc();
     for size in &SIZES {
         let text = word(&rt, alloc, *size);
-        let kind = ParseErrorKind::UnterminatedExpression(wide_word(&rt, alloc, *size));
-        let error = ParseError::new(alloc, &text, kind).expect(&rt, "memory");
         let content = wide_word(&rt, alloc, *size);
-        let message = format!(in alloc;
-            "unexpected content `{content}` found after cfg expression"
-        ).expect(&rt, "memory");
+        let refusal = Some(ReadError::Parse(error_of(&rt, alloc, &text, &content)));
+        let message = on_surplus(&rt, alloc, &content);
         let fault = Fault::UnterminatedExpression(&content);
-        let refusal = Some(ReadError::Parse(error));
-        assert!(rt;
-            is_refused(alloc, &refusal, &text, fault, &message),
-            "an error of {size} bytes"
-        );
+        let is_wanted = is_refused(alloc, &refusal, &text, fault, &message);
+        assert_holds(&rt, is_wanted, *size, "bytes of an error");
     }
+}
+
+/// Why lines of facts are refused, if they are.
+fn refusal_of_lines(alloc: Global, text: &str) -> Option<FactsError> {
+    read_facts(alloc, text).err()
 }
 
 /// Whether the line of this number alone is refused, which holds `a` and this word.
@@ -165,13 +169,17 @@ fn is_refused_line(refusal: &Option<FactsError>, number: usize, line: &str, word
                 number: refused,
                 error,
             },
-        ) => {
-            *refused == number
-                && error.orig() == line
-                && is_fault(error.kind(), Fault::UnterminatedExpression(word))
-        }
+        ) => *refused == number && is_error(error, line, Fault::UnterminatedExpression(word)),
         _ => false,
     }
+}
+
+/// Where in the lines the refused text stands.
+fn span_of(rt: &impl Abort, refusal: Option<FactsError>, text: &str) -> Range<usize> {
+    refusal
+        .expect(rt, "refused")
+        .span_in(text)
+        .expect(rt, "a span")
 }
 
 #[test]
@@ -179,20 +187,17 @@ fn lines_of_facts(rt: HostRuntime) {
     let alloc = rt.alloc();
     for size in counts() {
         let word = word(&rt, alloc, *size);
-        let line = format!(in alloc; "a {word}").expect(&rt, "memory");
-        let mut text = repeated(alloc, "k = \"v\"\n", *size).expect(&rt, "memory");
+        let line = between(&rt, alloc, "a ", &word, "");
+        let mut text = repeated(&rt, alloc, "k = \"v\"\n", *size);
         let place = text.len();
-        text.push_str(&line).expect(&rt, "memory");
-        let refusal = read_facts(alloc, &text).err();
-        assert!(rt;
-            is_refused_line(&refusal, size.saturating_add(1), &line, &word),
-            "{size} lines before"
-        );
-        let span = refusal
-            .expect(&rt, "refused")
-            .span_in(&text)
-            .expect(&rt, "a span");
-        assert_eq!(rt; span.start, place.saturating_add(2), "{size} lines before");
-        assert_eq!(rt; span.end, text.len(), "{size} lines before");
+        add(&rt, &mut text, &line);
+        let refusal = refusal_of_lines(alloc, &text);
+        let is_wanted = is_refused_line(&refusal, size.saturating_add(1), &line, &word);
+        assert_holds(&rt, is_wanted, *size, "lines before");
+        let span = span_of(&rt, refusal, &text);
+        let is_start = span.start == place.saturating_add(2);
+        assert_holds(&rt, is_start, *size, "lines before the start");
+        let is_end = span.end == text.len();
+        assert_holds(&rt, is_end, *size, "lines before the end");
     }
 }

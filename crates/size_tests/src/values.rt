@@ -1,35 +1,38 @@
 //! Copies and comparisons of values of each size.
 
-use crate::made::{is_nest, members, named, nest, pair, wide_word, word};
+use crate::made::{all_of, any_of, is_nest, name, named, nest, pair, wide_word, word};
+use crate::support::{assert_holds, copy_of_expression, copy_of_platform, is_named, owned};
 use cargo_platform::{Cfg, CfgExpr, Ident, Platform};
 use std::alloc::Global;
 use std::cmp::Ordering;
 use std::process::Abort;
 use test_support::compared::{are_ordered, same, same_ident, same_value};
-use test_support::made::name;
 use test_support::sizes::{SIZES, counts};
+
+fn copy_of_name(rt: &impl Abort, alloc: Global, name: &Ident) -> Ident {
+    name.clone(alloc).expect(rt, "memory")
+}
+
+fn copy_of_fact(rt: &impl Abort, alloc: Global, fact: &Cfg) -> Cfg {
+    fact.clone(alloc).expect(rt, "memory")
+}
 
 /// Asserts that a name's copies are the same: alone, as a fact, as a key and a value, and as a target.
 fn assert_copies(rt: &impl Abort, alloc: Global, text: &str) {
     let size = text.len();
-    let marked = name(alloc, true, text).expect(rt, "memory");
-    let copy: Ident = marked.clone(alloc).expect(rt, "memory");
-    assert!(rt;
-        same_ident(&copy, &name(alloc, true, text).expect(rt, "memory")),
-        "a name of {size} bytes"
-    );
+    let marked = name(rt, alloc, true, text);
+    let copy = copy_of_name(rt, alloc, &marked);
+    let is_same = same_ident(&copy, &name(rt, alloc, true, text));
+    assert_holds(rt, is_same, size, "bytes of a name");
     let fact = Cfg::Name(marked);
-    let copy: Cfg = fact.clone(alloc).expect(rt, "memory");
-    assert!(rt; same_value(&copy, &fact), "a fact of {size} bytes");
+    let is_same = same_value(&copy_of_fact(rt, alloc, &fact), &fact);
+    assert_holds(rt, is_same, size, "bytes of a fact");
     let pair = pair(rt, alloc, text, text);
-    let copy: Cfg = pair.clone(alloc).expect(rt, "memory");
-    assert!(rt; same_value(&copy, &pair), "a pair of {size} bytes");
-    let target = Platform::Name(String::from_str(alloc, text).expect(rt, "memory"));
-    let copy: Platform = target.clone(alloc).expect(rt, "memory");
-    assert!(rt;
-        matches!(&copy, Platform::Name(name) if name.as_str() == text),
-        "a target of {size} bytes"
-    );
+    let is_same = same_value(&copy_of_fact(rt, alloc, &pair), &pair);
+    assert_holds(rt, is_same, size, "bytes of a pair");
+    let target = Platform::Name(owned(rt, alloc, text));
+    let is_same = is_named(&copy_of_platform(rt, alloc, &target), text);
+    assert_holds(rt, is_same, size, "bytes of a target");
 }
 
 #[test]
@@ -41,24 +44,29 @@ fn texts_are_copied(rt: HostRuntime) {
     }
 }
 
+/// Whether a condition is of the same expression.
+fn is_of(condition: &Platform, e: &CfgExpr) -> bool {
+    match condition {
+        Platform::Cfg(inner) => same(inner, e),
+        Platform::Name(_) => false,
+    }
+}
+
 /// Asserts that the copy of an expression, and of its condition, is the same.
 fn assert_same_copy(rt: &impl Abort, alloc: Global, e: CfgExpr, size: usize) {
-    let copy: CfgExpr = e.clone(alloc).expect(rt, "memory");
-    assert!(rt; same(&copy, &e), "{size} members");
-    let condition = Platform::Cfg(e);
-    let copy_of_condition: Platform = condition.clone(alloc).expect(rt, "memory");
-    assert!(rt;
-        matches!(&copy_of_condition, Platform::Cfg(inner) if same(inner, &copy)),
-        "{size} members"
-    );
+    let copy = copy_of_expression(rt, alloc, &e);
+    assert_holds(rt, same(&copy, &e), size, "members");
+    let condition = copy_of_platform(rt, alloc, &Platform::Cfg(e));
+    let is_same = is_of(&condition, &copy);
+    assert_holds(rt, is_same, size, "members of a condition");
 }
 
 #[test]
 fn members_are_copied(rt: HostRuntime) {
     let alloc = rt.alloc();
     for size in counts() {
-        assert_same_copy(&rt, alloc, CfgExpr::All(members(&rt, alloc, *size)), *size);
-        assert_same_copy(&rt, alloc, CfgExpr::Any(members(&rt, alloc, *size)), *size);
+        assert_same_copy(&rt, alloc, all_of(&rt, alloc, *size), *size);
+        assert_same_copy(&rt, alloc, any_of(&rt, alloc, *size), *size);
     }
 }
 
@@ -66,9 +74,35 @@ fn members_are_copied(rt: HostRuntime) {
 fn levels_are_copied(rt: HostRuntime) {
     let alloc = rt.alloc();
     for size in &SIZES {
-        let copy: CfgExpr = nest(&rt, alloc, *size).clone(alloc).expect(&rt, "memory");
-        assert!(rt; is_nest(copy, *size), "{size} levels");
+        let copy = copy_of_expression(&rt, alloc, &nest(&rt, alloc, *size));
+        assert_holds(&rt, is_nest(copy, *size), *size, "levels");
     }
+}
+
+/// Asserts how two facts compare.
+fn assert_facts(rt: &impl Abort, some: &Cfg, other: &Cfg, order: Ordering, size: usize) {
+    assert_holds(rt, are_ordered(some, other, order), size, "bytes");
+}
+
+/// Asserts how two expressions compare.
+fn assert_order(rt: &impl Abort, some: &CfgExpr, other: &CfgExpr, order: Ordering, size: usize) {
+    let are_ordered = are_ordered(some, other, order);
+    assert_holds(rt, are_ordered, size, "members or levels");
+}
+
+/// Asserts how names and pairs of a text compare, and of one that is longer.
+fn assert_texts(rt: &impl Abort, alloc: Global, text: &str, longer: &str) {
+    let size = text.len();
+    let fact = named(rt, alloc, text);
+    let same = named(rt, alloc, text);
+    assert_facts(rt, &fact, &same, Ordering::Equal, size);
+    let later = named(rt, alloc, longer);
+    assert_facts(rt, &fact, &later, Ordering::Less, size);
+    let fact = pair(rt, alloc, "k", text);
+    let same = pair(rt, alloc, "k", text);
+    assert_facts(rt, &fact, &same, Ordering::Equal, size);
+    let later = pair(rt, alloc, "k", longer);
+    assert_facts(rt, &fact, &later, Ordering::Less, size);
 }
 
 #[test]
@@ -77,32 +111,7 @@ fn texts_are_compared(rt: HostRuntime) {
     for size in &SIZES {
         let text = word(&rt, alloc, *size);
         let longer = word(&rt, alloc, size.saturating_add(1));
-        let fact = named(&rt, alloc, &text);
-        assert!(rt;
-            are_ordered(&fact, &named(&rt, alloc, &text), Ordering::Equal),
-            "{size} bytes"
-        );
-        assert!(rt;
-            are_ordered(&fact, &named(&rt, alloc, &longer), Ordering::Less),
-            "{size} bytes"
-        );
-        let pair_of_text = pair(&rt, alloc, "k", &text);
-        assert!(rt;
-            are_ordered(
-                &pair_of_text,
-                &pair(&rt, alloc, "k", &text),
-                Ordering::Equal
-            ),
-            "{size} bytes"
-        );
-        assert!(rt;
-            are_ordered(
-                &pair_of_text,
-                &pair(&rt, alloc, "k", &longer),
-                Ordering::Less
-            ),
-            "{size} bytes"
-        );
+        assert_texts(&rt, alloc, &text, &longer);
     }
 }
 
@@ -110,17 +119,11 @@ fn texts_are_compared(rt: HostRuntime) {
 fn members_are_compared(rt: HostRuntime) {
     let alloc = rt.alloc();
     for size in counts() {
-        let all = CfgExpr::All(members(&rt, alloc, *size));
-        let again = CfgExpr::All(members(&rt, alloc, *size));
-        assert!(rt;
-            are_ordered(&all, &again, Ordering::Equal),
-            "{size} members"
-        );
-        let more = CfgExpr::All(members(&rt, alloc, size.saturating_add(1)));
-        assert!(rt;
-            are_ordered(&all, &more, Ordering::Less),
-            "{size} members and one"
-        );
+        let all = all_of(&rt, alloc, *size);
+        let again = all_of(&rt, alloc, *size);
+        assert_order(&rt, &all, &again, Ordering::Equal, *size);
+        let more = all_of(&rt, alloc, size.saturating_add(1));
+        assert_order(&rt, &all, &more, Ordering::Less, *size);
     }
 }
 
@@ -129,15 +132,10 @@ fn levels_are_compared(rt: HostRuntime) {
     let alloc = rt.alloc();
     for size in counts() {
         let some = nest(&rt, alloc, *size);
-        assert!(rt;
-            are_ordered(&some, &nest(&rt, alloc, *size), Ordering::Equal),
-            "{size} levels"
-        );
+        let again = nest(&rt, alloc, *size);
+        assert_order(&rt, &some, &again, Ordering::Equal, *size);
         // Where one has its name the other has a negation or an `any`, and these come before names.
         let deeper = nest(&rt, alloc, size.saturating_add(1));
-        assert!(rt;
-            are_ordered(&some, &deeper, Ordering::Greater),
-            "{size} levels and one"
-        );
+        assert_order(&rt, &some, &deeper, Ordering::Greater, *size);
     }
 }
