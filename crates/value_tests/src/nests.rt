@@ -1,13 +1,13 @@
 //! Calls on nests of 100 levels. One that went over a member twice at each level would not end.
 
 use crate::order::assert_order;
-use crate::support::assert_holds;
+use crate::support::{assert_expression_prints, assert_holds, copy_of_expression, read_expression};
 use crate::warnings::{assert_warnings, attributes_of, keywords_of, on_attributes};
-use cargo_platform::{CfgExpr, Platform};
+use cargo_platform::Platform;
 use std::alloc::Global;
 use std::cmp::Ordering;
 use std::process::Abort;
-use test_support::compared::{prints, same};
+use test_support::compared::same;
 use test_support::made::repeated;
 
 /// What stands before and after the member of a level that has the next one.
@@ -30,42 +30,52 @@ fn nest(rt: &impl Abort, alloc: Global, level: (&str, &str), name: &str) -> Stri
     text
 }
 
+/// Asserts that a nest of these levels is equal to itself, and comes before one around a later name.
+fn assert_nest_compared(rt: &impl Abort, alloc: Global, level: (&str, &str)) {
+    let text = nest(rt, alloc, level, "a");
+    let e = read_expression(rt, alloc, &text);
+    let again = read_expression(rt, alloc, &text);
+    assert_order(rt, &e, &again, Ordering::Equal, &text);
+    let later = read_expression(rt, alloc, &nest(rt, alloc, level, "c"));
+    assert_order(rt, &e, &later, Ordering::Less, &text);
+}
+
 #[test]
 fn nests_are_compared(rt: HostRuntime) {
-    let alloc = rt.alloc();
     for level in LEVELS {
-        let text = nest(&rt, alloc, *level, "a");
-        let e = CfgExpr::from_str(alloc, &text).expect(&rt, &text);
-        let again = CfgExpr::from_str(alloc, &text).expect(&rt, &text);
-        assert_order(&rt, &e, &again, Ordering::Equal, &text);
-        let later = nest(&rt, alloc, *level, "c");
-        let later = CfgExpr::from_str(alloc, &later).expect(&rt, &later);
-        assert_order(&rt, &e, &later, Ordering::Less, &text);
+        assert_nest_compared(&rt, rt.alloc(), *level);
     }
+}
+
+/// Asserts what a nest of these levels prints, and that its copy is the same.
+fn assert_nest_printed_and_copied(rt: &impl Abort, alloc: Global, level: (&str, &str)) {
+    let text = nest(rt, alloc, level, "r#a");
+    let e = read_expression(rt, alloc, &text);
+    assert_expression_prints(rt, alloc, &e, &text);
+    let copy = copy_of_expression(rt, alloc, &e);
+    assert_holds(rt, same(&copy, &e), &text);
 }
 
 #[test]
 fn nests_are_printed_and_copied(rt: HostRuntime) {
-    let alloc = rt.alloc();
     for level in LEVELS {
-        let text = nest(&rt, alloc, *level, "r#a");
-        let e = CfgExpr::from_str(alloc, &text).expect(&rt, &text);
-        assert_holds(&rt, prints(alloc, &e, &text), &text);
-        let copy = e.clone(alloc).expect(&rt, "memory");
-        assert_holds(&rt, same(&copy, &e), &text);
+        assert_nest_printed_and_copied(&rt, rt.alloc(), *level);
     }
+}
+
+/// Asserts which warnings there are on a nest of these levels.
+fn assert_nest_walked(rt: &impl Abort, alloc: Global, level: (&str, &str)) {
+    let text = nest(rt, alloc, level, "test");
+    let condition = Platform::Cfg(read_expression(rt, alloc, &text));
+    let attributes = attributes_of(rt, alloc, &condition);
+    assert_warnings(rt, &attributes, &on_attributes(rt, alloc, "test"), &text);
+    let keywords = keywords_of(rt, alloc, &condition, "Cargo.toml");
+    assert_warnings(rt, &keywords, &[], &text);
 }
 
 #[test]
 fn nests_are_walked(rt: HostRuntime) {
-    let alloc = rt.alloc();
-    let wanted = on_attributes(&rt, alloc, "test");
     for level in LEVELS {
-        let text = nest(&rt, alloc, *level, "test");
-        let condition = Platform::Cfg(CfgExpr::from_str(alloc, &text).expect(&rt, &text));
-        let attributes = attributes_of(&rt, alloc, &condition);
-        assert_warnings(&rt, &attributes, &wanted, &text);
-        let keywords = keywords_of(&rt, alloc, &condition, "Cargo.toml");
-        assert_warnings(&rt, &keywords, &[], &text);
+        assert_nest_walked(&rt, rt.alloc(), *level);
     }
 }
