@@ -52,7 +52,7 @@ refused = refused_on_literal (codes "all(a b)") _ refl refl
 -- a comma after the last member
 all_unix : IsTreeText (codes "all(unix,)") (All (tree unix none))
 all_unix = spelling_on_literal (codes "all(unix,)") (All (tree unix none)) refl
-    ((Ident false (codes "unix") ∷ []) ∷ [], _, ((refl, (refl, refl)), tt), inr refl, refl)
+    (_, (Ident false (codes "unix") ∷ [], (refl, (refl, refl)), inr ([], refl, refl)), refl)
 
 -- a character that begins no token
 misplaced : IsRefused Expressions (codes "all(&)") (UnexpectedChar 0x26)
