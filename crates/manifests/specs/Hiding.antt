@@ -55,3 +55,4 @@ pub record IsUnspelled (no_table : Bool) (h : Holding) : Type 0 where
   pub everywhere : h.everywhere ≡ false
   pub custom : h.custom ≡ false
   pub not_canonical : h.not_canonical ≡ false
+  pub undecided : h.undecided ≡ false

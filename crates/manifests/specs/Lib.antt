@@ -2,6 +2,7 @@ pub mod Asking
 pub mod Tables
 pub mod Choosing
 pub mod Truths
+pub mod Doubled
 pub mod Hiding
 pub mod Standings
 pub mod Entries

@@ -23,7 +23,7 @@ pub use Rattle.manifests.specs.Entries.{Entry, entry_of}
 use Rattle.manifests.specs.Sames.{TellsSame}
 use Rattle.manifests.specs.Hiding.{is_told, told_codes, IsUnspelled}
 use Rattle.manifests.specs.Tables.{is_no_table}
-use Rattle.manifests.specs.Truths.{IsNever, IsAlways, IsNowhere, IsEverywhere, IsUnknownTarget}
+use Rattle.manifests.specs.Truths.{IsNever, IsAlways, CanHold, CanFail, IsNowhere, IsEverywhere, IsUnknownTarget}
 
 -- ---- what a key spells
 
@@ -40,11 +40,14 @@ IsRead r = IsSpelledAs r.key.key.now r.spelled
 
 -- ---- what is found of a key
 
--- each set of facts that rustc may set is possible: a key with one value has one at most, and names of families go with
--- the pairs of `target_family`
+-- a set of facts that rustc may set: a key with one value has one at most, and names of families go with the pairs of
+-- `target_family`
+abbrev pub IsRustcs : FactSet → Type 0
+IsRustcs s = HasOneValue (fact_set []) (map (λ t. t.now) ONE_VALUED.now) s × KeepsFamilyRule s
+
+-- these sets are possible, and no others
 abbrev pub AllowsRustcs : Known → Type 0
-AllowsRustcs k =
-    (s : FactSet) → HasOneValue (fact_set []) (map (λ t. t.now) ONE_VALUED.now) s → KeepsFamilyRule s → IsAllowed k s
+AllowsRustcs k = (s : FactSet) → IsAllowed k s ↔ IsRustcs s
 
 pub record IsFoundOfCondition (k : Known) (text : List ℕ) (c : Condition) (h : Holding) : Type 0 where
   pub refused : h.refused ≡ false
@@ -54,6 +57,8 @@ pub record IsFoundOfCondition (k : Known) (text : List ℕ) (c : Condition) (h :
   pub custom : IsTrue h.custom → list_any is_other (condition_values c) ≡ true
   pub never : IsTrue h.never → IsNever k c
   pub always : IsTrue h.always → IsAlways k c
+  pub can_hold : h.never ≡ false → h.undecided ≡ false → CanHold k c
+  pub can_fail : h.always ≡ false → h.undecided ≡ false → CanFail k c
   pub open_keys : List (List ℕ)
   pub are_open : AreOpen open_keys (condition_values c)
   pub nowhere : IsTrue h.nowhere → IsNowhere open_keys c
@@ -97,12 +102,18 @@ told_mark n h c = cond (is_told h c) ((Some n, c) ∷ []) []
 abbrev pub told_marks : ℕ → Holding → List Mark
 told_marks n h = map (λ c. (Some n, c)) (told_codes h)
 
--- the findings on some keys are those that are told of each, in the order of the keys
-pub data AreFindingsOn (k : Known) : List Entry → List Mark → Type 0 where
-  on_none : AreFindingsOn k [] []
-  on_more : (es : List Entry) (e : Entry) (h : Holding) (ms : List Mark) → AreFindingsOn k es ms
-      → IsFoundOf k e h → TellsSame es e h → AreFindingsOn k (es ++ e ∷ []) (ms ++ told_marks (length es) h)
+-- the place of a key, where it is left open
+abbrev pub left_open : ℕ → Holding → List ℕ
+left_open n h = cond h.undecided (n ∷ []) []
+
+-- the findings on some keys are those that are told of each, in the order of the keys; and the places are those of the
+-- keys that are left open
+pub data AreFindingsOn (k : Known) : List Entry → List Mark → List ℕ → Type 0 where
+  on_none : AreFindingsOn k [] [] []
+  on_more : (es : List Entry) (e : Entry) (h : Holding) (ms : List Mark) (ns : List ℕ) → AreFindingsOn k es ms ns
+      → IsFoundOf k e h → TellsSame es e h
+      → AreFindingsOn k (es ++ e ∷ []) (ms ++ told_marks (length es) h) (ns ++ left_open (length es) h)
 
 -- the same, by what is known of each target
-abbrev pub AreFindings : List Entry → List Mark → Type 0
-AreFindings es ms = (k : Known) × (AllowsRustcs k × AreFindingsOn k es ms)
+abbrev pub AreFindings : List Entry → List Mark → List ℕ → Type 0
+AreFindings es ms ns = (k : Known) × (AllowsRustcs k × AreFindingsOn k es ms ns)

@@ -3,10 +3,10 @@
 ghost use Rattle.std.specs.Prelude.{◌≡◌, ◌↔◌, IsTrue, IfOk};
 ghost use Rattle.cargo_platform.specs.Trees.{condition_of};
 ghost use Rattle.known_targets.specs.Rows.{names_of};
-ghost use Rattle.manifests.specs.Truths.{IsNever, IsAlways, IfYes, is_yes, IsNowhere, IsEverywhere};
+ghost use Rattle.manifests.specs.Truths.{SaysNever, SaysAlways, is_yes, is_unknown, IsNowhere, IsEverywhere};
 
-use crate::earlier::truths;
 use crate::spelled::{followed_levels, inner};
+use crate::trying::{fails_tried, holds_tried};
 use cargo_platform::Platform;
 use exact_answers::{CanSelect, Known, MustSelect, always_platform, can_hold_platform};
 use known_targets::{certainly_matching, possibly_matching};
@@ -38,6 +38,16 @@ pub fn is_yes(decided: Decided) -> bool
     }
 }
 
+/// Whether it is not known.
+pub fn is_unknown(decided: Decided) -> bool
+    ensures { result ≡ is_unknown decided }
+{
+    match decided {
+        Decided::Unknown => true,
+        Decided::Yes | Decided::No => false,
+    }
+}
+
 /// How many splits a search of a condition with so many facts may make.
 pub fn budget_for(facts: usize) -> u64 {
     if facts <= FEW {
@@ -46,62 +56,74 @@ pub fn budget_for(facts: usize) -> u64 {
     (SPLITS * 64 / (facts as u64)).max(8)
 }
 
-/// Whether a condition holds for no possible target.
+/// Whether a condition holds for no possible target. What takes too many splits is tried over some sets of facts.
 fn is_never<'a>(
     alloc: Global,
     platform: &'a Platform,
     known: &'a Known<'a>,
     budget: u64,
 ) -> Result<Decided, AllocError>
-    ensures { IfOk result (λ d. IfYes d (IsNever known.now (condition_of platform.now))) }
+    ensures { IfOk result (λ d. SaysNever d known.now (condition_of platform.now)) }
 {
     match can_hold_platform(alloc, platform, known, budget)? {
         CanSelect::No => Ok(Decided::Yes),
         CanSelect::Yes(_) => Ok(Decided::No),
-        CanSelect::Undecided => Ok(Decided::Unknown),
+        CanSelect::Undecided => never_tried(alloc, platform, known),
     }
 }
 
-/// Whether a condition holds for each possible target.
+/// Whether a condition holds for each possible target. What takes too many splits is tried over some sets of facts.
 fn is_always<'a>(
     alloc: Global,
     platform: &'a Platform,
     known: &'a Known<'a>,
     budget: u64,
 ) -> Result<Decided, AllocError>
-    ensures { IfOk result (λ d. IfYes d (IsAlways known.now (condition_of platform.now))) }
+    ensures { IfOk result (λ d. SaysAlways d known.now (condition_of platform.now)) }
 {
     match always_platform(alloc, platform, known, budget)? {
         MustSelect::Yes => Ok(Decided::Yes),
         MustSelect::No(_) => Ok(Decided::No),
-        MustSelect::Undecided => Ok(Decided::Unknown),
+        MustSelect::Undecided => always_tried(alloc, platform, known),
     }
 }
 
-/// What is known of whether a condition is never and always true. What takes too many splits is tried over some sets of
-/// facts, which may show that it is neither.
+/// What some sets of facts show of whether a condition holds for no possible target.
+fn never_tried(alloc: Global, platform: &Platform, known: &Known<'_>) -> Result<Decided, AllocError>
+    ensures { IfOk result (λ d. SaysNever d known.now (condition_of platform.now)) }
+{
+    if holds_tried(alloc, platform, known)? {
+        return Ok(Decided::No);
+    }
+    Ok(Decided::Unknown)
+}
+
+/// What some sets of facts show of whether a condition holds for each possible target.
+fn always_tried(
+    alloc: Global,
+    platform: &Platform,
+    known: &Known<'_>,
+) -> Result<Decided, AllocError>
+    ensures { IfOk result (λ d. SaysAlways d known.now (condition_of platform.now)) }
+{
+    if fails_tried(alloc, platform, known)? {
+        return Ok(Decided::No);
+    }
+    Ok(Decided::Unknown)
+}
+
+/// What is known of whether a condition is never and always true.
 pub fn settled<'a>(
     alloc: Global,
     platform: &'a Platform,
     known: &'a Known<'a>,
     budget: u64,
 ) -> Result<(Decided, Decided), AllocError>
-    ensures never { IfOk result (λ d. IfYes d.0 (IsNever known.now (condition_of platform.now))) }
-    ensures always { IfOk result (λ d. IfYes d.1 (IsAlways known.now (condition_of platform.now))) }
+    ensures never { IfOk result (λ d. SaysNever d.0 known.now (condition_of platform.now)) }
+    ensures always { IfOk result (λ d. SaysAlways d.1 known.now (condition_of platform.now)) }
 {
-    let mut never = is_never(alloc, platform, known, budget)?;
-    let mut always = is_always(alloc, platform, known, budget)?;
-    if never == Decided::Unknown || always == Decided::Unknown {
-        if let Platform::Cfg(e) = platform {
-            let truths = truths(alloc, e)?;
-            if never == Decided::Unknown && truths != 0 {
-                never = Decided::No;
-            }
-            if always == Decided::Unknown && truths != u64::MAX {
-                always = Decided::No;
-            }
-        }
-    }
+    let never = is_never(alloc, platform, known, budget)?;
+    let always = is_always(alloc, platform, known, budget)?;
     Ok((never, always))
 }
 

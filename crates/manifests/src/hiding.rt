@@ -37,6 +37,8 @@ pub struct Holding {
     pub custom: bool,
     /// Its canonical form is another text.
     pub not_canonical: bool,
+    /// Something is not known of it.
+    pub undecided: bool,
 }
 
 impl Holding {
@@ -61,6 +63,7 @@ impl Holding {
             everywhere: false,
             custom: false,
             not_canonical: false,
+            undecided: false,
         }
     }
 }

@@ -17,6 +17,7 @@ mod standing;
 mod subjects;
 pub mod tables;
 mod telling;
+mod trying;
 mod values;
 
 pub use declared::Declared;

@@ -2,7 +2,7 @@
 
 ghost use Rattle.std.specs.Prelude.{◌≡◌, ◌++◌, IfOk, OnOk, Some, map};
 ghost use Rattle.std.specs.List.{All};
-ghost use Rattle.manifests.specs.Reports.{mark, marks, told_mark, told_marks};
+ghost use Rattle.manifests.specs.Reports.{mark, marks, told_mark, told_marks, left_open};
 ghost use Rattle.manifests.specs.Reports.{entry_of, AreFindingsOn, IsRead, AreFindings};
 
 use crate::declared::Declared;
@@ -249,6 +249,17 @@ fn add_findings(
     Ok(())
 }
 
+/// Appends the place of a key of which something is not known.
+fn note_undecided(subject: &Subject<'_>, undecided: &mut Vec<usize>) -> Result<(), AllocError>
+    ensures { OnOk result
+        (undecided.new.items ≡ undecided.old.items ++ left_open subject.now.index subject.now.holding) }
+{
+    if subject.holding.undecided {
+        undecided.push(subject.index)?;
+    }
+    Ok(())
+}
+
 /// The keys, each with what it spells.
 fn read_keys<'a>(alloc: Global, keys: &[TargetKey<'a>]) -> Result<Vec<Read<'a>>, AllocError>
     ensures keys { IfOk result (λ read. map (λ r. entry_of r.key) read.items ≡ map entry_of keys.now) }
@@ -270,8 +281,8 @@ fn report_on<'a>(
     known: &'a Known<'a>,
     read: &'a [Read<'a>],
 ) -> Result<Report, AllocError>
-    ensures { All IsRead read.now → IfOk result
-        (λ r. AreFindingsOn known.now (map (λ k. entry_of k.key) read.now) (marks r.findings.items)) }
+    ensures { All IsRead read.now → IfOk result (λ r. AreFindingsOn known.now (map (λ k. entry_of k.key) read.now)
+        (marks r.findings.items) r.undecided.items) }
 {
     let mut findings = Vec::new(alloc);
     let mut undecided = Vec::new(alloc);
@@ -283,9 +294,7 @@ fn report_on<'a>(
     };
     'keys: for (index, key) in read.iter().enumerate() {
         let subject = subject_of(alloc, &asking, index, key, &mut before)?;
-        if subject.undecided {
-            undecided.push(index)?;
-        }
+        note_undecided(&subject, &mut undecided)?;
         add_findings(alloc, words, &subject, &mut findings)?;
     }
     Ok(Report {
@@ -302,7 +311,7 @@ pub fn lint(
     keys: &[TargetKey<'_>],
     words: &Words,
 ) -> Result<Report, AllocError>
-    ensures { IfOk result (λ r. AreFindings (map entry_of keys.now) (marks r.findings.items)) }
+    ensures { IfOk result (λ r. AreFindings (map entry_of keys.now) (marks r.findings.items) r.undecided.items) }
 {
     let rule = family_rule(alloc)?;
     let known = Known {

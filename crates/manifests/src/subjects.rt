@@ -1,11 +1,12 @@
 //! The keys of a manifest, each with what was found of it.
 
-ghost use Rattle.std.specs.Prelude.{◌≡◌, ◌≤◌, ◌↔◌, ◌++◌, ◌∷◌, [], List, length, IsTrue, IsSome, IfOk, OnOk, false};
+ghost use Rattle.std.specs.Prelude.{◌≡◌, ◌≤◌, ◌↔◌, ◌||◌, ◌++◌, ◌∷◌, [], List, length, IsTrue, IsSome, IfOk, OnOk, false};
 ghost use Rattle.std.specs.Prelude.{string_bytes};
 ghost use Rattle.cargo_platform.specs.Trees.{condition_of};
 ghost use Rattle.cargo_platform.specs.Print.{print_condition};
 ghost use Rattle.known_targets.specs.Rows.{names_of};
-ghost use Rattle.manifests.specs.Truths.{IsNever, IsAlways, IsNowhere, IsEverywhere, IsUnknownTarget};
+ghost use Rattle.manifests.specs.Truths.{IsNever, IsAlways, CanHold, CanFail};
+ghost use Rattle.manifests.specs.Truths.{IsNowhere, IsEverywhere, IsUnknownTarget};
 ghost use Rattle.manifests.specs.Entries.{Entry};
 ghost use Rattle.manifests.specs.Sames.{noted, Notes, AreNoted, TellsSame};
 ghost use Rattle.manifests.specs.Reports.{entry_of, IsFoundOf, IsFoundOfCondition, IsRead};
@@ -13,7 +14,9 @@ ghost use Rattle.manifests.specs.Hiding.{IsUnspelled};
 ghost use Rattle.manifests.specs.Tables.{is_no_table};
 ghost use Rattle.toml.specs.View.{view};
 
-use crate::deciding::{Decided, budget_for, is_everywhere, is_nowhere, is_yes, may_ask, settled};
+use crate::deciding::{
+    budget_for, is_everywhere, is_nowhere, is_unknown, is_yes, may_ask, settled,
+};
 use crate::declared::Declared;
 use crate::earlier::{Earlier, Keys};
 use crate::facts::{Facts, facts_in};
@@ -57,8 +60,6 @@ pub struct Seen<'a> {
     pub facts: Facts<'a>,
     /// Its canonical form.
     pub canonical: String,
-    /// Whether something is not known of it.
-    pub undecided: bool,
 }
 
 /// A condition, with what the messages on it tell.
@@ -96,8 +97,6 @@ pub struct Subject<'a> {
     pub no_tables: Vec<String>,
     /// What it spells.
     pub matter: Matter<'a>,
-    /// Whether something is not known of it.
-    pub undecided: bool,
 }
 
 /// Whether a condition is the name of a target that is not known.
@@ -140,7 +139,7 @@ fn places(
 }
 
 /// Whether a condition is never and whether it is always true, and whether something of that is not known.
-#[tactic(auto, using(crate::proofs::Verdicts::never_so, crate::proofs::Verdicts::always_so))]
+#[tactic(auto, using(crate::proofs::Verdicts::verdicts))]
 fn asked<'a>(
     alloc: Global,
     platform: &'a Platform,
@@ -150,12 +149,14 @@ fn asked<'a>(
 ) -> Result<(bool, bool, bool), AllocError>
     ensures never { IfOk result (λ h. IsTrue h.0 → IsNever known.now (condition_of platform.now)) }
     ensures always { IfOk result (λ h. IsTrue h.1 → IsAlways known.now (condition_of platform.now)) }
+    ensures can_hold { IfOk result (λ h. h.0 ≡ false → h.2 ≡ false → CanHold known.now (condition_of platform.now)) }
+    ensures can_fail { IfOk result (λ h. h.1 ≡ false → h.2 ≡ false → CanFail known.now (condition_of platform.now)) }
 {
     if !may_ask {
         return Ok((false, false, true));
     }
     let (never, always) = settled(alloc, platform, known, budget)?;
-    let unknown = never == Decided::Unknown || always == Decided::Unknown;
+    let unknown = either(is_unknown(never), is_unknown(always));
     Ok((is_yes(never), is_yes(always), unknown))
 }
 
@@ -164,6 +165,13 @@ fn is_other_text(text: &str, other: &str) -> bool
     ensures { IsTrue result ↔ (text.now ≡ other.now → ⊥) }
 {
     text != other
+}
+
+/// Whether one of two things is so.
+fn either(first: bool, second: bool) -> bool
+    ensures { result ≡ (first || second) }
+{
+    first || second
 }
 
 /// What there is to find of a condition by itself.
@@ -197,13 +205,12 @@ fn look_at<'a>(
         everywhere,
         custom: facts.kinds.custom,
         not_canonical: is_other_text(canonical.as_str(), key),
+        undecided: either(unknown, facts.open_names.len() > MANY),
     };
-    let undecided = unknown || facts.open_names.len() > MANY;
     Ok(Seen {
         holding,
         facts,
         canonical,
-        undecided,
     })
 }
 
@@ -246,7 +253,8 @@ fn seen_after<'a>(
     )?;
     seen.holding.same = earlier.is_same();
     seen.holding.equivalent = matches!(earlier, Earlier::Equivalent(_));
-    seen.undecided = seen.undecided || (earlier == Earlier::Undecided && !decides);
+    let is_open = earlier == Earlier::Undecided && !decides;
+    seen.holding.undecided = either(seen.holding.undecided, is_open);
     Ok((seen, earlier))
 }
 
@@ -270,7 +278,6 @@ fn of_condition<'a>(
     let (seen, earlier) = seen_after(alloc, asking, index, key.key, platform, before)?;
     let mut holding = seen.holding;
     holding.no_table = !no_tables.is_empty();
-    let undecided = seen.undecided;
     let spelling = Spelling {
         platform,
         facts: seen.facts,
@@ -283,7 +290,6 @@ fn of_condition<'a>(
         holding,
         no_tables,
         matter: Matter::Condition(spelling),
-        undecided,
     })
 }
 
@@ -305,7 +311,6 @@ fn of_none<'a>(
         holding: Holding::unspelled(refused, !no_tables.is_empty()),
         no_tables,
         matter: Matter::Unspelled(spelled),
-        undecided: false,
     })
 }
 

@@ -1,4 +1,4 @@
--- What is known of each target allows each set of facts that rustc may set.
+-- What is known of each target allows the sets of facts that rustc may set, and no others.
 use Rattle.std.proofs.Common.{◌≡◌, ◌↔◌, ◌∙◌, true, refl, sym, ap, subst, List, [], Result, Ok, Err, IfOk, map}
 use Rattle.std.specs.List.{All}
 use Rattle.cargo_platform.specs.Facts.{FactSet, truth}
@@ -12,13 +12,13 @@ use Rattle.manifests.proofs.Rustcs.{allows_rustcs}
 use Rattle.manifests.proofs.linting.lint.Goals as goal
 
 of_keys : {E : Type 0} (k : Known) (es fs : List Entry) (result : Result Report E)
-    → IfOk result (λ r. AreFindingsOn k es (marks r.findings.items)) → es ≡ fs → k.facts.now ≡ []
+    → IfOk result (λ r. AreFindingsOn k es (marks r.findings.items) r.undecided.items) → es ≡ fs → k.facts.now ≡ []
     → k.complete.now ≡ [] → map (λ t. t.now) k.single.now ≡ map (λ t. t.now) ONE_VALUED.now
     → ((s : FactSet) → (truth s (tree_of k.assumed.now) ≡ true) ↔ KeepsFamilyRule s)
-    → IfOk result (λ r. AreFindings fs (marks r.findings.items))
+    → IfOk result (λ r. AreFindings fs (marks r.findings.items) r.undecided.items)
 of_keys k es fs (Ok r) found same facts complete single rule =
     let allows = allows_rustcs k facts complete single rule in
-    (k, (allows, subst (λ xs. AreFindingsOn k xs (marks r.findings.items)) same found))
+    (k, (allows, subst (λ xs. AreFindingsOn k xs (marks r.findings.items) r.undecided.items) same found))
 of_keys k es fs (Err e) found same facts complete single rule = tt
 
 pub returns : goal.returns

@@ -1,19 +1,22 @@
-use Rattle.std.proofs.Common.{◌≡◌, ◌∙◌, sym, ap, subst, List, [], ◌∷◌, ◌++◌, take, map}
+use Rattle.std.proofs.Common.{◌≡◌, ◌∙◌, sym, ap, subst, ℕ, List, [], ◌∷◌, ◌++◌, take, map}
 use Rattle.exact_answers.specs.declared.known.Known.{Known}
 use Rattle.manifests.specs.declared.findings.Finding.{Finding}
 use Rattle.manifests.specs.declared.subjects.Read.{Read}
 use Rattle.manifests.specs.Sames.{AreNoted, TellsSame}
-use Rattle.manifests.specs.Reports.{AreFindingsOn, on_none, IsFoundOf, IsRead, marks, told_marks}
+use Rattle.manifests.specs.Reports.{AreFindingsOn, on_none, IsFoundOf, IsRead, marks, told_marks, left_open}
 use Rattle.manifests.proofs.MoreSames.{none_noted}
 use Rattle.manifests.proofs.Reports.{one_more, one_more_noted, read_entry}
 use Rattle.manifests.proofs.linting.report_on.Goals as goal
 
-none_yet : (k : Known) (fs : List Finding) → fs ≡ [] → AreFindingsOn k [] (marks fs)
-none_yet k fs is = subst (λ gs. AreFindingsOn k [] (marks gs)) (sym is) on_none
+none_yet : (k : Known) (fs : List Finding) (ns : List ℕ) → fs ≡ [] → ns ≡ [] → AreFindingsOn k [] (marks fs) ns
+none_yet k fs ns is open_is =
+    subst (λ gs. AreFindingsOn k [] (marks gs) ns) (sym is) (subst (AreFindingsOn k [] []) (sym open_is) on_none)
 
 pub keys-init : goal.keys-init
 keys-init c = record {
-  findings = λ all. none_yet c.args.known.now c.new-findings.result.items c.new-findings.ensures.items;
+  findings = λ all.
+      none_yet c.args.known.now c.new-findings.result.items c.new-undecided.result.items c.new-findings.ensures.items
+      c.new-undecided.ensures.items;
   noted_keys = λ all. none_noted c.new-before.result c.new-before.ensures;
 }
 
@@ -29,11 +32,13 @@ keys-preserved c =
     let same = subst S c.index-read-index.is (λ r. c.in_ok-subject.ensures.same r es) in
     record {
       findings = λ all.
-          one_more k c.args.read.now i c.index-read-index.result h _ _ c.keys-test.true all c.keys.invariant.findings
+          one_more k c.args.read.now i c.index-read-index.result h _ _ _ _ c.keys-test.true all c.keys.invariant.findings
           (subst (λ r. IsRead r → IsFoundOf k (read_entry r) h) c.index-read-index.is c.in_ok-subject.ensures.found)
           (λ r. (same r (c.keys.invariant.noted_keys all)).0)
           (c.in_ok-add_findings.ensures
-          ∙ ap (λ n. marks c.keys.findings.items ++ told_marks n h) c.in_ok-subject.ensures.place);
+          ∙ ap (λ n. marks c.keys.findings.items ++ told_marks n h) c.in_ok-subject.ensures.place)
+          (c.in_ok-note_undecided.ensures
+          ∙ ap (λ n. c.keys.undecided.items ++ left_open n h) c.in_ok-subject.ensures.place);
       noted_keys = λ all.
           one_more_noted c.args.read.now i c.index-read-index.result new c.keys-test.true
           (same (all i c.index-read-index.result c.keys-test.true) (c.keys.invariant.noted_keys all)).1;

@@ -8,6 +8,7 @@ abbrev pub invariant-keys : goal.invariant-keys
 invariant-keys l = record {
   findings :
       All IsRead l.read
-      → AreFindingsOn l.asking.known.now (map (λ r. entry_of r.key) (take l.index l.read)) (marks l.findings.items);
+      → AreFindingsOn l.asking.known.now (map (λ r. entry_of r.key) (take l.index l.read)) (marks l.findings.items)
+      l.undecided.items;
   noted_keys : All IsRead l.read → AreNoted (map (λ r. entry_of r.key) (take l.index l.read)) l.before;
 }

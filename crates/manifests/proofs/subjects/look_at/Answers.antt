@@ -5,6 +5,7 @@ use Rattle.cargo_platform.specs.Trees.{condition_of}
 use Rattle.cargo_platform.specs.Warnings.{condition_values}
 use Rattle.manifests.specs.Standings.{AreOpen}
 use Rattle.known_targets.specs.Rows.{names_of}
+use Rattle.manifests.proofs.Found.{left_false}
 use Rattle.manifests.proofs.subjects.look_at.Goals as goal
 
 pub returns : goal.returns
@@ -18,6 +19,10 @@ returns c =
       custom = c.in_ok-facts.ensures.kinds.custom;
       never = c.in_ok-never.ensures.never;
       always = c.in_ok-never.ensures.always;
+      can_hold = λ never known.
+          c.in_ok-never.ensures.can_hold never (left_false _ _ (sym c.either.ensures ∙ known));
+      can_fail = λ always known.
+          c.in_ok-never.ensures.can_fail always (left_false _ _ (sym c.either.ensures ∙ known));
       open_keys = names_of c.deref.result.now;
       are_open = subst (λ z. AreOpen (names_of z) (condition_values (condition_of c.args.platform.now)))
           (sym c.deref.ensures.value) c.in_ok-facts.ensures.open_names;

@@ -1,0 +1,15 @@
+use Rattle.std.proofs.Common.{sym, subst}
+use Rattle.cargo_platform.specs.Trees.{condition_of}
+use Rattle.manifests.specs.Reports.{IsFoundOfCondition}
+use Rattle.manifests.proofs.Found.{beside_others}
+use Rattle.manifests.proofs.subjects.seen_after.Goals as goal
+
+pub returns-clause-found : goal.returns-clause-found
+returns-clause-found c =
+    let k = c.args.asking.now.known.now in
+    let p = condition_of c.args.platform.now in
+    let h = c.in_ok-seen.seen.holding in
+    subst (λ b. IsFoundOfCondition k c.args.key.now p
+    (record h { same = c.is_same-seen.result; equivalent = c.match-matches.seen; undecided = b }))
+    (sym c.either-seen.ensures)
+    (beside_others k c.args.key.now p h c.is_same-seen.result c.match-matches.seen c.if-eq.is_open c.in_ok-seen.ensures)
