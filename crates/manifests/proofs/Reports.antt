@@ -35,7 +35,8 @@ one_more k reads i d h old new before_open now_open within all before found same
     let entries : es ++ read_entry x ∷ [] ≡ map read_entry (take (i + 1) reads) =
     sym (map-append read_entry (take i reads) (x ∷ [])) ∙ ap (map read_entry) (sym (take_more reads i d within)) in
     subst (λ fs. AreFindingsOn k fs new now_open) entries
-    (subst (λ ms. AreFindingsOn k (es ++ read_entry x ∷ []) ms now_open) (ap (λ n. old ++ told_marks n h) long ∙ sym now)
+    (subst (λ ms. AreFindingsOn k (es ++ read_entry x ∷ []) ms now_open)
+    (ap (λ n. old ++ told_marks n h) long ∙ sym now)
     (subst (λ ns. AreFindingsOn k (es ++ read_entry x ∷ []) (old ++ told_marks (length es) h) ns)
     (ap (λ n. before_open ++ left_open n h) long ∙ sym opened) more))
 

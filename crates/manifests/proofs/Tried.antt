@@ -55,7 +55,8 @@ one_value listed_facts single cs none p q sp sq name inside also =
     let found_p = (listed (map value_of cs) p).0 inside in
     let found_q = (listed (map value_of cs) q).0 also in
     let no_double = fails_at (is_doubled_in single ps) ps p found_p none in
-    let no_two = fails_at (are_two p) ps q found_q (second (is_single single p) (list_any (are_two p) ps) sp no_double) in
+    let no_two =
+    fails_at (are_two p) ps q found_q (second (is_single single p) (list_any (are_two p) ps) sp no_double) in
     let values : p.value ≡ q.value =
     one_of p.value q.value (right_true (is_named p.name single) (is_some p.value) sp) sq
     (second (bytes_eq p.name q.name) (are_two_values p.value q.value) ((bytes_eq-Decides p.name q.name).1 name) no_two)

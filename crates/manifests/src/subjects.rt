@@ -1,7 +1,7 @@
 //! The keys of a manifest, each with what was found of it.
 
-ghost use Rattle.std.specs.Prelude.{◌≡◌, ◌≤◌, ◌↔◌, ◌||◌, ◌++◌, ◌∷◌, [], List, length, IsTrue, IsSome, IfOk, OnOk, false};
-ghost use Rattle.std.specs.Prelude.{string_bytes};
+ghost use Rattle.std.specs.Prelude.{◌≡◌, ◌≤◌, ◌↔◌, ◌||◌, ◌++◌, ◌∷◌, [], List, length};
+ghost use Rattle.std.specs.Prelude.{IsTrue, IsSome, IfOk, OnOk, false, string_bytes};
 ghost use Rattle.cargo_platform.specs.Trees.{condition_of};
 ghost use Rattle.cargo_platform.specs.Print.{print_condition};
 ghost use Rattle.known_targets.specs.Rows.{names_of};

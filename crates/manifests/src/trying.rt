@@ -1,5 +1,5 @@
-//! Sets of facts that are tried where a search takes too many splits. Each has the facts of a known target, and some that
-//! are no fact of rustc's.
+//! Sets of facts that are tried where a search takes too many splits. Each has the facts of a known target, and some
+//! that are no fact of rustc's.
 
 ghost use Rattle.std.specs.Prelude.{◌≡◌, [], map, IfOk, IsTrue};
 ghost use Rattle.std.specs.List.{list_any};

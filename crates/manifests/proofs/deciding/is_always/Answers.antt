@@ -15,7 +15,8 @@ returns c =
     let says : MustSelect → Type 0 = λ a. SaysMustSelect a k (p ∷ []) c.args.budget
     (λ name s. IsTrueCondition name s p → ⊥) (λ name s. IsTrueCondition name s p) in
     elim c.match-branch-2.branch [
-      | in-Yes w ↦ as_ok (λ d. SaysAlways d k p) _ _ w.result-is (subst says w.in-Yes.is c.in_ok-always_platform.ensures)
+      | in-Yes w ↦
+          as_ok (λ d. SaysAlways d k p) _ _ w.result-is (subst says w.in-Yes.is c.in_ok-always_platform.ensures)
       | in-No w ↦
           as_ok (λ d. SaysAlways d k p) _ _ w.result-is
           (can_fail k p w.in-No.field-0 (subst says w.in-No.is c.in_ok-always_platform.ensures))

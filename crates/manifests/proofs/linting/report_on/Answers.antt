@@ -32,7 +32,8 @@ keys-preserved c =
     let same = subst S c.index-read-index.is (λ r. c.in_ok-subject.ensures.same r es) in
     record {
       findings = λ all.
-          one_more k c.args.read.now i c.index-read-index.result h _ _ _ _ c.keys-test.true all c.keys.invariant.findings
+          one_more k c.args.read.now i c.index-read-index.result h _ _ _ _ c.keys-test.true all
+          c.keys.invariant.findings
           (subst (λ r. IsRead r → IsFoundOf k (read_entry r) h) c.index-read-index.is c.in_ok-subject.ensures.found)
           (λ r. (same r (c.keys.invariant.noted_keys all)).0)
           (c.in_ok-add_findings.ensures
