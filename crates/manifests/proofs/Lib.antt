@@ -6,3 +6,4 @@ pub mod Found
 pub mod Tried
 pub mod MoreKinds
 pub mod MoreSames
+pub mod MoreEquivalents

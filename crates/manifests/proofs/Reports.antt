@@ -13,7 +13,7 @@ use Rattle.manifests.specs.declared.subjects.Read.{Read}
 use Rattle.manifests.specs.Reports.{Entry, Mark, AreFindingsOn, on_more, IsFoundOf, IsRead, entry_of, mark, marks}
 use Rattle.manifests.specs.Reports.{told_marks, left_open}
 use Rattle.manifests.specs.declared.earlier.Keys.{Keys}
-use Rattle.manifests.specs.Sames.{AreNoted, TellsSame}
+use Rattle.manifests.specs.Sames.{AreNoted, TellsSame, TellsEquivalent, AreMembers}
 
 abbrev pub read_entry : Read → Entry
 read_entry r = entry_of r.key
@@ -23,15 +23,18 @@ pub one_more : (k : Known) (reads : List Read) (i : ℕ) (d : Read) (h : Holding
     → (All IsRead reads → AreFindingsOn k (map read_entry (take i reads)) old before_open)
     → (IsRead (get_or reads i d) → IsFoundOf k (read_entry (get_or reads i d)) h)
     → (IsRead (get_or reads i d) → TellsSame (map read_entry (take i reads)) (read_entry (get_or reads i d)) h)
+    → (IsRead (get_or reads i d)
+    → TellsEquivalent k (map read_entry (take i reads)) (read_entry (get_or reads i d)) h)
     → new ≡ old ++ told_marks i h → now_open ≡ before_open ++ left_open i h
     → AreFindingsOn k (map read_entry (take (i + 1) reads)) new now_open
-one_more k reads i d h old new before_open now_open within all before found same now opened =
+one_more k reads i d h old new before_open now_open within all before found same alike now opened =
     let x = get_or reads i d in
     let es = map read_entry (take i reads) in
     let long : length es ≡ i = length-map (take i reads) read_entry ∙ length-take-le i reads (omega arith) in
     let more : AreFindingsOn k (es ++ read_entry x ∷ []) (old ++ told_marks (length es) h)
     (before_open ++ left_open (length es) h) =
-    on_more es (read_entry x) h old before_open (before all) (found (all i d within)) (same (all i d within)) in
+    on_more es (read_entry x) h old before_open (before all) (found (all i d within)) (same (all i d within))
+    (alike (all i d within)) in
     let entries : es ++ read_entry x ∷ [] ≡ map read_entry (take (i + 1) reads) =
     sym (map-append read_entry (take i reads) (x ∷ [])) ∙ ap (map read_entry) (sym (take_more reads i d within)) in
     subst (λ fs. AreFindingsOn k fs new now_open) entries
@@ -48,6 +51,15 @@ one_more_noted reads i d keys within noted =
     subst (λ es. AreNoted es keys)
     (sym (map-append read_entry (take i reads) (get_or reads i d ∷ []))
     ∙ ap (map read_entry) (sym (take_more reads i d within))) noted
+
+-- and of the conditions that later ones are compared with
+pub one_more_member : (reads : List Read) (i : ℕ) (d : Read) (keys : Keys) → i < length reads
+    → AreMembers (map read_entry (take i reads) ++ read_entry (get_or reads i d) ∷ []) keys
+    → AreMembers (map read_entry (take (i + 1) reads)) keys
+one_more_member reads i d keys within members =
+    subst (λ es. AreMembers es keys)
+    (sym (map-append read_entry (take i reads) (get_or reads i d ∷ []))
+    ∙ ap (map read_entry) (sym (take_more reads i d within))) members
 
 abbrev marked : ℕ → List Code → List Mark
 marked n cs = map (λ c. (Some n, c)) cs

@@ -20,7 +20,7 @@ use Rattle.manifests.specs.declared.subjects.Read.{Read}
 use Rattle.manifests.specs.declared.subjects.TheConstants.{MANY}
 use Rattle.manifests.specs.Standings.{is_unsupported, is_mistaken, may_be_mistaken, is_other, AreOpen}
 pub use Rattle.manifests.specs.Entries.{Entry, entry_of}
-use Rattle.manifests.specs.Sames.{TellsSame}
+use Rattle.manifests.specs.Sames.{TellsSame, TellsEquivalent}
 use Rattle.manifests.specs.Hiding.{is_told, told_codes, IsUnspelled}
 use Rattle.manifests.specs.Tables.{is_no_table}
 use Rattle.manifests.specs.Truths.{IsNever, IsAlways, CanHold, CanFail, IsNowhere, IsEverywhere, IsUnknownTarget}
@@ -111,7 +111,7 @@ left_open n h = cond h.undecided (n ∷ []) []
 pub data AreFindingsOn (k : Known) : List Entry → List Mark → List ℕ → Type 0 where
   on_none : AreFindingsOn k [] [] []
   on_more : (es : List Entry) (e : Entry) (h : Holding) (ms : List Mark) (ns : List ℕ) → AreFindingsOn k es ms ns
-      → IsFoundOf k e h → TellsSame es e h
+      → IsFoundOf k e h → TellsSame es e h → TellsEquivalent k es e h
       → AreFindingsOn k (es ++ e ∷ []) (ms ++ told_marks (length es) h) (ns ++ left_open (length es) h)
 
 -- the same, by what is known of each target

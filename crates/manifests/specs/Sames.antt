@@ -1,11 +1,16 @@
--- The same conditions at earlier keys, raw marks aside.
-use Rattle.std.specs.Prelude.{◌≡◌, ◌⊎◌, ◌↔◌, ℕ, Bool, true, false, List, [], ◌∷◌, Option, Some, None, IsSome, IsTrue}
+-- The same conditions at earlier keys, raw marks aside, and those that are as true.
+use Rattle.std.specs.Prelude.{◌≡◌, ◌⊎◌, ◌↔◌, ℕ, Bool, true, false, List, [], ◌∷◌, ◌++◌, Option, Some, None, IsSome}
+use Rattle.std.specs.Prelude.{IsTrue}
+use Rattle.std.specs.List.{All, Any}
 use Rattle.std.specs.Borrow.{Bor}
 use Rattle.std.specs.BTreeMap as ordered
 use Rattle.cargo_platform.specs.declared.Platform.{Platform}
 use Rattle.cargo_platform.specs.Trees.{Condition, condition_of}
 use Rattle.cargo_platform.specs.Key.{condition_key, condition_cmp}
+use Rattle.cargo_platform.specs.Facts.{IsTrueCondition}
 use Rattle.cargo_platform.specs.Platforms.{IsConditionText}
+use Rattle.exact_answers.specs.declared.known.Known.{Known}
+use Rattle.exact_answers.specs.Targets.{ForEach}
 use Rattle.manifests.specs.declared.earlier.Earlier.{Earlier}
 use Rattle.manifests.specs.declared.earlier.Earlier.TheVariants as earlier
 use Rattle.manifests.specs.declared.earlier.Keys.{Keys}
@@ -17,6 +22,12 @@ is_same (earlier.Same first) = true
 is_same earlier.Unlike = false
 is_same (earlier.Equivalent first) = false
 is_same earlier.Undecided = false
+
+abbrev pub is_equivalent : Earlier → Bool
+is_equivalent (earlier.Same first) = false
+is_equivalent earlier.Unlike = false
+is_equivalent (earlier.Equivalent first) = true
+is_equivalent earlier.Undecided = false
 
 -- the place that was noted for a condition, if one was
 abbrev pub noted : Keys → Bor Platform → Option ℕ
@@ -49,3 +60,38 @@ AreNoted es keys = (q : Bor Platform) → IsSome (noted keys q) ↔ HasSame es (
 -- `same` holds of a key exactly where an earlier one spells the same condition
 abbrev pub TellsSame : List Entry → Entry → Holding → Type 0
 TellsSame es e h = (c : Condition) → IsConditionText e.0 c → (IsTrue h.same ↔ HasSame es c)
+
+-- ---- conditions that are as true
+
+abbrev pub AreEquivalent : Known → Condition → Condition → Type 0
+AreEquivalent k c d = ForEach k (λ name s. IsTrueCondition name s c ↔ IsTrueCondition name s d)
+
+-- the text spells a condition that is as true as this one for each possible target
+abbrev pub SpellsEquivalent : Known → List ℕ → Condition → Type 0
+SpellsEquivalent k text c = (d : Condition) × IsConditionText text d × AreEquivalent k d c
+
+-- one of the keys does
+abbrev pub HasEquivalent : Known → List Entry → Condition → Type 0
+HasEquivalent k [] c = ⊥
+HasEquivalent k (e ∷ es) c = SpellsEquivalent k e.0 c ⊎ HasEquivalent k es c
+
+-- `equivalent` holds of a key only where an earlier one spells a condition that is as true
+abbrev pub TellsEquivalent : Known → List Entry → Entry → Holding → Type 0
+TellsEquivalent k es e h = (c : Condition) → IsConditionText e.0 c → IsTrue h.equivalent → HasEquivalent k es c
+
+-- a condition that later ones are compared with is as true
+abbrev pub HasEquivalentMember : Known → Keys → Condition → Type 0
+HasEquivalentMember k keys c = Any (λ m. AreEquivalent k (condition_of m.1.now) c) keys.members.items
+
+-- to these none is added, or one
+abbrev pub AddsMember : Keys → Keys → ℕ → Bor Platform → Type 0
+AddsMember old new n p =
+    (new.members.items ≡ old.members.items) ⊎ (new.members.items ≡ old.members.items ++ (n, p) ∷ [])
+
+abbrev pub HasSpelled : List Entry → Condition → Type 0
+HasSpelled [] c = ⊥
+HasSpelled (e ∷ es) c = IsConditionText e.0 c ⊎ HasSpelled es c
+
+-- each of them is spelled by one of the keys
+abbrev pub AreMembers : List Entry → Keys → Type 0
+AreMembers es keys = All (λ m. HasSpelled es (condition_of m.1.now)) keys.members.items

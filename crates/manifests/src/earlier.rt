@@ -1,9 +1,10 @@
 //! How a key stands to those before it: the same condition, or one that is as true.
 
-ghost use Rattle.std.specs.Prelude.{◌≡◌, ◌↔◌, false, None, IfOk, OnOk, IsTrue, IsSome};
+ghost use Rattle.std.specs.Prelude.{◌≡◌, ◌↔◌, false, None, [], IfOk, OnOk, IsTrue, IsSome};
 ghost use Rattle.std.specs.Borrow.{Bor};
 ghost use Rattle.cargo_platform.specs.declared.Platform.{Platform as Shown};
-ghost use Rattle.manifests.specs.Sames.{is_same, noted, Notes};
+ghost use Rattle.cargo_platform.specs.Trees.{condition_of};
+ghost use Rattle.manifests.specs.Sames.{is_same, is_equivalent, noted, Notes, AddsMember, HasEquivalentMember};
 
 use crate::trying::truths;
 use cargo_platform::{CfgExpr, Platform};
@@ -35,6 +36,13 @@ impl Earlier {
     {
         matches!(self, Earlier::Same(_))
     }
+
+    /// Whether an earlier key is as true.
+    pub fn is_equivalent(self) -> bool
+        ensures { result ≡ is_equivalent self }
+    {
+        matches!(self, Earlier::Equivalent(_))
+    }
 }
 
 /// What equivalent conditions share: their truths at the known targets and over the sets of facts that are tried.
@@ -44,16 +52,21 @@ type Class = [u64; 6];
 #[derive(Drop)]
 pub struct Keys<'a> {
     seen: BTreeMap<&'a Platform, usize>,
-    classes: BTreeMap<Class, Vec<(usize, &'a Platform)>>,
+    // The conditions that are compared with later ones, and the places of their keys.
+    members: Vec<(usize, &'a Platform)>,
+    // Where among them those of a class stand.
+    classes: BTreeMap<Class, Vec<usize>>,
 }
 
 impl<'a> Keys<'a> {
     /// No keys.
     pub fn new(alloc: Global) -> Keys<'a>
-        ensures { (q : Bor Shown) → noted result q ≡ None }
+        ensures none { (q : Bor Shown) → noted result q ≡ None }
+        ensures no_members { result.members.items ≡ [] }
     {
         Keys {
             seen: BTreeMap::new(alloc),
+            members: Vec::new(alloc),
             classes: BTreeMap::new(alloc),
         }
     }
@@ -70,7 +83,10 @@ impl<'a> Keys<'a> {
         may_ask: bool,
     ) -> Result<Earlier, AllocError>
         ensures same { IfOk result (λ r. IsTrue (is_same r) ↔ IsSome (noted self.old platform.entry)) }
+        ensures equivalent { IfOk result (λ r. IsTrue (is_equivalent r)
+            → HasEquivalentMember known.now self.old (condition_of platform.entry.now)) }
         ensures notes { OnOk result (Notes self.old self.new platform.entry) }
+        ensures members { OnOk result (AddsMember self.old self.new index platform.entry) }
     {
         match self.note(index, platform)? {
             Some(first) => Ok(Earlier::Same(first)),
@@ -82,6 +98,7 @@ impl<'a> Keys<'a> {
     fn note(&mut self, index: usize, platform: &'a Platform) -> Result<Option<usize>, AllocError>
         ensures first { IfOk result (λ first. first ≡ noted self.old platform.entry) }
         ensures notes { OnOk result (Notes self.old self.new platform.entry) }
+        ensures members { OnOk result (self.new.members.items ≡ self.old.members.items) }
     {
         if let Some(first) = self.seen.get(&platform) {
             return Ok(Some(*first));
@@ -101,27 +118,34 @@ impl<'a> Keys<'a> {
         may_ask: bool,
     ) -> Result<Earlier, AllocError>
         ensures other { IfOk result (λ r. is_same r ≡ false) }
+        ensures equivalent { IfOk result (λ r. IsTrue (is_equivalent r)
+            → HasEquivalentMember known.now self.old (condition_of platform.entry.now)) }
         ensures noted { OnOk result ((q : Bor Shown) → noted self.new q ≡ noted self.old q) }
+        ensures members { OnOk result (AddsMember self.old self.new index platform.entry) }
     {
         let Platform::Cfg(e) = platform else {
             return Ok(Earlier::Unlike);
         };
         let class = class_of(alloc, platform, e)?;
         let Some(others) = self.classes.get(&class) else {
-            let mut members = Vec::new(alloc);
-            members.push((index, platform))?;
-            let _none = self.classes.insert(class, members)?;
+            let mut places = Vec::new(alloc);
+            places.push(self.members.len())?;
+            let _none = self.classes.insert(class, places)?;
+            self.members.push((index, platform))?;
             return Ok(Earlier::Unlike);
         };
         if !may_ask {
             return Ok(Earlier::Undecided);
         }
         let mut asked: usize = 0;
-        for (first, other) in others {
+        for place in others {
             if asked == MOST {
                 return Ok(Earlier::Undecided);
             }
             asked = asked.saturating_add(1);
+            let Some((first, other)) = self.members.get(*place) else {
+                continue;
+            };
             match equivalent_platform(alloc, *other, platform, known, budget)? {
                 MustSelect::Yes => return Ok(Earlier::Equivalent(*first)),
                 MustSelect::No(_) => {}
@@ -129,8 +153,9 @@ impl<'a> Keys<'a> {
             }
         }
         if let Some(others) = self.classes.get_mut(&class) {
-            others.push((index, platform))?;
+            others.push(self.members.len())?;
         }
+        self.members.push((index, platform))?;
         Ok(Earlier::Unlike)
     }
 }

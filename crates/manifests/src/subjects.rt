@@ -1,7 +1,8 @@
 //! The keys of a manifest, each with what was found of it.
 
-ghost use Rattle.std.specs.Prelude.{◌≡◌, ◌≤◌, ◌↔◌, ◌||◌, ◌++◌, ◌∷◌, [], List, length};
-ghost use Rattle.std.specs.Prelude.{IsTrue, IsSome, IfOk, OnOk, false, string_bytes};
+ghost use Rattle.std.specs.Prelude.{◌≡◌, ◌≤◌, ◌↔◌, ◌||◌, ◌++◌, ◌∷◌, [], List, length, IsTrue, IsSome, IfOk, OnOk};
+ghost use Rattle.std.specs.Prelude.{false};
+ghost use Rattle.std.specs.Prelude.{string_bytes};
 ghost use Rattle.cargo_platform.specs.Trees.{condition_of};
 ghost use Rattle.cargo_platform.specs.Print.{print_condition};
 ghost use Rattle.known_targets.specs.Rows.{names_of};
@@ -9,6 +10,7 @@ ghost use Rattle.manifests.specs.Truths.{IsNever, IsAlways, CanHold, CanFail};
 ghost use Rattle.manifests.specs.Truths.{IsNowhere, IsEverywhere, IsUnknownTarget};
 ghost use Rattle.manifests.specs.Entries.{Entry};
 ghost use Rattle.manifests.specs.Sames.{noted, Notes, AreNoted, TellsSame};
+ghost use Rattle.manifests.specs.Sames.{AddsMember, HasEquivalentMember, AreMembers, TellsEquivalent};
 ghost use Rattle.manifests.specs.Reports.{entry_of, IsFoundOf, IsFoundOfCondition, IsRead};
 ghost use Rattle.manifests.specs.Hiding.{IsUnspelled};
 ghost use Rattle.manifests.specs.Tables.{is_no_table};
@@ -237,7 +239,10 @@ fn seen_after<'a>(
     ensures found { IfOk result
         (λ s. IsFoundOfCondition asking.now.known.now key.now (condition_of platform.now) s.0.holding) }
     ensures same { IfOk result (λ s. IsTrue s.0.holding.same ↔ IsSome (noted before.old platform.entry)) }
+    ensures equivalent { IfOk result (λ s. IsTrue s.0.holding.equivalent
+        → HasEquivalentMember asking.now.known.now before.old (condition_of platform.entry.now)) }
     ensures notes { OnOk result (Notes before.old before.new platform.entry) }
+    ensures members { OnOk result (AddsMember before.old before.new index platform.entry) }
 {
     let may_ask = may_ask(alloc, key)?;
     let mut seen = look_at(alloc, asking, key, platform, may_ask)?;
@@ -252,7 +257,7 @@ fn seen_after<'a>(
         may_ask && !decides,
     )?;
     seen.holding.same = earlier.is_same();
-    seen.holding.equivalent = matches!(earlier, Earlier::Equivalent(_));
+    seen.holding.equivalent = earlier.is_equivalent();
     let is_open = earlier == Earlier::Undecided && !decides;
     seen.holding.undecided = either(seen.holding.undecided, is_open);
     Ok((seen, earlier))
@@ -272,7 +277,10 @@ fn of_condition<'a>(
     ensures found { IfOk result
         (λ s. IsFoundOfCondition asking.now.known.now key.entry.key.now (condition_of platform.now) s.holding) }
     ensures same { IfOk result (λ s. IsTrue s.holding.same ↔ IsSome (noted before.old platform.entry)) }
+    ensures equivalent { IfOk result (λ s. IsTrue s.holding.equivalent
+        → HasEquivalentMember asking.now.known.now before.old (condition_of platform.entry.now)) }
     ensures notes { OnOk result (Notes before.old before.new platform.entry) }
+    ensures members { OnOk result (AddsMember before.old before.new index platform.entry) }
 {
     let no_tables = no_tables(alloc, &key)?;
     let (seen, earlier) = seen_after(alloc, asking, index, key.key, platform, before)?;
@@ -328,6 +336,9 @@ pub fn subject_of<'a>(
     ensures same { IsRead read.now → (es : List Entry) → AreNoted es before.old
         → IfOk result (λ s. TellsSame es (entry_of read.now.key) s.holding
         × AreNoted (es ++ entry_of read.now.key ∷ []) before.new) }
+    ensures equivalent { IsRead read.now → (es : List Entry) → AreMembers es before.old
+        → IfOk result (λ s. TellsEquivalent asking.now.known.now es (entry_of read.now.key) s.holding
+        × AreMembers (es ++ entry_of read.now.key ∷ []) before.new) }
 {
     match &read.spelled {
         Spelled::Condition(platform) => of_condition(

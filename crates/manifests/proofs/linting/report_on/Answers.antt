@@ -2,10 +2,11 @@ use Rattle.std.proofs.Common.{◌≡◌, ◌∙◌, sym, ap, subst, ℕ, List, [
 use Rattle.exact_answers.specs.declared.known.Known.{Known}
 use Rattle.manifests.specs.declared.findings.Finding.{Finding}
 use Rattle.manifests.specs.declared.subjects.Read.{Read}
-use Rattle.manifests.specs.Sames.{AreNoted, TellsSame}
+use Rattle.manifests.specs.Sames.{AreNoted, TellsSame, AreMembers, TellsEquivalent}
 use Rattle.manifests.specs.Reports.{AreFindingsOn, on_none, IsFoundOf, IsRead, marks, told_marks, left_open}
 use Rattle.manifests.proofs.MoreSames.{none_noted}
-use Rattle.manifests.proofs.Reports.{one_more, one_more_noted, read_entry}
+use Rattle.manifests.proofs.MoreEquivalents.{no_members}
+use Rattle.manifests.proofs.Reports.{one_more, one_more_noted, one_more_member, read_entry}
 use Rattle.manifests.proofs.linting.report_on.Goals as goal
 
 none_yet : (k : Known) (fs : List Finding) (ns : List ℕ) → fs ≡ [] → ns ≡ [] → AreFindingsOn k [] (marks fs) ns
@@ -17,7 +18,8 @@ keys-init c = record {
   findings = λ all.
       none_yet c.args.known.now c.new-findings.result.items c.new-undecided.result.items c.new-findings.ensures.items
       c.new-undecided.ensures.items;
-  noted_keys = λ all. none_noted c.new-before.result c.new-before.ensures;
+  noted_keys = λ all. none_noted c.new-before.result c.new-before.ensures.none;
+  members = λ all. no_members c.new-before.result c.new-before.ensures.no_members;
 }
 
 pub keys-preserved : goal.keys-preserved
@@ -30,12 +32,15 @@ keys-preserved c =
     let S : Read → Type 0 = λ r. IsRead r → AreNoted es c.keys.before
     → TellsSame es (read_entry r) h × AreNoted (es ++ read_entry r ∷ []) new in
     let same = subst S c.index-read-index.is (λ r. c.in_ok-subject.ensures.same r es) in
+    let E : Read → Type 0 = λ r. IsRead r → AreMembers es c.keys.before
+    → TellsEquivalent k es (read_entry r) h × AreMembers (es ++ read_entry r ∷ []) new in
+    let alike = subst E c.index-read-index.is (λ r. c.in_ok-subject.ensures.equivalent r es) in
     record {
       findings = λ all.
           one_more k c.args.read.now i c.index-read-index.result h _ _ _ _ c.keys-test.true all
           c.keys.invariant.findings
           (subst (λ r. IsRead r → IsFoundOf k (read_entry r) h) c.index-read-index.is c.in_ok-subject.ensures.found)
-          (λ r. (same r (c.keys.invariant.noted_keys all)).0)
+          (λ r. (same r (c.keys.invariant.noted_keys all)).0) (λ r. (alike r (c.keys.invariant.members all)).0)
           (c.in_ok-add_findings.ensures
           ∙ ap (λ n. marks c.keys.findings.items ++ told_marks n h) c.in_ok-subject.ensures.place)
           (c.in_ok-note_undecided.ensures
@@ -43,4 +48,7 @@ keys-preserved c =
       noted_keys = λ all.
           one_more_noted c.args.read.now i c.index-read-index.result new c.keys-test.true
           (same (all i c.index-read-index.result c.keys-test.true) (c.keys.invariant.noted_keys all)).1;
+      members = λ all.
+          one_more_member c.args.read.now i c.index-read-index.result new c.keys-test.true
+          (alike (all i c.index-read-index.result c.keys-test.true) (c.keys.invariant.members all)).1;
     }

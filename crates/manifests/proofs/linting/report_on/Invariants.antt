@@ -1,6 +1,6 @@
 use Rattle.std.proofs.Common.{map, take}
 use Rattle.std.specs.List.{All}
-use Rattle.manifests.specs.Sames.{AreNoted}
+use Rattle.manifests.specs.Sames.{AreNoted, AreMembers}
 use Rattle.manifests.specs.Reports.{AreFindingsOn, IsRead, entry_of, marks}
 use Rattle.manifests.proofs.linting.report_on.Given as goal
 
@@ -11,4 +11,5 @@ invariant-keys l = record {
       → AreFindingsOn l.asking.known.now (map (λ r. entry_of r.key) (take l.index l.read)) (marks l.findings.items)
       l.undecided.items;
   noted_keys : All IsRead l.read → AreNoted (map (λ r. entry_of r.key) (take l.index l.read)) l.before;
+  members : All IsRead l.read → AreMembers (map (λ r. entry_of r.key) (take l.index l.read)) l.before;
 }

@@ -10,6 +10,7 @@ returns-clause-found c =
     let p = condition_of c.args.platform.now in
     let h = c.in_ok-seen.seen.holding in
     subst (λ b. IsFoundOfCondition k c.args.key.now p
-    (record h { same = c.is_same-seen.result; equivalent = c.match-matches.seen; undecided = b }))
+    (record h { same = c.is_same-seen.result; equivalent = c.is_equivalent-seen.result; undecided = b }))
     (sym c.either-seen.ensures)
-    (beside_others k c.args.key.now p h c.is_same-seen.result c.match-matches.seen c.if-eq.is_open c.in_ok-seen.ensures)
+    (beside_others k c.args.key.now p h c.is_same-seen.result c.is_equivalent-seen.result c.if-eq.is_open
+    c.in_ok-seen.ensures)

@@ -6,6 +6,7 @@ use Rattle.cargo_platform.specs.Platforms.{IsConditionText}
 use Rattle.manifests.specs.declared.spelled.Spelled.{Spelled}
 use Rattle.manifests.specs.Reports.{IsSpelledAs, SpellsNothing, entry_of}
 use Rattle.manifests.proofs.MoreSames.{one_noted, tells_same, none_more, tells_none}
+use Rattle.manifests.proofs.MoreEquivalents.{one_member, tells_equivalent, more_members}
 use Rattle.manifests.proofs.subjects.subject_of.Goals as goal
 
 both : {A E : Type 0} (r : Result A E) (P : A → Type 0) (N : Type 0) (Q : A → Type 0) → IfOk r P → OnOk r N
@@ -29,6 +30,31 @@ returns-in-Condition-clause-same c = λ read es before.
       tells_same es e c.args.before.now new p before text s.holding same,
       one_noted es e c.args.before.now new p before text notes,
     ))
+
+pub returns-in-Condition-clause-equivalent : goal.returns-in-Condition-clause-equivalent
+returns-in-Condition-clause-equivalent c = λ read es before.
+    let e = entry_of c.args.read.now.key in
+    let p : Bor Platform = record { ref_ptr = c.args.read.ref_ptr; now = c.in-Condition.platform } in
+    let I : Spelled → Type 0 = λ z. IsSpelledAs e.0 z in
+    let text : IsConditionText e.0 (condition_of p.now) = subst I c.in-Condition.is read in
+    let new = c.of_condition.new.before in
+    both c.of_condition.result _ _ _ c.of_condition.ensures.equivalent c.of_condition.ensures.members
+    (λ s alike adds. (
+      tells_equivalent c.args.asking.now.known.now es e c.args.before.now (condition_of p.now) before text s.holding
+          alike,
+      one_member es e c.args.before.now new c.args.index _ adds before text,
+    ))
+
+pub returns-in-ByCargo-clause-equivalent : goal.returns-in-ByCargo-clause-equivalent
+returns-in-ByCargo-clause-equivalent c = λ read es before.
+    let e = entry_of c.args.read.now.key in
+    let I : Spelled → Type 0 = λ z. IsSpelledAs e.0 z in
+    let nothing : SpellsNothing e.0 = elim c.in-ByCargo.is [
+      | inl marked ↦ subst I marked.1 read
+      | inr refused ↦ subst I refused.1 read
+    ] in
+    each c.of_none.result _
+    (λ s. (λ d t. absurd (nothing d t), more_members es e c.args.before.now before))
 
 pub returns-in-ByCargo-clause-same : goal.returns-in-ByCargo-clause-same
 returns-in-ByCargo-clause-same c = λ read es before.

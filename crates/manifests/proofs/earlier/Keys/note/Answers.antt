@@ -8,7 +8,7 @@ use Rattle.manifests.proofs.earlier.Keys.note.Goals as goal
 pub returns-clause-notes : goal.returns-clause-notes
 returns-clause-notes c =
     let old = c.args.self.now in
-    let new : Keys = record { seen = c.insert.new.self; classes = old.classes } in
+    let new : Keys = record old { seen = c.insert.new.self } in
     let p = c.args.platform in
     subst (λ o. NotesBy o old new (condition_of p.now)) c.in_default.ensures.value
     (λ q. set_one (condition_of p.now) (condition_of q.now) c.args.index (noted old q) (noted new q)
