@@ -124,7 +124,8 @@ pub was_completable : (ts : List Lexeme) → IsCompletable Expressions ts → Is
 was_completable ts c = (c.0, c.1, was_accepted _ c.2)
 
 -- what was accepted still is, if it can be completed
-pub still_accepted : (ts : List Lexeme) → IsAcceptedReleased ts → IsCompletable Expressions ts → IsAccepted Expressions ts
+pub still_accepted : (ts : List Lexeme) → IsAcceptedReleased ts → IsCompletable Expressions ts
+    → IsAccepted Expressions ts
 still_accepted ts a c =
     let t = (accepted_as_released ts).1 a in
     let start : Option Position = Some (Wanting []) in

@@ -1,5 +1,5 @@
-//! The one assertion of these tests, and what several of them ask of the library. Each such call stands in a function of
-//! its own that promises nothing, so that its contract is gone through once and not at each call.
+//! The one assertion of these tests, and what several of them ask of the library. Each such call stands in a function
+//! of its own that promises nothing, so that its contract is gone through once and not at each call.
 
 use cargo_platform::{Cfg, CfgExpr, FactIndex, Platform, ReadError};
 use serde_json::Value;

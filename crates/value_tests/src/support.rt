@@ -1,5 +1,5 @@
-//! What the tests make, read, copy and assert. Each call of the library that several tests make stands here in a function
-//! of its own that promises nothing, so that its contract is gone through once and not at each call.
+//! What the tests make, read, copy and assert. Each call of the library that several tests make stands here in a
+//! function of its own that promises nothing, so that its contract is gone through once and not at each call.
 
 use cargo_platform::{Cfg, CfgExpr, Ident, Platform};
 use std::alloc::Global;
