@@ -12,11 +12,17 @@ use Rattle.manifests.specs.declared.hiding.Holding.{Holding}
 use Rattle.manifests.specs.declared.subjects.Read.{Read}
 use Rattle.manifests.specs.Reports.{Entry, Mark, AreFindingsOn, on_more, IsFoundOf, IsRead, entry_of, mark, marks}
 use Rattle.manifests.specs.Reports.{told_marks, left_open}
-use Rattle.manifests.specs.declared.earlier.Keys.{Keys}
-use Rattle.manifests.specs.Sames.{AreNoted, TellsSame, TellsEquivalent, AreMembers}
+use Rattle.manifests.specs.Sames.{TellsSame, TellsEquivalent}
 
 abbrev pub read_entry : Read → Entry
 read_entry r = entry_of r.key
+
+-- the keys before a place, and the one at it
+pub next_entries : (reads : List Read) (i : ℕ) (d : Read) → i < length reads
+    → map read_entry (take i reads) ++ read_entry (get_or reads i d) ∷ [] ≡ map read_entry (take (i + 1) reads)
+next_entries reads i d within =
+    sym (map-append read_entry (take i reads) (get_or reads i d ∷ []))
+    ∙ ap (map read_entry) (sym (take_more reads i d within))
 
 pub one_more : (k : Known) (reads : List Read) (i : ℕ) (d : Read) (h : Holding) (old new : List Mark)
     (before_open now_open : List ℕ) → i < length reads → All IsRead reads
@@ -35,31 +41,11 @@ one_more k reads i d h old new before_open now_open within all before found same
     (before_open ++ left_open (length es) h) =
     on_more es (read_entry x) h old before_open (before all) (found (all i d within)) (same (all i d within))
     (alike (all i d within)) in
-    let entries : es ++ read_entry x ∷ [] ≡ map read_entry (take (i + 1) reads) =
-    sym (map-append read_entry (take i reads) (x ∷ [])) ∙ ap (map read_entry) (sym (take_more reads i d within)) in
-    subst (λ fs. AreFindingsOn k fs new now_open) entries
+    subst (λ fs. AreFindingsOn k fs new now_open) (next_entries reads i d within)
     (subst (λ ms. AreFindingsOn k (es ++ read_entry x ∷ []) ms now_open)
     (ap (λ n. old ++ told_marks n h) long ∙ sym now)
     (subst (λ ns. AreFindingsOn k (es ++ read_entry x ∷ []) (old ++ told_marks (length es) h) ns)
     (ap (λ n. before_open ++ left_open n h) long ∙ sym opened) more))
-
--- and of the keys that are noted
-pub one_more_noted : (reads : List Read) (i : ℕ) (d : Read) (keys : Keys) → i < length reads
-    → AreNoted (map read_entry (take i reads) ++ read_entry (get_or reads i d) ∷ []) keys
-    → AreNoted (map read_entry (take (i + 1) reads)) keys
-one_more_noted reads i d keys within noted =
-    subst (λ es. AreNoted es keys)
-    (sym (map-append read_entry (take i reads) (get_or reads i d ∷ []))
-    ∙ ap (map read_entry) (sym (take_more reads i d within))) noted
-
--- and of the conditions that later ones are compared with
-pub one_more_member : (reads : List Read) (i : ℕ) (d : Read) (keys : Keys) → i < length reads
-    → AreMembers (map read_entry (take i reads) ++ read_entry (get_or reads i d) ∷ []) keys
-    → AreMembers (map read_entry (take (i + 1) reads)) keys
-one_more_member reads i d keys within members =
-    subst (λ es. AreMembers es keys)
-    (sym (map-append read_entry (take i reads) (get_or reads i d ∷ []))
-    ∙ ap (map read_entry) (sym (take_more reads i d within))) members
 
 abbrev marked : ℕ → List Code → List Mark
 marked n cs = map (λ c. (Some n, c)) cs

@@ -6,7 +6,7 @@ use Rattle.manifests.specs.Sames.{AreNoted, TellsSame, AreMembers, TellsEquivale
 use Rattle.manifests.specs.Reports.{AreFindingsOn, on_none, IsFoundOf, IsRead, marks, told_marks, left_open}
 use Rattle.manifests.proofs.MoreSames.{none_noted}
 use Rattle.manifests.proofs.MoreEquivalents.{no_members}
-use Rattle.manifests.proofs.Reports.{one_more, one_more_noted, one_more_member, read_entry}
+use Rattle.manifests.proofs.Reports.{one_more, next_entries, read_entry}
 use Rattle.manifests.proofs.linting.report_on.Goals as goal
 
 none_yet : (k : Known) (fs : List Finding) (ns : List ℕ) → fs ≡ [] → ns ≡ [] → AreFindingsOn k [] (marks fs) ns
@@ -35,6 +35,7 @@ keys-preserved c =
     let E : Read → Type 0 = λ r. IsRead r → AreMembers es c.keys.before
     → TellsEquivalent k es (read_entry r) h × AreMembers (es ++ read_entry r ∷ []) new in
     let alike = subst E c.index-read-index.is (λ r. c.in_ok-subject.ensures.equivalent r es) in
+    let entries = next_entries c.args.read.now i c.index-read-index.result c.keys-test.true in
     record {
       findings = λ all.
           one_more k c.args.read.now i c.index-read-index.result h _ _ _ _ c.keys-test.true all
@@ -46,9 +47,9 @@ keys-preserved c =
           (c.in_ok-note_undecided.ensures
           ∙ ap (λ n. c.keys.undecided.items ++ left_open n h) c.in_ok-subject.ensures.place);
       noted_keys = λ all.
-          one_more_noted c.args.read.now i c.index-read-index.result new c.keys-test.true
+          subst (λ fs. AreNoted fs new) entries
           (same (all i c.index-read-index.result c.keys-test.true) (c.keys.invariant.noted_keys all)).1;
       members = λ all.
-          one_more_member c.args.read.now i c.index-read-index.result new c.keys-test.true
+          subst (λ fs. AreMembers fs new) entries
           (alike (all i c.index-read-index.result c.keys-test.true) (c.keys.invariant.members all)).1;
     }
