@@ -1,5 +1,5 @@
 -- One more key among those that later ones are compared with.
-use Rattle.std.proofs.Common.{◌≡◌, sym, subst, ℕ, true, List, [], ◌∷◌, ◌++◌, inl, inr, length, get_or, ltb}
+use Rattle.std.proofs.Common.{◌≡◌, refl, sym, subst, ℕ, true, List, [], ◌∷◌, ◌++◌, inl, inr, length, get_or, ltb}
 use Rattle.std.specs.Prelude.{IsTrue}
 use Rattle.std.specs.Borrow.{Bor}
 use Rattle.std.specs.List.{All, Any}
@@ -13,27 +13,19 @@ use Rattle.exact_answers.specs.declared.known.Known.{Known}
 use Rattle.manifests.specs.declared.earlier.Keys.{Keys}
 use Rattle.manifests.specs.declared.hiding.Holding.{Holding}
 use Rattle.manifests.specs.Entries.{Entry}
+use Rattle.manifests.proofs.MoreSames.{has_more, has_so}
 use Rattle.manifests.specs.Sames.{HasSpelled, AreMembers, AddsMember, AreEquivalent, HasEquivalent, HasEquivalentMember}
 use Rattle.manifests.specs.Sames.{TellsEquivalent}
 
 abbrev IsSpelledBy : List Entry → ℕ × Bor Platform → Type 0
 IsSpelledBy es m = HasSpelled es (condition_of m.1.now)
 
-has_more : (es : List Entry) (e : Entry) (c : Condition) → HasSpelled es c → HasSpelled (es ++ e ∷ []) c
-has_more [] e c h = absurd h
-has_more (f ∷ es) e c (inl s) = inl s
-has_more (f ∷ es) e c (inr h) = inr (has_more es e c h)
-
-has_last : (es : List Entry) (e : Entry) (c : Condition) → IsConditionText e.0 c → HasSpelled (es ++ e ∷ []) c
-has_last [] e c t = inl t
-has_last (f ∷ es) e c t = inr (has_last es e c t)
-
 pub no_members : (keys : Keys) → keys.members.items ≡ [] → AreMembers [] keys
 no_members keys none = All-same (IsSpelledBy []) keys.members.items [] none (All-nil (IsSpelledBy []))
 
 pub more_members : (es : List Entry) (e : Entry) (keys : Keys) → AreMembers es keys → AreMembers (es ++ e ∷ []) keys
 more_members es e keys =
-    All-weaker (IsSpelledBy es) (IsSpelledBy (es ++ e ∷ [])) (λ m. has_more es e (condition_of m.1.now))
+    All-weaker (IsSpelledBy es) (IsSpelledBy (es ++ e ∷ [])) (λ m h. has_more (λ d. d ≡ condition_of m.1.now) es e (inr h))
     keys.members.items
 
 pub one_member : (es : List Entry) (e : Entry) (old new : Keys) (n : ℕ) (p : Bor Platform) → AddsMember old new n p
@@ -43,14 +35,7 @@ one_member es e old new n p (inl same) before text =
 one_member es e old new n p (inr more) before text =
     All-same (IsSpelledBy (es ++ e ∷ [])) new.members.items (old.members.items ++ (n, p) ∷ []) more
     (All-push (IsSpelledBy (es ++ e ∷ [])) old.members.items (n, p) (more_members es e old before)
-    (has_last es e (condition_of p.now) text))
-
--- a key that spells a condition that is as true
-spelled_alike : (k : Known) (es : List Entry) (d c : Condition) → HasSpelled es d → AreEquivalent k d c
-    → HasEquivalent k es c
-spelled_alike k [] d c h alike = absurd h
-spelled_alike k (e ∷ es) d c (inl t) alike = inl (d, t, alike)
-spelled_alike k (e ∷ es) d c (inr h) alike = inr (spelled_alike k es d c h alike)
+    (has_more (λ d. d ≡ condition_of p.now) es e (inl (condition_of p.now, text, refl))))
 
 pub tells_equivalent : (k : Known) (es : List Entry) (e : Entry) (old : Keys) (c : Condition) → AreMembers es old
     → IsConditionText e.0 c → (h : Holding) → (IsTrue h.equivalent → HasEquivalentMember k old c)
@@ -58,8 +43,8 @@ pub tells_equivalent : (k : Known) (es : List Entry) (e : Entry) (old : Keys) (c
 tells_equivalent k es e old c before text h told = λ d t holds.
     let m = told holds in
     subst (HasEquivalent k es) (one_condition e.0 c d text t)
-    (spelled_alike k es (condition_of m.1.1.now) c
-    (subst (IsSpelledBy es) m.3 (before m.0 m.1 m.2)) m.4)
+    (has_so (λ x. x ≡ condition_of m.1.1.now) (λ x. AreEquivalent k x c) es
+    (λ x is. subst (λ y. AreEquivalent k y c) (sym is) m.4) (subst (IsSpelledBy es) m.3 (before m.0 m.1 m.2)))
 
 -- a member that is found at a place
 pub member_at : (k : Known) (ms : List (ℕ × Bor Platform)) (keys : Keys) (c : Condition) (i : ℕ)

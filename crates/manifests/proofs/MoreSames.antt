@@ -15,7 +15,8 @@ use Rattle.manifests.specs.declared.earlier.Keys.{Keys}
 use Rattle.manifests.specs.declared.hiding.Holding.{Holding}
 use Rattle.manifests.specs.Entries.{Entry}
 use Rattle.manifests.specs.Reports.{SpellsNothing}
-use Rattle.manifests.specs.Sames.{noted, NotesBy, Notes, SpellsSame, HasSame, AreNoted, TellsSame}
+use Rattle.manifests.specs.Sames.{noted, NotesBy, Notes, SpellsOne, HasOne, IsSameAs, HasSame, AreNoted}
+use Rattle.manifests.specs.Sames.{TellsSame}
 
 -- ---- a map in which one key is set
 
@@ -37,28 +38,28 @@ set_one c d n old new is =
 
 -- ---- the keys so far
 
-has_more : (es : List Entry) (e : Entry) (c : Condition) → SpellsSame e.0 c ⊎ HasSame es c
-    → HasSame (es ++ e ∷ []) c
-has_more [] e c (inl s) = inl s
-has_more [] e c (inr h) = absurd h
-has_more (f ∷ es) e c (inl s) = inr (has_more es e c (inl s))
-has_more (f ∷ es) e c (inr (inl s)) = inl s
-has_more (f ∷ es) e c (inr (inr h)) = inr (has_more es e c (inr h))
+module _ (P : Condition → Type 0) where
+  pub has_more : (es : List Entry) (e : Entry) → SpellsOne P e.0 ⊎ HasOne P es → HasOne P (es ++ e ∷ [])
+  has_more [] e (inl s) = inl s
+  has_more [] e (inr h) = absurd h
+  has_more (f ∷ es) e (inl s) = inr (has_more es e (inl s))
+  has_more (f ∷ es) e (inr (inl s)) = inl s
+  has_more (f ∷ es) e (inr (inr h)) = inr (has_more es e (inr h))
 
-has_last : (es : List Entry) (e : Entry) (c : Condition) → HasSame (es ++ e ∷ []) c
-    → SpellsSame e.0 c ⊎ HasSame es c
-has_last [] e c (inl s) = inl s
-has_last [] e c (inr h) = absurd h
-has_last (f ∷ es) e c (inl s) = inr (inl s)
-has_last (f ∷ es) e c (inr h) = elim (has_last es e c h) [ inl s ↦ inl s | inr k ↦ inr (inr k) ]
+  has_last : (es : List Entry) (e : Entry) → HasOne P (es ++ e ∷ []) → SpellsOne P e.0 ⊎ HasOne P es
+  has_last [] e (inl s) = inl s
+  has_last [] e (inr h) = absurd h
+  has_last (f ∷ es) e (inl s) = inr (inl s)
+  has_last (f ∷ es) e (inr h) = elim (has_last es e h) [ inl s ↦ inl s | inr k ↦ inr (inr k) ]
 
-has_moved : (es : List Entry) (c d : Condition) → condition_key c ≡ condition_key d → HasSame es c → HasSame es d
-has_moved [] c d same h = absurd h
-has_moved (e ∷ es) c d same (inl (x, text, key)) = inl (x, text, key ∙ same)
-has_moved (e ∷ es) c d same (inr h) = inr (has_moved es c d same h)
+  -- one of which something follows
+  pub has_so : (Q : Condition → Type 0) (es : List Entry) → ((d : Condition) → P d → Q d) → HasOne P es → HasOne Q es
+  has_so Q [] so h = absurd h
+  has_so Q (e ∷ es) so (inl (d, text, p)) = inl (d, text, so d p)
+  has_so Q (e ∷ es) so (inr h) = inr (has_so Q es so h)
 
 -- what the text of a condition spells is it
-spelled_key : (text : List ℕ) (c d : Condition) → IsConditionText text c → SpellsSame text d
+spelled_key : (text : List ℕ) (c d : Condition) → IsConditionText text c → SpellsOne (IsSameAs d) text
     → condition_key c ≡ condition_key d
 spelled_key text c d t (x, u, key) = ap condition_key (one_condition text c x t u) ∙ key
 
@@ -69,21 +70,21 @@ module _ (es : List Entry) (e : Entry) (old new : Keys) (p : Bor Platform) (befo
     (text : IsConditionText e.0 (condition_of p.now)) where
   noted_by : (o : Option ℕ) → noted old p ≡ o → NotesBy o old new (condition_of p.now) → AreNoted (es ++ e ∷ []) new
   noted_by (Some first) is stays = λ q. (
-    λ h. has_more es e (condition_of q.now) (inr ((before q).0 (subst IsSome (stays q) h))),
-    λ h. subst IsSome (sym (stays q)) ((before q).1 (elim (has_last es e (condition_of q.now) h) [
+    λ h. has_more (IsSameAs (condition_of q.now)) es e (inr ((before q).0 (subst IsSome (stays q) h))),
+    λ h. subst IsSome (sym (stays q)) ((before q).1 (elim (has_last (IsSameAs (condition_of q.now)) es e h) [
       | inl s ↦
-          has_moved es (condition_of p.now) (condition_of q.now)
-          (spelled_key e.0 (condition_of p.now) (condition_of q.now) text s)
+          has_so (IsSameAs (condition_of p.now)) (IsSameAs (condition_of q.now)) es
+          (λ d key. key ∙ spelled_key e.0 (condition_of p.now) (condition_of q.now) text s)
           ((before p).0 (subst IsSome (sym is) refl))
       | inr k ↦ k
     ])),
   )
   noted_by None is adds = λ q. (
-    λ h. has_more es e (condition_of q.now) (elim ((adds q).0 h) [
+    λ h. has_more (IsSameAs (condition_of q.now)) es e (elim ((adds q).0 h) [
       | inl key ↦ inl (condition_of p.now, text, key)
       | inr was ↦ inr ((before q).0 was)
     ]),
-    λ h. (adds q).1 (elim (has_last es e (condition_of q.now) h) [
+    λ h. (adds q).1 (elim (has_last (IsSameAs (condition_of q.now)) es e h) [
       | inl s ↦ inl (spelled_key e.0 (condition_of p.now) (condition_of q.now) text s)
       | inr k ↦ inr ((before q).1 k)
     ]),
@@ -104,8 +105,8 @@ module _ (es : List Entry) (e : Entry) (old new : Keys) (p : Bor Platform) (befo
 pub none_more : (es : List Entry) (e : Entry) (keys : Keys) → AreNoted es keys → SpellsNothing e.0
     → AreNoted (es ++ e ∷ []) keys
 none_more es e keys before nothing = λ q. (
-  λ h. has_more es e (condition_of q.now) (inr ((before q).0 h)),
-  λ h. (before q).1 (elim (has_last es e (condition_of q.now) h) [
+  λ h. has_more (IsSameAs (condition_of q.now)) es e (inr ((before q).0 h)),
+  λ h. (before q).1 (elim (has_last (IsSameAs (condition_of q.now)) es e h) [
     | inl s ↦ absurd (nothing s.0 s.1)
     | inr k ↦ k
   ]),

@@ -44,14 +44,20 @@ NotesBy None old new c =
 abbrev pub Notes : Keys → Keys → Bor Platform → Type 0
 Notes old new p = NotesBy (noted old p) old new (condition_of p.now)
 
--- the text spells a condition that is the same as this one
-abbrev pub SpellsSame : List ℕ → Condition → Type 0
-SpellsSame text c = (d : Condition) × IsConditionText text d × (condition_key d ≡ condition_key c)
+-- the text spells a condition of which something holds
+abbrev pub SpellsOne : (Condition → Type 0) → List ℕ → Type 0
+SpellsOne P text = (d : Condition) × IsConditionText text d × P d
 
 -- one of the keys does
+abbrev pub HasOne : (Condition → Type 0) → List Entry → Type 0
+HasOne P [] = ⊥
+HasOne P (e ∷ es) = SpellsOne P e.0 ⊎ HasOne P es
+
+abbrev pub IsSameAs : Condition → Condition → Type 0
+IsSameAs c d = condition_key d ≡ condition_key c
+
 abbrev pub HasSame : List Entry → Condition → Type 0
-HasSame [] c = ⊥
-HasSame (e ∷ es) c = SpellsSame e.0 c ⊎ HasSame es c
+HasSame es c = HasOne (IsSameAs c) es
 
 -- noted are the conditions of these keys
 abbrev pub AreNoted : List Entry → Keys → Type 0
@@ -66,14 +72,9 @@ TellsSame es e h = (c : Condition) → IsConditionText e.0 c → (IsTrue h.same 
 abbrev pub AreEquivalent : Known → Condition → Condition → Type 0
 AreEquivalent k c d = ForEach k (λ name s. IsTrueCondition name s c ↔ IsTrueCondition name s d)
 
--- the text spells a condition that is as true as this one for each possible target
-abbrev pub SpellsEquivalent : Known → List ℕ → Condition → Type 0
-SpellsEquivalent k text c = (d : Condition) × IsConditionText text d × AreEquivalent k d c
-
--- one of the keys does
+-- one of the keys spells a condition that is as true as this one for each possible target
 abbrev pub HasEquivalent : Known → List Entry → Condition → Type 0
-HasEquivalent k [] c = ⊥
-HasEquivalent k (e ∷ es) c = SpellsEquivalent k e.0 c ⊎ HasEquivalent k es c
+HasEquivalent k es c = HasOne (λ d. AreEquivalent k d c) es
 
 -- `equivalent` holds of a key only where an earlier one spells a condition that is as true
 abbrev pub TellsEquivalent : Known → List Entry → Entry → Holding → Type 0
@@ -89,8 +90,7 @@ AddsMember old new n p =
     (new.members.items ≡ old.members.items) ⊎ (new.members.items ≡ old.members.items ++ (n, p) ∷ [])
 
 abbrev pub HasSpelled : List Entry → Condition → Type 0
-HasSpelled [] c = ⊥
-HasSpelled (e ∷ es) c = IsConditionText e.0 c ⊎ HasSpelled es c
+HasSpelled es c = HasOne (λ d. d ≡ c) es
 
 -- each of them is spelled by one of the keys
 abbrev pub AreMembers : List Entry → Keys → Type 0
