@@ -25,8 +25,8 @@ no_members keys none = All-same (IsSpelledBy []) keys.members.items [] none (All
 
 pub more_members : (es : List Entry) (e : Entry) (keys : Keys) → AreMembers es keys → AreMembers (es ++ e ∷ []) keys
 more_members es e keys =
-    All-weaker (IsSpelledBy es) (IsSpelledBy (es ++ e ∷ [])) (λ m h. has_more (λ d. d ≡ condition_of m.1.now) es e (inr h))
-    keys.members.items
+    All-weaker (IsSpelledBy es) (IsSpelledBy (es ++ e ∷ []))
+    (λ m h. has_more (λ d. d ≡ condition_of m.1.now) es e (inr h)) keys.members.items
 
 pub one_member : (es : List Entry) (e : Entry) (old new : Keys) (n : ℕ) (p : Bor Platform) → AddsMember old new n p
     → AreMembers es old → IsConditionText e.0 (condition_of p.now) → AreMembers (es ++ e ∷ []) new
