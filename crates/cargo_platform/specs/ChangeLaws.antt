@@ -105,13 +105,13 @@ ComesNoLater text before now =
     (r : IsRefusedBy IsAcceptedReleased Expressions text before) (q : IsRefused Expressions text now)
     → length q.prefix ≤ length r.prefix
 
--- the fault was the same, behind the same tokens and with the same span
+-- the fault was the same, after the same tokens and with the same span
 abbrev pub WasThere : {text : List ℕ} {fault : Fault} → IsRefused Expressions text fault → Type 0
 WasThere {text = text} {fault = fault} q =
     (r : IsRefusedBy IsAcceptedReleased Expressions text fault) × (r.prefix ≡ q.prefix)
     × (span_of text r.accepted r.next ≡ span_of text q.accepted q.next)
 
--- the fault is at `=` behind unmarked `true` or `false`, which the Rust crate takes as a key
+-- the fault is at `=` after an unmarked `true` or `false`, which the Rust crate takes as a key
 pub record IsAtLiteralKey (text : List ℕ) (fault : Fault) (q : IsRefused Expressions text fault) : Type 0 where
   pub before : List Lexeme
   pub key : Name
@@ -126,11 +126,11 @@ pub record IsAtLiteralKey (text : List ℕ) (fault : Fault) (q : IsRefused Expre
   pub at_start : before ≡ [] → fault ≡ UnterminatedExpression (drop equals.start text)
   pub in_group : (before ≡ [] → ⊥) → fault ≡ UnexpectedToken (codes "`)`") (codes "`=`")
 
--- today's fault was there, or it is at `=` behind a literal
+-- today's fault was there, or it is at `=` after a literal
 abbrev pub WasThereOrIsAtKey : List ℕ → Fault → Type 0
 WasThereOrIsAtKey text fault = (q : IsRefused Expressions text fault) → WasThere q ⊎ IsAtLiteralKey text fault q
 
--- where today's fault is at `=` behind a literal, more tokens stood before the fault of then
+-- where today's fault is at `=` after a literal, more tokens stood before the fault of then
 abbrev pub CameLaterAtKey : List ℕ → Fault → Fault → Type 0
 CameLaterAtKey text before now =
     (r : IsRefusedBy IsAcceptedReleased Expressions text before) (q : IsRefused Expressions text now)

@@ -136,6 +136,11 @@ impl Drop for CfgExpr {
 }
 
 impl CfgExpr {
+    ghost use Rattle.std.specs.Prelude.{◌≡◌, ◌<◌, ◌+◌, IsTrue, false};
+    ghost use Rattle.cargo_platform.specs.Trees.{tree_of};
+    ghost use Rattle.cargo_platform.specs.ExpressionSizes.{node_count, node_counts};
+    ghost use Rattle.cargo_platform.specs.Inside.Printing.{is_group};
+
     /// Drops what a negation negates.
     #[inline(never)]
     fn drop_negated(mut self) {
@@ -151,39 +156,70 @@ impl CfgExpr {
         }
     }
 
-    /// Drops the members of a list in a loop.
-    ///
-    /// One list and one expression are at hand at a time. The list gives up its last member. Where that has members of
-    /// its own, the first of these is taken out, the list at hand is put into its place, and these members become the
-    /// list at hand. No list is let go before it is empty.
+    /// Drops the members of a list in a loop: the last one, until none is left.
     #[inline(never)]
     fn drop_members(mut left: Vec<CfgExpr>) {
-        'members: while let Some(last) = left.pop() {
-            let mut e = last;
-            'levels: loop {
-                let mut members = match e.into_parts() {
-                    CfgExprParts::Not(negated) => {
-                        e = Box::into_inner(negated);
-                        continue;
-                    }
-                    CfgExprParts::All(members) | CfgExprParts::Any(members) => members,
-                    CfgExprParts::Value(_value) => continue 'members,
-                    CfgExprParts::True | CfgExprParts::False => continue 'members,
-                };
-                if members.is_empty() {
-                    members.destroy_empty();
-                    continue 'members;
+        while let Some(last) = left.last() {
+            if last.has_no_members() {
+                if let Some(leaf) = left.pop() {
+                    leaf.drop_leaf();
                 }
-                if left.is_empty() {
-                    left.destroy_empty();
-                    left = members;
-                    continue 'members;
-                }
-                e = mem::replace(&mut members[0], CfgExpr::All(left));
-                left = members;
+            } else if let Some(group) = left.pop() {
+                left = group.drop_to_members(left);
             }
         }
         left.destroy_empty();
+    }
+
+    /// Drops the groups that stand within one another at the end of a list, and answers what is still to be dropped.
+    ///
+    /// One list and one expression are at hand at a time. Where the expression has members, the first of these is
+    /// taken out, the list at hand is put into its place, and these members become the list at hand. No list is let go
+    /// before it is empty.
+    fn drop_to_members(self, mut left: Vec<CfgExpr>) -> Vec<CfgExpr>
+        // It is less than what was given.
+        ensures fewer { node_counts result.items < node_count self + node_counts left.items }
+    {
+        let mut e = self;
+        'levels: loop {
+            let mut members = match e.into_parts() {
+                CfgExprParts::Not(negated) => {
+                    e = Box::into_inner(negated);
+                    continue;
+                }
+                CfgExprParts::All(members) | CfgExprParts::Any(members) => members,
+                CfgExprParts::Value(_value) => return left,
+                CfgExprParts::True | CfgExprParts::False => return left,
+            };
+            if members.is_empty() {
+                members.destroy_empty();
+                return left;
+            }
+            if left.is_empty() {
+                left.destroy_empty();
+                return members;
+            }
+            e = mem::replace(&mut members[0], CfgExpr::All(left));
+            left = members;
+        }
+    }
+
+    /// Whether the expression is a name, a pair or a literal.
+    fn has_no_members(&self) -> bool
+        ensures { IsTrue result → is_group (tree_of self.now) ≡ false }
+    {
+        matches!(self, CfgExpr::Value(_) | CfgExpr::True | CfgExpr::False)
+    }
+
+    /// Drops a name, a pair or a literal.
+    fn drop_leaf(self)
+        requires { is_group (tree_of self) ≡ false }
+    {
+        match self.into_parts() {
+            CfgExprParts::Value(_value) => {}
+            CfgExprParts::True | CfgExprParts::False => {}
+            CfgExprParts::Not(_) | CfgExprParts::All(_) | CfgExprParts::Any(_) => unreachable!(),
+        }
     }
 }
 

@@ -9,8 +9,9 @@ ghost use Rattle.cargo_platform.specs.Trees.{Tree, name_of, value_of, tree_of, N
 ghost use Rattle.cargo_platform.specs.Spelling.{Grammar, Values, Expressions, is_group_word, is_literal_word, Spells};
 ghost use Rattle.cargo_platform.specs.Walk.{Opening, Negated, Listed, list_tree, Wanting, WithWord, WithTree, start};
 ghost use Rattle.cargo_platform.specs.Walk.{kinds, is_lone};
-ghost use Rattle.cargo_platform.specs.Inside.Parsing.{LacksPunctuation, opening, stack, IsFresh, is_all, is_list, openings};
-ghost use Rattle.cargo_platform.specs.Inside.Parsing.{opening_word, with_last, TakesToken, at_name, at_lone_name, at_done};
+ghost use Rattle.cargo_platform.specs.Inside.Parsing.{LacksPunctuation, opening, stack, IsFresh, is_all, is_list};
+ghost use Rattle.cargo_platform.specs.Inside.Parsing.{openings, opening_word, with_last, TakesToken};
+ghost use Rattle.cargo_platform.specs.Inside.Parsing.{at_name, at_lone_name, at_done};
 ghost use Rattle.cargo_platform.specs.Inside.Parsing.{Reads, IsClear, IsClearAfter, Stops, HasLooked};
 
 use crate::cfg::{Cfg, CfgExpr, Ident};

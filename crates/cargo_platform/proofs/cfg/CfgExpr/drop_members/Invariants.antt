@@ -1,10 +1,5 @@
-use Rattle.std.proofs.Common.{◌+◌, ◌≤◌}
-use Rattle.cargo_platform.specs.ExpressionSizes.{node_count, node_counts}
+use Rattle.cargo_platform.specs.ExpressionSizes.{node_counts}
 use Rattle.cargo_platform.proofs.cfg.CfgExpr.drop_members.Given as goal
 
-abbrev pub decreases-members : goal.decreases-members
-decreases-members l = node_counts l.left.items
-
-abbrev pub invariant-levels : goal.invariant-levels
-invariant-levels l =
-    node_count l.e + node_counts l.left.items ≤ node_count l.initial.e + node_counts l.initial.left.items
+abbrev pub decreases-loop-last : goal.decreases-loop-last
+decreases-loop-last l = node_counts l.left.items
