@@ -17,7 +17,6 @@ beside_others k text c h same equivalent open_too f = record {
   refused = f.refused;
   unsupported = f.unsupported;
   unknown_fact = f.unknown_fact;
-  may_be_mistaken = f.may_be_mistaken;
   custom = f.custom;
   never = f.never;
   always = f.always;

@@ -18,7 +18,7 @@ use Rattle.manifests.specs.declared.spelled.Spelled.{Spelled}
 use Rattle.manifests.specs.declared.spelled.Spelled.TheVariants as spelled
 use Rattle.manifests.specs.declared.subjects.Read.{Read}
 use Rattle.manifests.specs.declared.subjects.TheConstants.{MANY}
-use Rattle.manifests.specs.Standings.{is_unsupported, is_mistaken, may_be_mistaken, is_other, AreOpen}
+use Rattle.manifests.specs.Standings.{is_unsupported, is_mistaken, is_custom, AreOpen}
 pub use Rattle.manifests.specs.Entries.{Entry, entry_of}
 use Rattle.manifests.specs.Sames.{TellsSame, TellsEquivalent}
 use Rattle.manifests.specs.Hiding.{is_told, told_codes, IsUnspelled}
@@ -52,9 +52,8 @@ AllowsRustcs k = (s : FactSet) → IsAllowed k s ↔ IsRustcs s
 pub record IsFoundOfCondition (k : Known) (text : List ℕ) (c : Condition) (h : Holding) : Type 0 where
   pub refused : h.refused ≡ false
   pub unsupported : h.unsupported ≡ list_any is_unsupported (condition_values c)
-  pub unknown_fact : list_any is_mistaken (condition_values c) ≡ true → IsTrue h.unknown_fact
-  pub may_be_mistaken : IsTrue h.unknown_fact → list_any may_be_mistaken (condition_values c) ≡ true
-  pub custom : IsTrue h.custom → list_any is_other (condition_values c) ≡ true
+  pub unknown_fact : h.unknown_fact ≡ list_any is_mistaken (condition_values c)
+  pub custom : IsTrue h.custom → list_any is_custom (condition_values c) ≡ true
   pub never : IsTrue h.never → IsNever k c
   pub always : IsTrue h.always → IsAlways k c
   pub can_hold : h.never ≡ false → h.undecided ≡ false → CanHold k c

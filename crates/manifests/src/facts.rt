@@ -6,7 +6,7 @@ ghost use Rattle.cargo_platform.specs.Trees.{condition_of, value_of};
 ghost use Rattle.cargo_platform.specs.Warnings.{condition_values};
 ghost use Rattle.known_targets.specs.Rows.{names_of};
 ghost use Rattle.manifests.specs.Standings.{AddsOpen, AreOpen, flag_names};
-ghost use Rattle.manifests.specs.Standings.{HasKinds, sort_in, is_unsupported_sort, is_mistaken_sort, is_other_sort};
+ghost use Rattle.manifests.specs.Standings.{HasKinds, sort_in, is_unsupported_sort, is_mistaken_sort, is_custom_sort};
 
 use crate::declared::Declared;
 use crate::standing::{Standing, name_in, standing_of};
@@ -33,10 +33,8 @@ impl Kinds {
     /// With one more fact of this standing. `is_declared` says that the manifest declares it.
     fn with(self, standing: Standing, is_declared: bool) -> Kinds
         ensures unsupported { result.unsupported ≡ (self.unsupported || is_unsupported_sort (sort_in standing)) }
-        ensures all { (self.mistaken || is_mistaken_sort (sort_in standing)) ≡ true → IsTrue result.mistaken }
-        ensures right { IsTrue result.mistaken
-            → (self.mistaken || (is_mistaken_sort (sort_in standing) || is_other_sort (sort_in standing))) ≡ true }
-        ensures custom { IsTrue result.custom → (self.custom || is_other_sort (sort_in standing)) ≡ true }
+        ensures mistaken { result.mistaken ≡ (self.mistaken || is_mistaken_sort (sort_in standing)) }
+        ensures custom { IsTrue result.custom → (self.custom || is_custom_sort (sort_in standing)) ≡ true }
     {
         Kinds {
             unsupported: self.unsupported || standing.is_unsupported(),
@@ -103,7 +101,8 @@ fn open_flags<'a>(alloc: Global) -> Result<Vec<&'a str>, AllocError>
 
 /// Adds the name or key of a fact where what is said of it is open.
 fn push_open<'a>(names: &mut Vec<&'a str>, c: &'a Cfg, standing: Standing) -> Result<(), AllocError>
-    ensures { OnOk result (AddsOpen (names_of names.old.items) (names_of names.new.items) standing (value_of c.now)) }
+    ensures { OnOk result
+        (AddsOpen (names_of names.old.items) (names_of names.new.items) (sort_in standing) (value_of c.now)) }
 {
     if standing.is_open() {
         names.push(name_in(c))?;

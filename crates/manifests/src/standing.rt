@@ -1,6 +1,6 @@
 //! What a name or pair that a condition asks for is to rustc: one of its own, a mistake, or a custom one.
 
-ghost use Rattle.std.specs.Prelude.{◌≡◌, ◌||◌, true, IfOk, IsTrue, is_some};
+ghost use Rattle.std.specs.Prelude.{◌≡◌, IfOk, is_some};
 ghost use Rattle.std.specs.List.{list_any};
 ghost use Rattle.cargo_platform.specs.Trees.{Alone, KeyPair, value_of};
 ghost use Rattle.cargo_platform.specs.Spelling.{name_in};
@@ -9,8 +9,9 @@ ghost use Rattle.partial_facts.specs.Partly.{is_named};
 ghost use Rattle.known_targets.specs.Listed.{is_had};
 ghost use Rattle.known_targets.specs.Rows.{names_of, plain};
 ghost use Rattle.known_targets.specs.Table.{table_keys};
-ghost use Rattle.manifests.specs.Standings.{has_as_value, sort_of, sort_in, sort_of_key, Other, is_unsupported_sort};
-ghost use Rattle.manifests.specs.Standings.{is_mistaken_sort, is_other_sort, is_open_standing};
+ghost use Rattle.manifests.specs.Standings.{has_as_value, is_one_edit_from, sort_of, sort_in, sort_of_key};
+ghost use Rattle.manifests.specs.Standings.{sort_of_other, is_unsupported_sort, is_mistaken_sort, is_custom_sort};
+ghost use Rattle.manifests.specs.Standings.{is_open_sort};
 
 use cargo_platform::{Cfg, Ident};
 use known_targets::having;
@@ -85,8 +86,7 @@ impl Standing {
 
     /// Whether it is taken for one of rustc's, and none.
     pub fn is_mistake(self) -> bool
-        ensures all { is_mistaken_sort (sort_in self) ≡ true → IsTrue result }
-        ensures right { IsTrue result → (is_mistaken_sort (sort_in self) || is_other_sort (sort_in self)) ≡ true }
+        ensures { result ≡ is_mistaken_sort (sort_in self) }
     {
         match self {
             Standing::ValueAsName(_)
@@ -101,14 +101,14 @@ impl Standing {
 
     /// Whether only `--cfg` sets it.
     pub fn is_custom(self) -> bool
-        ensures { IsTrue result → is_other_sort (sort_in self) ≡ true }
+        ensures { result ≡ is_custom_sort (sort_in self) }
     {
         matches!(self, Standing::Custom)
     }
 
     /// Whether it is open what is said of it.
     pub fn is_open(self) -> bool
-        ensures { result ≡ is_open_standing self }
+        ensures { result ≡ is_open_sort (sort_in self) }
     {
         matches!(self, Standing::Unsupported | Standing::Custom)
     }
@@ -173,8 +173,10 @@ fn near(
     alloc: Global,
     text: &str,
     words: &[&'static str],
-) -> Result<Option<&'static str>, AllocError> {
-    for word in words {
+) -> Result<Option<&'static str>, AllocError>
+    ensures { IfOk result (λ word. is_some word ≡ list_any (is_one_edit_from text.now) (names_of words.now)) }
+{
+    'words: for word in words {
         if word.len().abs_diff(text.len()) <= 1 && osa_distance(alloc, text, word)? == 1 {
             return Ok(Some(*word));
         }
@@ -183,8 +185,9 @@ fn near(
 }
 
 /// What a name or key is that rustc does not have.
+#[tactic(auto, unfolding(crate::specs::Standings::is_near))]
 fn other(alloc: Global, name: &str) -> Result<Standing, AllocError>
-    ensures { IfOk result (λ s. sort_in s ≡ Other) }
+    ensures { IfOk result (λ s. sort_in s ≡ sort_of_other name.now) }
 {
     if name.len() < SHORTEST {
         return Ok(Standing::Custom);

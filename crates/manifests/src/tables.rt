@@ -1,8 +1,13 @@
 //! The tables of a manifest that hold dependencies.
 
-ghost use Rattle.std.specs.Prelude.{◌≡◌, IfOk, not};
-ghost use Rattle.toml.specs.View.{view};
+ghost use Rattle.std.specs.Prelude.{◌≡◌, ◌++◌, IfOk, OnOk, map, not, option_map};
+ghost use Rattle.std.specs.Option.{option_copied};
+ghost use Rattle.toml.specs.Data.{get_member};
+ghost use Rattle.toml.specs.View.{view, table_view};
+ghost use Rattle.manifests.specs.Entries.{entry_of};
+ghost use Rattle.manifests.specs.Tables.{entries_of, target_of, target_told};
 ghost use Rattle.manifests.specs.Tables.{table_name, old_table_name, is_optional};
+ghost use Rattle.manifests.specs.Tables.{row_of, table_of, member_rows, kind_rows, rows_of};
 ghost use Rattle.manifests.specs.Tables.{is_table_name, is_no_table, is_empty_list};
 
 use crate::telling::quoted;
@@ -77,9 +82,18 @@ impl Kind {
     }
 }
 
+/// What stands at a key of a table.
+fn member<'a>(table: &'a Table, key: &str) -> Option<&'a Value>
+    ensures { option_map (λ value. view value.now) result ≡ get_member key.now (table_view table.now) }
+{
+    table.get(key)
+}
+
 /// What stands at `target`.
-pub fn target_keys<'a>(alloc: Global, manifest: &'a Table) -> Result<Targets<'a>, AllocError> {
-    match manifest.get("target") {
+pub fn target_keys<'a>(alloc: Global, manifest: &'a Table) -> Result<Targets<'a>, AllocError>
+    ensures { IfOk result (λ found. target_told found ≡ target_of (table_view manifest.now)) }
+{
+    match member(manifest, "target") {
         None => Ok(Targets::Absent),
         Some(value) => match value.as_table() {
             None => Ok(Targets::NoTable),
@@ -89,7 +103,9 @@ pub fn target_keys<'a>(alloc: Global, manifest: &'a Table) -> Result<Targets<'a>
 }
 
 /// The keys of a table, each with what stands at it.
-pub fn keys_of<'a>(alloc: Global, table: &'a Table) -> Result<Vec<TargetKey<'a>>, AllocError> {
+pub fn keys_of<'a>(alloc: Global, table: &'a Table) -> Result<Vec<TargetKey<'a>>, AllocError>
+    ensures { IfOk result (λ keys. map entry_of keys.items ≡ entries_of (table_view table.now)) }
+{
     let mut keys = Vec::new(alloc);
     'members: for (key, value) in table.iter() {
         let key = key.as_str();
@@ -99,10 +115,12 @@ pub fn keys_of<'a>(alloc: Global, table: &'a Table) -> Result<Vec<TargetKey<'a>>
 }
 
 /// The table of dependencies of a kind: the one with today's name, and where there is none the one with the old name.
-pub fn table_of(table: &Table, kind: Kind) -> Option<&Value> {
-    match table.get(kind.table_name()) {
+pub fn table_of(table: &Table, kind: Kind) -> Option<&Value>
+    ensures { option_map (λ value. view value.now) result ≡ table_of kind (table_view table.now) }
+{
+    match member(table, kind.table_name()) {
         Some(value) => Some(value),
-        None => table.get(kind.old_table_name()),
+        None => member(table, kind.old_table_name()),
     }
 }
 
@@ -111,7 +129,9 @@ pub fn dependencies<'a>(
     alloc: Global,
     table: &'a Table,
     key: Option<&'a str>,
-) -> Result<Vec<Dependency<'a>>, AllocError> {
+) -> Result<Vec<Dependency<'a>>, AllocError>
+    ensures { IfOk result (λ rows. map row_of rows.items ≡ rows_of (option_copied key.entry) (table_view table.now)) }
+{
     let mut rows = Vec::new(alloc);
     add_rows(table, Kind::Normal, key, &mut rows)?;
     add_rows(table, Kind::Development, key, &mut rows)?;
@@ -125,7 +145,10 @@ fn add_rows<'a>(
     kind: Kind,
     key: Option<&'a str>,
     rows: &mut Vec<Dependency<'a>>,
-) -> Result<(), AllocError> {
+) -> Result<(), AllocError>
+    ensures { OnOk result (map row_of rows.new.items
+        ≡ map row_of rows.old.items ++ kind_rows (option_copied key.entry) (table_view table.now) kind) }
+{
     let Some(value) = table_of(table, kind) else {
         return Ok(());
     };
@@ -141,7 +164,10 @@ fn add_members<'a>(
     kind: Kind,
     key: Option<&'a str>,
     rows: &mut Vec<Dependency<'a>>,
-) -> Result<(), AllocError> {
+) -> Result<(), AllocError>
+    ensures { OnOk result (map row_of rows.new.items
+        ≡ map row_of rows.old.items ++ member_rows (option_copied key.entry) kind (table_view members.now)) }
+{
     'members: for (name, value) in members.iter() {
         rows.push(Dependency {
             name: name.as_str(),

@@ -14,11 +14,11 @@ values-preserved c =
     record {
       kinds =
           one_kind cs i c.each-item.result c.values-test.true c.values.kinds c.with-kinds.result (sort_in s) is
-          c.with-kinds.ensures.unsupported c.with-kinds.ensures.all c.with-kinds.ensures.right
-          c.with-kinds.ensures.custom c.values.invariant.kinds;
+          c.with-kinds.ensures.unsupported c.with-kinds.ensures.mistaken c.with-kinds.ensures.custom
+          c.values.invariant.kinds;
       open_keys =
           one_open cs i c.each-item.result c.values-test.true (names_of c.values.open_names.items)
-          (names_of c.push_open.new.names.items) s is
-          (subst (λ z. AddsOpen (names_of c.values.open_names.items) (names_of c.push_open.new.names.items) s
+          (names_of c.push_open.new.names.items) (sort_in s) is
+          (subst (λ z. AddsOpen (names_of c.values.open_names.items) (names_of c.push_open.new.names.items) (sort_in s)
           (value_of z.now)) c.each-item.is c.in_ok-push_open.ensures) c.values.invariant.open_keys;
     }

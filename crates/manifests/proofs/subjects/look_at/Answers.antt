@@ -15,7 +15,6 @@ returns c =
       refused = refl;
       unsupported = c.in_ok-facts.ensures.kinds.unsupported;
       unknown_fact = c.in_ok-facts.ensures.kinds.mistaken;
-      may_be_mistaken = c.in_ok-facts.ensures.kinds.may_be_mistaken;
       custom = c.in_ok-facts.ensures.kinds.custom;
       never = c.in_ok-never.ensures.never;
       always = c.in_ok-never.ensures.always;
