@@ -1,43 +1,53 @@
 //! Expressions, read from text.
 
-use crate::support::assert_holds;
+use crate::messages::{IDENTIFIER, NAME, Refused, START, UNCLOSED, UNTERMINATED};
+use crate::support::{assert_expression_prints, assert_holds, assert_refused, read_expression};
 use cargo_platform::{Cfg, CfgExpr};
-use test_support::compared::{prints, same};
-use test_support::faults::{Fault, is_refused};
+use std::alloc::Global;
+use std::process::Abort;
+use test_support::compared::same;
+use test_support::faults::{Fault, refusal_of_expression};
 use test_support::made::expression;
 use test_support::texts::EXPRESSIONS_READ;
 
+/// Asserts which tree a text is read as, and what that prints.
+fn assert_is_read(rt: &impl Abort, alloc: Global, text: &str, tree: &str, printed: &str) {
+    let read = read_expression(rt, alloc, text);
+    let wanted = expression(alloc, tree).expect(rt, "memory");
+    assert_holds(rt, same(&read, &wanted), text);
+    assert_expression_prints(rt, alloc, &read, printed);
+}
+
 #[test]
 fn expressions_are_read(rt: HostRuntime) {
-    let alloc = rt.alloc();
     for (text, tree, printed) in EXPRESSIONS_READ {
-        let read = CfgExpr::from_str(alloc, text).expect(&rt, text);
-        let wanted = expression(alloc, tree).expect(&rt, "memory");
-        assert!(rt; same(&read, &wanted), "{text}");
-        assert_holds(&rt, prints(alloc, &read, printed), printed);
+        assert_is_read(&rt, rt.alloc(), text, tree, printed);
+    }
+}
+
+/// Whether a fact is the pair of an unmarked key and a value.
+fn is_pair(fact: &Cfg, name: &str, wanted: &str) -> bool {
+    match fact {
+        Cfg::KeyPair(key, value) => { !key.raw && key.as_str() == name && value.as_str() == wanted }
+        Cfg::Name(_) => false,
+    }
+}
+
+/// Whether an expression is this pair.
+fn is_of_pair(e: &CfgExpr, name: &str, wanted: &str) -> bool {
+    match e {
+        CfgExpr::Value(fact) => is_pair(fact, name, wanted),
+        _ => false,
     }
 }
 
 #[test]
 fn a_value_with_a_space(rt: HostRuntime) {
-    let read = CfgExpr::from_str(rt.alloc(), "foo = \"3 e\"").expect(&rt, "foo = \"3 e\"");
-    assert_holds(
-        &rt,
-        prints(rt.alloc(), &read, "foo = \"3 e\""),
-        "foo = \"3 e\"",
-    );
-    let CfgExpr::Value(Cfg::KeyPair(key, value)) = &read else {
-        panic!(rt; "a pair");
-    };
-    assert!(rt; !key.raw && key.as_str() == "foo" && value.as_str() == "3 e");
+    let text = "foo = \"3 e\"";
+    let read = read_expression(&rt, rt.alloc(), text);
+    assert_expression_prints(&rt, rt.alloc(), &read, text);
+    assert_holds(&rt, is_of_pair(&read, "foo", "3 e"), text);
 }
-
-/// A text, its fault, and what the fault prints.
-type Refused = (&'static str, Fault<'static>, &'static str);
-
-const START: &str = "expected start of a cfg expression, but cfg expression ended";
-
-const UNCLOSED: &str = "expected `)`, but cfg expression ended";
 
 const UNOPENED: &str = "expected `(`, but cfg expression ended";
 
@@ -46,10 +56,6 @@ const NO_STRING: &str = "expected a string, but cfg expression ended";
 const COMMA: &str = "expected identifier, found `,`";
 
 const CLOSE: &str = "expected identifier, found `)`";
-
-const NAME: &str = "expected `)`, found an identifier";
-
-const UNTERMINATED: &str = "unterminated string in cfg";
 
 const REFUSED: &[Refused] = &[
     // Where a start is missing.
@@ -145,11 +151,7 @@ const REFUSED: &[Refused] = &[
     ),
     // What begins no token.
     ("all(a \"", Fault::UnterminatedString, UNTERMINATED),
-    (
-        "all r#",
-        Fault::IncompleteExpr("identifier"),
-        "expected identifier, but cfg expression ended",
-    ),
+    ("all r#", Fault::IncompleteExpr("identifier"), IDENTIFIER),
     (
         "any(a, €)",
         Fault::UnexpectedChar('€'),
@@ -200,12 +202,9 @@ const REFUSED: &[Refused] = &[
 
 #[test]
 fn other_texts_are_refused(rt: HostRuntime) {
+    let alloc = rt.alloc();
     for (text, fault, message) in REFUSED {
-        let read = CfgExpr::from_str(rt.alloc(), text);
-        assert_holds(
-            &rt,
-            is_refused(rt.alloc(), &read.err(), text, *fault, message),
-            text,
-        );
+        let refusal = refusal_of_expression(alloc, text);
+        assert_refused(&rt, alloc, &refusal, text, *fault, message);
     }
 }

@@ -1,6 +1,6 @@
 //! How often a text is looked at while it is read.
 
-use cargo_platform::CfgExpr;
+use crate::support::{assert_holds, reading};
 
 /// A text, whether it is read, and how often it is looked at: once at each character that is come to, and at the end.
 const TEXTS: &[(&str, bool, u128)] = &[
@@ -18,8 +18,8 @@ const TEXTS: &[(&str, bool, u128)] = &[
 #[test]
 fn looks_at_short_texts(rt: HostRuntime) {
     for (text, is_read, count) in TEXTS {
-        let (read, looks) = CfgExpr::from_str_counted(rt.alloc(), text);
-        assert_eq!(rt; read.is_ok(), *is_read, "{text}");
-        assert_eq!(rt; looks.count(), *count, "{text}");
+        let (read, looks) = reading(rt.alloc(), text);
+        assert_holds(&rt, read.is_ok() == *is_read, text);
+        assert_holds(&rt, looks == *count, text);
     }
 }

@@ -1,49 +1,39 @@
 //! Names and pairs, read from text.
 
-use crate::support::assert_holds;
+use crate::messages::{IDENTIFIER, Refused, UNTERMINATED};
+use crate::support::{Spelled, assert_cfg_prints, assert_holds, assert_refused, is_fact, read_cfg};
 use cargo_platform::Cfg;
-use test_support::compared::prints;
-use test_support::faults::{Fault, is_refused};
+use std::alloc::Global;
+use std::process::Abort;
+use test_support::faults::{Fault, refusal_of_cfg};
 use test_support::texts::VALUES_READ;
 
-fn is_read(read: &Cfg, raw: bool, name: &str, value: Option<&str>) -> bool {
-    match (read, value) {
-        (Cfg::Name(i), None) => i.raw == raw && i.name.as_str() == name,
-        (Cfg::KeyPair(k, v), Some(value)) => {
-            k.raw == raw && k.name.as_str() == name && v.as_str() == value
-        }
-        _ => false,
-    }
+/// Asserts what a text is read as, and what that prints.
+fn assert_is_read(rt: &impl Abort, alloc: Global, text: &str, wanted: Spelled<'_>, printed: &str) {
+    let read = read_cfg(rt, alloc, text);
+    assert_holds(rt, is_fact(&read, wanted), text);
+    assert_cfg_prints(rt, alloc, &read, printed);
 }
 
 #[test]
 fn names_and_pairs_are_read(rt: HostRuntime) {
-    let alloc = rt.alloc();
     for (text, raw, name, value, printed) in VALUES_READ {
-        let read = Cfg::from_str(alloc, text).expect(&rt, text);
-        assert!(rt; is_read(&read, *raw, name, *value), "{text}");
-        assert_holds(&rt, prints(alloc, &read, printed), printed);
+        assert_is_read(&rt, rt.alloc(), text, (*raw, name, *value), printed);
     }
 }
 
 #[test]
 fn bytes_of_a_value(rt: HostRuntime) {
-    let text = "k = \"é\n, )\"";
-    let Cfg::KeyPair(_, value) = Cfg::from_str(rt.alloc(), text).expect(&rt, text) else {
+    let Cfg::KeyPair(_, value) = read_cfg(&rt, rt.alloc(), "k = \"é\n, )\"") else {
         panic!(rt; "a pair");
     };
     let bytes: &[u8] = &[0xc3, 0xa9, 0x0a, 0x2c, 0x20, 0x29];
     assert_eq!(rt; value.as_bytes(), bytes);
 }
 
-/// A text, its fault, and what the fault prints.
-type Refused = (&'static str, Fault<'static>, &'static str);
-
-const START: &str = "expected identifier, but cfg expression ended";
-
 const REFUSED: &[Refused] = &[
-    ("", Fault::IncompleteExpr("identifier"), START),
-    (" ", Fault::IncompleteExpr("identifier"), START),
+    ("", Fault::IncompleteExpr("identifier"), IDENTIFIER),
+    (" ", Fault::IncompleteExpr("identifier"), IDENTIFIER),
     (
         "\t",
         Fault::UnexpectedChar('\t'),
@@ -79,11 +69,7 @@ const REFUSED: &[Refused] = &[
         Fault::IncompleteExpr("a string"),
         "expected a string, but cfg expression ended",
     ),
-    (
-        "bar = \"",
-        Fault::UnterminatedString,
-        "unterminated string in cfg",
-    ),
+    ("bar = \"", Fault::UnterminatedString, UNTERMINATED),
     (
         "foo, bar",
         Fault::UnterminatedExpression(", bar"),
@@ -118,12 +104,9 @@ const REFUSED: &[Refused] = &[
 
 #[test]
 fn other_texts_are_refused(rt: HostRuntime) {
+    let alloc = rt.alloc();
     for (text, fault, message) in REFUSED {
-        let read = Cfg::from_str(rt.alloc(), text);
-        assert_holds(
-            &rt,
-            is_refused(rt.alloc(), &read.err(), text, *fault, message),
-            text,
-        );
+        let refusal = refusal_of_cfg(alloc, text);
+        assert_refused(&rt, alloc, &refusal, text, *fault, message);
     }
 }

@@ -1,11 +1,14 @@
 //! Conditions: names of targets and `cfg(..)` expressions, read from text, printed, compared and matched.
 
-use crate::support::assert_holds;
+use crate::messages::{PARENTHESIS, Refused, START, UNCLOSED, UNTERMINATED};
+use crate::support::{
+    assert_holds, assert_platform_prints, assert_refused, read_expression, read_platform,
+};
 use cargo_platform::{CfgExpr, Platform};
 use std::alloc::Global;
 use std::process::Abort;
-use test_support::compared::{prints, same};
-use test_support::faults::{Fault, is_refused};
+use test_support::compared::same;
+use test_support::faults::{Fault, refusal_of_platform};
 use test_support::made::value;
 use test_support::texts::CONDITIONS_READ;
 
@@ -28,35 +31,55 @@ const NAMES: &[&str] = &[
     "漢",
 ];
 
+/// Whether this is the target of this name.
+fn is_name(read: &Platform, wanted: &str) -> bool {
+    match read {
+        Platform::Name(name) => name.as_str() == wanted,
+        Platform::Cfg(_) => false,
+    }
+}
+
+/// Asserts that a text is read as the name of a target, and prints as it.
+fn assert_is_name(rt: &impl Abort, alloc: Global, text: &str) {
+    let read = read_platform(rt, alloc, text);
+    assert_platform_prints(rt, alloc, &read, text);
+    assert_holds(rt, is_name(&read, text), text);
+}
+
 #[test]
 fn names_of_targets(rt: HostRuntime) {
-    let alloc = rt.alloc();
     for text in NAMES {
-        let read = Platform::from_str(alloc, text).expect(&rt, text);
-        assert_holds(&rt, prints(alloc, &read, text), text);
-        assert!(rt;
-            matches!(&read, Platform::Name(name) if name.as_str() == *text),
-            "{text}"
-        );
+        assert_is_name(&rt, rt.alloc(), text);
     }
+}
+
+/// Whether this is the condition of this expression.
+fn is_condition(read: &Platform, wanted: &CfgExpr) -> bool {
+    match read {
+        Platform::Cfg(e) => same(e, wanted),
+        Platform::Name(_) => false,
+    }
+}
+
+/// A text between `cfg(` and `)`.
+fn key_of(rt: &impl Abort, alloc: Global, inner: &str) -> String {
+    format!(in alloc; "cfg({inner})").expect(rt, "memory")
+}
+
+/// Asserts that a text is read as the condition of the expression that prints as `inner`, and that it reads back.
+fn assert_condition(rt: &impl Abort, alloc: Global, text: &str, inner: &str) {
+    let read = read_platform(rt, alloc, text);
+    assert_reads_back(rt, alloc, &read, &key_of(rt, alloc, inner));
+    let wanted = read_expression(rt, alloc, inner);
+    assert_holds(rt, is_condition(&read, &wanted), text);
 }
 
 #[test]
 fn conditions_are_read_and_print(rt: HostRuntime) {
-    let alloc = rt.alloc();
     for (text, inner) in CONDITIONS_READ {
-        let read = Platform::from_str(alloc, text).expect(&rt, text);
-        let printed = format!(in alloc; "cfg({inner})").expect(&rt, "memory");
-        assert_reads_back(&rt, alloc, &read, &printed);
-        let wanted = CfgExpr::from_str(alloc, inner).expect(&rt, inner);
-        assert!(rt;
-            matches!(&read, Platform::Cfg(e) if same(e, &wanted)),
-            "{text}"
-        );
+        assert_condition(&rt, rt.alloc(), text, inner);
     }
 }
-
-const PARENTHESIS: &str = "unexpected `(` character, cfg expressions must start with `cfg(`";
 
 /// A text that is refused as the name of a target, and the message on it.
 const BAD_NAMES: &[(&str, &str)] = &[
@@ -78,51 +101,41 @@ const BAD_NAMES: &[(&str, &str)] = &[
     ("a\u{300}", "unexpected character \u{300} in target name"),
 ];
 
+/// Asserts that a text is refused as the name of a target, with this message.
+fn assert_bad_name(rt: &impl Abort, alloc: Global, text: &str, message: &str) {
+    let refusal = refusal_of_platform(alloc, text);
+    let printed = format!(in alloc; "invalid target specifier: {message}").expect(rt, "memory");
+    assert_refused(
+        rt,
+        alloc,
+        &refusal,
+        text,
+        Fault::InvalidTarget(message),
+        &printed,
+    );
+}
+
 #[test]
 fn bad_names_of_targets(rt: HostRuntime) {
-    let alloc = rt.alloc();
     for (text, message) in BAD_NAMES {
-        let refusal = Platform::from_str(alloc, text).err();
-        let printed = format!(in alloc; "invalid target specifier: {message}");
-        let printed = printed.expect(&rt, "memory");
-        assert_holds(
-            &rt,
-            is_refused(
-                alloc,
-                &refusal,
-                text,
-                Fault::InvalidTarget(message),
-                &printed,
-            ),
-            text,
-        );
+        assert_bad_name(&rt, rt.alloc(), text, message);
     }
 }
 
-/// The text between `cfg(` and `)`, its fault, and what the fault prints.
-type Refused = (&'static str, Fault<'static>, &'static str);
-
+/// What stands between `cfg(` and `)`.
 const BAD_EXPRESSIONS: &[Refused] = &[
     (
         "",
         Fault::IncompleteExpr("start of a cfg expression"),
-        "expected start of a cfg expression, but cfg expression ended",
+        START,
     ),
     (
         "a b",
         Fault::UnterminatedExpression("b"),
         "unexpected content `b` found after cfg expression",
     ),
-    (
-        "all(a",
-        Fault::IncompleteExpr("`)`"),
-        "expected `)`, but cfg expression ended",
-    ),
-    (
-        "a = \"",
-        Fault::UnterminatedString,
-        "unterminated string in cfg",
-    ),
+    ("all(a", Fault::IncompleteExpr("`)`"), UNCLOSED),
+    ("a = \"", Fault::UnterminatedString, UNTERMINATED),
     // A literal is no key.
     (
         "any(not(feature = \"w\"), r#test, true = \"x\", true)",
@@ -135,13 +148,8 @@ const BAD_EXPRESSIONS: &[Refused] = &[
 fn bad_expressions_in_conditions(rt: HostRuntime) {
     let alloc = rt.alloc();
     for (inner, fault, message) in BAD_EXPRESSIONS {
-        let text = format!(in alloc; "cfg({inner})").expect(&rt, "memory");
-        let refusal = Platform::from_str(alloc, &text).err();
-        assert_holds(
-            &rt,
-            is_refused(alloc, &refusal, inner, *fault, message),
-            inner,
-        );
+        let refusal = refusal_of_platform(alloc, &key_of(&rt, alloc, inner));
+        assert_refused(&rt, alloc, &refusal, inner, *fault, message);
     }
 }
 
@@ -149,31 +157,31 @@ fn bad_expressions_in_conditions(rt: HostRuntime) {
 fn a_name_that_prints_as_an_expression(rt: HostRuntime) {
     let alloc = rt.alloc();
     let named = Platform::Name(String::from_str(alloc, "cfg(a)").expect(&rt, "memory"));
-    let printed = named.to_string(alloc).expect(&rt, "memory");
-    assert_eq!(rt; printed.as_str(), "cfg(a)");
-    let read = Platform::from_str(alloc, &printed).expect(&rt, &printed);
+    assert_platform_prints(&rt, alloc, &named, "cfg(a)");
+    let read = read_platform(&rt, alloc, "cfg(a)");
     let wanted = CfgExpr::Value(value(alloc, "a").expect(&rt, "memory"));
-    assert!(rt; matches!(&read, Platform::Cfg(e) if same(e, &wanted)));
+    assert_holds(&rt, is_condition(&read, &wanted), "cfg(a)");
+}
+
+/// Asserts that each beginning of a text is read as the name of a target.
+fn assert_beginnings(rt: &impl Abort, alloc: Global, text: &str) {
+    for (end, _) in text.char_indices() {
+        let beginning = text.get(..end).unwrap_or("");
+        let read = read_platform(rt, alloc, beginning);
+        assert_holds(rt, is_name(&read, beginning), beginning);
+    }
 }
 
 #[test]
 fn beginnings_of_names(rt: HostRuntime) {
-    let alloc = rt.alloc();
     for text in NAMES {
-        for (end, _) in text.char_indices() {
-            let beginning = text.get(..end).unwrap_or("");
-            let read = Platform::from_str(alloc, beginning).expect(&rt, beginning);
-            assert!(rt;
-                matches!(&read, Platform::Name(name) if name.as_str() == beginning),
-                "{beginning}"
-            );
-        }
+        assert_beginnings(&rt, rt.alloc(), text);
     }
 }
 
 /// Asserts that a condition prints as it is wanted, and that this text reads back.
 fn assert_reads_back(rt: &impl Abort, alloc: Global, read: &Platform, printed: &str) {
-    assert_holds(rt, prints(alloc, read, printed), printed);
-    let again = Platform::from_str(alloc, printed).expect(rt, printed);
-    assert_holds(rt, prints(alloc, &again, printed), printed);
+    assert_platform_prints(rt, alloc, read, printed);
+    let again = read_platform(rt, alloc, printed);
+    assert_platform_prints(rt, alloc, &again, printed);
 }

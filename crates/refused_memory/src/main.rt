@@ -1,9 +1,9 @@
 //! Makes the calls that standard input names, and prints their answers.
 //!
-//! The script `.ci/refusals` runs it with each allocation refused in turn, and counts what is released. The status tells
-//! what came of it: 0 after the answers, 9 where a call answered an allocation failure, 8 where a list of warnings was
-//! left changed then, 6 for a name that stands for no call. Each `+` before the name is an allocation that comes before
-//! the call, so one build, with one allocation refused, does for each allocation of each call.
+//! The script `.ci/refusals` runs it with each allocation refused in turn, and counts what is released. The status
+//! tells what came of it: 0 after the answers, 9 where a call answered an allocation failure, 8 where a list of
+//! warnings was left changed then, 6 for a name that stands for no call. Each `+` before the name is an allocation that
+//! comes before the call, so one build, with one allocation refused, does for each allocation of each call.
 #![tactic(auto)]
 
 mod calls;

@@ -1,7 +1,7 @@
 //! What a refusal of a reader has to hold and to print.
 
 use crate::compared::prints;
-use cargo_platform::{ParseError, ParseErrorKind, ReadError};
+use cargo_platform::{Cfg, CfgExpr, ParseError, ParseErrorKind, Platform, ReadError};
 use std::alloc::Global;
 use std::fmt::Display;
 
@@ -84,4 +84,19 @@ fn is_parse_error(
         ReadError::Parse(error) => is_error(alloc, error, orig, fault, message),
         ReadError::Memory(_) => false,
     }
+}
+
+/// Why a text is refused as a name or a pair, if it is.
+pub fn refusal_of_cfg(alloc: Global, text: &str) -> Option<ReadError> {
+    Cfg::from_str(alloc, text).err()
+}
+
+/// Why a text is refused as an expression, if it is.
+pub fn refusal_of_expression(alloc: Global, text: &str) -> Option<ReadError> {
+    CfgExpr::from_str(alloc, text).err()
+}
+
+/// Why a text is refused as a condition or a target, if it is.
+pub fn refusal_of_platform(alloc: Global, text: &str) -> Option<ReadError> {
+    Platform::from_str(alloc, text).err()
 }

@@ -1,14 +1,15 @@
 //! Calls on nests of 100 levels. One that went over a member twice at each level would not end.
 
 use crate::order::assert_order;
-use crate::support::{assert_expression_prints, assert_holds, copy_of_expression, read_expression};
+use crate::support::{
+    add, assert_expression_prints, assert_holds, copy_of_expression, read_expression, repeated,
+};
 use crate::warnings::{assert_warnings, attributes_of, keywords_of, on_attributes};
 use cargo_platform::Platform;
 use std::alloc::Global;
 use std::cmp::Ordering;
 use std::process::Abort;
 use test_support::compared::same;
-use test_support::made::repeated;
 
 /// What stands before and after the member of a level that has the next one.
 const LEVELS: &[(&str, &str)] = &[
@@ -21,12 +22,11 @@ const LEVELS: &[(&str, &str)] = &[
 ];
 
 /// The text of 100 such levels around a name.
-fn nest(rt: &impl Abort, alloc: Global, level: (&str, &str), name: &str) -> String {
+pub fn nest(rt: &impl Abort, alloc: Global, level: (&str, &str), name: &str) -> String {
     let (before, behind) = level;
-    let mut text = repeated(alloc, before, 100).expect(rt, "memory");
-    text.push_str(name).expect(rt, "memory");
-    let closing = repeated(alloc, behind, 100).expect(rt, "memory");
-    text.push_str(&closing).expect(rt, "memory");
+    let mut text = repeated(rt, alloc, before, 100);
+    add(rt, &mut text, name);
+    add(rt, &mut text, &repeated(rt, alloc, behind, 100));
     text
 }
 

@@ -2,14 +2,15 @@
 
 use crate::support::{
     assert_expression_prints, assert_holds, assert_ident_prints, assert_platform_prints,
-    assert_value_prints, expression, ident, owned, read_expression, value,
+    assert_value_prints, between, error_of, expression, ident, matches, owned, printed,
+    read_expression, value,
 };
 use cargo_platform::{Cfg, CfgExpr, ParseError, ParseErrorKind, Platform, ReadError};
 use std::alloc::Global;
 use std::error::Error;
 use std::process::Abort;
 use test_support::compared::prints;
-use test_support::faults::{Fault, is_fault, is_refused};
+use test_support::faults::{Fault, is_fault, is_refused, refusal_of_expression};
 use test_support::texts::TREES;
 
 /// Asserts what a name prints, also as a fact.
@@ -50,8 +51,12 @@ fn assert_tree_prints(rt: &impl Abort, alloc: Global, tree: &str, printed: &str)
     let tree = expression(rt, alloc, tree);
     assert_expression_prints(rt, alloc, &tree, printed);
     let condition = Platform::Cfg(tree);
-    let wanted = format!(in alloc; "cfg({printed})").expect(rt, "memory");
-    assert_platform_prints(rt, alloc, &condition, &wanted);
+    assert_platform_prints(
+        rt,
+        alloc,
+        &condition,
+        &between(rt, alloc, "cfg(", printed, ")"),
+    );
 }
 
 #[test]
@@ -79,7 +84,7 @@ fn targets_print(rt: HostRuntime) {
 
 /// Asserts that a text is refused as an expression, by this fault and with this message.
 fn assert_refused(rt: &impl Abort, alloc: Global, text: &str, fault: Fault<'_>, message: &str) {
-    let refusal = CfgExpr::from_str(alloc, text).err();
+    let refusal = refusal_of_expression(alloc, text);
     assert_holds(rt, is_refused(alloc, &refusal, text, fault, message), text);
 }
 
@@ -99,10 +104,6 @@ fn a_nameless_value(rt: HostRuntime) {
 
 fn is_true(e: &CfgExpr) -> bool {
     matches!(e, CfgExpr::True)
-}
-
-fn matches(e: &CfgExpr, facts: &[Cfg]) -> bool {
-    e.matches(facts)
 }
 
 #[test]
@@ -127,7 +128,7 @@ fn assert_prints_refused(
     message: &str,
 ) {
     let e = CfgExpr::Value(value(rt, alloc, fact));
-    let printed = e.to_string(alloc).expect(rt, "memory");
+    let printed = printed(rt, alloc, &e);
     assert_holds(rt, printed.as_str() == wanted, &printed);
     assert_refused(rt, alloc, &printed, fault, message);
 }
@@ -191,10 +192,6 @@ fn kinds_print(rt: HostRuntime) {
         ParseErrorKind::InvalidTarget(message),
         "invalid target specifier: unexpected character € in target name",
     );
-}
-
-fn error_of(rt: &impl Abort, alloc: Global, text: &str, kind: ParseErrorKind) -> ParseError {
-    ParseError::new(alloc, text, kind).expect(rt, "memory")
 }
 
 /// Asserts what an error of any type prints.

@@ -1,6 +1,6 @@
 //! Warnings on conditions, in their exact texts.
 
-use crate::support::{expression, owned, read_expression, read_platform, value};
+use crate::support::{between, expression, owned, read_expression, read_platform, value};
 use cargo_platform::{CfgExpr, Platform};
 use std::alloc::Global;
 use std::process::Abort;
@@ -9,7 +9,7 @@ use test_support::warnings::{ON_FEATURE, on_name, on_word};
 
 /// The warning on an attribute: for `feature` the one on that key, and for another word the one on that name. The word
 /// `w` stands for itself.
-fn on_attribute(rt: &impl Abort, alloc: Global, word: &str) -> String {
+pub fn on_attribute(rt: &impl Abort, alloc: Global, word: &str) -> String {
     match word {
         "w" => owned(rt, alloc, "w"),
         "feature" => owned(rt, alloc, ON_FEATURE),
@@ -102,7 +102,7 @@ const WORDS: &[(&str, Option<(&str, &str)>)] = &[
 ];
 
 /// The warning on a word, for the printed form that it stands in.
-fn on_keyword(rt: &impl Abort, alloc: Global, path: &str, printed: &str, word: &str) -> String {
+pub fn on_keyword(rt: &impl Abort, alloc: Global, path: &str, printed: &str, word: &str) -> String {
     on_word(alloc, path, printed, word).expect(rt, "memory")
 }
 
@@ -165,7 +165,7 @@ fn literals_are_no_keywords(rt: HostRuntime) {
 
 /// Adds the warnings on a condition that is read from text, and asserts which there are: those on attributes alone.
 fn add_read(rt: &impl Abort, alloc: Global, found: &mut Vec<String>) {
-    let text = format!(in alloc; "cfg({TWO_KINDS})").expect(rt, "memory");
+    let text = between(rt, alloc, "cfg(", TWO_KINDS, ")");
     let condition = read_platform(rt, alloc, &text);
     let wanted = on_attributes(rt, alloc, "w feature r#test");
     add_attributes(rt, alloc, &condition, found);
