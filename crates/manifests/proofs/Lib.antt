@@ -3,6 +3,7 @@ pub mod Rustcs
 pub mod Standings
 pub mod Verdicts
 pub mod Found
+pub mod Chosen
 pub mod Tried
 pub mod MoreKinds
 pub mod MoreSames

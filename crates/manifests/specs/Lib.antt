@@ -8,3 +8,4 @@ pub mod Standings
 pub mod Entries
 pub mod Sames
 pub mod Reports
+pub mod Selecting

@@ -1,9 +1,16 @@
 //! Which dependencies of a manifest a target selects.
 
-ghost use Rattle.std.specs.Prelude.{◌≡◌, IfOk, Some, map};
+ghost use Rattle.std.specs.Prelude.{◌≡◌, ◌↔◌, ◌++◌, IfOk, IfErr, OnOk, Some, None, map};
+ghost use Rattle.toml.specs.View.{table_view};
 ghost use Rattle.cargo_platform.specs.Trees.{condition_of};
-ghost use Rattle.partial_facts.specs.Conditions.{kleene_condition};
-ghost use Rattle.manifests.specs.Choosing.{choice_of};
+ghost use Rattle.cargo_platform.specs.Facts.{FactSet, IsTrueCondition};
+ghost use Rattle.partial_facts.specs.Conditions.{kleene_condition, residual_condition};
+ghost use Rattle.manifests.specs.Choosing.{choice_of, IfOpen};
+ghost use Rattle.manifests.specs.Entries.{entry_of};
+ghost use Rattle.manifests.specs.Tables.{row_of, rows_of, target_of};
+ghost use Rattle.manifests.specs.Selecting.{question_of, IsHostChoice, IsChoiceFor, chosen_of, selected};
+ghost use Rattle.manifests.specs.Selecting.{AreChosen, AreRowsOfKey, AreRowsOfKeys, AreRows, Adds};
+ghost use Rattle.manifests.specs.Selecting.{IsErrorOn, IsErrorUnder};
 
 use crate::tables::{Dependency, Kind, TargetKey, Targets, dependencies, target_keys};
 use cargo_platform::{Cfg, Facts, Listed, ParseError, Platform, ReadError};
@@ -59,6 +66,10 @@ pub enum SelectError<'a> {
 }
 
 impl<'a> From<AllocError> for SelectError<'a> {
+    ghost use Rattle.manifests.specs.declared.selection.SelectError.TheVariants.{Memory};
+
+    ghost from_gives = { λ a e. e ≡ Memory a };
+
     fn from(error: AllocError) -> SelectError<'a> {
         SelectError::Memory(error)
     }
@@ -71,8 +82,12 @@ pub fn choose<K: Knowledge>(
     name: &str,
     known: &K,
 ) -> Result<Choice, AllocError>
-    ensures { IfOk result (λ choice. choice_of choice
+    ensures truth { IfOk result (λ choice. choice_of choice
         ≡ kleene_condition (Some name.now) (K.told known.now) (condition_of platform.now)) }
+    ensures left { IfOk result (λ choice. IfOpen choice (λ rest. rest
+        ≡ residual_condition (Some name.now) (K.told known.now) (condition_of platform.now))) }
+    ensures as_true { (s : FactSet) → K.allows known.now s → IfOk result (λ choice. IfOpen choice (λ rest.
+        IsTrueCondition name.now s rest ↔ IsTrueCondition name.now s (condition_of platform.now))) }
 {
     match decide_platform(platform, Some(name), known) {
         Some(true) => Ok(Choice::Selected),
@@ -124,10 +139,29 @@ fn choose_for_host(
     alloc: Global,
     platform: &Platform,
     host: Option<KnownTarget>,
-) -> Result<Choice, AllocError> {
+) -> Result<Choice, AllocError>
+    ensures { IfOk result (IsHostChoice host (condition_of platform.now)) }
+{
     match host {
         Some(host) => choose(alloc, platform, host.name(), &Complete(&host)),
         None => Ok(Choice::Open(platform.clone(alloc)?)),
+    }
+}
+
+/// Whether a condition holds for what the dependencies of this kind are built for.
+fn choose_for(
+    alloc: Global,
+    platform: &Platform,
+    kind: Kind,
+    target: &str,
+    known: &Asked<'_>,
+    host: Option<KnownTarget>,
+) -> Result<Choice, AllocError>
+    ensures { IfOk result (IsChoiceFor (question_of target.now known.now host) kind (condition_of platform.now)) }
+{
+    match kind {
+        Kind::Normal | Kind::Development => choose(alloc, platform, target, known),
+        Kind::Build => choose_for_host(alloc, platform, host),
     }
 }
 
@@ -140,25 +174,55 @@ pub fn select<'a>(
     target: &str,
     known: &Asked<'_>,
     host: Option<KnownTarget>,
-) -> Result<Vec<Row<'a>>, SelectError<'a>> {
+) -> Result<Vec<Row<'a>>, SelectError<'a>>
+    ensures rows { IfOk result (λ rows. AreRows (question_of target.now known.now host) (table_view manifest.now)
+        (map chosen_of rows.items)) }
+    ensures error { IfErr result (IsErrorUnder (target_of (table_view manifest.now))) }
+{
+    let mut rows = outside(alloc, manifest)?;
+    match target_keys(alloc, manifest)? {
+        Targets::Absent => Ok(rows),
+        Targets::NoTable => Err(SelectError::TargetIsNoTable),
+        Targets::Keys(keys) => {
+            add_keys(alloc, &keys, target, known, host, &mut rows)?;
+            Ok(rows)
+        }
+    }
+}
+
+/// The rows of the tables outside `target`.
+fn outside<'a>(alloc: Global, manifest: &'a Table) -> Result<Vec<Row<'a>>, AllocError>
+    ensures { IfOk result (λ rows. map chosen_of rows.items
+        ≡ map selected (rows_of None (table_view manifest.now))) }
+{
     let mut rows = Vec::new(alloc);
-    for dependency in &dependencies(alloc, manifest, None)? {
+    let dependencies = dependencies(alloc, manifest, None)?;
+    'dependencies: for dependency in &dependencies {
         rows.push(Row {
             dependency: *dependency,
             choice: Choice::Selected,
-        })
-        .map_err(AllocError::from)?;
-    }
-    match target_keys(alloc, manifest)? {
-        Targets::Absent => {}
-        Targets::NoTable => return Err(SelectError::TargetIsNoTable),
-        Targets::Keys(keys) => {
-            for key in &keys {
-                add_rows(alloc, *key, target, known, host, &mut rows)?;
-            }
-        }
+        })?;
     }
     Ok(rows)
+}
+
+/// Appends the rows of each key, up to the first one that is refused, or is no table.
+fn add_keys<'a>(
+    alloc: Global,
+    keys: &[TargetKey<'a>],
+    target: &str,
+    known: &Asked<'_>,
+    host: Option<KnownTarget>,
+    rows: &mut Vec<Row<'a>>,
+) -> Result<(), SelectError<'a>>
+    ensures rows { OnOk result (Adds (AreRowsOfKeys (question_of target.now known.now host) (map entry_of keys.now))
+        rows.old.items rows.new.items) }
+    ensures error { IfErr result (IsErrorUnder (Some (Some (map entry_of keys.now)))) }
+{
+    'keys: for key in keys {
+        add_rows(alloc, *key, target, known, host, rows)?;
+    }
+    Ok(())
 }
 
 /// Appends the rows of a key.
@@ -169,7 +233,11 @@ fn add_rows<'a>(
     known: &Asked<'_>,
     host: Option<KnownTarget>,
     rows: &mut Vec<Row<'a>>,
-) -> Result<(), SelectError<'a>> {
+) -> Result<(), SelectError<'a>>
+    ensures rows { OnOk result (Adds (AreRowsOfKey (question_of target.now known.now host) (entry_of key.entry))
+        rows.old.items rows.new.items) }
+    ensures error { IfErr result (IsErrorOn (entry_of key.entry)) }
+{
     let condition = match Platform::from_str(alloc, key.key) {
         Ok(condition) => condition,
         Err(ReadError::Parse(error)) => return Err(SelectError::Refused(key.key, error)),
@@ -178,17 +246,30 @@ fn add_rows<'a>(
     let Some(table) = key.value.as_table() else {
         return Err(SelectError::KeyIsNoTable(key.key));
     };
-    for dependency in &dependencies(alloc, table, Some(key.key))? {
-        let choice = if dependency.kind == Kind::Build {
-            choose_for_host(alloc, &condition, host)?
-        } else {
-            choose(alloc, &condition, target, known)?
-        };
+    let dependencies = dependencies(alloc, table, Some(key.key))?;
+    add_chosen(alloc, &condition, &dependencies, target, known, host, rows)?;
+    Ok(())
+}
+
+/// Appends the rows of dependencies that stand under a condition.
+fn add_chosen<'a>(
+    alloc: Global,
+    condition: &Platform,
+    dependencies: &[Dependency<'a>],
+    target: &str,
+    known: &Asked<'_>,
+    host: Option<KnownTarget>,
+    rows: &mut Vec<Row<'a>>,
+) -> Result<(), AllocError>
+    ensures { OnOk result (Adds (AreChosen (question_of target.now known.now host) (condition_of condition.now)
+        (map row_of dependencies.now)) rows.old.items rows.new.items) }
+{
+    'dependencies: for dependency in dependencies {
+        let choice = choose_for(alloc, condition, dependency.kind, target, known, host)?;
         rows.push(Row {
             dependency: *dependency,
             choice,
-        })
-        .map_err(AllocError::from)?;
+        })?;
     }
     Ok(())
 }
