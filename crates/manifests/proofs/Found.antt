@@ -3,17 +3,18 @@ use Rattle.std.proofs.Common.{◌≡◌, refl, true, false, true≢false, ℕ, B
 use Rattle.cargo_platform.specs.Trees.{Condition}
 use Rattle.exact_answers.specs.declared.known.Known.{Known}
 use Rattle.manifests.specs.declared.hiding.Holding.{Holding}
+use Rattle.manifests.specs.Declarations.{DeclaredEntry}
 use Rattle.manifests.specs.Reports.{IsFoundOfCondition}
 
 pub left_false : (a b : Bool) → (a || b) ≡ false → a ≡ false
 left_false true b h = absurd (true≢false h)
 left_false false b h = refl
 
-pub beside_others : (k : Known) (text : List ℕ) (c : Condition) (h : Holding) (same equivalent open_too : Bool)
-    → IsFoundOfCondition k text c h
-    → IsFoundOfCondition k text c
+pub beside_others : (k : Known) (ds : List DeclaredEntry) (text : List ℕ) (c : Condition) (h : Holding)
+    (same equivalent open_too : Bool) → IsFoundOfCondition k ds text c h
+    → IsFoundOfCondition k ds text c
     (record h { same = same; equivalent = equivalent; undecided = h.undecided || open_too })
-beside_others k text c h same equivalent open_too f = record {
+beside_others k ds text c h same equivalent open_too f = record {
   refused = f.refused;
   unsupported = f.unsupported;
   unknown_fact = f.unknown_fact;

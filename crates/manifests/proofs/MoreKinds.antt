@@ -1,6 +1,6 @@
 -- One more fact of a condition.
 use Rattle.std.proofs.Common.{◌≡◌, ◌∙◌, refl, sym, ap, ℕ, ◌+◌, ◌<◌, Bool, true, false, ◌||◌, ◌&&◌, List, [], ◌∷◌, ◌++◌}
-use Rattle.std.proofs.Common.{take, length, get_or, IsTrue}
+use Rattle.std.proofs.Common.{take, length, get_or, not}
 use Rattle.std.specs.Prelude.{bytes_eq}
 use Rattle.std.specs.List.{list_any}
 use Rattle.std.specs.Borrow.{Bor}
@@ -11,25 +11,14 @@ use Rattle.cargo_platform.specs.declared.cfg.Cfg.{Cfg}
 use Rattle.cargo_platform.specs.Spelling.{name_in}
 use Rattle.partial_facts.specs.Partly.{is_named}
 use Rattle.manifests.specs.declared.facts.Kinds.{Kinds}
+use Rattle.manifests.specs.Declarations.{DeclaredEntry, is_declared}
 use Rattle.manifests.specs.Standings.{Sort, sort_of, is_unsupported_sort, is_mistaken_sort, is_custom_sort, HasKinds}
 use Rattle.manifests.specs.Standings.{AddsOpen, AreOpen, flag_names, is_open_sort, opens, values_at}
-use Rattle.manifests.specs.Standings.{is_unsupported, is_mistaken, is_custom}
+use Rattle.manifests.specs.Standings.{is_unsupported, is_mistaken, is_undeclared_custom}
 
 or_none : (b : Bool) → (b || false) ≡ b
 or_none true = refl
 or_none false = refl
-
-or_left : (a b : Bool) → a ≡ true → (a || b) ≡ true
-or_left a b h = ap (λ c. c || b) h
-
-or_right : (a b : Bool) → b ≡ true → (a || b) ≡ true
-or_right true b h = refl
-or_right false b h = h
-
--- from one side to what follows from it
-or_map : (a b c d : Bool) → (a ≡ true → c ≡ true) → (b ≡ true → d ≡ true) → (a || b) ≡ true → (c || d) ≡ true
-or_map true b c d f g h = or_left c d (f refl)
-or_map false b c d f g h = or_right c d (g h)
 
 pub and_true : (a b : Bool) → b ≡ true → a ≡ (a && b)
 and_true true b h = sym h
@@ -62,18 +51,20 @@ module _ (cs : List (Bor Cfg)) (i : ℕ) (d : Bor Cfg) (within : i < length cs) 
       ∙ list_any-append p (values_at (take i cs)) (value_of (get_or cs i d).now ∷ [])
       ∙ ap (λ b. list_any p (values_at (take i cs)) || b) (or_none (p (value_of (get_or cs i d).now)))
 
-  pub one_kind : (old new : Kinds) (s : Sort) → s ≡ sort_of (value_of (get_or cs i d).now)
+  pub one_kind : (es : List DeclaredEntry) (old new : Kinds) (s : Sort) (declared : Bool)
+      → s ≡ sort_of (value_of (get_or cs i d).now) → declared ≡ is_declared es (value_of (get_or cs i d).now)
       → new.unsupported ≡ (old.unsupported || is_unsupported_sort s)
       → new.mistaken ≡ (old.mistaken || is_mistaken_sort s)
-      → (IsTrue new.custom → (old.custom || is_custom_sort s) ≡ true)
-      → HasKinds old (values_at (take i cs)) → HasKinds new (values_at (take (i + 1) cs))
+      → new.custom ≡ (old.custom || (is_custom_sort s && not declared))
+      → HasKinds es old (values_at (take i cs)) → HasKinds es new (values_at (take (i + 1) cs))
   unfolding last
-  one_kind old new s is unsupported mistaken custom h = record {
+  one_kind es old new s declared is told unsupported mistaken custom h = record {
     unsupported =
         unsupported ∙ (λ j. h.unsupported j || is_unsupported_sort (is j)) ∙ sym (any_more is_unsupported);
     mistaken = mistaken ∙ (λ j. h.mistaken j || is_mistaken_sort (is j)) ∙ sym (any_more is_mistaken);
-    custom = λ m.
-        any_more is_custom ∙ or_map old.custom _ _ _ h.custom (λ e. ap is_custom_sort (sym is) ∙ e) (custom m);
+    custom =
+        custom ∙ (λ j. h.custom j || (is_custom_sort (is j) && not (told j)))
+        ∙ sym (any_more (is_undeclared_custom es));
   }
 
   pub one_open : (old new : List (List ℕ)) (s : Sort) → s ≡ sort_of (value_of (get_or cs i d).now)

@@ -10,6 +10,7 @@ use Rattle.manifests.specs.declared.findings.Code.{Code}
 use Rattle.manifests.specs.declared.findings.Finding.{Finding}
 use Rattle.manifests.specs.declared.hiding.Holding.{Holding}
 use Rattle.manifests.specs.declared.subjects.Read.{Read}
+use Rattle.manifests.specs.Declarations.{DeclaredEntry}
 use Rattle.manifests.specs.Reports.{Entry, Mark, AreFindingsOn, on_more, IsFoundOf, IsRead, entry_of, mark, marks}
 use Rattle.manifests.specs.Reports.{told_marks, left_open}
 use Rattle.manifests.specs.Sames.{TellsSame, TellsEquivalent}
@@ -24,27 +25,27 @@ next_entries reads i d within =
     sym (map-append read_entry (take i reads) (get_or reads i d ∷ []))
     ∙ ap (map read_entry) (sym (take_more reads i d within))
 
-pub one_more : (k : Known) (reads : List Read) (i : ℕ) (d : Read) (h : Holding) (old new : List Mark)
-    (before_open now_open : List ℕ) → i < length reads → All IsRead reads
-    → (All IsRead reads → AreFindingsOn k (map read_entry (take i reads)) old before_open)
-    → (IsRead (get_or reads i d) → IsFoundOf k (read_entry (get_or reads i d)) h)
+pub one_more : (k : Known) (ds : List DeclaredEntry) (reads : List Read) (i : ℕ) (d : Read) (h : Holding)
+    (old new : List Mark) (before_open now_open : List ℕ) → i < length reads → All IsRead reads
+    → (All IsRead reads → AreFindingsOn k ds (map read_entry (take i reads)) old before_open)
+    → (IsRead (get_or reads i d) → IsFoundOf k ds (read_entry (get_or reads i d)) h)
     → (IsRead (get_or reads i d) → TellsSame (map read_entry (take i reads)) (read_entry (get_or reads i d)) h)
     → (IsRead (get_or reads i d)
     → TellsEquivalent k (map read_entry (take i reads)) (read_entry (get_or reads i d)) h)
     → new ≡ old ++ told_marks i h → now_open ≡ before_open ++ left_open i h
-    → AreFindingsOn k (map read_entry (take (i + 1) reads)) new now_open
-one_more k reads i d h old new before_open now_open within all before found same alike now opened =
+    → AreFindingsOn k ds (map read_entry (take (i + 1) reads)) new now_open
+one_more k ds reads i d h old new before_open now_open within all before found same alike now opened =
     let x = get_or reads i d in
     let es = map read_entry (take i reads) in
     let long : length es ≡ i = length-map (take i reads) read_entry ∙ length-take-le i reads (omega arith) in
-    let more : AreFindingsOn k (es ++ read_entry x ∷ []) (old ++ told_marks (length es) h)
+    let more : AreFindingsOn k ds (es ++ read_entry x ∷ []) (old ++ told_marks (length es) h)
     (before_open ++ left_open (length es) h) =
     on_more es (read_entry x) h old before_open (before all) (found (all i d within)) (same (all i d within))
     (alike (all i d within)) in
-    subst (λ fs. AreFindingsOn k fs new now_open) (next_entries reads i d within)
-    (subst (λ ms. AreFindingsOn k (es ++ read_entry x ∷ []) ms now_open)
+    subst (λ fs. AreFindingsOn k ds fs new now_open) (next_entries reads i d within)
+    (subst (λ ms. AreFindingsOn k ds (es ++ read_entry x ∷ []) ms now_open)
     (ap (λ n. old ++ told_marks n h) long ∙ sym now)
-    (subst (λ ns. AreFindingsOn k (es ++ read_entry x ∷ []) (old ++ told_marks (length es) h) ns)
+    (subst (λ ns. AreFindingsOn k ds (es ++ read_entry x ∷ []) (old ++ told_marks (length es) h) ns)
     (ap (λ n. before_open ++ left_open n h) long ∙ sym opened) more))
 
 abbrev marked : ℕ → List Code → List Mark

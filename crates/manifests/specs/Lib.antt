@@ -4,6 +4,7 @@ pub mod Choosing
 pub mod Truths
 pub mod Doubled
 pub mod Hiding
+pub mod Declarations
 pub mod Standings
 pub mod Entries
 pub mod Sames

@@ -1,5 +1,5 @@
 -- What is found of the keys of a manifest, and which findings are told of them.
-use Rattle.std.specs.Prelude.{◌≡◌, ◌≤◌, ◌⊎◌, ◌↔◌, ℕ, true, false, IsTrue, List}
+use Rattle.std.specs.Prelude.{◌≡◌, ◌≤◌, ◌⊎◌, ◌↔◌, ℕ, false, IsTrue, List}
 use Rattle.std.specs.Prelude.{[], ◌∷◌, ◌++◌, map, length, cond, Option, Some}
 use Rattle.std.specs.List.{list_any}
 use Rattle.cargo_platform.specs.Trees.{Condition, condition_of}
@@ -18,7 +18,8 @@ use Rattle.manifests.specs.declared.spelled.Spelled.{Spelled}
 use Rattle.manifests.specs.declared.spelled.Spelled.TheVariants as spelled
 use Rattle.manifests.specs.declared.subjects.Read.{Read}
 use Rattle.manifests.specs.declared.subjects.TheConstants.{MANY}
-use Rattle.manifests.specs.Standings.{is_unsupported, is_mistaken, is_custom, AreOpen}
+use Rattle.manifests.specs.Declarations.{DeclaredEntry}
+use Rattle.manifests.specs.Standings.{is_unsupported, is_mistaken, is_undeclared_custom, AreOpen}
 pub use Rattle.manifests.specs.Entries.{Entry, entry_of}
 use Rattle.manifests.specs.Sames.{TellsSame, TellsEquivalent}
 use Rattle.manifests.specs.Hiding.{is_told, told_codes, IsUnspelled}
@@ -49,11 +50,13 @@ IsRustcs s = HasOneValue (fact_set []) (map (λ t. t.now) ONE_VALUED.now) s × K
 abbrev pub AllowsRustcs : Known → Type 0
 AllowsRustcs k = (s : FactSet) → IsAllowed k s ↔ IsRustcs s
 
-pub record IsFoundOfCondition (k : Known) (text : List ℕ) (c : Condition) (h : Holding) : Type 0 where
+-- by what is known of each target and what the manifest declares
+pub record IsFoundOfCondition (k : Known) (ds : List DeclaredEntry) (text : List ℕ) (c : Condition)
+    (h : Holding) : Type 0 where
   pub refused : h.refused ≡ false
   pub unsupported : h.unsupported ≡ list_any is_unsupported (condition_values c)
   pub unknown_fact : h.unknown_fact ≡ list_any is_mistaken (condition_values c)
-  pub custom : IsTrue h.custom → list_any is_custom (condition_values c) ≡ true
+  pub custom : h.custom ≡ list_any (is_undeclared_custom ds) (condition_values c)
   pub never : IsTrue h.never → IsNever k c
   pub always : IsTrue h.always → IsAlways k c
   pub can_hold : h.never ≡ false → h.undecided ≡ false → CanHold k c
@@ -68,18 +71,18 @@ pub record IsFoundOfCondition (k : Known) (text : List ℕ) (c : Condition) (h :
   pub not_canonical : IsTrue h.not_canonical ↔ (print_condition c ≡ text → ⊥)
 
 -- of a key that spells a condition, and of one that spells none
-pub record IsFoundSpelled (k : Known) (e : Entry) (h : Holding) : Type 0 where
+pub record IsFoundSpelled (k : Known) (ds : List DeclaredEntry) (e : Entry) (h : Holding) : Type 0 where
   pub condition : Condition
   pub spelled : IsConditionText e.0 condition
   pub no_table : h.no_table ≡ is_no_table e.1
-  pub found : IsFoundOfCondition k e.0 condition h
+  pub found : IsFoundOfCondition k ds e.0 condition h
 
 pub record IsFoundUnspelled (e : Entry) (h : Holding) : Type 0 where
   pub nothing : SpellsNothing e.0
   pub found : IsUnspelled (is_no_table e.1) h
 
-abbrev pub IsFoundOf : Known → Entry → Holding → Type 0
-IsFoundOf k e h = IsFoundSpelled k e h ⊎ IsFoundUnspelled e h
+abbrev pub IsFoundOf : Known → List DeclaredEntry → Entry → Holding → Type 0
+IsFoundOf k ds e h = IsFoundSpelled k ds e h ⊎ IsFoundUnspelled e h
 
 -- ---- the findings
 
@@ -107,12 +110,12 @@ left_open n h = cond h.undecided (n ∷ []) []
 
 -- the findings on some keys are those that are told of each, in the order of the keys; and the places are those of the
 -- keys that are left open
-pub data AreFindingsOn (k : Known) : List Entry → List Mark → List ℕ → Type 0 where
-  on_none : AreFindingsOn k [] [] []
-  on_more : (es : List Entry) (e : Entry) (h : Holding) (ms : List Mark) (ns : List ℕ) → AreFindingsOn k es ms ns
-      → IsFoundOf k e h → TellsSame es e h → TellsEquivalent k es e h
-      → AreFindingsOn k (es ++ e ∷ []) (ms ++ told_marks (length es) h) (ns ++ left_open (length es) h)
+pub data AreFindingsOn (k : Known) (ds : List DeclaredEntry) : List Entry → List Mark → List ℕ → Type 0 where
+  on_none : AreFindingsOn k ds [] [] []
+  on_more : (es : List Entry) (e : Entry) (h : Holding) (ms : List Mark) (ns : List ℕ) → AreFindingsOn k ds es ms ns
+      → IsFoundOf k ds e h → TellsSame es e h → TellsEquivalent k es e h
+      → AreFindingsOn k ds (es ++ e ∷ []) (ms ++ told_marks (length es) h) (ns ++ left_open (length es) h)
 
 -- the same, by what is known of each target
-abbrev pub AreFindings : List Entry → List Mark → List ℕ → Type 0
-AreFindings es ms ns = (k : Known) × (AllowsRustcs k × AreFindingsOn k es ms ns)
+abbrev pub AreFindings : List DeclaredEntry → List Entry → List Mark → List ℕ → Type 0
+AreFindings ds es ms ns = (k : Known) × (AllowsRustcs k × AreFindingsOn k ds es ms ns)

@@ -1,5 +1,5 @@
 -- What the names and pairs of a condition are to rustc and to Cargo.
-use Rattle.std.specs.Prelude.{◌≡◌, ℕ, Bool, true, false, ◌||◌, ◌&&◌, List, map, length, cond, codes, IsTrue}
+use Rattle.std.specs.Prelude.{◌≡◌, ℕ, Bool, true, false, not, ◌||◌, ◌&&◌, List, map, length, cond, codes}
 use Rattle.std.specs.Prelude.{bytes_eq, nat_le, nat_eq}
 use Rattle.std.specs.Str.{chars}
 use Rattle.std.specs.Int.{abs_diff}
@@ -14,6 +14,7 @@ use Rattle.strsim.specs.Edits.{osa_table}
 use Rattle.known_targets.specs.Rows.{plain}
 use Rattle.known_targets.specs.Table.{table_keys}
 use Rattle.known_targets.specs.Listed.{is_had}
+use Rattle.manifests.specs.Declarations.{DeclaredEntry, is_declared}
 use Rattle.manifests.specs.declared.facts.Kinds.{Kinds}
 use Rattle.manifests.specs.declared.facts.TheConstants.{OPEN}
 use Rattle.manifests.specs.declared.standing.TheConstants.{VALUED, FLAGGED, PLAIN, NAMED_BY_VALUE, SHORTEST}
@@ -126,16 +127,20 @@ is_mistaken c = is_mistaken_sort (sort_of c)
 abbrev pub is_custom : CfgValue → Bool
 is_custom c = is_custom_sort (sort_of c)
 
+-- of what only `--cfg` sets, what these do not declare
+abbrev pub is_undeclared_custom : List DeclaredEntry → CfgValue → Bool
+is_undeclared_custom es c = is_custom c && not (is_declared es c)
+
 abbrev pub is_open : CfgValue → Bool
 is_open c = is_open_sort (sort_of c)
 
 -- ---- the facts of a condition
 
--- which kinds of facts a condition asks for
-pub record HasKinds (kinds : Kinds) (cs : List CfgValue) : Type 0 where
+-- which kinds of facts a condition asks for, beside what is declared
+pub record HasKinds (es : List DeclaredEntry) (kinds : Kinds) (cs : List CfgValue) : Type 0 where
   pub unsupported : kinds.unsupported ≡ list_any is_unsupported cs
   pub mistaken : kinds.mistaken ≡ list_any is_mistaken cs
-  pub custom : IsTrue kinds.custom → list_any is_custom cs ≡ true
+  pub custom : kinds.custom ≡ list_any (is_undeclared_custom es) cs
 
 -- ---- what is open of a condition
 

@@ -1,5 +1,9 @@
 //! The names and pairs that a manifest declares as expected, in `[lints.rust]` under `unexpected_cfgs`, `check-cfg`.
 
+ghost use Rattle.std.specs.Prelude.{◌≡◌};
+ghost use Rattle.cargo_platform.specs.Trees.{value_of};
+ghost use Rattle.manifests.specs.Declarations.{declares_entry, entry_in, is_declared, declarations_of};
+
 use crate::standing::is_among;
 use cargo_platform::{Cfg, Token, Tokenizer};
 use std::alloc::{AllocError, Global};
@@ -45,8 +49,10 @@ impl<'a> Declared<'a> {
     }
 
     /// Whether the name or the pair is declared.
-    pub fn declares(&self, c: &Cfg) -> bool {
-        for entry in &self.entries {
+    pub fn declares(&self, c: &Cfg) -> bool
+        ensures { result ≡ is_declared (declarations_of self.now) (value_of c.now) }
+    {
+        'entries: for entry in &self.entries {
             if declares(entry, c) {
                 return true;
             }
@@ -65,7 +71,9 @@ fn check_cfg(manifest: &Table) -> Option<&Value> {
 }
 
 /// Whether an entry declares the name or the pair.
-fn declares(entry: &Entry<'_>, c: &Cfg) -> bool {
+fn declares(entry: &Entry<'_>, c: &Cfg) -> bool
+    ensures { result ≡ declares_entry (value_of c.now) (entry_in entry.now) }
+{
     match c {
         Cfg::Name(name) => {
             is_among(name.as_str(), &entry.names)

@@ -1,10 +1,11 @@
 //! The names and pairs that a condition asks for, by what they are.
 
-ghost use Rattle.std.specs.Prelude.{◌≡◌, ◌||◌, true, IfOk, OnOk, IsTrue};
+ghost use Rattle.std.specs.Prelude.{◌≡◌, ◌||◌, ◌&&◌, not, IfOk, OnOk};
 ghost use Rattle.std.specs.List.{list_any};
 ghost use Rattle.cargo_platform.specs.Trees.{condition_of, value_of};
 ghost use Rattle.cargo_platform.specs.Warnings.{condition_values};
 ghost use Rattle.known_targets.specs.Rows.{names_of};
+ghost use Rattle.manifests.specs.Declarations.{declarations_of};
 ghost use Rattle.manifests.specs.Standings.{AddsOpen, AreOpen, flag_names};
 ghost use Rattle.manifests.specs.Standings.{HasKinds, sort_in, is_unsupported_sort, is_mistaken_sort, is_custom_sort};
 
@@ -34,7 +35,7 @@ impl Kinds {
     fn with(self, standing: Standing, is_declared: bool) -> Kinds
         ensures unsupported { result.unsupported ≡ (self.unsupported || is_unsupported_sort (sort_in standing)) }
         ensures mistaken { result.mistaken ≡ (self.mistaken || is_mistaken_sort (sort_in standing)) }
-        ensures custom { IsTrue result.custom → (self.custom || is_custom_sort (sort_in standing)) ≡ true }
+        ensures custom { result.custom ≡ (self.custom || (is_custom_sort (sort_in standing) && not is_declared)) }
     {
         Kinds {
             unsupported: self.unsupported || standing.is_unsupported(),
@@ -116,7 +117,8 @@ pub fn facts_in<'a>(
     platform: &'a Platform,
     declared: &Declared<'_>,
 ) -> Result<Facts<'a>, AllocError>
-    ensures kinds { IfOk result (λ facts. HasKinds facts.kinds (condition_values (condition_of platform.now))) }
+    ensures kinds { IfOk result (λ facts.
+        HasKinds (declarations_of declared.now) facts.kinds (condition_values (condition_of platform.now))) }
     ensures open_names { IfOk result
         (λ facts. AreOpen (names_of facts.open_names.items) (condition_values (condition_of platform.now))) }
 {

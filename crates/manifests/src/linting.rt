@@ -1,7 +1,8 @@
 //! What there is to tell of the keys of a manifest.
 
-ghost use Rattle.std.specs.Prelude.{◌≡◌, ◌++◌, IfOk, OnOk, Some, map};
+ghost use Rattle.std.specs.Prelude.{◌≡◌, ◌++◌, IfOk, OnOk, Some, List, map};
 ghost use Rattle.std.specs.List.{All};
+ghost use Rattle.manifests.specs.Declarations.{DeclaredEntry, declarations_of};
 ghost use Rattle.manifests.specs.Reports.{mark, marks, told_mark, told_marks, left_open};
 ghost use Rattle.manifests.specs.Reports.{entry_of, AreFindingsOn, IsRead, AreFindings};
 
@@ -281,7 +282,8 @@ fn report_on<'a>(
     known: &'a Known<'a>,
     read: &'a [Read<'a>],
 ) -> Result<Report, AllocError>
-    ensures { All IsRead read.now → IfOk result (λ r. AreFindingsOn known.now (map (λ k. entry_of k.key) read.now)
+    ensures { All IsRead read.now
+        → IfOk result (λ r. AreFindingsOn known.now (declarations_of declared.now) (map (λ k. entry_of k.key) read.now)
         (marks r.findings.items) r.undecided.items) }
 {
     let mut findings = Vec::new(alloc);
@@ -311,7 +313,8 @@ pub fn lint(
     keys: &[TargetKey<'_>],
     words: &Words,
 ) -> Result<Report, AllocError>
-    ensures { IfOk result (λ r. AreFindings (map entry_of keys.now) (marks r.findings.items) r.undecided.items) }
+    ensures { IfOk result (λ r. (ds : List DeclaredEntry)
+        × AreFindings ds (map entry_of keys.now) (marks r.findings.items) r.undecided.items) }
 {
     let rule = family_rule(alloc)?;
     let known = Known {

@@ -8,6 +8,7 @@ ghost use Rattle.cargo_platform.specs.Print.{print_condition};
 ghost use Rattle.known_targets.specs.Rows.{names_of};
 ghost use Rattle.manifests.specs.Truths.{IsNever, IsAlways, CanHold, CanFail};
 ghost use Rattle.manifests.specs.Truths.{IsNowhere, IsEverywhere, IsUnknownTarget};
+ghost use Rattle.manifests.specs.Declarations.{declarations_of};
 ghost use Rattle.manifests.specs.Entries.{Entry};
 ghost use Rattle.manifests.specs.Sames.{noted, Notes, AreNoted, TellsSame};
 ghost use Rattle.manifests.specs.Sames.{AddsMember, HasEquivalentMember, AreMembers, TellsEquivalent};
@@ -185,7 +186,8 @@ fn look_at<'a>(
     may_ask: bool,
 ) -> Result<Seen<'a>, AllocError>
     ensures { IfOk result
-        (λ s. IsFoundOfCondition asking.now.known.now key.now (condition_of platform.now) s.holding) }
+        (λ s. IsFoundOfCondition asking.now.known.now (declarations_of asking.now.declared.now) key.now
+        (condition_of platform.now) s.holding) }
 {
     let facts = facts_in(alloc, platform, asking.declared)?;
     let canonical = canonical(alloc, platform)?;
@@ -237,7 +239,8 @@ fn seen_after<'a>(
     before: &mut Keys<'a>,
 ) -> Result<(Seen<'a>, Earlier), AllocError>
     ensures found { IfOk result
-        (λ s. IsFoundOfCondition asking.now.known.now key.now (condition_of platform.now) s.0.holding) }
+        (λ s. IsFoundOfCondition asking.now.known.now (declarations_of asking.now.declared.now) key.now
+        (condition_of platform.now) s.0.holding) }
     ensures same { IfOk result (λ s. IsTrue s.0.holding.same ↔ IsSome (noted before.old platform.entry)) }
     ensures equivalent { IfOk result (λ s. IsTrue s.0.holding.equivalent
         → HasEquivalentMember asking.now.known.now before.old (condition_of platform.entry.now)) }
@@ -275,7 +278,8 @@ fn of_condition<'a>(
     ensures place { IfOk result (λ s. s.index ≡ index) }
     ensures no_table { IfOk result (λ s. s.holding.no_table ≡ is_no_table (view key.entry.value.now)) }
     ensures found { IfOk result
-        (λ s. IsFoundOfCondition asking.now.known.now key.entry.key.now (condition_of platform.now) s.holding) }
+        (λ s. IsFoundOfCondition asking.now.known.now (declarations_of asking.now.declared.now) key.entry.key.now
+        (condition_of platform.now) s.holding) }
     ensures same { IfOk result (λ s. IsTrue s.holding.same ↔ IsSome (noted before.old platform.entry)) }
     ensures equivalent { IfOk result (λ s. IsTrue s.holding.equivalent
         → HasEquivalentMember asking.now.known.now before.old (condition_of platform.entry.now)) }
@@ -332,7 +336,8 @@ pub fn subject_of<'a>(
 ) -> Result<Subject<'a>, AllocError>
     ensures place { IfOk result (λ s. s.index ≡ index) }
     ensures found { IsRead read.now
-        → IfOk result (λ s. IsFoundOf asking.now.known.now (entry_of read.now.key) s.holding) }
+        → IfOk result (λ s. IsFoundOf asking.now.known.now (declarations_of asking.now.declared.now)
+        (entry_of read.now.key) s.holding) }
     ensures same { IsRead read.now → (es : List Entry) → AreNoted es before.old
         → IfOk result (λ s. TellsSame es (entry_of read.now.key) s.holding
         × AreNoted (es ++ entry_of read.now.key ∷ []) before.new) }

@@ -1,11 +1,12 @@
 use Rattle.std.proofs.Common.{take}
 use Rattle.known_targets.specs.Rows.{names_of}
+use Rattle.manifests.specs.Declarations.{declarations_of}
 use Rattle.manifests.specs.Standings.{HasKinds, AreOpen, values_at}
 use Rattle.manifests.proofs.facts.facts_in.Given as goal
 
 -- the kinds of the facts so far, and what is open of them
 abbrev pub invariant-values : goal.invariant-values
 invariant-values l = record {
-  kinds : HasKinds l.kinds (values_at (take l.each-index l.each-items));
+  kinds : HasKinds (declarations_of l.declared) l.kinds (values_at (take l.each-index l.each-items));
   open_keys : AreOpen (names_of l.open_names.items) (values_at (take l.each-index l.each-items));
 }

@@ -2,6 +2,7 @@ use Rattle.std.proofs.Common.{◌≡◌, ◌∙◌, sym, ap, subst, ℕ, List, [
 use Rattle.exact_answers.specs.declared.known.Known.{Known}
 use Rattle.manifests.specs.declared.findings.Finding.{Finding}
 use Rattle.manifests.specs.declared.subjects.Read.{Read}
+use Rattle.manifests.specs.Declarations.{DeclaredEntry, declarations_of}
 use Rattle.manifests.specs.Sames.{AreNoted, TellsSame, AreMembers, TellsEquivalent}
 use Rattle.manifests.specs.Reports.{AreFindingsOn, on_none, IsFoundOf, IsRead, marks, told_marks, left_open}
 use Rattle.manifests.proofs.MoreSames.{none_noted}
@@ -9,15 +10,16 @@ use Rattle.manifests.proofs.MoreEquivalents.{no_members}
 use Rattle.manifests.proofs.Reports.{one_more, next_entries, read_entry}
 use Rattle.manifests.proofs.linting.report_on.Goals as goal
 
-none_yet : (k : Known) (fs : List Finding) (ns : List ℕ) → fs ≡ [] → ns ≡ [] → AreFindingsOn k [] (marks fs) ns
-none_yet k fs ns is open_is =
-    subst (λ gs. AreFindingsOn k [] (marks gs) ns) (sym is) (subst (AreFindingsOn k [] []) (sym open_is) on_none)
+none_yet : (k : Known) (ds : List DeclaredEntry) (fs : List Finding) (ns : List ℕ) → fs ≡ [] → ns ≡ []
+    → AreFindingsOn k ds [] (marks fs) ns
+none_yet k ds fs ns is open_is =
+    subst (λ gs. AreFindingsOn k ds [] (marks gs) ns) (sym is) (subst (AreFindingsOn k ds [] []) (sym open_is) on_none)
 
 pub keys-init : goal.keys-init
 keys-init c = record {
   findings = λ all.
-      none_yet c.args.known.now c.new-findings.result.items c.new-undecided.result.items c.new-findings.ensures.items
-      c.new-undecided.ensures.items;
+      none_yet c.args.known.now (declarations_of c.args.declared.now) c.new-findings.result.items
+      c.new-undecided.result.items c.new-findings.ensures.items c.new-undecided.ensures.items;
   noted_keys = λ all. none_noted c.new-before.result c.new-before.ensures.none;
   members = λ all. no_members c.new-before.result c.new-before.ensures.no_members;
 }
@@ -25,6 +27,7 @@ keys-init c = record {
 pub keys-preserved : goal.keys-preserved
 keys-preserved c =
     let k = c.args.known.now in
+    let ds = declarations_of c.args.declared.now in
     let h = c.in_ok-subject.subject.holding in
     let i = c.keys.index in
     let es = map read_entry (take i c.args.read.now) in
@@ -38,9 +41,9 @@ keys-preserved c =
     let entries = next_entries c.args.read.now i c.index-read-index.result c.keys-test.true in
     record {
       findings = λ all.
-          one_more k c.args.read.now i c.index-read-index.result h _ _ _ _ c.keys-test.true all
+          one_more k ds c.args.read.now i c.index-read-index.result h _ _ _ _ c.keys-test.true all
           c.keys.invariant.findings
-          (subst (λ r. IsRead r → IsFoundOf k (read_entry r) h) c.index-read-index.is c.in_ok-subject.ensures.found)
+          (subst (λ r. IsRead r → IsFoundOf k ds (read_entry r) h) c.index-read-index.is c.in_ok-subject.ensures.found)
           (λ r. (same r (c.keys.invariant.noted_keys all)).0) (λ r. (alike r (c.keys.invariant.members all)).0)
           (c.in_ok-add_findings.ensures
           ∙ ap (λ n. marks c.keys.findings.items ++ told_marks n h) c.in_ok-subject.ensures.place)

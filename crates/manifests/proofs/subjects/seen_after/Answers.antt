@@ -1,5 +1,6 @@
 use Rattle.std.proofs.Common.{sym, subst}
 use Rattle.cargo_platform.specs.Trees.{condition_of}
+use Rattle.manifests.specs.Declarations.{declarations_of}
 use Rattle.manifests.specs.Reports.{IsFoundOfCondition}
 use Rattle.manifests.proofs.Found.{beside_others}
 use Rattle.manifests.proofs.subjects.seen_after.Goals as goal
@@ -9,8 +10,9 @@ returns-clause-found c =
     let k = c.args.asking.now.known.now in
     let p = condition_of c.args.platform.now in
     let h = c.in_ok-seen.seen.holding in
-    subst (λ b. IsFoundOfCondition k c.args.key.now p
+    let ds = declarations_of c.args.asking.now.declared.now in
+    subst (λ b. IsFoundOfCondition k ds c.args.key.now p
     (record h { same = c.is_same-seen.result; equivalent = c.is_equivalent-seen.result; undecided = b }))
     (sym c.either-seen.ensures)
-    (beside_others k c.args.key.now p h c.is_same-seen.result c.is_equivalent-seen.result c.if-eq.is_open
+    (beside_others k ds c.args.key.now p h c.is_same-seen.result c.is_equivalent-seen.result c.if-eq.is_open
     c.in_ok-seen.ensures)
