@@ -6,5 +6,8 @@ pub mod Found
 pub mod Chosen
 pub mod Tried
 pub mod MoreKinds
+pub mod Stepping
+pub mod Reading
+pub mod Texts
 pub mod MoreSames
 pub mod MoreEquivalents

@@ -5,6 +5,7 @@ pub mod Truths
 pub mod Doubled
 pub mod Hiding
 pub mod Declarations
+pub mod Steps
 pub mod Standings
 pub mod Entries
 pub mod Sames

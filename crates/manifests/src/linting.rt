@@ -2,8 +2,9 @@
 
 ghost use Rattle.std.specs.Prelude.{◌≡◌, ◌++◌, IfOk, OnOk, Some, List, map};
 ghost use Rattle.std.specs.List.{All};
-ghost use Rattle.manifests.specs.Declarations.{DeclaredEntry, declarations_of};
+ghost use Rattle.manifests.specs.Declarations.{DeclaredEntry, IsDeclaredBy, declarations_of};
 ghost use Rattle.manifests.specs.Reports.{mark, marks, told_mark, told_marks, left_open};
+ghost use Rattle.toml.specs.View.{table_view};
 ghost use Rattle.manifests.specs.Reports.{entry_of, AreFindingsOn, IsRead, AreFindings};
 
 use crate::declared::Declared;
@@ -314,6 +315,7 @@ pub fn lint(
     words: &Words,
 ) -> Result<Report, AllocError>
     ensures { IfOk result (λ r. (ds : List DeclaredEntry)
+        × IsDeclaredBy (table_view manifest.now) ds
         × AreFindings ds (map entry_of keys.now) (marks r.findings.items) r.undecided.items) }
 {
     let rule = family_rule(alloc)?;

@@ -18,8 +18,8 @@ values-preserved c =
     record {
       kinds =
           one_kind cs i c.each-item.result c.values-test.true (declarations_of c.args.declared.now) c.values.kinds
-          c.with-kinds.result (sort_in s) c.declares-is_declared.result is told c.with-kinds.ensures.unsupported c.with-kinds.ensures.mistaken c.with-kinds.ensures.custom
-          c.values.invariant.kinds;
+          c.with-kinds.result (sort_in s) c.declares-is_declared.result is told c.with-kinds.ensures.unsupported
+          c.with-kinds.ensures.mistaken c.with-kinds.ensures.custom c.values.invariant.kinds;
       open_keys =
           one_open cs i c.each-item.result c.values-test.true (names_of c.values.open_names.items)
           (names_of c.push_open.new.names.items) (sort_in s) is
