@@ -11,6 +11,4 @@ pub mod own_facts;
 pub mod planner;
 pub mod printed_facts;
 pub mod selected;
-#[cfg(test)]
-mod tests;
 pub mod underline;

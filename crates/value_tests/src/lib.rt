@@ -1,5 +1,5 @@
 //! What holds over facts, and what is printed, compared, copied and warned about, over the library's public calls
-//! alone.
+//! alone, and what the callers of the crate `uses` answer.
 //!
 //! The modules of sizes make each call that allocates or prints on inputs of as many bytes, members or levels as each
 //! power of two, one less and one more. A call that fails from some size on, or at one, is proved all the same. Each
@@ -8,6 +8,8 @@
 
 #[cfg(test)]
 mod asks;
+#[cfg(test)]
+mod callers;
 #[cfg(test)]
 mod matching;
 #[cfg(test)]

@@ -7,11 +7,11 @@ ghost use Rattle.cargo_platform.specs.Holders.{name_fact, pair_fact, only, where
 ghost use Rattle.cargo_platform.specs.Trees.{value_of};
 
 use crate::support::{
-    assert_holds, holds, index_of, key_matches, matches, matches_in, read_expression,
+    assert_holds, holds, index_of, key_matches, matches, matches_in, read_expression, read_lines,
     read_platform, value, values,
 };
+use cargo_platform::Platform;
 use cargo_platform::cfg::{Cfg, Facts, Listed};
-use cargo_platform::{Platform, read_facts};
 use std::alloc::Global;
 use std::process::Abort;
 use test_support::real_facts::{LINUX, MACOS, WASM, WINDOWS};
@@ -142,7 +142,7 @@ fn flags_match_as_the_facts_that_they_stand_for(rt: HostRuntime) {
 #[test]
 fn conditions_of_real_crates(rt: HostRuntime) {
     for (i, lines) in [LINUX, WINDOWS, MACOS, WASM].iter().enumerate() {
-        let facts = read_facts(rt.alloc(), lines).expect(&rt, lines);
+        let facts = read_lines(&rt, rt.alloc(), lines);
         for (text, wanted) in TARGETS {
             assert_matches(&rt, rt.alloc(), text, &facts, wanted[i]);
         }

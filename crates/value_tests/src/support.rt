@@ -1,7 +1,9 @@
 //! What the tests make, read, copy and assert. Each call of the library that several tests make stands here in a
 //! function of its own that promises nothing, so that its contract is gone through once and not at each call.
 
-use cargo_platform::{Cfg, CfgExpr, FactIndex, Facts, Ident, ParseError, ParseErrorKind, Platform};
+use cargo_platform::{
+    Cfg, CfgExpr, FactIndex, Facts, Ident, ParseError, ParseErrorKind, Platform, read_facts,
+};
 use std::alloc::Global;
 use std::fmt::Display;
 use std::process::Abort;
@@ -70,6 +72,11 @@ pub fn read_expression(rt: &impl Abort, alloc: Global, text: &str) -> CfgExpr {
 /// The target or condition that a text is read as.
 pub fn read_platform(rt: &impl Abort, alloc: Global, text: &str) -> Platform {
     Platform::from_str(alloc, text).expect(rt, text)
+}
+
+/// The facts that lines spell.
+pub fn read_lines(rt: &impl Abort, alloc: Global, lines: &str) -> Vec<Cfg> {
+    read_facts(alloc, lines).expect(rt, lines)
 }
 
 pub fn index_of(rt: &impl Abort, alloc: Global, facts: &[Cfg]) -> FactIndex {

@@ -1,0 +1,69 @@
+//! The whole output, written within the limits.
+ghost use Rattle.std.specs.Prelude.{◌≡◌, ◌≤◌, ◌+◌, IsErr, OnOk, OnErr, length};
+ghost use Rattle.std.specs.Io.KnownBytes.{Appends};
+ghost use Rattle.platform_answers.specs.Counts.{writer_of, write_counts, no_writes};
+ghost use Rattle.platform_answers.specs.Writing.{failures, HasWriteFault, IsFlushed, IsWithinWrites, WritesBeginning};
+
+use crate::counted;
+use crate::counted::is_interrupted;
+use std::io::Write;
+
+/// Some of the output was not taken, or it was not flushed.
+#[derive(Clone, Copy, Debug, PartialEq, Eq)]
+pub struct Unwritten;
+
+/// Hands over all that is left until all is taken, in at most one write more than there are bytes. An interrupted
+/// write is asked again.
+fn hand_over<W: Write>(output: &mut counted::Output<W>, text: &[u8]) -> Result<(), Unwritten>
+    requires { write_counts output.old ≡ no_writes }
+    ensures written { OnOk result
+        (Appends (W.contents (writer_of output.old)) (W.contents (writer_of output.new)) text.now) }
+    ensures beginning { OnErr result
+        (WritesBeginning (W.contents (writer_of output.old)) (W.contents (writer_of output.new)) text.now) }
+    ensures unfailed { OnOk result (failures (write_counts output.new) ≡ 0) }
+    ensures fault { IsErr result → HasWriteFault (write_counts output.new) (length text.now) }
+    ensures within { (write_counts output.new).writes ≤ length text.now + 1 }
+    ensures unflushed { (write_counts output.new).flushes ≡ 0 }
+{
+    let mut taken = 0usize;
+    for _turn in 0..text.len() + 1 {
+        if taken == text.len() {
+            return Ok(());
+        }
+        match output.write(&text[taken..]) {
+            Ok(0) => return Err(Unwritten),
+            Ok(n) => taken += n,
+            Err(e) => {
+                if !is_interrupted(&e) {
+                    return Err(Unwritten);
+                }
+            }
+        }
+    }
+    if taken == text.len() {
+        return Ok(());
+    }
+    Err(Unwritten)
+}
+
+/// Writes all of the text, and flushes once.
+///
+/// `Unwritten`: a write failed otherwise than by an interruption or took nothing, one write more than the text has
+/// bytes did not take all of it, or the flush failed.
+pub fn write_out<W: Write>(output: &mut counted::Output<W>, text: &[u8]) -> Result<(), Unwritten>
+    requires { write_counts output.old ≡ no_writes }
+    ensures written { OnOk result
+        (Appends (W.contents (writer_of output.old)) (W.contents (writer_of output.new)) text.now) }
+    ensures beginning { OnErr result
+        (WritesBeginning (W.contents (writer_of output.old)) (W.contents (writer_of output.new)) text.now) }
+    ensures unfailed { OnOk result (failures (write_counts output.new) ≡ 0) }
+    ensures flushed { OnOk result (IsFlushed (write_counts output.new)) }
+    ensures fault { IsErr result → HasWriteFault (write_counts output.new) (length text.now) }
+    ensures within { IsWithinWrites (write_counts output.new) (length text.now) }
+{
+    hand_over(output, text)?;
+    if output.flush().is_err() {
+        return Err(Unwritten);
+    }
+    Ok(())
+}

@@ -1,6 +1,0 @@
-use Rattle.platform_check.proofs.OneAnswer.{one_answer}
-use Rattle.platform_check.proofs.SomeAnswer.{some_answer}
-use Rattle.platform_check.proofs.laws.one_answer.Goals as goal
-
-pub returns : goal.returns
-returns c = record { some = some_answer; only = one_answer }
