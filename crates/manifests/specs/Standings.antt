@@ -57,12 +57,15 @@ edits text word = (osa_table (chars text) (chars word)).last_row (length (chars 
 abbrev pub is_one_edit_from : List ℕ → List ℕ → Bool
 is_one_edit_from text word = nat_le (abs_diff (length word) (length text)) 1 && nat_eq (edits text word) 1
 
+-- one edit leads to one of rustc's names or keys
+abbrev pub is_near_one : List ℕ → Bool
+is_near_one name =
+    list_any (is_one_edit_from name) plain_names
+    || (list_any (is_one_edit_from name) flagged || list_any (is_one_edit_from name) valued)
+
 -- a name that is not too short, and one edit away from one of rustc's names or keys
 unfoldable pub is_near : List ℕ → Bool
-is_near name =
-    nat_le SHORTEST (length name)
-    && (list_any (is_one_edit_from name) plain_names
-    || (list_any (is_one_edit_from name) flagged || list_any (is_one_edit_from name) valued))
+is_near name = nat_le SHORTEST (length name) && is_near_one name
 
 -- what a name or key is that rustc does not have
 abbrev pub sort_of_other : List ℕ → Sort

@@ -118,17 +118,27 @@ fn read_by_cargo(alloc: Global, key: &str) -> Result<Option<Marked>, AllocError>
     }
 }
 
+/// Adds the lines of a warning that stands after its path, without what ends them.
+fn push_lines(line: &mut String, warning: &str) -> Result<(), AllocError> {
+    for part in warning.strip_prefix("[] ").unwrap_or(warning).lines() {
+        line.push_str(part)?;
+    }
+    Ok(())
+}
+
+/// Cargo's warnings on a condition's keywords.
+fn warnings_on(alloc: Global, condition: &Platform) -> Result<Vec<String>, AllocError> {
+    let mut warnings = Vec::new(alloc);
+    condition.check_cfg_keywords(alloc, &mut warnings, "")?;
+    Ok(warnings)
+}
+
 /// Cargo's warning on a pair, on one line.
 fn warning_on(alloc: Global, word: &str, value: &str) -> Result<String, AllocError> {
-    let pair = pair(alloc, word, value)?;
-    let mut texts = Vec::new(alloc);
-    Platform::Cfg(CfgExpr::Value(pair)).check_cfg_keywords(alloc, &mut texts, "")?;
+    let condition = Platform::Cfg(CfgExpr::Value(pair(alloc, word, value)?));
     let mut line = String::new(alloc);
-    for text in &texts {
-        let text = text.as_str();
-        for part in text.strip_prefix("[] ").unwrap_or(text).lines() {
-            line.push_str(part)?;
-        }
+    for warning in &warnings_on(alloc, &condition)? {
+        push_lines(&mut line, warning.as_str())?;
     }
     Ok(line)
 }

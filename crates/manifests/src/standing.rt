@@ -9,7 +9,8 @@ ghost use Rattle.partial_facts.specs.Partly.{is_named};
 ghost use Rattle.known_targets.specs.Listed.{is_had};
 ghost use Rattle.known_targets.specs.Rows.{names_of, plain};
 ghost use Rattle.known_targets.specs.Table.{table_keys};
-ghost use Rattle.manifests.specs.Standings.{has_as_value, is_one_edit_from, sort_of, sort_in, sort_of_key};
+ghost use Rattle.manifests.specs.Standings.{has_as_value, is_near_one, is_one_edit_from, sort_of, sort_in};
+ghost use Rattle.manifests.specs.Standings.{sort_of_key};
 ghost use Rattle.manifests.specs.Standings.{sort_of_other, is_unsupported_sort, is_mistaken_sort, is_custom_sort};
 ghost use Rattle.manifests.specs.Standings.{is_open_sort};
 
@@ -184,6 +185,19 @@ fn near(
     Ok(None)
 }
 
+/// The first of rustc's names and keys that is one edit away.
+fn near_one(alloc: Global, text: &str) -> Result<Option<&'static str>, AllocError>
+    ensures { IfOk result (λ word. is_some word ≡ is_near_one text.now) }
+{
+    if let Some(word) = near(alloc, text, &PLAIN)? {
+        return Ok(Some(word));
+    }
+    if let Some(word) = near(alloc, text, &FLAGGED)? {
+        return Ok(Some(word));
+    }
+    near(alloc, text, &VALUED)
+}
+
 /// What a name or key is that rustc does not have.
 #[tactic(auto, unfolding(crate::specs::Standings::is_near))]
 fn other(alloc: Global, name: &str) -> Result<Standing, AllocError>
@@ -192,13 +206,7 @@ fn other(alloc: Global, name: &str) -> Result<Standing, AllocError>
     if name.len() < SHORTEST {
         return Ok(Standing::Custom);
     }
-    if let Some(word) = near(alloc, name, &PLAIN)? {
-        return Ok(Standing::Near(word));
-    }
-    if let Some(word) = near(alloc, name, &FLAGGED)? {
-        return Ok(Standing::Near(word));
-    }
-    match near(alloc, name, &VALUED)? {
+    match near_one(alloc, name)? {
         Some(word) => Ok(Standing::Near(word)),
         None => Ok(Standing::Custom),
     }
