@@ -115,13 +115,16 @@ class Steps:
             self.run(step)
 
     def run_sides(self, sides):
-        """Runs lists of steps side by side, each list in turn, and prints what they came to. Returns the status."""
+        """Runs lists of steps side by side, each list in turn."""
         LOGS.mkdir(parents=True, exist_ok=True)
         ended = threading.Event()
         threading.Thread(target=self.beat, args=(ended,), daemon=True).start()
         with concurrent.futures.ThreadPoolExecutor(len(sides)) as lanes:
             [*lanes.map(self.run_in_turn, sides)]
         ended.set()
+
+    def finish(self):
+        """Prints what the steps came to. Returns the status."""
         for it in self.failures:
             print(it if it.startswith(" ") else f"{FAILED}{it}")
         print(f"{self.passed} passed, {self.failed} failed", flush=True)
