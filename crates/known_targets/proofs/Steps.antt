@@ -4,7 +4,8 @@ use Rattle.std.proofs.Common.{false, ◌&&◌, ◌||◌, List, [], ◌∷◌, ma
 use Rattle.std.proofs.Common.{Option, Some, None}
 use Rattle.std.proofs.Common.{Global, Box, box_value, rules, arith, ◌++◌, append_assoc}
 use Rattle.cargo_platform.specs.Trees.{CfgValue, Alone, KeyPair}
-use Rattle.known_targets.specs.Rows.{Values, Keys, with_fact, names_of, keys_of}
+use Rattle.partial_facts.specs.Partly.{names_of}
+use Rattle.known_targets.specs.Rows.{Values, Keys, with_fact, keys_of}
 use Rattle.known_targets.specs.Rows.{values_of, plain, facts_of_values, facts_in}
 use Rattle.known_targets.specs.Bits.{has}
 use Rattle.std.specs.Prelude.{not, ◌≢◌, bytes_eq}

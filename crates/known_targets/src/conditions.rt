@@ -6,7 +6,7 @@ ghost use Rattle.std.specs.FinSet.{contains};
 ghost use Rattle.cargo_platform.specs.Trees.{value_of, condition_of};
 ghost use Rattle.cargo_platform.specs.Facts.{FactSet, pair_of, IsTrueCondition};
 ghost use Rattle.partial_facts.specs.Conditions.{kleene_condition};
-ghost use Rattle.known_targets.specs.Rows.{names_of};
+ghost use Rattle.partial_facts.specs.Partly.{names_of};
 ghost use Rattle.known_targets.specs.Open.{open_told, taken_as, IsSameButOpen};
 ghost use Rattle.known_targets.specs.Sets.{is_member};
 ghost use Rattle.known_targets.specs.Table.{target_name, target_facts};

@@ -17,7 +17,7 @@ pub struct OpenTarget<'a> {
 }
 
 impl<'a> Knowledge for OpenTarget<'a> {
-    ghost use Rattle.known_targets.specs.Rows.{names_of};
+    ghost use Rattle.partial_facts.specs.Partly.{names_of};
     ghost use Rattle.known_targets.specs.Sets.{place};
     ghost use Rattle.known_targets.specs.Table.{target_facts};
     ghost use Rattle.known_targets.specs.Open.{open_told, IsSameButOpen, open_possible, open_sound};

@@ -5,9 +5,9 @@ ghost use Rattle.cargo_platform.specs.Trees.{value_of, tree_of, trees_of};
 ghost use Rattle.cargo_platform.specs.Facts.{Pair, pair_of};
 ghost use Rattle.cargo_platform.specs.ExpressionSizes.{node_count, node_counts};
 ghost use Rattle.partial_facts.specs.Inside.Groups.{grouped};
-ghost use Rattle.partial_facts.specs.Partly.{is_named};
+ghost use Rattle.partial_facts.specs.Partly.{is_named, names_of};
 ghost use Rattle.known_targets.specs.Bits.{has};
-ghost use Rattle.known_targets.specs.Rows.{keys_of, names_of};
+ghost use Rattle.known_targets.specs.Rows.{keys_of};
 ghost use Rattle.known_targets.specs.Open.{taken_as};
 ghost use Rattle.known_targets.specs.Groups.{told_in, taken, both, list_truth, whole, work};
 

@@ -6,7 +6,7 @@ ghost use Rattle.cargo_platform.specs.Facts.{FactSet, truth, IsTrueCondition};
 ghost use Rattle.partial_facts.specs.Kleene.{kleene};
 ghost use Rattle.partial_facts.specs.Conditions.{kleene_condition};
 ghost use Rattle.known_targets.specs.Open.{open_told, IsSameButOpen};
-ghost use Rattle.known_targets.specs.Rows.{names_of};
+ghost use Rattle.partial_facts.specs.Partly.{names_of};
 ghost use Rattle.known_targets.specs.Sets.{place};
 ghost use Rattle.known_targets.specs.Table.{target_name, target_facts};
 

@@ -9,7 +9,8 @@ use key_answers::answer::{Answer, Status};
 use key_answers::conditions::read_key;
 use key_answers::printing::{fact_lines, refused_cfg, refused_fact, shown_name};
 use known_targets::{COUNT, KnownTarget, RUSTC_VERSION, TargetSet, matching};
-use manifests::{Code, Finding, Report, TargetKey, Words, lint, nearest_target};
+use manifest_lints::{Code, Finding, Report, Words, lint, nearest_target};
+use manifest_tables::TargetKey;
 use serde_json::Value;
 use std::alloc::{AllocError, Global};
 

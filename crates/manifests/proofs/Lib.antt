@@ -1,13 +1,1 @@
-pub mod Reports
-pub mod Rustcs
-pub mod Standings
-pub mod Verdicts
-pub mod Found
 pub mod Chosen
-pub mod Tried
-pub mod MoreKinds
-pub mod Stepping
-pub mod Reading
-pub mod Texts
-pub mod MoreSames
-pub mod MoreEquivalents

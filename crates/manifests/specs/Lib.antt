@@ -1,13 +1,3 @@
 pub mod Asking
-pub mod Tables
 pub mod Choosing
-pub mod Truths
-pub mod Doubled
-pub mod Hiding
-pub mod Declarations
-pub mod Steps
-pub mod Standings
-pub mod Entries
-pub mod Sames
-pub mod Reports
 pub mod Selecting

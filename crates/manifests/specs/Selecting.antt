@@ -13,17 +13,16 @@ use Rattle.known_targets.specs.Sets.{place}
 use Rattle.known_targets.specs.Table.{target_name, target_facts}
 use Rattle.manifests.specs.Asking.{asked_told}
 use Rattle.manifests.specs.Choosing.{choice_of, IfOpen, IsChoiceBy}
-use Rattle.manifests.specs.Entries.{Entry}
-use Rattle.manifests.specs.Reports.{SpellsNothing}
-use Rattle.manifests.specs.Tables.{DependencyRow, row_of, rows_of, target_of}
+use Rattle.manifest_tables.specs.Entries.{Entry}
+use Rattle.manifest_tables.specs.Tables.{DependencyRow, row_of, rows_of, target_of}
 use Rattle.manifests.specs.declared.selection.Asked.{Asked}
 use Rattle.manifests.specs.declared.selection.Choice.{Choice}
 use Rattle.manifests.specs.declared.selection.Choice.TheVariants.{Selected}
 use Rattle.manifests.specs.declared.selection.Row.{Row}
 use Rattle.manifests.specs.declared.selection.SelectError.{SelectError}
 use Rattle.manifests.specs.declared.selection.SelectError.TheVariants.{Memory, TargetIsNoTable, KeyIsNoTable, Refused}
-use Rattle.manifests.specs.declared.tables.Kind.{Kind}
-use Rattle.manifests.specs.declared.tables.Kind.TheVariants.{Normal, Development, Build}
+use Rattle.manifest_tables.specs.declared.tables.Kind.{Kind}
+use Rattle.manifest_tables.specs.declared.tables.Kind.TheVariants.{Normal, Development, Build}
 
 -- ---- what is asked
 
@@ -121,7 +120,7 @@ pub record IsNoTableKey (key : List ℕ) (e : Entry) : Type 0 where
 -- the key is this one, which spells no condition, for this fault
 pub record IsRefusedKey (key : List ℕ) (error : ParseError) (e : Entry) : Type 0 where
   pub this : e.0 ≡ key
-  pub nothing : SpellsNothing key
+  pub nothing : (c : Condition) → IsConditionText key c → ⊥
   pub fault : IsRefusedCondition key (orig_of error) (fault_in error)
 
 -- what an error says of the key that it is on

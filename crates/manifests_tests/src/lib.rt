@@ -1,6 +1,8 @@
-//! Callers of `manifests`, proved and tested. They stand in a crate of their own, so that the library is proved once.
+//! Callers of `manifests` and `manifest_lints`, proved and tested. They stand in a crate of their own, so that those are
+//! proved once.
 #![tactic(auto)]
 
-pub mod callers;
+pub mod reporting;
+pub mod selecting;
 #[cfg(test)]
 mod tests;

@@ -1,6 +1,7 @@
 //! The callers, on a small manifest.
 
-use crate::callers::{may_leave_out, report_on, selected_names};
+use crate::reporting::report_on;
+use crate::selecting::{may_leave_out, selected_names};
 use cargo_platform::Platform;
 use known_targets::KnownTarget;
 use partial_facts::Complete;

@@ -1,11 +1,16 @@
 -- A target by a list of facts, and the names and keys whose facts are all in that list.
 use Rattle.std.specs.Prelude.{◌≡◌, ◌↔◌, ℕ, Bool, true, false, ◌||◌, IsTrue, List, [], ◌∷◌, ◌++◌, Option, Some, None}
-use Rattle.std.specs.Prelude.{IfSome, bytes_eq}
+use Rattle.std.specs.Prelude.{IfSome, bytes_eq, map}
+use Rattle.std.specs.Borrow.{Bor}
 use Rattle.std.specs.FinSet.{contains}
 use Rattle.std.proofs.Common.{refl, sym, true≢false}
 use Rattle.cargo_platform.specs.Trees.{CfgValue}
 use Rattle.cargo_platform.specs.Facts.{Pair, FactSet, pair_of, fact_set}
 use Rattle.cargo_platform.specs.FactLaws.{HasAllFacts}
+
+-- names and keys apart from where they lie in memory
+abbrev pub names_of : List (Bor (List ℕ)) → List (List ℕ)
+names_of names = map (λ t. t.now) names
 
 abbrev pub is_named : List ℕ → List (List ℕ) → Bool
 is_named name [] = false

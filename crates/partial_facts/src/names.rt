@@ -3,21 +3,28 @@
 ghost use Rattle.std.specs.Prelude.{◌≡◌, map, string_bytes};
 ghost use Rattle.cargo_platform.specs.Trees.{value_of};
 ghost use Rattle.cargo_platform.specs.Facts.{pair_of};
-ghost use Rattle.partial_facts.specs.Partly.{is_named};
+ghost use Rattle.partial_facts.specs.Partly.{is_named, names_of};
 ghost use Rattle.partial_facts.specs.OneValued.{is_value, has_value};
 
 use cargo_platform::{Cfg, Ident};
 
-/// Whether the name or key is among the texts. Its raw mark plays no part.
-pub fn is_named(name: &Ident, texts: &[&str]) -> bool
-    ensures { result ≡ is_named (string_bytes name.now.name) (map (λ t. t.now) texts.now) }
+/// Whether the text is among these.
+pub fn is_among(text: &str, texts: &[&str]) -> bool
+    ensures { result ≡ is_named text.now (names_of texts.now) }
 {
-    for text in texts {
-        if name.as_str() == *text {
+    for other in texts {
+        if text == *other {
             return true;
         }
     }
     false
+}
+
+/// Whether the name or key is among the texts. Its raw mark plays no part.
+pub fn is_named(name: &Ident, texts: &[&str]) -> bool
+    ensures { result ≡ is_named (string_bytes name.now.name) (names_of texts.now) }
+{
+    is_among(name.as_str(), texts)
 }
 
 /// Whether the fact is the key with some value. Raw marks play no part.

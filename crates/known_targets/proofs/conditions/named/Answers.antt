@@ -1,6 +1,6 @@
 use Rattle.std.proofs.Common.{◌∙◌, sym, ap, arith, get_or, []}
 use Rattle.std.specs.Prelude.{bytes_eq}
-use Rattle.known_targets.specs.Rows.{names_of}
+use Rattle.partial_facts.specs.Partly.{names_of}
 use Rattle.known_targets.proofs.Steps.{named_more, named_none, name_at}
 use Rattle.known_targets.proofs.conditions.named.Goals as goal
 

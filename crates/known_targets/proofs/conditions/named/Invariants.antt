@@ -2,7 +2,7 @@ use Rattle.std.proofs.Common.{◌≡◌, ℕ, ◌<◌, ◌≤◌, false, []}
 use Rattle.std.specs.Prelude.{bytes_eq}
 use Rattle.std.specs.List.{slice_index_or}
 use Rattle.known_targets.specs.Bits.{has}
-use Rattle.known_targets.specs.Rows.{names_of}
+use Rattle.partial_facts.specs.Partly.{names_of}
 use Rattle.known_targets.specs.declared.table.TheConstants.{COUNT}
 use Rattle.known_targets.proofs.conditions.named.Given as goal
 

@@ -1,6 +1,6 @@
 use Rattle.std.proofs.lemmas.Result.{IfOk-weaker}
 use Rattle.cargo_platform.specs.Trees.{condition_of}
-use Rattle.known_targets.specs.Rows.{names_of}
+use Rattle.partial_facts.specs.Partly.{names_of}
 use Rattle.known_targets.specs.Sets.{is_member}
 use Rattle.known_targets.specs.Table.{target_name, target_facts}
 use Rattle.known_targets.proofs.Taken.{holds_possibly}

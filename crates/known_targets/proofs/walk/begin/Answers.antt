@@ -2,7 +2,8 @@ use Rattle.std.proofs.lemmas.Result.{IfOk-weaker}
 use Rattle.std.proofs.Common.{◌≡◌, ◌∙◌, ap, box_value, arith}
 use Rattle.known_targets.proofs.Steps.{negated, one_less, is_true, is_false, is_value, is_all, is_any}
 use Rattle.cargo_platform.specs.Trees.{tree_of}
-use Rattle.known_targets.specs.Rows.{keys_of, names_of}
+use Rattle.partial_facts.specs.Partly.{names_of}
+use Rattle.known_targets.specs.Rows.{keys_of}
 use Rattle.known_targets.specs.Groups.{told_in, taken, whole}
 use Rattle.std.specs.Prelude.{not}
 use Rattle.known_targets.proofs.walk.begin.Goals as goal

@@ -1,6 +1,5 @@
 use Rattle.std.proofs.Common.{◌≡◌, drop, string_bytes}
-use Rattle.partial_facts.specs.Partly.{is_named}
-use Rattle.known_targets.specs.Rows.{names_of}
+use Rattle.partial_facts.specs.Partly.{is_named, names_of}
 use Rattle.known_targets.proofs.walk.is_open.Given as goal
 
 -- the answer hangs on the texts that are left

@@ -1,7 +1,8 @@
 use Rattle.std.proofs.Common.{◌≡◌, ℕ, ◌<◌}
 use Rattle.cargo_platform.specs.Trees.{tree_of}
 use Rattle.known_targets.specs.Bits.{has}
-use Rattle.known_targets.specs.Rows.{keys_of, names_of}
+use Rattle.partial_facts.specs.Partly.{names_of}
+use Rattle.known_targets.specs.Rows.{keys_of}
 use Rattle.known_targets.specs.Groups.{told_in, taken, whole, work}
 use Rattle.known_targets.specs.declared.table.TheConstants.{COUNT}
 use Rattle.known_targets.proofs.walk.true_at.Given as goal

@@ -1,0 +1,55 @@
+-- One more key among those that later ones are compared with.
+use Rattle.std.proofs.Common.{◌≡◌, refl, sym, subst, ℕ, true, List, [], ◌∷◌, ◌++◌, inl, inr, length, get_or, ltb}
+use Rattle.std.specs.Prelude.{IsTrue}
+use Rattle.std.specs.Borrow.{Bor}
+use Rattle.std.specs.List.{Any}
+use Rattle.std.proofs.lemmas.Bool.{ltb-true}
+use Rattle.std.proofs.lemmas.List.Elements.{All-nil, All-same, All-push, All-weaker}
+use Rattle.cargo_platform.specs.declared.Platform.{Platform}
+use Rattle.cargo_platform.specs.Trees.{Condition, condition_of}
+use Rattle.cargo_platform.specs.Platforms.{IsConditionText}
+use Rattle.cargo_platform.proofs.Conditions.{one_condition}
+use Rattle.exact_answers.specs.declared.known.Known.{Known}
+use Rattle.manifest_lints.specs.declared.earlier.Keys.{Keys}
+use Rattle.manifest_lints.specs.declared.hiding.Holding.{Holding}
+use Rattle.manifest_tables.specs.Entries.{Entry}
+use Rattle.manifest_lints.proofs.MoreSames.{has_more, has_so}
+use Rattle.manifest_lints.specs.Sames.{HasSpelled, AreMembers, AddsMember, AreEquivalent, HasEquivalent, HasEquivalentMember}
+use Rattle.manifest_lints.specs.Sames.{TellsEquivalent}
+
+abbrev IsSpelledBy : List Entry → ℕ × Bor Platform → Type 0
+IsSpelledBy es m = HasSpelled es (condition_of m.1.now)
+
+pub no_members : (keys : Keys) → keys.members.items ≡ [] → AreMembers [] keys
+no_members keys none = All-same (IsSpelledBy []) keys.members.items [] none (All-nil (IsSpelledBy []))
+
+pub more_members : (es : List Entry) (e : Entry) (keys : Keys) → AreMembers es keys → AreMembers (es ++ e ∷ []) keys
+more_members es e keys =
+    All-weaker (IsSpelledBy es) (IsSpelledBy (es ++ e ∷ []))
+    (λ m h. has_more (λ d. d ≡ condition_of m.1.now) es e (inr h)) keys.members.items
+
+pub one_member : (es : List Entry) (e : Entry) (old new : Keys) (n : ℕ) (p : Bor Platform) → AddsMember old new n p
+    → AreMembers es old → IsConditionText e.0 (condition_of p.now) → AreMembers (es ++ e ∷ []) new
+one_member es e old new n p (inl same) before text =
+    All-same (IsSpelledBy (es ++ e ∷ [])) new.members.items old.members.items same (more_members es e old before)
+one_member es e old new n p (inr more) before text =
+    All-same (IsSpelledBy (es ++ e ∷ [])) new.members.items (old.members.items ++ (n, p) ∷ []) more
+    (All-push (IsSpelledBy (es ++ e ∷ [])) old.members.items (n, p) (more_members es e old before)
+    (has_more (λ d. d ≡ condition_of p.now) es e (inl (condition_of p.now, text, refl))))
+
+pub tells_equivalent : (k : Known) (es : List Entry) (e : Entry) (old : Keys) (c : Condition) → AreMembers es old
+    → IsConditionText e.0 c → (h : Holding) → (IsTrue h.equivalent → HasEquivalentMember k old c)
+    → TellsEquivalent k es e h
+tells_equivalent k es e old c before text h told = λ d t holds.
+    let m = told holds in
+    subst (HasEquivalent k es) (one_condition e.0 c d text t)
+    (has_so (λ x. x ≡ condition_of m.1.1.now) (λ x. AreEquivalent k x c) es
+    (λ x is. subst (λ y. AreEquivalent k y c) (sym is) m.4) (subst (IsSpelledBy es) m.3 (before m.0 m.1 m.2)))
+
+-- a member that is found at a place
+pub member_at : (k : Known) (ms : List (ℕ × Bor Platform)) (keys : Keys) (c : Condition) (i : ℕ)
+    (m : ℕ × Bor Platform) → ms ≡ keys.members.items → ltb i (length ms) ≡ true → m ≡ get_or ms i m
+    → AreEquivalent k (condition_of m.1.now) c → HasEquivalentMember k keys c
+member_at k ms keys c i m are within at alike =
+    subst (Any (λ (n : ℕ × Bor Platform). AreEquivalent k (condition_of n.1.now) c)) are
+    (i, m, ltb-true i (length ms) within, sym at, alike)
