@@ -9,7 +9,7 @@
 
 ghost use Rattle.std.specs.Prelude.{◌≡◌, ◌≢◌, ℕ, ◌+◌, ◌-◌, ◌^◌, ◌<◌, ◌≤◌, true, false, length, drop, slice_index};
 ghost use Rattle.std.specs.Prelude.{slice_range, IfSome, IfNone};
-ghost use Rattle.std.specs.Str.{IsCharBoundary};
+ghost use Rattle.std.specs.Str.{IsUtf8, IsCharBoundary};
 ghost use Rattle.cargo_platform.specs.Chars.{is_identifier_start, is_identifier_rest};
 ghost use Rattle.cargo_platform.specs.Cut.{AreSpaces};
 ghost use Rattle.cargo_platform.specs.Reading.{characters_from};
@@ -178,6 +178,7 @@ impl<'a> Source<'a> {
         requires { IsCharBoundary self.old.text.now from }
         ensures same { self.new.text ≡ self.old.text }
         ensures value { IfSome result (λ r. r.0.now ≡ slice_range self.old.text.now from r.1) }
+        ensures utf8 { IfSome result (λ r. IsUtf8 r.0.now) }
         ensures order { IfSome result (λ r. from ≤ r.1) }
         ensures at_quote { IfSome result (λ r. IsCharAt self.old.text.now r.1 0x22) }
         ensures inside { IfSome result (λ r.
