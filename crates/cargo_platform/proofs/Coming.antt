@@ -103,7 +103,8 @@ whole_read text at seen fault looks long r none = go fault r
     at_end = same_start text at at (length text) (no_spaces text at r.reached.0) none.comes.0 (no_space text at r.past)
         (ap (starts is_space) (drop_of_length-le text (omega arith)))
 
-    go : (fault : Option TokenFaultKind) → IsReadingAt text at seen fault looks long → characters_from text 0 + 1 ≤ looks
+    go : (fault : Option TokenFaultKind) → IsReadingAt text at seen fault looks long
+        → characters_from text 0 + 1 ≤ looks
     go None r = omega (arith, r.whole refl, characters_end text at at_end)
     go (Some k) r =
         let over : drop at text ≡ [] = drop_of_length-le text (omega (arith, at_end)) in
@@ -236,8 +237,8 @@ reads_on text at from end to over seen next fault looks mid new long r none one 
     omega (arith, a.at_most, b.at_most, one, few, r.at_most none) in
     let need = characters_from text 0 + 1 - characters_from text to in
     let many : need ≤ new = looks_are_many new need (omega (arith, r.short)) (λ small.
-        let still : mid < 2 ^ 64 - 1 = omega (arith, small, b.grows) in
-        omega (arith, a.at_least still, b.at_least small, one, before)) in
+    let still : mid < 2 ^ 64 - 1 = omega (arith, small, b.grows) in
+    omega (arith, a.at_least still, b.at_least small, one, before)) in
     record {
       utf8 = r.utf8;
       short = r.short;
@@ -262,7 +263,7 @@ finds text at seen fault k looks new long r none begins few found =
     let end = (lexical_span text at k).end in
     let need = characters_from text 0 - characters_from text end in
     let many : need ≤ new = looks_are_many new need (omega (arith, r.short)) (λ small.
-        omega (arith, found.at_least small, r.whole none)) in
+    omega (arith, found.at_least small, r.whole none)) in
     record {
       utf8 = r.utf8;
       short = r.short;

@@ -1,19 +1,14 @@
 -- From the lanes of one load to the bytes that it has.
-use Rattle.std.proofs.Common.{◌≡◌, ◌≢◌, ℕ, zero, suc, ◌+◌, ◌*◌, ◌/◌, ◌%◌, ◌^◌, ◌≤◌, Bool, true, false, not}
-use Rattle.std.proofs.Common.{List, [], ◌∷◌, map, length, get_or, take, drop, cond, eqb, Fits, w8, refl, sym, ap, ◌∙◌}
+use Rattle.std.proofs.Common.{◌≡◌, ◌≢◌, ℕ, suc, ◌+◌, ◌*◌, ◌%◌, ◌^◌, ◌≤◌, Bool, true, false, not}
+use Rattle.std.proofs.Common.{List, [], ◌∷◌, map, length, get_or, cond, eqb, Fits, w8, refl, sym, ap, ◌∙◌}
 use Rattle.std.proofs.Common.{arith, ◌<◌, ◌+◌}
 use Rattle.std.proofs.lemmas.Bool.{agree_below, agree_below_at, eq-eqb, ne_eqb, cond-true, cond-false}
-use Rattle.std.proofs.lemmas.Simd.{map-map, mask_l-mod, length-chunk, first_set_mask_l, run_in_chunk_le, chunk-fits}
-use Rattle.std.proofs.lemmas.Simd.{run_in_chunk_fails, run_in_chunk_stops, chunk-drop, ones-mask_l}
-use Rattle.std.proofs.lemmas.List.{length-map, take-map, take-take}
-use Rattle.std.proofs.lemmas.List.Sums.{sum_by-append, sum_by-cons, count_by-le-length}
-use Rattle.std.proofs.Math.Nat.{pow-zero, pow-suc, mod-one, zero-mod, mod-eq_of_lt, one-le-pow}
-use Rattle.std.proofs.Math.Arith.{mod-mul}
-use Rattle.std.proofs.Math.Pow.{pow_mono}
-use Rattle.std.specs.List.{count_by, prefix_len}
-use Rattle.std.specs.Int.RustNames.{count_ones}
+use Rattle.std.proofs.lemmas.Simd.{map-map, mask_l-mod, length-chunk, first_set_mask_l, run_in_chunk_le}
+use Rattle.std.proofs.lemmas.Simd.{run_in_chunk_fails, run_in_chunk_stops}
+use Rattle.std.proofs.lemmas.List.{length-map}
+use Rattle.std.specs.List.{prefix_len}
 use lib.Count.{count_trailing_zeros}
-use lib.Lanes.{Each1, chunk, mask_l, top}
+use lib.Lanes.{chunk, mask_l, top}
 use Rattle.cargo_platform.specs.Inside.Looking.{IsRun}
 
 -- a comparison leaves a number in each lane, of which the top bit is read

@@ -1,6 +1,6 @@
 -- The character at a place, from what the text has there.
 use Rattle.std.proofs.Common.{◌≡◌, ℕ, zero, suc, ◌+◌, ◌-◌, ◌<◌, ◌≤◌, List, [], ◌∷◌, ◌++◌, length, get_or, drop, refl}
-use Rattle.std.proofs.Common.{sym, ap, subst, ◌∙◌, arith, add-zero, add-one, true, false, ◌&&◌, Bool, cond, ltb}
+use Rattle.std.proofs.Common.{sym, ap, subst, ◌∙◌, arith, add-zero, add-one, true, false, ◌&&◌, Bool, ltb}
 use Rattle.std.proofs.Common.{◌⊎◌, inl, inr, ◌*◌, ◌^◌, ◌≢◌, true≢false, take}
 use Rattle.std.proofs.lemmas.List.{get_or-drop, length-append, length-drop}
 use Rattle.std.proofs.Math.Seq.{drop-cons}
@@ -118,8 +118,15 @@ characters_between text from to utf8 ordered begin end =
     chunk-drop from (to - from) text ∙ ap (λ n. piece ++ drop n text) (omega arith) in
     let is : IsUtf8 piece = IsUtf8-between text from to utf8 ordered begin end in
     let long : length piece ≡ to - from =
-    omega (arith, ap length behind, length-append piece (drop to text), length-drop from text, length-drop to text,
-    begin.0, end.0) in
+    omega (
+      arith,
+      ap length behind,
+      length-append piece (drop to text),
+      length-drop from text,
+      length-drop to text,
+      begin.0,
+      end.0,
+    ) in
     record {
       characters = length (chars piece);
       all =

@@ -259,9 +259,9 @@ impl CfgExpr {
         CfgExpr::from_str_counted(alloc, s).0
     }
 
-    /// Reads an expression as `from_str` does, and tells how many looks at the text the reader made. A look asks for the
-    /// character at a place, or whether the text ends there, and counts one. A scan of spaces, a name or a value counts
-    /// each byte that it compares, and a block of sixteen that are compared at once counts sixteen.
+    /// Reads an expression as `from_str` does, and tells how many looks the reader made at the text. A look asks for
+    /// the character at a place, or whether the text ends there, and counts one. A scan of spaces, a name or a value
+    /// counts each byte that it compares, and sixteen for a block of sixteen that are compared at once.
     ///
     /// Whatever the answer, it makes at most nine looks for each character of the text, and one. With an expression it
     /// makes no fewer than the text has characters, and one. It looked at a refused text up to the end of the fault's

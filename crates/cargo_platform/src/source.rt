@@ -1,11 +1,11 @@
 //! The characters of a text, which are seen by looks alone.
 //!
-//! A look asks what is at one place: a character, or the end of the text. `Source` keeps its text to itself, and counts
-//! what is examined: a look counts one, a scan each byte that it compares, and a block of bytes that are compared at once
-//! all of its lanes. `spend` gives the count. A name and a value are handed out by the scan that went over them, and
-//! nothing else is. A call hands on what ended it, so that nobody need look there again. `rest_from` hands out text that
-//! was not looked at, and that can't be read before the source is spent. Uncounted is `Tokenizer::rest` alone, which
-//! tells what was not looked at.
+//! `Source` keeps its text to itself, and counts what is examined. A look asks what is at one place, a character or the
+//! end of the text, and counts one. A scan counts each byte that it compares: all lanes of a block of bytes that are
+//! compared at once, and one for any other byte or the end. `spend` gives the count. A call hands on what ended it, so
+//! that nobody need look there again. A name or a value is handed out by the scan that went over it, and no other text
+//! is, but by `rest_from`: that was not looked at, and can't be read before the source is spent. Uncounted is
+//! `Tokenizer::rest` alone, which tells what was not looked at.
 
 ghost use Rattle.std.specs.Prelude.{◌≡◌, ◌≢◌, ℕ, ◌+◌, ◌-◌, ◌^◌, ◌<◌, ◌≤◌, true, false, length, drop, slice_index};
 ghost use Rattle.std.specs.Prelude.{slice_range, IfSome, IfNone};

@@ -1,6 +1,6 @@
 -- What a look at a place of a text gives, and what looks cost.
-use Rattle.std.specs.Prelude.{◌≡◌, ◌≢◌, ◌⊎◌, ℕ, ◌+◌, ◌-◌, ◌*◌, ◌<◌, ◌≤◌, ◌^◌, Bool, true, false, List, ◌∷◌, ◌++◌, length, drop}
-use Rattle.std.specs.Prelude.{slice_index, not}
+use Rattle.std.specs.Prelude.{◌≡◌, ◌≢◌, ◌⊎◌, ℕ, ◌+◌, ◌-◌, ◌*◌, ◌<◌, ◌≤◌, ◌^◌, Bool, true, false, List, ◌∷◌, ◌++◌, length}
+use Rattle.std.specs.Prelude.{drop, slice_index, not}
 use Rattle.std.specs.Prelude.{encode_utf8, Option, Some, None}
 use Rattle.std.specs.Char.{IsScalar, len_utf8}
 use Rattle.std.specs.Str.{IsUtf8, IsCharBoundary, chars}
@@ -9,7 +9,7 @@ use Rattle.cargo_platform.specs.declared.source.Look.{Look}
 use Rattle.cargo_platform.specs.declared.tokens.TokenFaultKind.{TokenFaultKind}
 use Rattle.cargo_platform.specs.declared.source.Look.TheVariants.{End, Ascii, Wide}
 use Rattle.cargo_platform.specs.Cut.{BeginsFault}
-use Rattle.cargo_platform.specs.Reading.{characters_from, IsLookedTo}
+use Rattle.cargo_platform.specs.Reading.{characters_from}
 use Rattle.cargo_platform.specs.Faults.{lexical_span}
 
 -- the character c begins at the place
@@ -64,8 +64,8 @@ pub record Costs (text : List ℕ) (from to over beside old new : ℕ) : Type 0 
   -- below the greatest count
   pub at_least : new < 2 ^ 64 - 1 → old + characters_from text from + beside ≤ new + characters_from text to
 
--- A scan that goes over so many of the bytes that are left compares so many: one block of sixteen after another while so
--- many are left, the last of which has the byte that ends the scan, and then one byte after another, with what ends it.
+-- A scan that goes over so many of the bytes that are left compares so many: one block of sixteen after another while
+-- so many are left, where the last has the byte that ends the scan, and else one byte after another with what ends it.
 pub record Compares (left run count : ℕ) : Type 0 where
   pub blocks : ℕ
   pub passed : 16 * blocks ≤ run

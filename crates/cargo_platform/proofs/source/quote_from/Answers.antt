@@ -1,5 +1,4 @@
-use Rattle.std.proofs.Common.{◌≡◌, ◌≢◌, ◌+◌, get_or, ap, sym, not, true, false, true≢false, ℕ, arith}
-use Rattle.std.proofs.lemmas.Bool.{eq-eqb}
+use Rattle.std.proofs.Common.{◌≢◌, ◌+◌, get_or, arith}
 use Rattle.cargo_platform.proofs.Looking.{one_after_other, passes_quote}
 use Rattle.cargo_platform.proofs.source.quote_from.Goals as goal
 

@@ -29,7 +29,8 @@ invariant_of-self c =
     let end = r.place + 1 in
     let here = rw (c.is_byte.ensures.yes c.if-not-is_byte.false) at i.sees in
     let stands = punctuation_stands text r.place c.byte_of.result c.args.wanted c.byte_of.ensures here.1 here.0 in
-    let none = token_no_fault text r.place end (lexeme_of c.args.wanted) r.seen r.fault r.source.looks r.length i stands in
+    let none = token_no_fault text r.place end (lexeme_of c.args.wanted) r.seen r.fault r.source.looks r.length i stands
+    in
     let step = ascii_step text r.place i.utf8 here.1.within (omega (arith, here.1.ascii here.0, here.0)) i.reached in
     let found = rw c.look-behind.ensures.same at c.past_spaces.ensures in
     subst

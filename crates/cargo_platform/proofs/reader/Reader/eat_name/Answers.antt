@@ -1,6 +1,5 @@
 use Rattle.std.proofs.Common.{◌≡◌, refl, sym, ap, subst, ◌∙◌, ◌+◌, true, false, true≢false, arith}
 use Rattle.std.specs.Prelude.{slice_index}
-use Rattle.std.specs.List.{between}
 use Rattle.cargo_platform.specs.declared.source.Look.TheVariants.{Ascii}
 use Rattle.cargo_platform.specs.Chars.{is_identifier_start}
 use Rattle.cargo_platform.specs.Tokens.{Ident}

@@ -1,5 +1,4 @@
 use Rattle.std.proofs.Common.{◌≡◌, refl, sym, ap, subst, ◌∙◌, ◌+◌, ◌++◌, Some, arith}
-use Rattle.std.specs.List.{between}
 use Rattle.cargo_platform.specs.declared.tokens.TokenFaultKind.TheVariants.{UnterminatedString}
 use Rattle.cargo_platform.specs.Tokens.{Lexeme, String, written}
 use Rattle.cargo_platform.specs.Inside.Ahead.{Standing}

@@ -27,8 +27,8 @@ invariant_of-result c =
     omega (arith, look.at_most, found.cost.at_most, c.new-source.ensures.looks) in
     let need = characters_from c.args.text.now 0 + 1 - characters_from c.args.text.now to in
     let many : need ≤ looks = looks_are_many looks need (omega (arith, fits)) (λ small.
-        let still : c.look-first.new.self.looks < 2 ^ 64 - 1 = omega (arith, small, found.cost.grows) in
-        omega (arith, look.at_least still, found.cost.at_least small, c.new-source.ensures.looks)) in
+    let still : c.look-first.new.self.looks < 2 ^ 64 - 1 = omega (arith, small, found.cost.grows) in
+    omega (arith, look.at_least still, found.cost.at_least small, c.new-source.ensures.looks)) in
     subst I (sym (ap (λ t. t.now) c.past_spaces-place.ensures.same ∙ first)) (record {
       utf8 = c.utf8.text;
       short = fits;
