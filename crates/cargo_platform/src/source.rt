@@ -329,8 +329,8 @@ fn quote_from(bytes: &[u8], from: usize) -> (usize, usize)
 {
     let mut at = from;
     'by_block: while LANES <= bytes.len() - at {
-        if let Some(run) = quote_in_block(bytes, at) {
-            return (at + run, at - from + LANES);
+        if let Some(before) = quote_in_block(bytes, at) {
+            return (at + before, at - from + LANES);
         }
         at += LANES;
     }
