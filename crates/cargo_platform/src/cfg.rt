@@ -32,8 +32,8 @@ pub enum Cfg {
     KeyPair(Ident, String),
 }
 
-/// An expression over facts. It is let go without recursion, however deep it is and wherever that happens. So a pattern
-/// moves nothing out of it; `into_parts` takes it apart.
+/// An expression over facts. It is let go without recursion, wherever that happens, as is tested on two million levels.
+/// So a pattern moves nothing out of it; `into_parts` takes it apart.
 pub enum CfgExpr {
     /// True where the expression inside is false.
     Not(Box<CfgExpr>),
