@@ -4,8 +4,8 @@ import shutil
 
 ROOT = pathlib.Path(__file__).resolve().parent.parent
 
-# What a copy leaves out: wrong bodies, and what was made of the crates.
-LEFT_OUT = ("mutants", "must-fail", "out")
+# What a copy of a crate leaves out: its mutants, and what was made of it.
+LEFT_OUT = ("mutants", "out")
 
 
 def stands_on():

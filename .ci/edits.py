@@ -1,10 +1,9 @@
-"""The edits of the crates: wrong bodies that the prover has to refuse, and controls that it has to prove.
+"""The edits of the crates: mutants, which the prover has to refuse, and controls, which it has to prove.
 
-An edit is a file of lines. A line `file: src/PATH` names a file of the crate, and then pairs of lines `old: TEXT` and
-`new: TEXT` follow. Each old text stands exactly once in the file, as the pairs before it left that. Wrong bodies lie in
-two folders of a crate. Those of `must-fail` are tried by `rt ci` too, and the others are in `mutants/FILE`, where FILE
-is the path of the file that they edit, below src and without its ending. A control, in `mutants/controls`, writes a body
-in another way that is right.
+A mutant is a function with a fault put in: a file crates/CRATE/mutants/FILE/NAME.edit, where FILE is the path of the
+file that it edits, below src and without its ending. It has a line `file: src/PATH`, and then pairs of lines
+`old: TEXT` and `new: TEXT`. Each old text stands exactly once in the file, as the pairs before it left that. A control
+is such an edit in crates/CRATE/mutants/controls. It writes a body in another way that is right.
 """
 import functools
 import pathlib
@@ -15,8 +14,8 @@ from crates import ROOT
 
 CRATES = ROOT / "crates"
 
-# The name of an edit that `rt ci` tries.
-OF_GATE = re.compile(r"[\w-][\w.-]*\.edit", re.A)
+# The names of the mutants that `make test` tries.
+OF_THE_GATE = ROOT / ".ci" / "mutants-of-the-gate"
 
 
 class NotFit(Exception):
@@ -31,17 +30,8 @@ class Edit(NamedTuple):
         return f"{self.crate}/{self.file.stem}"
 
     @property
-    def folder(self):
-        """Where it lies in its crate."""
-        return str(self.file.parent.relative_to(CRATES / self.crate))
-
-    @property
     def is_control(self):
-        return self.folder == "mutants/controls"
-
-    @property
-    def is_of_gate(self):
-        return self.folder == "must-fail"
+        return self.file.parent.name == "controls"
 
 
 def text_of(file):
@@ -50,11 +40,16 @@ def text_of(file):
 
 def all_edits():
     """The edits of all crates, and what is wrong with their names."""
-    files = sorted([*CRATES.glob("*/mutants/**/*.*"), *CRATES.glob("*/must-fail/**/*.*")])
+    files = sorted(CRATES.glob("*/mutants/**/*.*"))
     found = [Edit(file.relative_to(CRATES).parts[0], file) for file in files]
     names = [str(edit) for edit in found]
-    strange = [f"{edit.file} is no edit" for edit in found if not OF_GATE.fullmatch(edit.file.name)]
+    strange = [f"{edit.file} is no edit" for edit in found if edit.file.suffix != ".edit"]
     return found, strange + [f"two edits are {name}" for name in sorted({*names}) if names.count(name) > 1]
+
+
+def names_of_the_gate():
+    """The names of the mutants that `make test` tries, a line each."""
+    return [line for line in text_of(OF_THE_GATE).splitlines() if line and not line.startswith("#")]
 
 
 @functools.cache
@@ -76,9 +71,9 @@ def changes(edit):
             raise NotFit(f"a line is out of place: {line}")
     if old is not None or not found:
         raise NotFit("it has no pair of an old and a new text, or half of one")
-    of_file = found[0][0][len("src/") : -len(".rt")]
-    if edit.folder not in ("must-fail", "mutants/controls", f"mutants/{of_file}"):
-        raise NotFit(f"it lies in the folder {edit.folder}, and edits {found[0][0]}")
+    folder = str(edit.file.parent.relative_to(CRATES / edit.crate / "mutants"))
+    if folder not in ("controls", found[0][0][len("src/") : -len(".rt")]):
+        raise NotFit(f"it lies in the folder {folder}, and edits {found[0][0]}")
     return found
 
 
