@@ -35,10 +35,10 @@ class Step(NamedTuple):
     folder: pathlib.Path
     again: str
     counts: bool = False
-    told: str = "$^"
-    done: str = "$^"
+    told: str = "(?!)"
+    done: str = "(?!)"
     total: str = ""
-    wrong: str = "$^"
+    wrong: str = "(?!)"
 
 
 class Steps:
