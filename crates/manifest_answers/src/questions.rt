@@ -47,9 +47,10 @@ fn push_finding(text: &mut String, alloc: Global, finding: &Finding) -> Result<(
 
 /// The findings on what a key that stands alone asks for and no known target has.
 fn findings_on(alloc: Global, key: &str, condition: &Platform) -> Result<Vec<Finding>, AllocError> {
+    let none = toml::Table::new(alloc);
     let value = toml::Value::Table(toml::Table::new(alloc));
     let words = Words::new(alloc)?;
-    let declared = Declared::of(alloc, &toml::Table::new(alloc))?;
+    let declared = Declared::of(alloc, &none)?;
     let key = TargetKey { key, value: &value };
     unknown_in(alloc, &words, &declared, key, condition)
 }

@@ -1,6 +1,6 @@
 //! What a key that stands alone asks for and no known target has.
 
-ghost use Rattle.std.specs.Prelude.{◌≡◌, ◌++◌, [], ◌∷◌, IfOk, OnOk};
+ghost use Rattle.std.specs.Prelude.{◌≡◌, ◌++◌, IfOk, OnOk};
 ghost use Rattle.cargo_platform.specs.Trees.{condition_of};
 ghost use Rattle.declared_cfgs.specs.Declarations.{declarations_of};
 ghost use Rattle.manifest_lints_findings.specs.Marks.{marks};
