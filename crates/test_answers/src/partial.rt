@@ -1,7 +1,7 @@
 //! What is decided of a target that is known in part, and what is left to ask.
 
 use crate::facts;
-use crate::trying::over_completions;
+use crate::trying::{over_completions, without};
 use cargo_platform::{CfgExpr, Listed};
 use partial_facts::{
     Complete, Knowledge, ONE_VALUED, OneValued, Partial, decide, decide_platform, residual,
@@ -18,6 +18,7 @@ pub fn answer(alloc: Global, call: &str, fields: &mut Fields<'_>) -> Result<Stri
         "expr" => in_part(alloc, fields),
         "single" => with_single(alloc, fields),
         "key" => of_key(alloc, fields),
+        "later" => later(alloc, fields),
         "tried" => tried(alloc, fields),
         _ => Err(Fault::Row("there is no such kind")),
     }
@@ -82,6 +83,25 @@ fn with_single(alloc: Global, fields: &mut Fields<'_>) -> Result<String, Fault> 
     left(alloc, &e, &known)
 }
 
+/// In two steps: what is left by the facts and complete names of the first one is asked by those of the second.
+fn later(alloc: Global, fields: &mut Fields<'_>) -> Result<String, Fault> {
+    let e = spelled(alloc, &fields.text(alloc)?)?;
+    let facts = facts::values(alloc, fields)?;
+    let complete = fields.list(alloc)?;
+    let first = Partial {
+        facts: &facts,
+        complete: &complete,
+    };
+    let asked = residual(alloc, &e, &first)?;
+    let facts = facts::values(alloc, fields)?;
+    let complete = fields.list(alloc)?;
+    let second = Partial {
+        facts: &facts,
+        complete: &complete,
+    };
+    left(alloc, &asked, &second)
+}
+
 /// Of a condition, where the target's name is known or `-`.
 fn of_key(alloc: Global, fields: &mut Fields<'_>) -> Result<String, Fault> {
     let p = platform(alloc, &fields.text(alloc)?)?;
@@ -100,12 +120,14 @@ fn of_key(alloc: Global, fields: &mut Fields<'_>) -> Result<String, Fault> {
     leaves(alloc, decided, &left, "cfg(true)", "cfg(false)")
 }
 
-/// What is decided, beside the truth over every completion of the facts that are unknown.
+/// What is decided, beside the truth over every completion of the facts that are unknown. No fact is known that has the
+/// name or key of one of these.
 fn tried(alloc: Global, fields: &mut Fields<'_>) -> Result<String, Fault> {
     let e = spelled(alloc, &fields.text(alloc)?)?;
-    let facts = facts::values(alloc, fields)?;
+    let listed = facts::values(alloc, fields)?;
     let complete = fields.list(alloc)?;
     let unknown = facts::values(alloc, fields)?;
+    let facts = without(alloc, &listed, &unknown)?;
     let known = Partial {
         facts: &facts,
         complete: &complete,

@@ -1,9 +1,10 @@
 //! The targets that rustc knows, each also by itself.
 
 use crate::facts;
-use cargo_platform::{CfgExpr, FactIndex, Platform};
+use cargo_platform::{Cfg, CfgExpr, FactIndex, Facts, Platform};
 use known_targets::{
-    KnownTarget, OpenTarget, TargetSet, certainly_matching, having, matching, possibly_matching,
+    COUNT, KnownFact, KnownTarget, OpenTarget, RUSTC_VERSION, TargetSet, all_facts,
+    certainly_matching, having, matching, possibly_matching,
 };
 use partial_facts::decide_platform;
 use std::alloc::Global;
@@ -14,28 +15,37 @@ use test_rows::texts::{platform, spelled};
 
 pub fn answer(alloc: Global, call: &str, fields: &mut Fields<'_>) -> Result<String, Fault> {
     match call {
-        "targets" => counted(alloc, &platform(alloc, &fields.text(alloc)?)?),
+        "targets" | "set" => {
+            let p = platform(alloc, &fields.text(alloc)?)?;
+            counted(alloc, &p, call == "targets")
+        }
         "names" => {
             let p = platform(alloc, &fields.text(alloc)?)?;
             names(alloc, matching(alloc, &p)?)
         }
-        "open" => {
+        "open" | "bounds" => {
             let p = platform(alloc, &fields.text(alloc)?)?;
-            open(alloc, &p, &fields.list(alloc)?)
+            open(alloc, &p, &fields.list(alloc)?, call == "open")
         }
         "having" => {
-            let set = having(&test_rows::facts::value(alloc, fields.need()?)?);
-            let count = set.len();
-            Ok(format!(in alloc; "{count}")?)
+            let fact = test_rows::facts::value(alloc, fields.need()?)?;
+            had(alloc, &fact)
         }
         "match" => {
             let e = spelled(alloc, &fields.text(alloc)?)?;
             over_facts(alloc, e, fields.need()?)
         }
         "facts" => match KnownTarget::by_name(fields.need()?) {
-            Some(target) => Ok(forms::values(alloc, &target.facts(alloc)?)?),
+            Some(target) => facts_of(alloc, target),
             None => Ok(word(alloc, "no target")?),
         },
+        "only" => only(alloc, &fields.list(alloc)?),
+        "values" => values_of(alloc, fields.need()?),
+        "named" => {
+            let name = fields.text(alloc)?;
+            Ok(word(alloc, name_of(KnownTarget::by_name(&name)))?)
+        }
+        "each" => each(alloc, fields.need()?),
         _ => Err(Fault::Row("there is no such kind")),
     }
 }
@@ -63,6 +73,15 @@ fn name_of(target: Option<KnownTarget>) -> &'static str {
     }
 }
 
+/// How many targets are in a set, by each way to count them.
+fn count(set: TargetSet) -> Result<usize, Fault> {
+    let count = set.len();
+    if set.iter().count() == count && set.is_empty() == (count == 0) {
+        return Ok(count);
+    }
+    Err(Fault::Row("the counts of a set differ"))
+}
+
 /// Whether each target by itself says the same as the set.
 fn is_of_each(p: &Platform, set: TargetSet) -> bool {
     for target in TargetSet::all().iter() {
@@ -73,16 +92,13 @@ fn is_of_each(p: &Platform, set: TargetSet) -> bool {
     true
 }
 
-/// How many targets there are, and the first and the last.
-fn counted(alloc: Global, p: &Platform) -> Result<String, Fault> {
+/// How many targets there are, and the first and the last. If wanted, each target is asked by itself too.
+fn counted(alloc: Global, p: &Platform, each: bool) -> Result<String, Fault> {
     let set = matching(alloc, p)?;
-    if !is_of_each(p, set) {
+    if each && !is_of_each(p, set) {
         return Ok(word(alloc, "a target by itself says otherwise")?);
     }
-    let count = set.len();
-    if set.iter().count() != count || set.is_empty() != (count == 0) {
-        return Ok(word(alloc, "the counts differ")?);
-    }
+    let count = count(set)?;
     let first = name_of(set.iter().next());
     let last = name_of(set.iter().last());
     Ok(format!(in alloc; "{count} {first} {last}")?)
@@ -125,14 +141,147 @@ fn is_decided(p: &Platform, keys: &[&str], certain: TargetSet, possible: TargetS
     true
 }
 
-/// How many targets a condition holds at for certain, and at how many it may, where names and keys are open.
-fn open(alloc: Global, p: &Platform, keys: &[&str]) -> Result<String, Fault> {
+/// How many targets a condition holds at for certain, and at how many it may, where names and keys are open. If wanted,
+/// each target is asked by itself too.
+fn open(alloc: Global, p: &Platform, keys: &[&str], each: bool) -> Result<String, Fault> {
     let certain = certainly_matching(alloc, p, keys)?;
     let possible = possibly_matching(alloc, p, keys)?;
-    if !is_decided(p, keys, certain, possible) {
+    if each && !is_decided(p, keys, certain, possible) {
         return Ok(word(alloc, "a target by itself says otherwise")?);
     }
-    let least = certain.len();
-    let most = possible.len();
+    let least = count(certain)?;
+    let most = count(possible)?;
     Ok(format!(in alloc; "{least} {most}")?)
+}
+
+/// How many of the facts are this one.
+fn times(facts: &[KnownFact], fact: &Cfg) -> usize {
+    facts.iter().filter(|known| known.fact == *fact).count()
+}
+
+/// How many targets have a fact, which the list of all facts has once or not at all.
+fn had(alloc: Global, fact: &Cfg) -> Result<String, Fault> {
+    let count = count(having(fact))?;
+    if times(&all_facts(alloc)?, fact) != usize::from(count > 0) {
+        return Ok(word(alloc, "the list of all facts says otherwise")?);
+    }
+    Ok(format!(in alloc; "{count}")?)
+}
+
+/// The facts of a target, each of which it has, also among those that have the fact.
+fn facts_of(alloc: Global, target: KnownTarget) -> Result<String, Fault> {
+    let facts = target.facts(alloc)?;
+    for fact in &facts {
+        if !target.holds(fact) || !having(fact).contains(target) {
+            return Ok(word(alloc, "one of its facts is none of it")?);
+        }
+    }
+    Ok(forms::values(alloc, &facts)?)
+}
+
+/// The targets of these names in their order, after which no more come.
+fn only(alloc: Global, wanted: &[&str]) -> Result<String, Fault> {
+    let mut set = TargetSet::none();
+    for name in wanted {
+        let Some(target) = KnownTarget::by_name(name) else {
+            return Ok(word(alloc, "no target")?);
+        };
+        set = TargetSet::only(target).union(set);
+    }
+    let mut targets = set.iter();
+    for _ in 0..count(set)? {
+        targets.next();
+    }
+    if targets.next().is_some() || targets.next().is_some() {
+        return Ok(word(alloc, "more targets come")?);
+    }
+    names(alloc, set)
+}
+
+/// How many values of a key a target has at least, and at most.
+fn values_of(alloc: Global, key: &str) -> Result<String, Fault> {
+    let mut least = usize::MAX;
+    let mut most = 0;
+    for target in TargetSet::all().iter() {
+        let facts = target.facts(alloc)?;
+        let count = facts.iter().filter(|fact| is_of(fact, key)).count();
+        least = least.min(count);
+        most = most.max(count);
+    }
+    Ok(format!(in alloc; "{least} {most}")?)
+}
+
+fn is_of(fact: &Cfg, key: &str) -> bool {
+    match fact {
+        Cfg::Name(_) => false,
+        Cfg::KeyPair(name, _) => name.as_str() == key,
+    }
+}
+
+/// How many names, facts or sets of one target there are, where each of them is as it has to be.
+fn each(alloc: Global, of: &str) -> Result<String, Fault> {
+    match of {
+        "name" => each_name(alloc),
+        "fact" => each_fact(alloc),
+        "set" => each_set(alloc),
+        _ => Err(Fault::Row("there is no such kind")),
+    }
+}
+
+/// Each name is found, but neither with a character more nor without its last one.
+fn each_name(alloc: Global) -> Result<String, Fault> {
+    for name in known_targets::names() {
+        let longer = format!(in alloc; "{name}0")?;
+        let shorter = name.get(..name.len().saturating_sub(1)).unwrap_or("");
+        if name_of(KnownTarget::by_name(name)) != *name
+            || KnownTarget::by_name(&longer).is_some()
+            || KnownTarget::by_name(shorter).is_some()
+        {
+            return Ok(format!(in alloc; "otherwise at {name}")?);
+        }
+    }
+    let count = known_targets::names().len();
+    Ok(format!(in alloc; "{count} of {COUNT}, rustc {RUSTC_VERSION}")?)
+}
+
+/// Each fact is listed once, with the targets that have it, of which there are some.
+fn each_fact(alloc: Global) -> Result<String, Fault> {
+    let facts = all_facts(alloc)?;
+    for known in &facts {
+        let set = having(&known.fact);
+        if times(&facts, &known.fact) != 1 || !known.targets.equals(set) || set.is_empty() {
+            return Ok(word(alloc, "otherwise at a fact")?);
+        }
+    }
+    let count = facts.len();
+    Ok(format!(in alloc; "{count}")?)
+}
+
+/// Whether the sets of a target and of the others are as they have to be.
+fn is_parted(target: KnownTarget) -> Result<bool, Fault> {
+    let one = TargetSet::only(target);
+    let others = one.complement();
+    let all = count(TargetSet::all())?;
+    Ok(
+        count(one)? == 1
+            && count(others)?.saturating_add(1) == all
+            && one.contains(target)
+            && !others.contains(target)
+            && one.union(others).equals(TargetSet::all())
+            && one.intersection(others).equals(TargetSet::none())
+            && !one.equals(others)
+            && !one.equals(TargetSet::none()),
+    )
+}
+
+fn each_set(alloc: Global) -> Result<String, Fault> {
+    for target in TargetSet::all().iter() {
+        if !is_parted(target)? {
+            let name = target.name();
+            return Ok(format!(in alloc; "otherwise at {name}")?);
+        }
+    }
+    let all = count(TargetSet::all())?;
+    let none = count(TargetSet::none())?;
+    Ok(format!(in alloc; "{all} {none}")?)
 }

@@ -1,12 +1,15 @@
 //! Answers by trying all sets of facts, one by one: the judge of what is decided and of exact answers.
 
-use cargo_platform::{Cfg, CfgExpr, Facts, Listed};
+use cargo_platform::{Cfg, CfgExpr, Facts, Listed, Platform};
 use exact_answers::Known;
 use std::alloc::{AllocError, Global};
 use test_rows::Fault;
 
 /// More facts than this are not tried.
 const MOST: usize = 8;
+
+/// A target's name that is in no row.
+const OTHER: &str = "another";
 
 /// The facts, and of the others those whose bit is set.
 fn with_bits(alloc: Global, facts: &[Cfg], others: &[Cfg], bits: u32) -> Result<Vec<Cfg>, Fault> {
@@ -36,6 +39,17 @@ fn sets_of(count: usize) -> Result<u32, Fault> {
     Ok(sets)
 }
 
+/// The facts but for those of a name or key that one of the others has.
+pub fn without(alloc: Global, facts: &[Cfg], others: &[Cfg]) -> Result<Vec<Cfg>, Fault> {
+    let mut left = Vec::new(alloc);
+    for fact in facts {
+        if !others.iter().any(|other| name_of(other) == name_of(fact)) {
+            left.push(fact.clone(alloc)?).map_err(AllocError::from)?;
+        }
+    }
+    Ok(left)
+}
+
 /// The truth of an expression over every completion, where it is the same over all.
 pub fn over_completions(
     alloc: Global,
@@ -60,23 +74,30 @@ pub fn over_completions(
     })
 }
 
-/// Adds the names and pairs of an expression that are not among those of the list.
-pub fn collect(alloc: Global, e: &CfgExpr, pairs: &mut Vec<Cfg>) -> Result<(), Fault> {
-    match e {
-        CfgExpr::Not(inner) => collect(alloc, inner, pairs),
-        CfgExpr::All(members) | CfgExpr::Any(members) => {
-            for member in members {
-                collect(alloc, member, pairs)?;
+/// Adds the names and pairs of an expression that are not among those of the list. It takes no stack for a level.
+fn collect(alloc: Global, e: &CfgExpr, pairs: &mut Vec<Cfg>) -> Result<(), Fault> {
+    let mut left: Vec<&CfgExpr> = Vec::new(alloc);
+    left.push(e).map_err(AllocError::from)?;
+    for _ in 0..u64::MAX {
+        let Some(e) = left.pop() else {
+            break;
+        };
+        match e {
+            CfgExpr::Not(inner) => left.push(inner).map_err(AllocError::from)?,
+            CfgExpr::All(members) | CfgExpr::Any(members) => {
+                for member in members {
+                    left.push(member).map_err(AllocError::from)?;
+                }
             }
-            Ok(())
+            CfgExpr::Value(c) => add(alloc, c, pairs)?,
+            CfgExpr::True | CfgExpr::False => {}
         }
-        CfgExpr::Value(c) => add(alloc, c, pairs),
-        CfgExpr::True | CfgExpr::False => Ok(()),
     }
+    Ok(())
 }
 
 /// Adds a pair, if it is not among those of the list.
-pub fn add(alloc: Global, c: &Cfg, pairs: &mut Vec<Cfg>) -> Result<(), Fault> {
+fn add(alloc: Global, c: &Cfg, pairs: &mut Vec<Cfg>) -> Result<(), Fault> {
     for pair in &*pairs {
         if pair == c {
             return Ok(());
@@ -133,7 +154,7 @@ fn may_stand(known: &Known<'_>, fact: &Cfg, set: &[Cfg]) -> bool {
 }
 
 /// Whether the set is possible, by the words of the documents.
-pub fn is_possible(known: &Known<'_>, set: &[Cfg]) -> bool {
+fn is_possible(known: &Known<'_>, set: &[Cfg]) -> bool {
     for fact in known.facts {
         if !has(set, fact) {
             return false;
@@ -147,40 +168,69 @@ pub fn is_possible(known: &Known<'_>, set: &[Cfg]) -> bool {
     known.assumed.matches(set)
 }
 
-/// Whether a possible set is one that is sought, out of the listed facts and the pairs of the two expressions and of
-/// what is assumed.
-pub fn is_met(
-    alloc: Global,
-    known: &Known<'_>,
-    a: &CfgExpr,
-    b: &CfgExpr,
-    kind: &str,
-) -> Result<bool, Fault> {
-    let mut pairs = Vec::new(alloc);
-    for fact in known.facts {
-        add(alloc, fact, &mut pairs)?;
-    }
-    collect(alloc, known.assumed, &mut pairs)?;
-    collect(alloc, a, &mut pairs)?;
-    collect(alloc, b, &mut pairs)?;
-    for bits in 0..sets_of(pairs.len())? {
-        let set = with_bits(alloc, &[], &pairs, bits)?;
-        if is_possible(known, &set) && is_sought(kind, a, b, &set) {
-            return Ok(true);
-        }
-    }
-    Ok(false)
+/// A question on one condition or two.
+#[derive(Drop)]
+pub struct Question<'a> {
+    pub kind: &'a str,
+    pub first: Platform,
+    pub second: Platform,
 }
 
-/// Whether the set is an example for `can`, and for the other questions a counterexample.
-pub fn is_sought(kind: &str, a: &CfgExpr, b: &CfgExpr, set: &[Cfg]) -> bool {
-    let first = a.matches(set);
-    let second = b.matches(set);
-    match kind {
-        "can" | "met" => first,
-        "always" => !first,
-        "implies" => first && !second,
-        "exclude" => first && second,
-        _ => first != second,
+impl<'a> Question<'a> {
+    /// Whether a target is an example for `can` and `met`, and for the other questions a counterexample.
+    fn is_sought(&self, name: &str, set: &[Cfg]) -> bool {
+        let first = self.first.matches(name, set);
+        let second = self.second.matches(name, set);
+        match self.kind {
+            "can" | "met" => first,
+            "always" => !first,
+            "implies" => first && !second,
+            "exclude" => first && second,
+            _ => first != second,
+        }
+    }
+
+    /// Whether a target of this name, or of one that is in neither condition, is possible and sought.
+    pub fn is_found(&self, known: &Known<'_>, name: Option<&str>, set: &[Cfg]) -> bool {
+        is_possible(known, set) && self.is_sought(name.unwrap_or(OTHER), set)
+    }
+
+    /// Whether a target with these facts is sought, by some name.
+    fn is_sought_by_name(&self, set: &[Cfg]) -> bool {
+        for condition in [&self.first, &self.second] {
+            if let Platform::Name(name) = condition
+                && self.is_sought(name, set)
+            {
+                return true;
+            }
+        }
+        self.is_sought(OTHER, set)
+    }
+
+    /// The listed facts, and the pairs of the conditions and of what is assumed.
+    fn pairs(&self, alloc: Global, known: &Known<'_>) -> Result<Vec<Cfg>, Fault> {
+        let mut pairs = Vec::new(alloc);
+        for fact in known.facts {
+            add(alloc, fact, &mut pairs)?;
+        }
+        collect(alloc, known.assumed, &mut pairs)?;
+        for condition in [&self.first, &self.second] {
+            if let Platform::Cfg(e) = condition {
+                collect(alloc, e, &mut pairs)?;
+            }
+        }
+        Ok(pairs)
+    }
+
+    /// Whether a possible target is one that is sought.
+    pub fn is_met(&self, alloc: Global, known: &Known<'_>) -> Result<bool, Fault> {
+        let pairs = self.pairs(alloc, known)?;
+        for bits in 0..sets_of(pairs.len())? {
+            let set = with_bits(alloc, &[], &pairs, bits)?;
+            if is_possible(known, &set) && self.is_sought_by_name(&set) {
+                return Ok(true);
+            }
+        }
+        Ok(false)
     }
 }

@@ -11,6 +11,7 @@ pub mod facts;
 pub mod fields;
 pub mod forms;
 pub mod rows;
+pub mod sizes;
 pub mod texts;
 pub mod trees;
 

@@ -1,7 +1,7 @@
 //! The rows of a text, and what they come to.
 
 use crate::fields::{Fields, Setting};
-use crate::{Fault, Kinds};
+use crate::{Fault, Kinds, sizes};
 use std::alloc::{AllocError, Global};
 use std::io;
 
@@ -167,7 +167,31 @@ fn count(
     }
 }
 
+/// What a row comes to, where one that begins with `sizes` is a row for each of its sizes.
 fn came_to(
+    alloc: Global,
+    kinds: &impl Kinds,
+    row: &str,
+    settings: &[Setting],
+) -> Result<Came, Fault> {
+    let Some(row) = row.strip_prefix("sizes ") else {
+        return asked(alloc, kinds, row, settings);
+    };
+    let (sizes, row) = row.split_once(' ').unwrap_or((row, ""));
+    for size in sizes::named(alloc, sizes)? {
+        let row = sizes::row_at(alloc, row, settings, size)?;
+        match asked(alloc, kinds, &row, settings)? {
+            Came::AsStated => {}
+            Came::Otherwise(given) => {
+                return Ok(Came::Otherwise(format!(in alloc; "{given} at size {size}")?));
+            }
+            Came::Answered(given) => return Ok(Came::Answered(given)),
+        }
+    }
+    Ok(Came::AsStated)
+}
+
+fn asked(
     alloc: Global,
     kinds: &impl Kinds,
     row: &str,
