@@ -1,11 +1,18 @@
 //! Long texts, made of pieces that are repeated: what they come to in numbers, also at each size.
 
-use cargo_platform::{CfgExpr, ParseError, ReadError};
+use cargo_platform::{Cfg, CfgExpr, Platform, ReadError};
 use std::alloc::{AllocError, Global};
+use std::fmt::Display;
 use test_rows::Fault;
 use test_rows::bars::text_of;
+use test_rows::facts::values;
 use test_rows::fields::Fields;
-use test_rows::forms::{printed, word};
+use test_rows::forms::{self, word};
+use test_rows::texts::spelled;
+
+/// A text is looked at no more often than this for each of its characters and for its end. `.ci/second-reader` takes
+/// the number from here.
+const LOOKS_A_CHARACTER: u128 = 12;
 
 /// Each power of two up to 2^17, one less and one more.
 const SIZES: [u64; 50] = [
@@ -22,6 +29,10 @@ pub fn answer(alloc: Global, call: &str, fields: &mut Fields<'_>) -> Result<Stri
             told(alloc, came, came)
         }
         "sizes" => at_each_size(alloc, &pieces),
+        "match" => {
+            let e = spelled(alloc, &made(alloc, &pieces, 0)?)?;
+            Ok(forms::yes(alloc, e.matches(&values(alloc, fields)?))?)
+        }
         _ => Err(Fault::Row("there is no such kind")),
     }
 }
@@ -46,7 +57,7 @@ fn add_times(out: &mut String, text: &str, times: u64) -> Result<(), AllocError>
 }
 
 /// The text of the pieces at a size.
-fn made(alloc: Global, pieces: &[&str], size: u64) -> Result<String, Fault> {
+pub fn made(alloc: Global, pieces: &[&str], size: u64) -> Result<String, Fault> {
     let mut out = String::new(alloc);
     for piece in pieces {
         match piece.split_once('*') {
@@ -59,52 +70,112 @@ fn made(alloc: Global, pieces: &[&str], size: u64) -> Result<String, Fault> {
     Ok(out)
 }
 
-/// What a text comes to: its looks, where its fault lies, if it has one, and how many bytes are printed of it.
+/// What a text comes to: where its fault lies, if it has one, how many bytes are printed of it, and what is amiss.
 #[derive(Clone, Copy, PartialEq, Eq)]
 struct Came {
     is_read: bool,
     prints_itself: bool,
-    looks: u64,
     start: u64,
     end: u64,
     printed: u64,
+    amiss: Amiss,
+}
+
+/// What is amiss with what a text comes to.
+#[derive(Clone, Copy, PartialEq, Eq)]
+enum Amiss {
+    Nothing,
+    Looks(u128),
+    Copy,
+    Fact,
+    Condition,
 }
 
 fn number(count: usize) -> u64 {
     u64::try_from(count).unwrap_or(u64::MAX)
 }
 
-fn came_to(alloc: Global, text: &str) -> Result<Came, Fault> {
-    let (read, looks) = CfgExpr::from_str_counted(alloc, text);
-    let looks = u64::try_from(looks.count()).unwrap_or(u64::MAX);
-    match read {
-        Ok(e) => {
-            let printed = printed(alloc, &e)?;
-            Ok(Came {
-                is_read: true,
-                prints_itself: printed.as_str() == text,
-                looks,
-                start: 0,
-                end: 0,
-                printed: number(printed.len()),
-            })
-        }
-        Err(ReadError::Parse(error)) => refused(alloc, &error, text, looks),
-        Err(ReadError::Memory(_)) => Err(Fault::Memory),
-    }
+/// Whether a text may be looked at so often: where it is read, at least once at each character and at its end.
+fn are_within(looks: u128, text: &str, is_read: bool) -> bool {
+    let each_once = (text.chars().count() as u128).saturating_add(1);
+    (!is_read || looks >= each_once) && looks <= each_once.saturating_mul(LOOKS_A_CHARACTER)
 }
 
-fn refused(alloc: Global, error: &ParseError, text: &str, looks: u64) -> Result<Came, Fault> {
-    let span = error.span().unwrap_or(0..0);
-    let message = printed(alloc, error.kind())?;
-    Ok(Came {
-        is_read: false,
-        prints_itself: error.orig() == text,
-        looks,
-        start: number(span.start),
-        end: number(span.end),
-        printed: number(message.len()),
-    })
+/// What reading a text came to. It prints itself where it is read, and its error holds it where it is refused.
+fn came_of<T: Display>(
+    alloc: Global,
+    read: &Result<T, ReadError>,
+    text: &str,
+) -> Result<Came, Fault> {
+    let mut came = Came {
+        is_read: read.is_ok(),
+        prints_itself: false,
+        start: 0,
+        end: 0,
+        printed: 0,
+        amiss: Amiss::Nothing,
+    };
+    match read {
+        Ok(value) => {
+            let printed = forms::printed(alloc, value)?;
+            came.prints_itself = printed.as_str() == text;
+            came.printed = number(printed.len());
+        }
+        Err(ReadError::Parse(error)) => {
+            let span = error.span().unwrap_or(0..0);
+            came.prints_itself = error.orig() == text;
+            came.start = number(span.start);
+            came.end = number(span.end);
+            came.printed = number(forms::printed(alloc, error.kind())?.len());
+        }
+        Err(ReadError::Memory(_)) => return Err(Fault::Memory),
+    }
+    Ok(came)
+}
+
+/// What a text comes to as an expression. Its copy, the fact that it may be and the condition of it have to come to the
+/// same.
+fn came_to(alloc: Global, text: &str) -> Result<Came, Fault> {
+    let (read, looks) = CfgExpr::from_str_counted(alloc, text);
+    let mut came = came_of(alloc, &read, text)?;
+    if !is_same_condition(alloc, text, came)? {
+        came.amiss = Amiss::Condition;
+    }
+    if let Ok(e) = &read {
+        came.amiss = amiss_of(alloc, text, e, came)?;
+    }
+    if !are_within(looks.count(), text, came.is_read) {
+        came.amiss = Amiss::Looks(looks.count());
+    }
+    Ok(came)
+}
+
+/// Whether a text comes to the same between `cfg(` and `)`.
+fn is_same_condition(alloc: Global, text: &str, came: Came) -> Result<bool, Fault> {
+    let key = format!(in alloc; "cfg({text})")?;
+    let read = Platform::from_str(alloc, &key);
+    if came.is_read {
+        let of_key = came_of(alloc, &read, &key)?;
+        return Ok(
+            of_key.prints_itself == came.prints_itself
+                && of_key.printed == came.printed.saturating_add(5),
+        );
+    }
+    Ok(came_of(alloc, &read, text)? == came)
+}
+
+/// What is amiss with the copy of an expression, or with the fact that it is.
+fn amiss_of(alloc: Global, text: &str, e: &CfgExpr, came: Came) -> Result<Amiss, Fault> {
+    let copy = e.clone(alloc)?;
+    if forms::printed(alloc, &copy)? != forms::printed(alloc, e)? {
+        return Ok(Amiss::Copy);
+    }
+    if matches!(e, CfgExpr::Value(_))
+        && came_of(alloc, &Cfg::from_str(alloc, text), text)? != came
+    {
+        return Ok(Amiss::Fact);
+    }
+    Ok(came.amiss)
 }
 
 /// What a number is at a size, where it grows as it did from size 1 to size 2.
@@ -118,10 +189,10 @@ fn grown(first: u64, second: u64, size: u64) -> u64 {
 fn is_grown(came: Came, first: Came, second: Came, size: u64) -> bool {
     came.is_read == first.is_read
         && came.prints_itself == first.prints_itself
-        && came.looks == grown(first.looks, second.looks, size)
         && came.start == grown(first.start, second.start, size)
         && came.end == grown(first.end, second.end, size)
         && came.printed == grown(first.printed, second.printed, size)
+        && came.amiss == Amiss::Nothing
 }
 
 /// What the pieces come to at each size, in numbers that grow with the size `N`.
@@ -131,7 +202,9 @@ fn at_each_size(alloc: Global, pieces: &[&str]) -> Result<String, Fault> {
     for size in &SIZES {
         let came = came_to(alloc, &made(alloc, pieces, *size)?)?;
         if !is_grown(came, first, second, *size) {
-            return Ok(format!(in alloc; "otherwise at size {size}")?);
+            let mut out = format!(in alloc; "otherwise at size {size}")?;
+            add_amiss(&mut out, came.amiss)?;
+            return Ok(out);
         }
     }
     told(alloc, first, second)
@@ -152,6 +225,16 @@ fn add_number(out: &mut String, first: u64, second: u64) -> Result<(), AllocErro
     Ok(())
 }
 
+fn add_amiss(out: &mut String, amiss: Amiss) -> Result<(), AllocError> {
+    match amiss {
+        Amiss::Nothing => Ok(()),
+        Amiss::Looks(count) => write!(out, ", but {count} looks"),
+        Amiss::Copy => out.push_str(", but its copy is another"),
+        Amiss::Fact => out.push_str(", but the fact is another"),
+        Amiss::Condition => out.push_str(", but the condition is another"),
+    }
+}
+
 fn told(alloc: Global, first: Came, second: Came) -> Result<String, Fault> {
     let mut out = word(alloc, if first.is_read { "read, " } else { "refused " })?;
     if !first.is_read {
@@ -164,14 +247,13 @@ fn told(alloc: Global, first: Came, second: Came) -> Result<String, Fault> {
             " of another text, "
         })?;
     }
-    add_number(&mut out, first.looks, second.looks)?;
-    out.push_str(" looks, ")?;
     if first.is_read && first.prints_itself {
         out.push_str("prints itself")?;
-        return Ok(out);
+    } else {
+        out.push_str("prints ")?;
+        add_number(&mut out, first.printed, second.printed)?;
+        out.push_str(" bytes")?;
     }
-    out.push_str("prints ")?;
-    add_number(&mut out, first.printed, second.printed)?;
-    out.push_str(" bytes")?;
+    add_amiss(&mut out, first.amiss)?;
     Ok(out)
 }

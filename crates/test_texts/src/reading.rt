@@ -103,6 +103,9 @@ fn refused_line(alloc: Global, refusal: &FactsError, text: &str) -> Result<Strin
         FactsError::Line { number, error } => {
             let mut out = format!(in alloc; "refused line {number}, of the text")?;
             add_span(&mut out, &refusal.span_in(text))?;
+            if refusal.span_in("a\n").is_some() {
+                out.push_str(", but in any text")?;
+            }
             out.push(',')?;
             add_error(alloc, &mut out, error, text)?;
             let whole = format!(in alloc; "line {number}: {error}")?;

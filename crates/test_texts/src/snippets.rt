@@ -1,5 +1,6 @@
 //! What people are shown of a refused text.
 
+use crate::long::made;
 use cargo_platform::{CfgExpr, ParseError, Platform, ReadError, shown_start, shown_text};
 use std::alloc::Global;
 use test_rows::Fault;
@@ -8,6 +9,9 @@ use test_rows::fields::Fields;
 use test_rows::forms::word;
 
 pub fn answer(alloc: Global, call: &str, fields: &mut Fields<'_>) -> Result<String, Fault> {
+    if call == "pieces" {
+        return of_expression(alloc, &made(alloc, &fields.list(alloc)?, 0)?);
+    }
     let text = fields.text(alloc)?;
     match call {
         "expr" => of_expression(alloc, &text),
@@ -31,9 +35,14 @@ fn of_expression(alloc: Global, text: &str) -> Result<String, Fault> {
     lines(alloc, error.snippet(alloc)?)
 }
 
+/// The lines on a key. In another key the error has none.
 fn of_key(alloc: Global, key: &str) -> Result<String, Fault> {
     let error = error_of(Platform::from_str(alloc, key).err())?;
-    lines(alloc, error.snippet_in(alloc, key)?)
+    let mut out = lines(alloc, error.snippet_in(alloc, key)?)?;
+    if error.snippet_in(alloc, "unix")?.is_some() {
+        out.push_str(", but in any key")?;
+    }
+    Ok(out)
 }
 
 fn lines(alloc: Global, snippet: Option<String>) -> Result<String, Fault> {
