@@ -53,9 +53,19 @@ fn expression(alloc: Global, text: &str) -> Result<String, Fault> {
     let printed = printed(alloc, String::new(alloc), &copy)?;
     let mut out = String::from_str(alloc, &printed)?;
     let debugged = format!(in alloc; "{copy:?}")?;
-    add_other(&mut out, ", but for debugging ", &barred(alloc, &debugged)?, &printed)?;
+    add_other(
+        &mut out,
+        ", but for debugging ",
+        &barred(alloc, &debugged)?,
+        &printed,
+    )?;
     let key = format!(in alloc; "cfg({debugged})")?;
     let json = Platform::Cfg(copy).to_json(alloc)?;
-    add_other(&mut out, ", but as JSON ", json.as_str().unwrap_or("no text"), &key)?;
+    add_other(
+        &mut out,
+        ", but as JSON ",
+        json.as_str().unwrap_or("no text"),
+        &key,
+    )?;
     Ok(out)
 }

@@ -1,6 +1,7 @@
 //! Runs rows on the library: what is read of texts, printed, matched, compared and warned about, also at each size.
 #![tactic(auto)]
 
+mod callers;
 mod copies;
 mod cutting;
 mod long;
@@ -39,6 +40,7 @@ fn once(alloc: Global, kind: &str, fields: &mut Fields<'_>) -> Result<String, Fa
         "order" => ordering::answer(alloc, call, fields),
         "warn" => warnings::answer(alloc, call, fields),
         "long" => long::answer(alloc, call, fields),
+        "uses" => callers::answer(alloc, call, fields),
         _ => Err(Fault::Row("there is no such kind")),
     }
 }
