@@ -1,6 +1,5 @@
 //! What people are shown of a refused text.
 
-use crate::long::made;
 use cargo_platform::{CfgExpr, ParseError, Platform, ReadError, shown_start, shown_text};
 use std::alloc::Global;
 use test_rows::Fault;
@@ -9,9 +8,6 @@ use test_rows::fields::Fields;
 use test_rows::forms::word;
 
 pub fn answer(alloc: Global, call: &str, fields: &mut Fields<'_>) -> Result<String, Fault> {
-    if call == "pieces" {
-        return of_expression(alloc, &made(alloc, &fields.list(alloc)?, 0)?);
-    }
     let text = fields.text(alloc)?;
     match call {
         "expr" => of_expression(alloc, &text),

@@ -1,8 +1,6 @@
-//! What no row of texts asks: equality of tokens, and an error that is made by hand.
-#![tactic(auto)]
+//! The equality of tokens, of their places and of what can't be cut.
 
-#[cfg(test)]
-use cargo_platform::{ParseError, ParseErrorKind, Spanned, Token, TokenFault, TokenFaultKind};
+use cargo_platform::{Spanned, Token, TokenFault, TokenFaultKind};
 
 #[test]
 fn tokens_are_equal_in_all_parts(rt: HostRuntime) {
@@ -26,12 +24,4 @@ fn tokens_are_equal_in_all_parts(rt: HostRuntime) {
     let missing = TokenFaultKind::MissingIdentifier;
     assert!(rt; fault(missing, 4) == fault(missing, 4) && fault(missing, 4) != fault(missing, 3));
     assert!(rt; TokenFaultKind::UnexpectedChar('a') != TokenFaultKind::UnexpectedChar('b'));
-}
-
-#[test]
-fn an_error_made_by_hand_has_no_span(rt: HostRuntime) {
-    let error = ParseError::new(rt.alloc(), "a", ParseErrorKind::UnterminatedString);
-    let error = error.expect(&rt, "memory");
-    assert!(rt; error.span().is_none() && error.span_in("cfg(a)").is_none());
-    assert!(rt; error.snippet(rt.alloc()).expect(&rt, "memory").is_none());
 }
