@@ -39,6 +39,9 @@ fn tokens(alloc: Global, text: &str, is_called: bool) -> Result<String, Fault> {
         if left != text.get(place_of(next)..) {
             add_surplus(&mut out, left)?;
         }
+        if next.is_err() {
+            break;
+        }
     }
     if tokens.next().is_some() || tokens.next().is_some() {
         out.push_str(", but goes on")?;
