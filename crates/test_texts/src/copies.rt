@@ -1,11 +1,12 @@
-//! Copies: what each prints, also behind what a text holds.
+//! Copies: what each prints, that of a name or a pair behind what a text holds.
 
+use crate::sizes;
 use cargo_platform::Platform;
 use std::alloc::Global;
 use std::fmt::Display;
-use test_rows::bars::{add_text, barred};
+use test_rows::bars::add_text;
 use test_rows::fields::Fields;
-use test_rows::forms::{add_name, add_other, add_value};
+use test_rows::forms::{self, add_name, add_value, word};
 use test_rows::texts::spelled;
 use test_rows::{Fault, facts};
 
@@ -27,7 +28,18 @@ pub fn answer(alloc: Global, call: &str, fields: &mut Fields<'_>) -> Result<Stri
             let copy = Platform::Name(fields.text(alloc)?).clone(alloc)?;
             printed(alloc, String::new(alloc), &copy)
         }
-        "expr" => expression(alloc, &fields.text(alloc)?),
+        "expr" => {
+            let is_same = prints_itself(alloc, &fields.text(alloc)?)?;
+            Ok(word(
+                alloc,
+                if is_same {
+                    "prints itself"
+                } else {
+                    "otherwise"
+                },
+            )?)
+        }
+        "sizes" => sizes::copies(alloc, fields),
         _ => Err(Fault::Row("there is no such kind")),
     }
 }
@@ -46,26 +58,13 @@ fn printed<T: Display>(alloc: Global, mut out: String, copy: &T) -> Result<Strin
     Ok(out)
 }
 
-/// What the copy of an expression prints, if it is the same for debugging, and as a condition and its JSON. No level
-/// takes stack of the driver.
-fn expression(alloc: Global, text: &str) -> Result<String, Fault> {
+/// Whether the copy of the expression that a text spells prints as the text, also for debugging, and as a condition and
+/// its JSON. No level takes stack of the driver.
+pub fn prints_itself(alloc: Global, text: &str) -> Result<bool, Fault> {
     let copy = spelled(alloc, text)?.clone(alloc)?;
-    let printed = printed(alloc, String::new(alloc), &copy)?;
-    let mut out = String::from_str(alloc, &printed)?;
+    let printed = forms::printed(alloc, &copy)?;
     let debugged = format!(in alloc; "{copy:?}")?;
-    add_other(
-        &mut out,
-        ", but for debugging ",
-        &barred(alloc, &debugged)?,
-        &printed,
-    )?;
-    let key = format!(in alloc; "cfg({debugged})")?;
-    let json = Platform::Cfg(copy).to_json(alloc)?;
-    add_other(
-        &mut out,
-        ", but as JSON ",
-        json.as_str().unwrap_or("no text"),
-        &key,
-    )?;
-    Ok(out)
+    let key = format!(in alloc; "cfg({text})")?;
+    let json = Platform::Cfg(copy).clone(alloc)?.to_json(alloc)?;
+    Ok(printed.as_str() == text && debugged.as_str() == text && json.as_str() == Some(key.as_str()))
 }

@@ -21,7 +21,7 @@ struct OfTexts;
 impl Kinds for OfTexts {
     fn answer(&self, alloc: Global, kind: &str, fields: &mut Fields<'_>) -> Result<String, Fault> {
         if kind == "sizes" {
-            return sizes::answer(alloc, fields);
+            return sizes::rows(alloc, fields);
         }
         once(alloc, kind, fields)
     }

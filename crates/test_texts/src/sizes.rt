@@ -2,10 +2,12 @@
 //! the number of each, from 1 on, for `$`, `{N~abc}` is so many of these characters in turn, and `{2N+1}` is a number.
 //! Instead of `=>` there is `gives`.
 
+use crate::copies::prints_itself;
 use crate::once;
 use std::alloc::{AllocError, Global};
 use test_rows::Fault;
 use test_rows::fields::Fields;
+use test_rows::forms::word;
 
 /// Each power of two up to 2^17, one less and one more.
 const SIZES: [u64; 50] = [
@@ -18,7 +20,7 @@ const SIZES: [u64; 50] = [
 const CHARACTERS: &str = "abcdefghijklmnopqrstuvwxyz_0123456789";
 
 /// Whether a row comes out as stated at each size from the first number to the second.
-pub fn answer(alloc: Global, fields: &mut Fields<'_>) -> Result<String, Fault> {
+pub fn rows(alloc: Global, fields: &mut Fields<'_>) -> Result<String, Fault> {
     let least = fields.number()?;
     let greatest = fields.number()?;
     let row = joined(alloc, &fields.list(alloc)?)?;
@@ -30,6 +32,24 @@ pub fn answer(alloc: Global, fields: &mut Fields<'_>) -> Result<String, Fault> {
         count = count.saturating_add(1);
     }
     Ok(format!(in alloc; "at {count} sizes")?)
+}
+
+/// Whether a text in the middle of so many of one before it and one behind it is an expression whose copy prints as all
+/// that, at each size. The texts are made with no row of their size, since that takes longer.
+pub fn copies(alloc: Global, fields: &mut Fields<'_>) -> Result<String, Fault> {
+    let before = fields.text(alloc)?;
+    let middle = fields.text(alloc)?;
+    let behind = fields.text(alloc)?;
+    for size in &SIZES {
+        let mut text = String::new(alloc);
+        add_times(&mut text, &before, *size)?;
+        text.push_str(&middle)?;
+        add_times(&mut text, &behind, *size)?;
+        if !prints_itself(alloc, &text)? {
+            return Ok(format!(in alloc; "otherwise at size {size}")?);
+        }
+    }
+    Ok(word(alloc, "prints itself at each size")?)
 }
 
 /// The words as a row.
@@ -94,9 +114,7 @@ fn add_grown(out: &mut String, grown: &str, size: u64) -> Result<(), Fault> {
     if form.is_empty() {
         write!(out, "{count}")?;
     } else if let Some(text) = form.strip_prefix('*') {
-        for _ in 0..count {
-            out.push_str(text)?;
-        }
+        add_times(out, text, count)?;
     } else if let Some(text) = form.strip_prefix('$') {
         for at in 0..count {
             add_numbered(out, text, at.saturating_add(1))?;
@@ -105,6 +123,13 @@ fn add_grown(out: &mut String, grown: &str, size: u64) -> Result<(), Fault> {
         add_in_turn(out, if text.is_empty() { CHARACTERS } else { text }, count)?;
     } else {
         return Err(Fault::Row("there is no such form"));
+    }
+    Ok(())
+}
+
+fn add_times(out: &mut String, text: &str, count: u64) -> Result<(), AllocError> {
+    for _ in 0..count {
+        out.push_str(text)?;
     }
     Ok(())
 }
@@ -119,16 +144,15 @@ fn add_numbered(out: &mut String, text: &str, number: u64) -> Result<(), AllocEr
     Ok(())
 }
 
-/// Adds so many characters of a text, which begins anew at its end.
+/// Adds so many characters, each of one byte, of a text that begins anew at its end.
 fn add_in_turn(out: &mut String, text: &str, count: u64) -> Result<(), AllocError> {
-    let mut left = text.chars();
+    let mut left = usize::try_from(count).unwrap_or(usize::MAX);
     for _ in 0..count {
-        if left.as_str().is_empty() {
-            left = text.chars();
+        if left <= text.len() {
+            break;
         }
-        if let Some(c) = left.next() {
-            out.push(c)?;
-        }
+        out.push_str(text)?;
+        left = left.saturating_sub(text.len());
     }
-    Ok(())
+    out.push_str(text.get(..left).unwrap_or(""))
 }
