@@ -1,11 +1,13 @@
 //! Runs rows on the library: what is read of texts, printed, matched, compared and warned about, also at each size.
 #![tactic(auto)]
 
+mod callers;
+mod copies;
 mod cutting;
-mod long;
 mod matching;
 mod ordering;
 mod reading;
+mod sizes;
 mod snippets;
 mod warnings;
 
@@ -18,17 +20,26 @@ struct OfTexts;
 
 impl Kinds for OfTexts {
     fn answer(&self, alloc: Global, kind: &str, fields: &mut Fields<'_>) -> Result<String, Fault> {
-        let (of, call) = kind.split_once('.').unwrap_or((kind, ""));
-        match of {
-            "read" => reading::answer(alloc, call, fields),
-            "cut" => cutting::answer(alloc, call, fields),
-            "snippet" => snippets::answer(alloc, call, fields),
-            "match" => matching::answer(alloc, call, fields),
-            "order" => ordering::answer(alloc, call, fields),
-            "warn" => warnings::answer(alloc, call, fields),
-            "long" => long::answer(alloc, call, fields),
-            _ => Err(Fault::Row("there is no such kind")),
+        if kind == "sizes" {
+            return sizes::rows(alloc, fields);
         }
+        once(alloc, kind, fields)
+    }
+}
+
+/// The answer to a row of one size.
+fn once(alloc: Global, kind: &str, fields: &mut Fields<'_>) -> Result<String, Fault> {
+    let (of, call) = kind.split_once('.').unwrap_or((kind, ""));
+    match of {
+        "read" => reading::answer(alloc, call, fields),
+        "cut" => cutting::answer(alloc, call, fields),
+        "copy" => copies::answer(alloc, call, fields),
+        "snippet" => snippets::answer(alloc, call, fields),
+        "match" => matching::answer(alloc, call, fields),
+        "order" => ordering::answer(alloc, call, fields),
+        "warn" => warnings::answer(alloc, call, fields),
+        "uses" => callers::answer(alloc, call, fields),
+        _ => Err(Fault::Row("there is no such kind")),
     }
 }
 

@@ -17,6 +17,12 @@ pub fn answer(alloc: Global, call: &str, fields: &mut Fields<'_>) -> Result<Stri
             let e = spelled(alloc, &fields.text(alloc)?)?;
             asks(alloc, &e, &facts::values(alloc, fields)?)
         }
+        "index" => {
+            let e = spelled(alloc, &fields.text(alloc)?)?;
+            let index = FactIndex::new(alloc, &facts::values(alloc, fields)?)?;
+            let (answer, count) = counted(&e, &index);
+            told(alloc, answer, count)
+        }
         "target" => {
             let p = platform(alloc, &fields.text(alloc)?)?;
             let name = fields.text(alloc)?;

@@ -11,6 +11,10 @@ use test_rows::forms::{self, add_error, add_other, add_printed, add_span, refuse
 use test_rows::texts::{platform, spelled};
 use test_rows::{Fault, trees};
 
+/// A text is looked at no more often than this for each of its characters and for its end. `.ci/second-reader` takes
+/// the number from here.
+const LOOKS_A_CHARACTER: u128 = 12;
+
 pub fn answer(alloc: Global, call: &str, fields: &mut Fields<'_>) -> Result<String, Fault> {
     match call {
         "expr" => expression(alloc, &fields.text(alloc)?),
@@ -18,6 +22,7 @@ pub fn answer(alloc: Global, call: &str, fields: &mut Fields<'_>) -> Result<Stri
         "key" => key(alloc, &fields.text(alloc)?),
         "facts" => lines(alloc, &fields.text(alloc)?),
         "looks" => looks(alloc, &fields.text(alloc)?),
+        "bounds" => bounds(alloc, &fields.text(alloc)?),
         "json" => json(alloc, &fields.text(alloc)?),
         "from-json" => from_json(alloc, &fields.text(alloc)?),
         "print" => print(alloc, trees::tree(alloc, fields)?),
@@ -27,8 +32,7 @@ pub fn answer(alloc: Global, call: &str, fields: &mut Fields<'_>) -> Result<Stri
     }
 }
 
-/// The tree of an expression and what it prints, if not the text. Its print, its copy and the counted reader have to
-/// give the same tree.
+/// The tree of an expression and what it prints, if not the text. Its print and its copy have to give the same tree.
 fn expression(alloc: Global, text: &str) -> Result<String, Fault> {
     match CfgExpr::from_str(alloc, text) {
         Ok(e) => {
@@ -103,6 +107,9 @@ fn refused_line(alloc: Global, refusal: &FactsError, text: &str) -> Result<Strin
         FactsError::Line { number, error } => {
             let mut out = format!(in alloc; "refused line {number}, of the text")?;
             add_span(&mut out, &refusal.span_in(text))?;
+            if refusal.span_in("a\n").is_some() {
+                out.push_str(", but in any text")?;
+            }
             out.push(',')?;
             add_error(alloc, &mut out, error, text)?;
             let whole = format!(in alloc; "line {number}: {error}")?;
@@ -119,15 +126,33 @@ fn refused_line(alloc: Global, refusal: &FactsError, text: &str) -> Result<Strin
     }
 }
 
-/// How often a text is looked at.
-fn looks(alloc: Global, text: &str) -> Result<String, Fault> {
+/// Whether a text is read, and how often it is looked at.
+fn counted(alloc: Global, text: &str) -> Result<(bool, u128), Fault> {
     let (read, looks) = CfgExpr::from_str_counted(alloc, text);
-    let count = looks.count();
     match read {
-        Ok(_) => Ok(format!(in alloc; "read, {count} looks")?),
-        Err(ReadError::Parse(_)) => Ok(format!(in alloc; "refused, {count} looks")?),
+        Ok(_) => Ok((true, looks.count())),
+        Err(ReadError::Parse(_)) => Ok((false, looks.count())),
         Err(ReadError::Memory(_)) => Err(Fault::Memory),
     }
+}
+
+fn looks(alloc: Global, text: &str) -> Result<String, Fault> {
+    let (is_read, count) = counted(alloc, text)?;
+    let word = if is_read { "read" } else { "refused" };
+    Ok(format!(in alloc; "{word}, {count} looks")?)
+}
+
+/// Whether a text is read, and how often it is looked at where that is out of bounds: a text that is read is looked at
+/// at least once at each character and at its end.
+fn bounds(alloc: Global, text: &str) -> Result<String, Fault> {
+    let (is_read, count) = counted(alloc, text)?;
+    let mut out = word(alloc, if is_read { "read" } else { "refused" })?;
+    let each_once = (text.chars().count() as u128).saturating_add(1);
+    let most = each_once.saturating_mul(LOOKS_A_CHARACTER);
+    if (is_read && count < each_once) || count > most {
+        write!(out, ", but {count} looks")?;
+    }
+    Ok(out)
 }
 
 /// The text that is the JSON of a condition, which has to read back as what prints so.

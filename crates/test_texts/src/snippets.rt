@@ -31,9 +31,14 @@ fn of_expression(alloc: Global, text: &str) -> Result<String, Fault> {
     lines(alloc, error.snippet(alloc)?)
 }
 
+/// The lines on a key. In another key the error has none.
 fn of_key(alloc: Global, key: &str) -> Result<String, Fault> {
     let error = error_of(Platform::from_str(alloc, key).err())?;
-    lines(alloc, error.snippet_in(alloc, key)?)
+    let mut out = lines(alloc, error.snippet_in(alloc, key)?)?;
+    if error.snippet_in(alloc, "unix")?.is_some() {
+        out.push_str(", but in any key")?;
+    }
+    Ok(out)
 }
 
 fn lines(alloc: Global, snippet: Option<String>) -> Result<String, Fault> {
