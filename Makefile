@@ -7,7 +7,7 @@
 # make gate   what decides whether a change lands: make test, and the mutants
 # make quick  the checks alone, over the cache
 # make mutants    the mutants of crates/*/mutants alone, over the cache where there is some
-# make refusals   each allocation refused in turn, in each call and in the program, and what is released counted
+# make refusals   each allocation refused in turn, in each row of calls and in both programs; what is released counted
 # make statuses   the program where reading or writing fails
 # make manifests  the program manifest_check over questions whose answers are known, and hostile input
 # make cargo-select  what `manifest_check select` selects, beside what Cargo does; it needs cargo and rustc 1.95.0

@@ -1,6 +1,7 @@
 //! Runs rows on the library: what is read of texts, printed, matched, compared and warned about, also at each size.
 #![tactic(auto)]
 
+mod calls;
 mod cutting;
 mod long;
 mod matching;
@@ -20,6 +21,7 @@ impl Kinds for OfTexts {
     fn answer(&self, alloc: Global, kind: &str, fields: &mut Fields<'_>) -> Result<String, Fault> {
         let (of, call) = kind.split_once('.').unwrap_or((kind, ""));
         match of {
+            "call" => calls::answer(alloc, call, fields),
             "read" => reading::answer(alloc, call, fields),
             "cut" => cutting::answer(alloc, call, fields),
             "snippet" => snippets::answer(alloc, call, fields),
