@@ -7,7 +7,7 @@
 // released, and how many bytes stand on standard output and on standard error.
 //
 // `REFUSED_CONTROL` plants a fault, which has to be told: with `given` nothing is refused, and with `forgotten` a block
-// is not released.
+// is not released. They are known by their first letters.
 typedef unsigned long size_t;
 
 int printf(const char *, ...);
@@ -32,7 +32,13 @@ void *__libc_memalign(size_t, size_t);
 void *__libc_realloc(void *, size_t);
 void __libc_free(void *);
 
-enum { READ_WRITE = 3, SHARED = 1, ANONYMOUS = 32, SEEK_TO_END = 2, STOPPED = 128, SECONDS = 20, WAYS = 16 };
+enum { READ_WRITE = 3, SHARED = 1, ANONYMOUS = 32, SEEK_TO_END = 2, STOPPED = 128 };
+
+// A run that takes more seconds is stopped. So many ways in which runs end are told apart.
+enum { SECONDS = 20, WAYS = 16 };
+
+// The status of a run that did not come to its refused allocation, and where there were too many ways.
+enum { MISSED = 255 };
 
 // So much of what a run printed is compared and told.
 enum { MOST = 1 << 16 };
@@ -76,9 +82,9 @@ void free(void *place) {
     __libc_free(place);
 }
 
-static int is_control(const char *name) {
-    const char *asked = getenv("REFUSED_CONTROL");
-    return asked && asked[0] == name[0];
+static int is_control(char letter) {
+    const char *name = getenv("REFUSED_CONTROL");
+    return name && name[0] == letter;
 }
 
 // Prepares the run of the program that begins now, in which this allocation is refused, or none.
@@ -87,8 +93,8 @@ static void begin_run(unsigned long number, const int *outputs) {
     dup2(outputs[0], 1);
     dup2(outputs[1], 2);
     alarm(SECONDS);
-    refused = is_control("given") ? 0 : number;
-    forgets = is_control("forgotten");
+    refused = is_control('g') ? 0 : number;
+    forgets = is_control('f');
     is_counted = 1;
 }
 
@@ -115,16 +121,16 @@ static int is_same(const struct outcome *one, const struct outcome *other) {
     return same;
 }
 
-// Counts the outcome of a run among those after this one. What is over and above the ways that there is room for is
-// counted as the last of them.
-static void count(unsigned long number, int after) {
-    int it = after;
+// Counts the outcome of a run among those from this one on. What differs from all that there is room for is told of by
+// the last one's status.
+static void count(unsigned long number, int from) {
+    int it = from;
     while (it < WAYS - 1 && ways[it].times && !is_same(&ways[it], &ended)) it++;
     if (ways[it].times == 0) {
-        unsigned long times = ways[it].times;
         ways[it] = ended;
-        ways[it].times = times;
         ways[it].first = number;
+    } else if (!is_same(&ways[it], &ended)) {
+        ways[it].status = MISSED;
     }
     ways[it].times++;
 }
@@ -151,8 +157,7 @@ __attribute__((constructor)) static void begin(void) {
         if (process < 0 || waitpid(process, &status, 0) < 0) _exit(3);
         take(status, outputs);
         if (number == 0) all = run->asked;
-        // A run that does not come to its refused allocation is not the run that it has to be.
-        if (run->asked < number) ended.status = 255;
+        if (run->asked < number) ended.status = MISSED;
         count(number, number > 0);
     }
     tell();
