@@ -11,7 +11,7 @@
 # make targets    asks the rustc at hand for its targets, and writes the table of crates/known_targets anew
 # make fmt    lays out the files
 # Parts of `make test`, alone:
-# make refusals   each allocation refused in turn, in each call and in the program, and what is released counted
+# make refusals   each allocation refused in turn, in each row and in both programs, and what is released counted
 # make statuses   the program where reading or writing fails
 # make manifests  the program manifest_check over questions whose answers are known, and hostile input
 # make cargo-select  what `manifest_check select` selects, beside what Cargo does; it needs cargo and rustc 1.95.0

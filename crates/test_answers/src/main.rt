@@ -1,6 +1,7 @@
 //! Runs rows on what is decided of targets that are known in part, on exact answers and on known targets.
 #![tactic(auto)]
 
+mod calls;
 mod exact;
 mod facts;
 mod partial;
@@ -18,6 +19,7 @@ impl Kinds for OfAnswers {
     fn answer(&self, alloc: Global, kind: &str, fields: &mut Fields<'_>) -> Result<String, Fault> {
         let (of, call) = kind.split_once('.').unwrap_or((kind, ""));
         match of {
+            "call" => calls::answer(alloc, call, fields),
             "part" => partial::answer(alloc, call, fields),
             "exact" => exact::answer(alloc, call, fields),
             "at" => targets::answer(alloc, call, fields),

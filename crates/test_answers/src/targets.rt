@@ -104,7 +104,8 @@ fn counted(alloc: Global, p: &Platform, each: bool) -> Result<String, Fault> {
     Ok(format!(in alloc; "{count} {first} {last}")?)
 }
 
-fn names(alloc: Global, set: TargetSet) -> Result<String, Fault> {
+/// The names of the targets of a set.
+pub fn names(alloc: Global, set: TargetSet) -> Result<String, Fault> {
     let mut out = String::new(alloc);
     for target in set.iter() {
         if !out.is_empty() {

@@ -2,6 +2,7 @@
 #![tactic(auto)]
 
 mod callers;
+mod calls;
 mod copies;
 mod cutting;
 mod matching;
@@ -33,6 +34,7 @@ fn once(alloc: Global, kind: &str, fields: &mut Fields<'_>) -> Result<String, Fa
     match of {
         "read" => reading::answer(alloc, call, fields),
         "cut" => cutting::answer(alloc, call, fields),
+        "call" => calls::answer(alloc, call, fields),
         "copy" => copies::answer(alloc, call, fields),
         "snippet" => snippets::answer(alloc, call, fields),
         "match" => matching::answer(alloc, call, fields),
