@@ -179,7 +179,7 @@ fn came_to(
     };
     let (sizes, row) = row.split_once(' ').unwrap_or((row, ""));
     for size in sizes::named(alloc, sizes)? {
-        let row = sizes::row_at(alloc, row, settings, size)?;
+        let row = sizes::row_at(alloc, row, size)?;
         match asked(alloc, kinds, &row, settings)? {
             Came::AsStated => {}
             Came::Otherwise(given) => {

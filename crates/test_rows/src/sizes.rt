@@ -1,7 +1,7 @@
-//! Rows at sizes: what is asked and what is stated has pieces that are repeated so often as the size says.
+//! Rows at sizes. What grows stands between braces: `{N*ab}` is that text so many times, `{N$m$}` is the same with the
+//! number of each, from 1 on, for `$`, `{N~abc}` is so many of these characters in turn, and `{2N+1}` is a number.
 
 use crate::Fault;
-use crate::fields::{Fields, Setting};
 use std::alloc::{AllocError, Global};
 
 /// Each power of two up to 2^17, one less and one more.
@@ -10,6 +10,9 @@ const SIZES: [usize; 50] = [
     512, 513, 1023, 1024, 1025, 2047, 2048, 2049, 4095, 4096, 4097, 8191, 8192, 8193, 16383, 16384,
     16385, 32767, 32768, 32769, 65535, 65536, 65537, 131071, 131072, 131073,
 ];
+
+/// The characters of `{N~}`. As their number is odd, something else stands at each power of two.
+const CHARACTERS: &str = "abcdefghijklmnopqrstuvwxyz_0123456789";
 
 fn number(word: &str) -> Result<usize, Fault> {
     match word.parse::<usize>() {
@@ -38,73 +41,94 @@ pub fn named(alloc: Global, word: &str) -> Result<Vec<usize>, Fault> {
     Ok(sizes)
 }
 
-/// How often a piece stands there at a size.
-fn times(count: &str, size: usize) -> Result<usize, Fault> {
-    match count {
-        "N" => Ok(size),
-        "2N" => Ok(size.saturating_mul(2)),
-        "N-1" => Ok(size.saturating_sub(1)),
-        _ => number(count),
-    }
-}
-
-/// What stands between the bars of a piece, if it has bars.
-fn between_bars(piece: &str) -> Option<&str> {
-    piece.strip_prefix('|')?.strip_suffix('|')
-}
-
-/// Adds a word at a size. Its pieces have `+` between two, and are repeated as the count before `*` says. Bars stand
-/// around what stood between bars: `N*|not(|+|a|+N*|)|` at size 2 is `|not(not(a))|`.
-fn add_word(alloc: Global, out: &mut String, word: &str, size: usize) -> Result<(), Fault> {
-    let mut in_bars = false;
-    for piece in word.split('+') {
-        let (count, piece) = piece.split_once('*').unwrap_or(("1", piece));
-        let inner = between_bars(piece);
-        if inner.is_some() != in_bars {
-            out.push('|')?;
-            in_bars = !in_bars;
+/// A row at a size, in what it asks and in what it states.
+pub fn row_at(alloc: Global, row: &str, size: usize) -> Result<String, Fault> {
+    let mut out = String::new(alloc);
+    for (at, part) in row.split('{').enumerate() {
+        if at == 0 {
+            out.push_str(part)?;
+            continue;
         }
-        let text = inner.unwrap_or(piece);
-        out.push_str(&text.repeat(alloc, times(count, size)?)?)?;
+        let Some((grown, rest)) = part.split_once('}') else {
+            return Err(Fault::Row("a brace is not closed"));
+        };
+        add_grown(&mut out, grown, size)?;
+        out.push_str(rest)?;
     }
-    if in_bars {
-        out.push('|')?;
+    Ok(out)
+}
+
+/// The number of `7`, `N`, `N+1`, `N-1`, `3N` or `3N+1`.
+fn count_at(text: &str, size: usize) -> Option<usize> {
+    let Some((factor, more)) = text.split_once('N') else {
+        return text.parse::<usize>().ok();
+    };
+    let factor = if factor.is_empty() {
+        1
+    } else {
+        factor.parse::<usize>().ok()?
+    };
+    let times = factor.saturating_mul(size);
+    if more.is_empty() {
+        return Some(times);
+    }
+    if let Some(less) = more.strip_prefix('-') {
+        return Some(times.saturating_sub(less.parse::<usize>().ok()?));
+    }
+    let further = more.strip_prefix('+')?.parse::<usize>().ok()?;
+    Some(times.saturating_add(further))
+}
+
+/// Adds what stands between braces.
+fn add_grown(out: &mut String, grown: &str, size: usize) -> Result<(), Fault> {
+    let form = grown.trim_start_matches(|c: char| c.is_ascii_digit()
+        || matches!(c, 'N' | '+' | '-'));
+    let before = grown.strip_suffix(form).unwrap_or("");
+    let Some(count) = count_at(before, size) else {
+        return Err(Fault::Row("a brace is not followed by a number"));
+    };
+    if form.is_empty() {
+        write!(out, "{count}")?;
+    } else if let Some(text) = form.strip_prefix('*') {
+        add_times(out, text, count)?;
+    } else if let Some(text) = form.strip_prefix('$') {
+        for at in 0..count {
+            add_numbered(out, text, at.saturating_add(1))?;
+        }
+    } else if let Some(text) = form.strip_prefix('~') {
+        add_in_turn(out, if text.is_empty() { CHARACTERS } else { text }, count)?;
+    } else {
+        return Err(Fault::Row("there is no such form"));
     }
     Ok(())
 }
 
-/// Adds the words of a text at a size, up to what it states, which it gives.
-fn add_words<'a>(
-    alloc: Global,
-    out: &mut String,
-    text: &'a str,
-    settings: &'a [Setting],
-    size: usize,
-) -> Result<Option<&'a str>, Fault> {
-    let mut fields = Fields::new(text, settings);
-    for at in 0..=text.len() {
-        let Some(word) = fields.word() else {
-            break;
-        };
-        if at > 0 {
-            out.push(' ')?;
-        }
-        add_word(alloc, out, word, size)?;
+fn add_times(out: &mut String, text: &str, count: usize) -> Result<(), AllocError> {
+    for _ in 0..count {
+        out.push_str(text)?;
     }
-    fields.stated()
+    Ok(())
 }
 
-/// A row at a size, in what it asks and in what it states.
-pub fn row_at(
-    alloc: Global,
-    row: &str,
-    settings: &[Setting],
-    size: usize,
-) -> Result<String, Fault> {
-    let mut out = String::new(alloc);
-    if let Some(stated) = add_words(alloc, &mut out, row, settings, size)? {
-        out.push_str(" => ")?;
-        add_words(alloc, &mut out, stated, settings, size)?;
+fn add_numbered(out: &mut String, text: &str, number: usize) -> Result<(), AllocError> {
+    for (at, part) in text.split('$').enumerate() {
+        if at > 0 {
+            write!(out, "{number}")?;
+        }
+        out.push_str(part)?;
     }
-    Ok(out)
+    Ok(())
+}
+
+/// Adds so many characters, each of one byte, of a text that begins anew at its end.
+fn add_in_turn(out: &mut String, text: &str, count: usize) -> Result<(), AllocError> {
+    let mut left = count;
+    for _ in 0..count {
+        if left <= text.len() {
+            break;
+        }
+        out.push_str(text)?;
+        left = left.saturating_sub(text.len());
+    }
+    out.push_str(text.get(..left).unwrap_or(""))
 }

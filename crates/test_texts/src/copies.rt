@@ -1,6 +1,5 @@
 //! Copies: what each prints, that of a name or a pair behind what a text holds.
 
-use crate::sizes;
 use cargo_platform::Platform;
 use std::alloc::Global;
 use std::fmt::Display;
@@ -39,7 +38,6 @@ pub fn answer(alloc: Global, call: &str, fields: &mut Fields<'_>) -> Result<Stri
                 },
             )?)
         }
-        "sizes" => sizes::copies(alloc, fields),
         _ => Err(Fault::Row("there is no such kind")),
     }
 }
@@ -60,7 +58,7 @@ fn printed<T: Display>(alloc: Global, mut out: String, copy: &T) -> Result<Strin
 
 /// Whether the copy of the expression that a text spells prints as the text, also for debugging, and as a condition and
 /// its JSON. No level takes stack of the driver.
-pub fn prints_itself(alloc: Global, text: &str) -> Result<bool, Fault> {
+fn prints_itself(alloc: Global, text: &str) -> Result<bool, Fault> {
     let copy = spelled(alloc, text)?.clone(alloc)?;
     let printed = forms::printed(alloc, &copy)?;
     let debugged = format!(in alloc; "{copy:?}")?;

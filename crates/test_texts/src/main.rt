@@ -8,7 +8,6 @@ mod cutting;
 mod matching;
 mod ordering;
 mod reading;
-mod sizes;
 mod snippets;
 mod warnings;
 
@@ -21,27 +20,19 @@ struct OfTexts;
 
 impl Kinds for OfTexts {
     fn answer(&self, alloc: Global, kind: &str, fields: &mut Fields<'_>) -> Result<String, Fault> {
-        if kind == "sizes" {
-            return sizes::rows(alloc, fields);
+        let (of, call) = kind.split_once('.').unwrap_or((kind, ""));
+        match of {
+            "read" => reading::answer(alloc, call, fields),
+            "cut" => cutting::answer(alloc, call, fields),
+            "call" => calls::answer(alloc, call, fields),
+            "copy" => copies::answer(alloc, call, fields),
+            "snippet" => snippets::answer(alloc, call, fields),
+            "match" => matching::answer(alloc, call, fields),
+            "order" => ordering::answer(alloc, call, fields),
+            "warn" => warnings::answer(alloc, call, fields),
+            "uses" => callers::answer(alloc, call, fields),
+            _ => Err(Fault::Row("there is no such kind")),
         }
-        once(alloc, kind, fields)
-    }
-}
-
-/// The answer to a row of one size.
-fn once(alloc: Global, kind: &str, fields: &mut Fields<'_>) -> Result<String, Fault> {
-    let (of, call) = kind.split_once('.').unwrap_or((kind, ""));
-    match of {
-        "read" => reading::answer(alloc, call, fields),
-        "cut" => cutting::answer(alloc, call, fields),
-        "call" => calls::answer(alloc, call, fields),
-        "copy" => copies::answer(alloc, call, fields),
-        "snippet" => snippets::answer(alloc, call, fields),
-        "match" => matching::answer(alloc, call, fields),
-        "order" => ordering::answer(alloc, call, fields),
-        "warn" => warnings::answer(alloc, call, fields),
-        "uses" => callers::answer(alloc, call, fields),
-        _ => Err(Fault::Row("there is no such kind")),
     }
 }
 
