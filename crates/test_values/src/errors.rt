@@ -73,7 +73,7 @@ fn assert_made(rt: &impl Abort, alloc: Global, text: &str, left: &str) {
         "failed to parse `{text}` as a cfg expression: unexpected content `{left}` found after cfg expression"
     ).expect(rt, "memory");
     assert_error_prints(rt, alloc, &error, &wanted);
-    assert_error_prints(rt, alloc, &ReadError::Parse(error), &wanted);
+    assert_prints(rt, alloc, &ReadError::Parse(error), &wanted);
 }
 
 #[test]
