@@ -1,5 +1,5 @@
 -- What comes at a place is what its bytes tell.
-use Rattle.std.proofs.Common.{◌≡◌, ◌≢◌, refl, sym, ap, ◌∙◌, ℕ, ◌+◌, ◌-◌, ◌^◌, ◌<◌, ◌≤◌, true, false}
+use Rattle.std.proofs.Common.{◌≡◌, ◌≢◌, refl, sym, ap, ◌∙◌, ℕ, ◌+◌, ◌-◌, ◌*◌, ◌^◌, ◌<◌, ◌≤◌, true, false}
 use Rattle.std.proofs.Common.{List, [], ◌∷◌}
 use Rattle.std.proofs.Common.{◌++◌, codes, inl, inr, true≢false, arith, length, drop, None}
 use Rattle.std.proofs.Common.{Some, Option}
@@ -18,7 +18,7 @@ use Rattle.cargo_platform.specs.Tokens.{IsWellWritten, Placed}
 use Rattle.cargo_platform.specs.Cut.{IsPiece, AreSpaces, BeginsFault}
 use Rattle.cargo_platform.specs.Reading.{characters_from}
 use Rattle.cargo_platform.specs.Cut.{Item, Token, Lexical, Nothing, is_token}
-use Rattle.cargo_platform.specs.Faults.{from_to}
+use Rattle.cargo_platform.specs.Faults.{from_to, lexical_span}
 use Rattle.cargo_platform.specs.Inside.Ahead.{Ahead, NextIs, GoesPast}
 use Rattle.cargo_platform.specs.Inside.Looking.{IsCharAt, Shows, Costs, character_of, IsReadingAt}
 use Rattle.cargo_platform.specs.Inside.Looking.{FindsFault}
@@ -32,7 +32,7 @@ use Rattle.cargo_platform.proofs.SomeCut.{Outcome, lex, piece_at, rest_at}
 use Rattle.cargo_platform.proofs.LexicalFaults.{no_fault}
 use Rattle.cargo_platform.proofs.Scanning.{starts_at, no_spaces, first_between}
 use Rattle.std.proofs.lemmas.List.Edits.{between_none}
-use Rattle.cargo_platform.proofs.Looking.{characters_end}
+use Rattle.cargo_platform.proofs.Looking.{characters_end, looks_are_many}
 
 -- ---- what comes at a place
 
@@ -94,16 +94,18 @@ rest_ahead text at u b past within = go (lex (drop at text) (IsUtf8-drop text at
         )
 
 -- at the end each character was looked at, and the end
-pub whole_read : (text : List ℕ) (at : ℕ) (seen : Look) (fault : Option TokenFaultKind) (looks : ℕ)
-    → IsReadingAt text at seen fault looks → NextIs (ahead_at text at) Nothing → looks ≡ characters_from text 0 + 1
-whole_read text at seen fault looks r none = go fault r
+pub whole_read : (text : List ℕ) (at : ℕ) (seen : Look) (fault : Option TokenFaultKind) (looks long : ℕ)
+    → IsReadingAt text at seen fault looks long → NextIs (ahead_at text at) Nothing
+    → characters_from text 0 + 1 ≤ looks
+whole_read text at seen fault looks long r none = go fault r
   where
     at_end : at ≡ length text
     at_end = same_start text at at (length text) (no_spaces text at r.reached.0) none.comes.0 (no_space text at r.past)
         (ap (starts is_space) (drop_of_length-le text (omega arith)))
 
-    go : (fault : Option TokenFaultKind) → IsReadingAt text at seen fault looks → looks ≡ characters_from text 0 + 1
-    go None r = omega (arith, r.each refl, characters_end text at at_end)
+    go : (fault : Option TokenFaultKind) → IsReadingAt text at seen fault looks long
+        → characters_from text 0 + 1 ≤ looks
+    go None r = omega (arith, r.whole refl, characters_end text at at_end)
     go (Some k) r =
         let over : drop at text ≡ [] = drop_of_length-le text (omega (arith, at_end)) in
         absurd (no_fault k (rw (← over) r.found))
@@ -202,18 +204,19 @@ fault_lacks P text at k within f = λ t h p.
 -- ---- steps of a reader
 
 -- where a token stands no fault was found
-pub token_no_fault : (text : List ℕ) (at end : ℕ) (t : Lexeme) (seen : Look) (fault : Option TokenFaultKind) (looks : ℕ)
-    → IsReadingAt text at seen fault looks → IsTokenAt text t at end → fault ≡ None
-token_no_fault text at end t seen None looks r stands = refl
-token_no_fault text at end t seen (Some k) looks r stands =
+pub token_no_fault : (text : List ℕ) (at end : ℕ) (t : Lexeme) (seen : Look) (fault : Option TokenFaultKind)
+    (looks long : ℕ) → IsReadingAt text at seen fault looks long → IsTokenAt text t at end → fault ≡ None
+token_no_fault text at end t seen None looks long r stands = refl
+token_no_fault text at end t seen (Some k) looks long r stands =
     let placed : Placed = record { token = t; start = at; end = end } in
     absurd (no_token (ahead_at text at) (Lexical k at) placed refl (fault_ahead text at k r.reached.0 r.found)
     (record { to = end; comes = (no_spaces text at r.reached.0, stands.written, stands.whole, refl) }))
 
 -- looks from one place to another, and from there on
-pub costs_then : (text : List ℕ) (from mid to beside more old between new : ℕ) → Costs text from mid beside old between
-    → Costs text mid to more between new → Costs text from to (beside + more) old new
-costs_then text from mid to beside more old between new a b = record {
+pub costs_then : (text : List ℕ) (from mid to over beside further more old between new : ℕ)
+    → Costs text from mid over beside old between → Costs text mid to further more between new
+    → Costs text from to (over + further) (beside + more) old new
+costs_then text from mid to over beside further more old between new a b = record {
   forward = omega (arith, a.forward, b.forward);
   grows = omega (arith, a.grows, b.grows);
   at_most = omega (arith, a.at_most, b.at_most);
@@ -223,45 +226,58 @@ costs_then text from mid to beside more old between new a b = record {
 }
 
 -- the reader goes on after a token and the spaces after it
-pub reads_on : (text : List ℕ) (at from end to : ℕ) (seen next : Look) (fault : Option TokenFaultKind)
-    (looks mid new : ℕ) → IsReadingAt text at seen fault looks → fault ≡ None
-    → characters_from text at ≡ characters_from text from + 1 → Costs text from end 1 looks mid
-    → Costs text end to 0 mid new → IsCharBoundary text to → Shows text to next → slice_index text to ≢ 0x20
-    → IsReadingAt text to next fault new
-reads_on text at from end to seen next fault looks mid new r none one a b boundary sees past =
-    let before = r.each none in
-    let most : new ≤ characters_from text 0 + 1 = omega (arith, a.at_most, b.at_most, one, before) in
-    let small : new < 2 ^ 64 - 1 = omega (arith, most, r.short) in
+pub reads_on : (text : List ℕ) (at from end to over : ℕ) (seen next : Look) (fault : Option TokenFaultKind)
+    (looks mid new long : ℕ) → IsReadingAt text at seen fault looks long → fault ≡ None
+    → characters_from text at ≡ characters_from text from + 1 → over ≤ 9 → Costs text from end over 1 looks mid
+    → Costs text end to 0 0 mid new → IsCharBoundary text to → Shows text to next → slice_index text to ≢ 0x20
+    → IsReadingAt text to next fault new long
+reads_on text at from end to over seen next fault looks mid new long r none one few a b boundary sees past =
+    let before = r.whole none in
+    let most : new + 9 * characters_from text to ≤ 9 * characters_from text 0 + 1 =
+    omega (arith, a.at_most, b.at_most, one, few, r.at_most none) in
+    let need = characters_from text 0 + 1 - characters_from text to in
+    let many : need ≤ new = looks_are_many new need (omega (arith, r.short)) (λ small.
     let still : mid < 2 ^ 64 - 1 = omega (arith, small, b.grows) in
+    omega (arith, a.at_least still, b.at_least small, one, before)) in
     record {
       utf8 = r.utf8;
       short = r.short;
+      measured = r.measured;
       reached = boundary;
       sees = sees;
       past = past;
       found = rw none tt;
-      each = λ _. omega (arith, a.at_most, b.at_most, a.at_least still, b.at_least small, one, before);
-      at_least = omega (arith, a.at_least still, b.at_least small, one, before);
+      whole = λ _. omega (arith, many);
+      at_least = omega (arith, many);
       seen_fault = rw none tt;
-      at_most = most;
+      at_most = λ _. most;
+      at_most_ever = omega (arith, most);
     }
 
 -- a fault is found
-pub finds : (text : List ℕ) (at : ℕ) (seen : Look) (fault : Option TokenFaultKind) (k : TokenFaultKind) (looks new : ℕ)
-    → IsReadingAt text at seen fault looks → fault ≡ None → BeginsFault (drop at text) k
-    → new ≤ looks + characters_from text at → FindsFault text at k 1 looks new → IsReadingAt text at seen (Some k) new
-finds text at seen fault k looks new r none begins few found = record {
-  utf8 = r.utf8;
-  short = r.short;
-  reached = r.reached;
-  sees = r.sees;
-  past = r.past;
-  found = begins;
-  each = λ h. absurd cc;
-  at_least = omega (arith, found.grows, r.each none);
-  seen_fault = omega (arith, found.at_least (omega (arith, few, r.each none, r.short)), r.each none);
-  at_most = omega (arith, few, r.each none);
-}
+pub finds : (text : List ℕ) (at : ℕ) (seen : Look) (fault : Option TokenFaultKind) (k : TokenFaultKind)
+    (looks new long : ℕ) → IsReadingAt text at seen fault looks long → fault ≡ None → BeginsFault (drop at text) k
+    → new ≤ looks + 9 * characters_from text at → FindsFault text at k 1 looks new
+    → IsReadingAt text at seen (Some k) new long
+finds text at seen fault k looks new long r none begins few found =
+    let end = (lexical_span text at k).end in
+    let need = characters_from text 0 - characters_from text end in
+    let many : need ≤ new = looks_are_many new need (omega (arith, r.short)) (λ small.
+    omega (arith, found.at_least small, r.whole none)) in
+    record {
+      utf8 = r.utf8;
+      short = r.short;
+      measured = r.measured;
+      reached = r.reached;
+      sees = r.sees;
+      past = r.past;
+      found = begins;
+      whole = λ h. absurd cc;
+      at_least = omega (arith, found.grows, r.whole none);
+      seen_fault = omega (arith, many);
+      at_most = λ h. absurd cc;
+      at_most_ever = omega (arith, few, r.at_most none);
+    }
 
 -- a mark stands where its byte does
 pub punctuation_stands : (text : List ℕ) (at b : ℕ) (m : Punctuation) → written (lexeme_of m) ≡ b ∷ []

@@ -1,7 +1,7 @@
 -- The character at a place, from what the text has there.
 use Rattle.std.proofs.Common.{◌≡◌, ℕ, zero, suc, ◌+◌, ◌-◌, ◌<◌, ◌≤◌, List, [], ◌∷◌, ◌++◌, length, get_or, drop, refl}
-use Rattle.std.proofs.Common.{sym, ap, subst, ◌∙◌, arith, add-zero, add-one, true, false, ◌&&◌, Bool, cond, ltb}
-use Rattle.std.proofs.Common.{◌/◌, ◌%◌}
+use Rattle.std.proofs.Common.{sym, ap, subst, ◌∙◌, arith, add-zero, add-one, true, false, ◌&&◌, Bool, ltb}
+use Rattle.std.proofs.Common.{◌⊎◌, inl, inr, ◌*◌, ◌^◌, ◌≢◌, true≢false, take}
 use Rattle.std.proofs.lemmas.List.{get_or-drop, length-append, length-drop}
 use Rattle.std.proofs.Math.Seq.{drop-cons}
 use Rattle.std.specs.Char.{len_utf8}
@@ -11,14 +11,11 @@ use Rattle.std.proofs.lemmas.Str.{IsUtf8-drop, IsCharBoundary-past_char, drop_pa
 use Rattle.std.proofs.lemmas.Str.{char_from_byte, chars_past_char, scalars-chars, length-encode, len_utf8_bounds}
 use Rattle.std.proofs.lemmas.Str.{encode_ascii, inside_one, IsCharBoundary-end, IsCharBoundary-before_ascii}
 use Rattle.std.specs.Str.{encode_utf8_all}
-use Rattle.std.specs.List.{count_by}
-use Rattle.std.proofs.lemmas.Bool.Decides.{nat_tests}
-use Rattle.std.proofs.lemmas.List.Sums.{sum_by-append, sum_by-cons}
+use Rattle.std.proofs.lemmas.Simd.{chunk-drop}
 use Rattle.std.proofs.lemmas.Bool.{ltb-true, ltb-false}
-use lib.Utf8.{scalar, scalars, encode, next}
-use Rattle.std.proofs.lemmas.Str.{chars-nil, length-le-encodes, encodes-chars}
-use Rattle.cargo_platform.specs.Chars.{is_character_start}
-use Rattle.cargo_platform.specs.Inside.Looking.{IsCharAt}
+use lib.Utf8.{scalar, scalars}
+use Rattle.std.proofs.lemmas.Str.{chars-nil, length-le-encodes, encodes-chars, chars-append, IsUtf8-between}
+use Rattle.cargo_platform.specs.Inside.Looking.{IsCharAt, AreBetween, Compares, is_no_quote}
 use Rattle.cargo_platform.specs.Reading.{characters_from}
 
 both_left : (a b : Bool) → (a && b) ≡ true → a ≡ true
@@ -88,64 +85,6 @@ ascii_steps text at (suc n) utf8 within small boundary =
       omega (arith, step.1, steps.1, ap (λ n. characters_from text n) there),
     )
 
--- ---- the characters of a text are as many as its bytes that begin one
-
-begins : (b : ℕ) → 192 ≤ b → is_character_start b ≡ true
-begins b h = grind (arith, nat_tests)
-
-begins_low : (b : ℕ) → b < 128 → is_character_start b ≡ true
-begins_low b h = grind (arith, nat_tests)
-
-goes_on : (b : ℕ) → is_character_start (128 + b % 64) ≡ false
-goes_on b = let low : b % 64 < 64 = omega arith in grind (arith, nat_tests)
-
-count_next : (b : ℕ) (bs : List ℕ) → count_by is_character_start bs ≡ 0 →
-    count_by is_character_start ((128 + b % 64) ∷ bs) ≡ 0
-count_next b bs none =
-    let zero : cond {A = ℕ} (is_character_start (128 + b % 64)) 1 0 ≡ 0 =
-    ap (λ (t : Bool). cond {A = ℕ} t 1 0) (goes_on b) in
-    omega (arith, sum_by-cons (λ x. cond {A = ℕ} (is_character_start x) 1 0) (128 + b % 64) bs)
-
-count_first : (b : ℕ) (bs : List ℕ) → is_character_start b ≡ true → count_by is_character_start bs ≡ 0 →
-    count_by is_character_start (b ∷ bs) ≡ 1
-count_first b bs first none =
-    let one : cond {A = ℕ} (is_character_start b) 1 0 ≡ 1 = ap (λ (t : Bool). cond {A = ℕ} t 1 0) first in
-    omega (arith, sum_by-cons (λ x. cond {A = ℕ} (is_character_start x) 1 0) b bs)
-
-starts_at_front : (c : ℕ) → count_by is_character_start (encode_utf8 c) ≡ 1
-unfolding encode
-starts_at_front c = go (ltb c 128) (ltb c 2048) (ltb c 65536) refl
-  where
-    go : (x y z : Bool) → ltb c 128 ≡ x →
-        count_by is_character_start (cond x (c ∷ [])
-        (cond y ((192 + c / 64) ∷ next c ∷ [])
-        (cond z ((224 + c / 4096) ∷ next (c / 64) ∷ next c ∷ [])
-        ((240 + c / 262144) ∷ next (c / 4096) ∷ next (c / 64) ∷ next c ∷ [])))) ≡ 1
-    go true y z e = count_first c [] (begins_low c (ltb-true c 128 e)) refl
-    go false true z e = count_first (192 + c / 64) (next c ∷ []) (begins (192 + c / 64) (omega arith))
-        (count_next c [] refl)
-    go false false true e = count_first (224 + c / 4096) (next (c / 64) ∷ next c ∷ [])
-        (begins (224 + c / 4096) (omega arith)) (count_next (c / 64) (next c ∷ []) (count_next c [] refl))
-    go false false false e = count_first (240 + c / 262144) (next (c / 4096) ∷ next (c / 64) ∷ next c ∷ [])
-        (begins (240 + c / 262144) (omega arith))
-        (count_next (c / 4096) (next (c / 64) ∷ next c ∷ [])
-        (count_next (c / 64) (next c ∷ []) (count_next c [] refl)))
-
-starts_of : (cs : List ℕ) → scalars cs ≡ true → count_by is_character_start (encode_utf8_all cs) ≡ length cs
-starts_of [] h = refl
-starts_of (c ∷ cs) h =
-    let ends : scalars cs ≡ true = both_right (scalar c) (scalars cs) h in
-    sum_by-append (λ b. cond {A = ℕ} (is_character_start b) 1 0) (encode_utf8 c) (encode_utf8_all cs)
-    ∙ omega (arith, starts_at_front c, starts_of cs ends)
-
-starts_are : (bs : List ℕ) → IsUtf8 bs → length (chars bs) ≡ count_by is_character_start bs
-starts_are bs utf8 = sym (ap (count_by is_character_start) (sym (encodes-chars bs utf8))
-    ∙ starts_of (chars bs) (scalars-chars bs utf8))
-
-pub starts_from : (text : List ℕ) (at : ℕ) → IsUtf8 text → IsCharBoundary text at →
-    characters_from text at ≡ count_by is_character_start (drop at text)
-starts_from text at utf8 boundary = starts_are (drop at text) (IsUtf8-drop text at utf8 boundary)
-
 -- no character stands at the end
 pub characters_end : (text : List ℕ) (at : ℕ) → at ≡ length text → characters_from text at ≡ 0
 characters_end text at is =
@@ -158,6 +97,74 @@ characters_end text at is =
 -- a text has no more characters than bytes
 pub chars_fit : (bs : List ℕ) → IsUtf8 bs → length (chars bs) ≤ length bs
 chars_fit bs utf8 = omega (arith, length-le-encodes (chars bs), ap length (encodes-chars bs utf8))
+
+-- no character has more than four bytes
+encodes_fit : (cs : List ℕ) → length (encode_utf8_all cs) ≤ 4 * length cs
+encodes_fit [] = omega arith
+encodes_fit (c ∷ cs) = omega (
+  arith,
+  length-append (encode_utf8 c) (encode_utf8_all cs),
+  length-encode c,
+  (len_utf8_bounds c).1,
+  encodes_fit cs,
+)
+
+-- how many characters stand between two places
+pub characters_between : (text : List ℕ) (from to : ℕ) → IsUtf8 text → from ≤ to → IsCharBoundary text from
+    → IsCharBoundary text to → AreBetween text from to
+characters_between text from to utf8 ordered begin end =
+    let piece : List ℕ = take (to - from) (drop from text) in
+    let behind : drop from text ≡ piece ++ drop to text =
+    chunk-drop from (to - from) text ∙ ap (λ n. piece ++ drop n text) (omega arith) in
+    let is : IsUtf8 piece = IsUtf8-between text from to utf8 ordered begin end in
+    let long : length piece ≡ to - from =
+    omega (
+      arith,
+      ap length behind,
+      length-append piece (drop to text),
+      length-drop from text,
+      length-drop to text,
+      begin.0,
+      end.0,
+    ) in
+    record {
+      characters = length (chars piece);
+      all =
+          ap (λ l. length (chars l)) behind ∙ ap length (chars-append piece (drop to text) is)
+          ∙ length-append (chars piece) (chars (drop to text));
+      few = omega (arith, chars_fit piece is, long);
+      many = omega (arith, encodes_fit (chars piece), ap length (encodes-chars piece is), long);
+    }
+
+-- what a scan compares is more than what it goes over, and no more than sixteen bytes more
+pub compares_few : (left run count : ℕ) → Compares left run count → (run + 1 ≤ count) × (count ≤ run + 16)
+compares_few left run count c = go c.all
+  where
+    go : ((run < 16 * c.blocks + 16) × (16 * c.blocks + 16 ≤ left) × (count ≡ 16 * c.blocks + 16)
+        ⊎ (left < 16 * c.blocks + 16) × (count ≡ run + 1)) → (run + 1 ≤ count) × (count ≤ run + 16)
+    go (inl b) = (omega (arith, b.0, b.2), omega (arith, c.passed, b.2))
+    go (inr o) = (omega (arith, o.1), omega (arith, o.1))
+
+-- to the end of the text it compares each byte once, and the end
+pub compares_all : (left count : ℕ) → Compares left left count → count ≡ left + 1
+compares_all left count c = go c.all
+  where
+    go : ((left < 16 * c.blocks + 16) × (16 * c.blocks + 16 ≤ left) × (count ≡ 16 * c.blocks + 16)
+        ⊎ (left < 16 * c.blocks + 16) × (count ≡ left + 1)) → count ≡ left + 1
+    go (inl b) = absurd (omega (arith, b.0, b.1))
+    go (inr o) = o.1
+
+-- a byte of a value is no quote
+pub passes_quote : (b : ℕ) → is_no_quote b ≡ true → b ≢ 0x22
+passes_quote b h e = true≢false (sym h ∙ ap is_no_quote e)
+
+-- a number of looks that is the greatest count, or has as many as are asked for
+pub looks_are_many : (new need : ℕ) → need < 2 ^ 64 → (new < 2 ^ 64 - 1 → need ≤ new) → need ≤ new
+looks_are_many new need fits below = go (ltb new (2 ^ 64 - 1)) refl
+  where
+    go : (t : Bool) → ltb new (2 ^ 64 - 1) ≡ t → need ≤ new
+    go true e = below (ltb-true new (2 ^ 64 - 1) e)
+    go false e = omega (arith, ltb-false new (2 ^ 64 - 1) e, fits)
 
 -- what holds at the first place and at each further one holds at each
 pub first_and_others : (P : ℕ → Type 0) (from end : ℕ) → P from → ((i : ℕ) → from + 1 ≤ i → i < end → P i) →

@@ -1,6 +1,6 @@
 -- How a tokenizer goes through the cut of its text, one call of `next` after another.
-use Rattle.std.specs.Prelude.{◌≡◌, ◌⊎◌, ℕ, ◌+◌, ◌-◌, ◌≤◌, Bool, true, false, List, [], ◌∷◌, length, drop, Option, Some}
-use Rattle.std.specs.Prelude.{None, Result, Ok, Err, IsFalse, if◌then◌else◌}
+use Rattle.std.specs.Prelude.{◌≡◌, ◌⊎◌, ℕ, ◌+◌, ◌-◌, ◌*◌, ◌≤◌, Bool, true, false, List, [], ◌∷◌, length, drop, Option}
+use Rattle.std.specs.Prelude.{Some, None, Result, Ok, Err, IsFalse, if◌then◌else◌}
 use Rattle.std.specs.Str.{IsCharBoundary, chars}
 use Rattle.cargo_platform.specs.declared.tokens.Spanned.{Spanned}
 use Rattle.cargo_platform.specs.declared.tokens.TokenFault.{TokenFault}
@@ -52,15 +52,25 @@ characters_from text at = length (chars (drop at text))
 abbrev pub IsLookedTo : List ℕ → ℕ → ℕ → Type 0
 IsLookedTo text to looks = characters_from text 0 ≤ looks + characters_from text to
 
--- one call of `next`, with where it came to and how often the text was looked at so far
+-- One call of `next`, with where it came to and its looks so far. A look tells what is at one place, a character or the
+-- end, and counts one. A scan counts each byte that it compares: sixteen for a block of sixteen that are compared at
+-- once, and one for any other byte or the end.
 pub record NextCall (old : Progress) (r : Option (Result Spanned TokenFault)) (new : Progress) : Type 0 where
   pub gives : NextGives old r new
   pub begins : BeginsCharacter old.text r
   pub reached : IsCharBoundary new.text new.place
-  -- until a fault: once at each character before the place, and once at what is there, a character or the end
-  pub each : new.failed ≡ false → new.looks + characters_from new.text new.place ≡ characters_from new.text 0 + 1
-  -- always: no more than once for each character and once for the end
-  pub at_most : new.looks ≤ characters_from new.text 0 + 1
+  -- until a fault: no fewer than characters stand before the place, and one for what is there, a character or the end
+  pub at_least : new.failed ≡ false → characters_from new.text 0 + 1 ≤ new.looks + characters_from new.text new.place
+  -- and no more than nine for each of them, and one
+  pub at_most : new.failed ≡ false →
+      new.looks + 9 * characters_from new.text new.place ≤ 9 * characters_from new.text 0 + 1
+  -- always: no more than nine for each character of the text, and one
+  pub at_most_ever : new.looks ≤ 9 * characters_from new.text 0 + 1
+  -- this call made no more than nine for each character that it went past, and one
+  pub call : new.failed ≡ false →
+      new.looks + 9 * characters_from new.text new.place ≤ old.looks + 9 * characters_from old.text old.place + 1
+  -- always: no more than nine for each character that was left, and one
+  pub call_ever : new.looks ≤ old.looks + 9 * characters_from old.text old.place + 1
 
 -- at most so many results come before the last None
 abbrev pub results_left : Progress → ℕ

@@ -32,8 +32,8 @@ pub enum Cfg {
     KeyPair(Ident, String),
 }
 
-/// An expression over facts. It is let go without recursion, however deep it is and wherever that happens. So a pattern
-/// moves nothing out of it; `into_parts` takes it apart.
+/// An expression over facts. It is let go without recursion, wherever that happens, as is tested on two million levels.
+/// So a pattern moves nothing out of it; `into_parts` takes it apart.
 pub enum CfgExpr {
     /// True where the expression inside is false.
     Not(Box<CfgExpr>),
@@ -259,10 +259,13 @@ impl CfgExpr {
         CfgExpr::from_str_counted(alloc, s).0
     }
 
-    /// Reads an expression as `from_str` does, and tells how often the reader asked its source for a character, or
-    /// whether the text ends: with an expression once for each character of the text and once for its end, and whatever
-    /// it answers never more often. It looked at a refused text up to the end of the fault's span, and where something
-    /// is left after an expression, up to that: no less often than characters stand before.
+    /// Reads an expression as `from_str` does, and tells how many looks the reader made at the text. A look asks for
+    /// the character at a place, or whether the text ends there, and counts one. A scan of spaces, a name or a value
+    /// counts each byte that it compares, and sixteen for a block of sixteen that are compared at once.
+    ///
+    /// Whatever the answer, it makes at most nine looks for each character of the text, and one. With an expression it
+    /// makes no fewer than the text has characters, and one. It looked at a refused text up to the end of the fault's
+    /// span, and where something is left after an expression, up to that: no less often than characters stand before.
     pub fn from_str_counted(alloc: Global, s: &str) -> (Result<CfgExpr, ReadError>, Looks)
         // What `from_str` promises.
         ensures tree { IfOk result.0 (λ e. IsTreeText s.now (tree_of e)) }
@@ -275,8 +278,8 @@ impl CfgExpr {
             → IfOk result.0 (λ e. tree_of e ≡ t) × IfParse result.0 (λ _. ⊥) }
         // What the looks come to.
         ensures at_most { result.1 ≤ 12 * (length (chars s.now) + 1) }
-        ensures at_most_once { result.1 ≤ length (chars s.now) + 1 }
-        ensures each_once { OnOk result.0 (result.1 ≡ length (chars s.now) + 1) }
+        ensures at_most_nine { result.1 ≤ 9 * length (chars s.now) + 1 }
+        ensures with_tree { OnOk result.0 (length (chars s.now) + 1 ≤ result.1) }
         ensures at_least { IfParse result.0
             (λ e. IfSome (span_in e) (λ span. IsLookedTo s.now (looked_to (fault_in e) span) result.1)) }
     {

@@ -1,6 +1,6 @@
 //! The tokens of a text, each taken where it is wanted: what the parsers read from.
 
-ghost use Rattle.std.specs.Prelude.{◌≡◌, ◌≤◌, ◌+◌, length, [], ◌∷◌, IsTrue, IsFalse, IfSome, IfNone, IfErr, OnOk};
+ghost use Rattle.std.specs.Prelude.{◌≡◌, ◌≤◌, ◌+◌, ◌*◌, length, [], ◌∷◌, IsTrue, IsFalse, IfSome, IfNone, IfErr, OnOk};
 ghost use Rattle.std.specs.Prelude.{MatchOption};
 ghost use Rattle.cargo_platform.specs.declared.source.Look.TheVariants.{Ascii};
 ghost use Rattle.cargo_platform.specs.Tokens.{Ident as ident_token, String as string_token, Placed, lexeme, written};
@@ -28,6 +28,8 @@ pub(crate) struct Reader<'a> {
     source: Source<'a>,
     place: usize,
     seen: Look,
+    /// How many bytes the text has, for spans.
+    length: usize,
     /// Why no token begins at the place, where that was found.
     fault: Option<TokenFaultKind>,
 }
@@ -43,7 +45,7 @@ impl<'a> Model for Reader<'a> {
       looks = r.source.looks;
     } };
 
-    ghost invariant = { λ r. IsReadingAt r.source.text.now r.place r.seen r.fault r.source.looks };
+    ghost invariant = { λ r. IsReadingAt r.source.text.now r.place r.seen r.fault r.source.looks r.length };
 }
 
 impl<'a> Reader<'a> {
@@ -60,6 +62,7 @@ impl<'a> Reader<'a> {
             source,
             place,
             seen,
+            length: text.len(),
             fault: None,
         }
     }
@@ -97,8 +100,7 @@ impl<'a> Reader<'a> {
             return None;
         }
         let second = self.source.look(self.place + 1);
-        let (end, behind) = self.source.past_identifier(self.place + 1, second);
-        let name = self.source.slice(self.place, end);
+        let (name, end, behind) = self.source.name(self.place, second);
         (self.place, self.seen) = self.source.past_spaces(end, behind);
         Some((false, name))
     }
@@ -129,11 +131,10 @@ impl<'a> Reader<'a> {
         if let Some(_kind) = self.fault {
             return None;
         }
-        let Some(quote) = self.source.closing_quote(self.place + 1) else {
+        let Some((value, quote)) = self.source.value(self.place + 1) else {
             self.fault = Some(TokenFaultKind::UnterminatedString);
             return None;
         };
-        let value = self.source.slice(self.place + 1, quote);
         let behind = self.source.look(quote + 1);
         (self.place, self.seen) = self.source.past_spaces(quote + 1, behind);
         Some(value)
@@ -179,7 +180,7 @@ impl<'a> Reader<'a> {
         match character_of(self.seen) {
             Some(_first) => Some(Rest {
                 text: self.source.rest_from(self.place),
-                span: self.place..self.source.len(),
+                span: self.place..self.length,
             }),
             None => None,
         }
@@ -189,7 +190,7 @@ impl<'a> Reader<'a> {
     fn end_span(&self) -> Range<usize>
         ensures { result ≡ from_to (length self.now.ahead.text) (length self.now.ahead.text) }
     {
-        let end = self.source.len();
+        let end = self.length;
         end..end
     }
 
@@ -198,7 +199,7 @@ impl<'a> Reader<'a> {
         requires { NextIs self.now.ahead (cut.Lexical kind self.now.ahead.place) }
         ensures { result ≡ lexical_span self.now.ahead.text self.now.ahead.place kind }
     {
-        let end = self.source.len();
+        let end = self.length;
         match kind {
             TokenFaultKind::UnterminatedString => self.place..end,
             TokenFaultKind::UnexpectedChar(c) => {
@@ -216,13 +217,14 @@ impl<'a> Reader<'a> {
     #[inline(always)]
     pub fn spend(self) -> Looks
         ensures looks { result ≡ self.entry.looks }
-        ensures at_most { result ≤ characters_from self.entry.ahead.text 0 + 1 }
-        ensures whole { NextIs self.entry.ahead Nothing → result ≡ characters_from self.entry.ahead.text 0 + 1 }
+        ensures at_most { result ≤ 9 * characters_from self.entry.ahead.text 0 + 1 }
+        ensures whole { NextIs self.entry.ahead Nothing → characters_from self.entry.ahead.text 0 + 1 ≤ result }
     {
         let Reader {
             source,
             place: _,
             seen: _,
+            length: _,
             fault: _,
         } = self;
         source.spend()

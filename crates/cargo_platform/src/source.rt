@@ -1,20 +1,20 @@
 //! The characters of a text, which are seen by looks alone.
 //!
-//! A look asks what is at one place: a character, or the end of the text. `Source` keeps its text to itself. Its calls
-//! that tell of characters are `look` and the three scans, and each counts its looks; `spend` gives the count. A scan
-//! goes over bytes, counts once, and hands on what ended it, so that nobody need look there again. `slice` hands out
-//! text before which as many looks were made. `rest_from` hands out text that was not looked at, and that can't be read
-//! before the source is spent. Uncounted is `Tokenizer::rest` alone, which tells what was not looked at.
+//! `Source` keeps its text to itself, and counts what is examined. A look asks what is at one place, a character or the
+//! end of the text, and counts one. A scan counts each byte that it compares: all lanes of a block of bytes that are
+//! compared at once, and one for any other byte or the end. `spend` gives the count. A call hands on what ended it, so
+//! that nobody need look there again. A name or a value is handed out by the scan that went over it, and no other text
+//! is, but by `rest_from`: that was not looked at, and can't be read before the source is spent. Uncounted is
+//! `Tokenizer::rest` alone, which tells what was not looked at.
 
 ghost use Rattle.std.specs.Prelude.{◌≡◌, ◌≢◌, ℕ, ◌+◌, ◌-◌, ◌^◌, ◌<◌, ◌≤◌, true, false, length, drop, slice_index};
-ghost use Rattle.std.specs.Prelude.{slice_range, IfSome, IfNone, IsFalse};
-ghost use Rattle.std.specs.Str.{IsCharBoundary};
-ghost use Rattle.cargo_platform.specs.Chars.{is_identifier_rest, is_character_start};
+ghost use Rattle.std.specs.Prelude.{slice_range, IfSome, IfNone};
+ghost use Rattle.std.specs.Str.{IsUtf8, IsCharBoundary};
+ghost use Rattle.cargo_platform.specs.Chars.{is_identifier_start, is_identifier_rest};
 ghost use Rattle.cargo_platform.specs.Cut.{AreSpaces};
 ghost use Rattle.cargo_platform.specs.Reading.{characters_from};
-ghost use Rattle.std.specs.List.{count_by};
-ghost use Rattle.cargo_platform.specs.Inside.Looking.{IsCharAt, Shows, Costs, IsFirstQuote, IsRun, is_no_quote};
-ghost use Rattle.cargo_platform.specs.Inside.Looking.{IsCountedTo, character_of};
+ghost use Rattle.cargo_platform.specs.Inside.Looking.{IsCharAt, Shows, AreBetween, Costs, Compares, IsRun};
+ghost use Rattle.cargo_platform.specs.Inside.Looking.{character_of, is_no_quote};
 
 mod rest;
 
@@ -84,28 +84,20 @@ impl<'a> Source<'a> {
         Source { text, looks: 0 }
     }
 
-    /// How many bytes the text has.
-    #[inline(always)]
-    pub fn len(&self) -> usize
-        ensures { result ≡ length self.now.text.now }
-    {
-        self.text.len()
-    }
-
     /// What is at a byte place.
     #[inline(always)]
     pub fn look(&mut self, at: usize) -> Look
         requires { IsCharBoundary self.old.text.now at }
         ensures same { self.new.text ≡ self.old.text }
         ensures sees { Shows self.old.text.now at result }
-        ensures cost { Costs self.old.text.now at at 1 self.old.looks self.new.looks }
+        ensures cost { Costs self.old.text.now at at 1 1 self.old.looks self.new.looks }
     {
         self.add_looks(1);
         character_at(self.text, at)
     }
 
-    /// The first place from `from` on with no space, and what is there. `first` is what a look at `from` gave; each
-    /// further character up to that place is looked at.
+    /// The first place from `from` on with no space, and what is there. `first` is what a look at `from` gave. Behind a
+    /// space what a scan compares is counted, and a look at the place.
     #[inline(always)]
     pub fn past_spaces(&mut self, from: usize, first: Look) -> (usize, Look)
         requires begin { IsCharBoundary self.old.text.now from }
@@ -115,7 +107,7 @@ impl<'a> Source<'a> {
         ensures spaces { AreSpaces self.old.text.now from result.0 }
         ensures sees { Shows self.old.text.now result.0 result.1 }
         ensures past { slice_index self.old.text.now result.0 ≢ 0x20 }
-        ensures cost { Costs self.old.text.now from result.0 0 self.old.looks self.new.looks }
+        ensures cost { Costs self.old.text.now from result.0 0 0 self.old.looks self.new.looks }
     {
         let Look::Ascii(byte) = first else {
             return (from, first);
@@ -125,13 +117,38 @@ impl<'a> Source<'a> {
         }
         let end = spaces_end(self.text, from + 1);
         self.add_looks(end - from);
-        (end, character_at(self.text, end))
+        let seen = self.look(end);
+        (end, seen)
+    }
+
+    /// The name that begins at a place, where it ends, and what is there. `second` is what a look behind its first
+    /// character gave. Where the name goes on there, what a scan of its further characters compares is counted, and a
+    /// look at its end.
+    #[inline(always)]
+    pub fn name(&mut self, start: usize, second: Look) -> (&'a str, usize, Look)
+        requires begin { IsCharBoundary self.old.text.now start }
+        requires first { is_identifier_start (slice_index self.old.text.now start) ≡ true }
+        requires behind { IsCharBoundary self.old.text.now (start + 1) }
+        requires seen { Shows self.old.text.now (start + 1) second }
+        ensures same { self.new.text ≡ self.old.text }
+        ensures name { result.0.now ≡ slice_range self.old.text.now start result.1 }
+        ensures order { start + 1 ≤ result.1 }
+        ensures boundary { IsCharBoundary self.old.text.now result.1 }
+        ensures rest { (i : ℕ) → start + 1 ≤ i → i < result.1
+            → is_identifier_rest (slice_index self.old.text.now i) ≡ true }
+        ensures end { is_identifier_rest (slice_index self.old.text.now result.1) ≡ false }
+        ensures sees { Shows self.old.text.now result.1 result.2 }
+        ensures cost { Costs self.old.text.now (start + 1) result.1 8 0 self.old.looks self.new.looks }
+    {
+        let (end, seen) = self.past_identifier(start + 1, second);
+        let text: &'a str = self.text;
+        (&text[start..end], end, seen)
     }
 
     /// The first place from `from` on with no character of an identifier, and what is there. `first` is what a look at
-    /// `from` gave; each further character up to that place is looked at.
+    /// `from` gave.
     #[inline(always)]
-    pub fn past_identifier(&mut self, from: usize, first: Look) -> (usize, Look)
+    fn past_identifier(&mut self, from: usize, first: Look) -> (usize, Look)
         requires begin { IsCharBoundary self.old.text.now from }
         requires seen { Shows self.old.text.now from first }
         ensures same { self.new.text ≡ self.old.text }
@@ -140,7 +157,7 @@ impl<'a> Source<'a> {
         ensures rest { (i : ℕ) → from ≤ i → i < result.0 → is_identifier_rest (slice_index self.old.text.now i) ≡ true }
         ensures end { is_identifier_rest (slice_index self.old.text.now result.0) ≡ false }
         ensures sees { Shows self.old.text.now result.0 result.1 }
-        ensures cost { Costs self.old.text.now from result.0 0 self.old.looks self.new.looks }
+        ensures cost { Costs self.old.text.now from result.0 8 0 self.old.looks self.new.looks }
     {
         let Look::Ascii(byte) = first else {
             return (from, first);
@@ -148,47 +165,37 @@ impl<'a> Source<'a> {
         if !continues_identifier(byte) {
             return (from, first);
         }
-        let end = identifier_end(self.text, from + 1);
-        self.add_looks(end - from);
-        (end, character_at(self.text, end))
+        let (end, compared) = identifier_end(self.text, from + 1);
+        self.add_looks(compared);
+        let seen = self.look(end);
+        (end, seen)
     }
 
-    /// The place of the first quote from `from` on. Each character from there up to the quote, or up to the end of the
-    /// text, is looked at, and that too.
+    /// The text from a place up to the first quote, and the place of that. What a scan up to it compares is counted,
+    /// or up to the end of the text.
     #[inline(always)]
-    pub fn closing_quote(&mut self, from: usize) -> Option<usize>
+    pub fn value(&mut self, from: usize) -> Option<(&'a str, usize)>
         requires { IsCharBoundary self.old.text.now from }
         ensures same { self.new.text ≡ self.old.text }
-        ensures order { IfSome result (λ quote. from ≤ quote) }
-        ensures at_quote { IfSome result (λ quote. IsCharAt self.old.text.now quote 0x22) }
-        ensures value { IfSome result (λ quote.
-            (i : ℕ) → from ≤ i → i < quote → slice_index self.old.text.now i ≢ 0x22) }
+        ensures value { IfSome result (λ r. r.0.now ≡ slice_range self.old.text.now from r.1) }
+        ensures utf8 { IfSome result (λ r. IsUtf8 r.0.now) }
+        ensures order { IfSome result (λ r. from ≤ r.1) }
+        ensures at_quote { IfSome result (λ r. IsCharAt self.old.text.now r.1 0x22) }
+        ensures inside { IfSome result (λ r.
+            (i : ℕ) → from ≤ i → i < r.1 → slice_index self.old.text.now i ≢ 0x22) }
         ensures none { IfNone result ((i : ℕ) → from ≤ i → slice_index self.old.text.now i ≢ 0x22) }
-        ensures cost { IfSome result (λ quote. Costs self.old.text.now from quote 1 self.old.looks self.new.looks) }
+        ensures cost { IfSome result (λ r. Costs self.old.text.now from r.1 16 1 self.old.looks self.new.looks) }
         ensures cost_to_end { IfNone result
-            (Costs self.old.text.now from (length self.old.text.now) 1 self.old.looks self.new.looks) }
+            (Costs self.old.text.now from (length self.old.text.now) 1 1 self.old.looks self.new.looks) }
     {
-        let (end, characters) = value_end(self.text, from);
-        self.add_looks(characters);
-        self.add_looks(1);
-        if end < self.text.len() {
-            Some(end)
+        let text: &'a str = self.text;
+        let (end, compared) = value_end(text, from);
+        self.add_looks(compared);
+        if end < text.len() {
+            Some((&text[from..end], end))
         } else {
             None
         }
-    }
-
-    /// The text between two byte places, where as many looks were made as characters stand before its end.
-    #[inline(always)]
-    pub fn slice(&self, from: usize, to: usize) -> &'a str
-        requires order { from ≤ to }
-        requires begin { IsCharBoundary self.now.text.now from }
-        requires end { IsCharBoundary self.now.text.now to }
-        requires looked { IsCountedTo self.now.text.now to self.now.looks }
-        ensures { result.now ≡ slice_range self.now.text.now from to }
-    {
-        let text: &'a str = self.text;
-        &text[from..to]
     }
 
     /// The text from a byte place on, shut.
@@ -252,7 +259,7 @@ fn wide_char_at(text: &str, at: usize) -> char
     c
 }
 
-/// The first place from `from` on with no space.
+/// The first place from `from` on with no space. Each byte up to that place is compared, and what is there.
 #[inline(always)]
 fn spaces_end(text: &str, from: usize) -> usize
     requires { IsCharBoundary text.now from }
@@ -270,32 +277,33 @@ fn spaces_end(text: &str, from: usize) -> usize
     at
 }
 
-/// The first place from `from` on with no character of an identifier.
+/// The first place from `from` on with no character of an identifier, and how many bytes were compared to find it.
 #[inline(always)]
-fn identifier_end(text: &str, from: usize) -> usize
+fn identifier_end(text: &str, from: usize) -> (usize, usize)
     requires { IsCharBoundary text.now from }
-    ensures order { from ≤ result }
-    ensures boundary { IsCharBoundary text.now result }
-    ensures rest { (i : ℕ) → from ≤ i → i < result → is_identifier_rest (slice_index text.now i) ≡ true }
-    ensures end { is_identifier_rest (slice_index text.now result) ≡ false }
-    ensures characters { characters_from text.now from ≡ characters_from text.now result + (result - from) }
+    ensures order { from ≤ result.0 }
+    ensures boundary { IsCharBoundary text.now result.0 }
+    ensures rest { (i : ℕ) → from ≤ i → i < result.0 → is_identifier_rest (slice_index text.now i) ≡ true }
+    ensures end { is_identifier_rest (slice_index text.now result.0) ≡ false }
+    ensures characters { characters_from text.now from ≡ characters_from text.now result.0 + (result.0 - from) }
+    ensures compared { Compares (length text.now - from) (result.0 - from) result.1 }
 {
     let bytes = text.as_bytes();
     let mut at = from;
     'by_block: while LANES <= bytes.len() - at {
         let run = identifier_run(bytes, at);
-        at += run;
         if run < LANES {
-            return at;
+            return (at + run, at - from + LANES);
         }
+        at += LANES;
     }
     'rest: while at < bytes.len() && continues_identifier(bytes[at]) {
         at += 1;
     }
-    at
+    (at, at - from + 1)
 }
 
-/// The place of the first quote from `from` on, or else the end, and how many characters stand before it.
+/// The place of the first quote from `from` on, or else the end, and how many bytes were compared to find it.
 #[inline(always)]
 fn value_end(text: &str, from: usize) -> (usize, usize)
     requires { IsCharBoundary text.now from }
@@ -303,59 +311,47 @@ fn value_end(text: &str, from: usize) -> (usize, usize)
     ensures within { result.0 ≤ length text.now }
     ensures value { (i : ℕ) → from ≤ i → i < result.0 → slice_index text.now i ≢ 0x22 }
     ensures quote { result.0 < length text.now → IsCharAt text.now result.0 0x22 }
-    ensures characters { characters_from text.now from ≡ characters_from text.now result.0 + result.1 }
+    ensures between { AreBetween text.now from result.0 }
+    ensures compared { Compares (length text.now - from) (result.0 - from) result.1 }
 {
     quote_from(text.as_bytes(), from)
 }
 
-/// The place of the first quote from `from` on, or else the end, and how many bytes before it begin a character.
+/// The place of the first quote from `from` on, or else the end, and how many bytes were compared to find it.
 #[inline(always)]
 fn quote_from(bytes: &[u8], from: usize) -> (usize, usize)
     requires { from ≤ length bytes.now }
-    ensures { IsFirstQuote bytes.now from result.0 result.1 }
+    ensures order { from ≤ result.0 }
+    ensures within { result.0 ≤ length bytes.now }
+    ensures value { (i : ℕ) → from ≤ i → i < result.0 → slice_index bytes.now i ≢ 0x22 }
+    ensures quote { result.0 < length bytes.now → slice_index bytes.now result.0 ≡ 0x22 }
+    ensures compared { Compares (length bytes.now - from) (result.0 - from) result.1 }
 {
     let mut at = from;
-    let mut starts = 0;
     'by_block: while LANES <= bytes.len() - at {
-        let (run, more) = value_run(bytes, at);
-        at += run;
-        starts += more;
-        if run < LANES {
-            return (at, starts);
+        if let Some(before) = quote_in_block(bytes, at) {
+            return (at + before, at - from + LANES);
         }
+        at += LANES;
     }
     'value: while at < bytes.len() && bytes[at] != b'"' {
-        starts += usize::from(begins_character(bytes[at]));
         at += 1;
     }
-    (at, starts)
+    (at, at - from + 1)
 }
 
-/// How many of the next `LANES` bytes come before the first quote, and how many of these begin a character.
+/// How many of the next `LANES` bytes come before the first quote, if one is among them.
 #[inline(always)]
-fn value_run(bytes: &[u8], at: usize) -> (usize, usize)
+fn quote_in_block(bytes: &[u8], at: usize) -> Option<usize>
     requires { at + LANES ≤ length bytes.now }
-    ensures run { IsRun is_no_quote bytes.now at LANES result.0 }
-    ensures few { result.1 ≤ result.0 }
-    ensures starts { count_by is_character_start (drop at bytes.now)
-        ≡ result.1 + count_by is_character_start (drop (at + result.0) bytes.now) }
+    ensures none { IfNone result (IsRun is_no_quote bytes.now at LANES LANES) }
+    ensures some { IfSome result (λ run. IsRun is_no_quote bytes.now at LANES run) }
+    ensures among { IfSome result (λ run. run < LANES) }
 {
     let lanes = u8x16::from_slice(&bytes[at..]);
     let quotes = lanes.simd_eq(u8x16::splat(b'"')).to_bitmask();
-    let starts = (lanes & u8x16::splat(0xC0))
-        .simd_ne(u8x16::splat(0x80))
-        .to_bitmask();
     if quotes == 0 {
-        return (LANES, starts.count_ones() as usize);
+        return None;
     }
-    let run = quotes.trailing_zeros();
-    (run as usize, (starts % (1 << run)).count_ones() as usize)
-}
-
-/// Whether a character begins with the byte; every other one goes on with it.
-#[inline(always)]
-fn begins_character(byte: u8) -> bool
-    ensures { result ≡ is_character_start byte }
-{
-    byte & 0xC0 != 0x80
+    Some(quotes.trailing_zeros() as usize)
 }

@@ -5,7 +5,7 @@
 //! with no escapes. Where such conditions stand: "Platform specific dependencies" in Cargo's reference, and
 //! "Conditional compilation" in the Rust reference.
 
-ghost use Rattle.std.specs.Prelude.{◌≡◌, ◌≢◌, ◌+◌, ◌≤◌, length, drop, slice_index, IfOk, IfErr, OnErr, OnOk};
+ghost use Rattle.std.specs.Prelude.{◌≡◌, ◌≢◌, ◌+◌, ◌*◌, ◌≤◌, length, drop, slice_index, IfOk, IfErr, OnErr, OnOk};
 ghost use Rattle.std.specs.Prelude.{MatchOption, true, false};
 ghost use Rattle.std.specs.Str.{IsCharBoundary};
 ghost use Rattle.cargo_platform.specs.Chars.{is_identifier_start};
@@ -13,7 +13,7 @@ ghost use Rattle.cargo_platform.specs.Tokens.{lexeme, called};
 ghost use Rattle.cargo_platform.specs.Cut.{AreSpaces, BeginsFault};
 ghost use Rattle.cargo_platform.specs.Reading.{IsRestFrom, characters_from};
 ghost use Rattle.cargo_platform.specs.Inside.Looking.{IsCharAt, Shows, Costs, ShowedBefore, unseen};
-ghost use Rattle.cargo_platform.specs.Inside.Looking.{FindsFault, IsCountedTo};
+ghost use Rattle.cargo_platform.specs.Inside.Looking.{FindsFault};
 ghost use Rattle.cargo_platform.specs.Inside.Scanning.{IsTokenAt, IsCutAt};
 
 use crate::classes::begins_identifier;
@@ -174,7 +174,7 @@ fn first_after_spaces(source: &mut Source<'_>, from: usize, seen: Option<Look>) 
     ensures spaces { AreSpaces source.old.text.now from result.0 }
     ensures sees { Shows source.old.text.now result.0 result.1 }
     ensures past { slice_index source.old.text.now result.0 ≢ 0x20 }
-    ensures cost { Costs source.old.text.now from result.0 (unseen seen) source.old.looks source.new.looks }
+    ensures cost { Costs source.old.text.now from result.0 (unseen seen) (unseen seen) source.old.looks source.new.looks }
 {
     let first = seen_or_look(source, from, seen);
     source.past_spaces(from, first)
@@ -187,7 +187,7 @@ fn seen_or_look(source: &mut Source<'_>, at: usize, seen: Option<Look>) -> Look
     requires seen { ShowedBefore source.old.text.now at seen }
     ensures same { source.new.text ≡ source.old.text }
     ensures sees { Shows source.old.text.now at result }
-    ensures cost { Costs source.old.text.now at at (unseen seen) source.old.looks source.new.looks }
+    ensures cost { Costs source.old.text.now at at (unseen seen) (unseen seen) source.old.looks source.new.looks }
 {
     match seen {
         Some(look) => look,
@@ -213,14 +213,13 @@ pub(crate) fn token_at<'a>(
     requires begin { IsCharBoundary source.old.text.now start }
     requires there { IsCharAt source.old.text.now start first }
     requires past { first ≢ 0x20 }
-    requires counted { IsCountedTo source.old.text.now start source.old.looks }
     ensures same { source.new.text ≡ source.old.text }
     ensures token { IfOk result (λ cut. IsCutAt source.old.text.now start cut) }
     ensures fault { IfErr result (λ kind. BeginsFault (drop start source.old.text.now) kind) }
     ensures cost { IfOk result (λ cut.
-        Costs source.old.text.now (start + 1) cut.end 1 source.old.looks source.new.looks) }
+        Costs source.old.text.now (start + 1) cut.end 9 1 source.old.looks source.new.looks) }
     ensures cost_of_fault { OnErr result
-        (source.new.looks ≤ source.old.looks + characters_from source.old.text.now start) }
+        (source.new.looks ≤ source.old.looks + 9 * characters_from source.old.text.now start) }
     ensures finds { IfErr result
         (λ kind. FindsFault source.old.text.now start kind 1 source.old.looks source.new.looks) }
     ensures one { OnOk result
@@ -251,7 +250,7 @@ fn mark_at<'a>(source: &mut Source<'a>, start: usize, token: Token<'a>) -> Cut<'
     requires boundary { IsCharBoundary source.old.text.now (start + 1) }
     ensures same { source.new.text ≡ source.old.text }
     ensures token { IsCutAt source.old.text.now start result }
-    ensures cost { Costs source.old.text.now (start + 1) result.end 1 source.old.looks source.new.looks }
+    ensures cost { Costs source.old.text.now (start + 1) result.end 1 1 source.old.looks source.new.looks }
 {
     let seen = source.look(start + 1);
     Cut {
@@ -266,22 +265,21 @@ fn mark_at<'a>(source: &mut Source<'a>, start: usize, token: Token<'a>) -> Cut<'
 fn string_at<'a>(source: &mut Source<'a>, start: usize) -> Result<Cut<'a>, TokenFaultKind>
     requires begin { IsCharBoundary source.old.text.now start }
     requires there { IsCharAt source.old.text.now start 0x22 }
-    requires counted { IsCountedTo source.old.text.now start source.old.looks }
     ensures same { source.new.text ≡ source.old.text }
     ensures token { IfOk result (λ cut. IsCutAt source.old.text.now start cut) }
     ensures fault { IfErr result (λ kind. BeginsFault (drop start source.old.text.now) kind) }
     ensures cost { IfOk result (λ cut.
-        Costs source.old.text.now (start + 1) cut.end 1 source.old.looks source.new.looks) }
+        Costs source.old.text.now (start + 1) cut.end 9 1 source.old.looks source.new.looks) }
     ensures cost_of_fault { OnErr result
-        (source.new.looks ≤ source.old.looks + characters_from source.old.text.now start) }
+        (source.new.looks ≤ source.old.looks + 9 * characters_from source.old.text.now start) }
     ensures finds { IfErr result
         (λ kind. FindsFault source.old.text.now start kind 1 source.old.looks source.new.looks) }
 {
-    match source.closing_quote(start + 1) {
-        Some(quote) => {
+    match source.value(start + 1) {
+        Some((value, quote)) => {
             let seen = source.look(quote + 1);
             Ok(Cut {
-                token: Token::String(source.slice(start + 1, quote)),
+                token: Token::String(value),
                 end: quote + 1,
                 seen,
             })
@@ -298,14 +296,13 @@ fn identifier_at<'a>(source: &mut Source<'a>, start: usize, second: Look) -> Cut
     requires first { is_identifier_start (slice_index source.old.text.now start) ≡ true }
     requires seen { Shows source.old.text.now (start + 1) second }
     requires plain { slice_index source.old.text.now start ≡ 0x72 → slice_index source.old.text.now (start + 1) ≢ 0x23 }
-    requires counted { IsCountedTo source.old.text.now (start + 1) source.old.looks }
     ensures same { source.new.text ≡ source.old.text }
     ensures token { IsCutAt source.old.text.now start result }
-    ensures cost { Costs source.old.text.now (start + 1) result.end 0 source.old.looks source.new.looks }
+    ensures cost { Costs source.old.text.now (start + 1) result.end 8 0 source.old.looks source.new.looks }
 {
-    let (end, seen) = source.past_identifier(start + 1, second);
+    let (name, end, seen) = source.name(start, second);
     Cut {
-        token: Token::Ident(false, source.slice(start, end)),
+        token: Token::Ident(false, name),
         end,
         seen,
     }
@@ -317,23 +314,23 @@ fn marked_at<'a>(source: &mut Source<'a>, start: usize) -> Result<Cut<'a>, Token
     requires begin { IsCharBoundary source.old.text.now start }
     requires there { IsCharAt source.old.text.now start 0x72 }
     requires number_sign { IsCharAt source.old.text.now (start + 1) 0x23 }
-    requires counted { IsCountedTo source.old.text.now (start + 1) source.old.looks }
     ensures same { source.new.text ≡ source.old.text }
     ensures token { IfOk result (λ cut. IsCutAt source.old.text.now start cut) }
     ensures fault { IfErr result (λ kind. BeginsFault (drop start source.old.text.now) kind) }
     ensures cost { IfOk result (λ cut.
-        Costs source.old.text.now (start + 2) cut.end 1 source.old.looks source.new.looks) }
+        Costs source.old.text.now (start + 2) cut.end 10 1 source.old.looks source.new.looks) }
     ensures cost_of_fault { OnErr result
-        (source.new.looks + 1 ≤ source.old.looks + characters_from source.old.text.now start) }
+        (source.new.looks + 1 ≤ source.old.looks + 9 * characters_from source.old.text.now start) }
     ensures finds { IfErr result
         (λ kind. FindsFault source.old.text.now start kind 2 source.old.looks source.new.looks) }
 {
     let third = source.look(start + 2);
     match third {
         Look::Ascii(b) if begins_identifier(b as char) => {
-            let (end, seen) = source.past_identifier(start + 2, third);
+            let fourth = source.look(start + 3);
+            let (name, end, seen) = source.name(start + 2, fourth);
             Ok(Cut {
-                token: Token::Ident(true, source.slice(start + 2, end)),
+                token: Token::Ident(true, name),
                 end,
                 seen,
             })

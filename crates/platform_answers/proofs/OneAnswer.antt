@@ -7,7 +7,7 @@ use Rattle.cargo_platform.proofs.ConditionFaults.{one_condition_fault}
 use Rattle.cargo_platform.proofs.Conditions.{one_condition}
 use Rattle.cargo_platform.proofs.OneFault.{one_fault}
 use Rattle.cargo_platform.proofs.FactLines.{one_list}
-use Rattle.platform_answers.specs.declared.answering.Outcome.{Outcome}
+use Rattle.platform_answers.specs.declared.Outcome.{Outcome}
 use Rattle.platform_answers.specs.Lines.{lines_of, line_at, fact_lines}
 use Rattle.platform_answers.specs.Answering.{IsQuery, IsLineFault, IsAnswerToQuery, IsAnswerToLines}
 use Rattle.platform_answers.specs.Answering.{refused_line}

@@ -15,8 +15,8 @@ use Rattle.cargo_platform.proofs.ConditionFaults.{spells_condition_or_is_refused
 use Rattle.cargo_platform.proofs.Refused.{refused_spells_no_value}
 use Rattle.cargo_platform.proofs.SomeCut.{ascii_sides}
 use Rattle.cargo_platform.proofs.SomeFault.{spells_or_is_refused}
-use Rattle.platform_answers.specs.declared.answering.Outcome.{Outcome}
-use Rattle.platform_answers.specs.declared.answering.Outcome.TheVariants.{Refused}
+use Rattle.platform_answers.specs.declared.Outcome.{Outcome}
+use Rattle.platform_answers.specs.declared.Outcome.TheVariants.{Refused}
 use Rattle.platform_answers.specs.Reading.{IsTooLong}
 use Rattle.platform_answers.specs.Lines.{line, lines_of, line_at, fact_lines}
 use Rattle.platform_answers.specs.Answering.{SpellFacts, SpellsNoFact, IsQuery, IsAnswerToLines}

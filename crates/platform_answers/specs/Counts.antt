@@ -64,9 +64,13 @@ no_writes = record {
   flushed_writes = 0;
 }
 
--- after a write that took n bytes
-abbrev pub after_write : ℕ → WriteCounts → WriteCounts
-after_write n c = record c { writes = up c.writes; empty_writes = up_at_zero n c.empty_writes }
+-- after a write that took n bytes of a piece of so many. A write that takes none is an empty one, where the piece has
+-- some.
+abbrev pub after_write : ℕ → ℕ → WriteCounts → WriteCounts
+after_write size n c = record c {
+  writes = up c.writes;
+  empty_writes = if size == 0 then c.empty_writes else up_at_zero n c.empty_writes;
+}
 
 -- after a write that was interrupted
 abbrev pub after_interrupted_write : WriteCounts → WriteCounts

@@ -1,6 +1,6 @@
 -- Laws over the definitions.
 use Rattle.std.specs.Prelude.{ℕ, ◌≡◌, List}
-use Rattle.platform_answers.specs.declared.answering.Outcome.{Outcome}
+use Rattle.platform_answers.specs.declared.Outcome.{Outcome}
 use Rattle.platform_answers.specs.Answering.{IsAnswer}
 
 -- an input has an output, and an outcome

@@ -1,7 +1,7 @@
 -- What a whole run wrote.
 use Rattle.std.specs.Prelude.{ℕ, ◌≡◌, Option, List, length}
 use Rattle.std.specs.Io.KnownBytes.{Appends}
-use Rattle.platform_answers.specs.declared.answering.Outcome.{Outcome}
+use Rattle.platform_answers.specs.declared.Outcome.{Outcome}
 use Rattle.platform_answers.specs.declared.counted.WriteCounts.{WriteCounts}
 use Rattle.platform_answers.specs.Answering.{IsAnswer}
 use Rattle.platform_answers.specs.Writing.{WritesBeginning, failures, IsFlushed, HasWriteFault, IsWithinWrites}

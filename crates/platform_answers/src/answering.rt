@@ -13,20 +13,10 @@ ghost use Rattle.platform_answers.specs.Answering.{IsLeast, IsFactFault, IsRefus
 ghost use Rattle.platform_answers.specs.Answering.{match_word, match_outcome, warnings, warning_line, IsAnswerToQuery};
 ghost use Rattle.platform_answers.specs.Answering.{IsAnswerToLines, IsRefusedAs, IsAnswer, IfLine, refused_line};
 
+use crate::Outcome;
 use crate::reading::{Gathered, MOST_BYTES};
 use cargo_platform::{Cfg, FactIndex, FactsError, ParseError, Platform, ReadError, read_facts};
 use std::alloc::{AllocError, Global};
-
-/// How a run ended.
-#[derive(Clone, Copy, Debug, PartialEq, Eq)]
-pub enum Outcome {
-    /// The target meets the condition.
-    Match,
-    /// It does not.
-    NoMatch,
-    /// The input asks nothing: it is too long, no UTF-8, or one of its lines is refused.
-    Refused,
-}
 
 /// What is to be written, and how the run ends then.
 #[derive(Drop)]

@@ -40,7 +40,7 @@ pub struct WriteCounts {
     pub interrupted_writes: u64,
     /// The writes that failed otherwise.
     pub failed_writes: u64,
-    /// The writes that took no byte.
+    /// The writes that took no byte of a piece that is not empty.
     pub empty_writes: u64,
     /// The flushes that were asked for.
     pub flushes: u64,
@@ -219,7 +219,7 @@ impl<W> Output<W> {
         self.counts.failed_writes
     }
 
-    /// The writes that took no byte.
+    /// The writes that took no byte of a piece that is not empty.
     pub fn empty_writes(&self) -> u64
         ensures { result ≡ (write_counts self.now).empty_writes }
     {
@@ -256,14 +256,14 @@ impl<W> Output<W> {
 }
 
 impl<W: Write> Output<W> {
-    /// Writes the piece, which is not empty, and counts one write. The answer is how many of its bytes were taken. An
-    /// error is counted by its kind.
+    /// Writes the piece, and counts one write. The answer is how many of its bytes were taken: none of a piece that has
+    /// some makes an empty write. An error is counted by its kind.
     pub fn write(&mut self, piece: &[u8]) -> io::Result<usize>
-        requires { 0 < length piece.now }
         ensures bound { WritesAtMost result piece.now }
         ensures bytes { WriteAppends (W.contents (writer_of self.old))
             (W.contents (writer_of self.new)) result piece.now }
-        ensures ok { IfOk result (λ n. write_counts self.new ≡ after_write n (write_counts self.old)) }
+        ensures ok { IfOk result (λ n. write_counts self.new
+            ≡ after_write (length piece.now) n (write_counts self.old)) }
         ensures interrupted { IfErr result
             (λ e. error_kind e ≡ ErrorKind.Interrupted
             → write_counts self.new ≡ after_interrupted_write (write_counts self.old)) }
@@ -276,7 +276,7 @@ impl<W: Write> Output<W> {
         counts.writes = counts.writes.saturating_add(1);
         match outcome {
             Ok(n) => {
-                if n == 0 {
+                if n == 0 && !piece.is_empty() {
                     counts.empty_writes = counts.empty_writes.saturating_add(1);
                 }
                 Ok(n)

@@ -12,9 +12,20 @@ pub mod laws;
 pub mod reading;
 pub mod writing;
 
-use answering::{Answer, Outcome};
+use answering::Answer;
 use std::alloc::Global;
 use std::io::{Read, Write};
+
+/// How a run ended.
+#[derive(Clone, Copy, Debug, PartialEq, Eq)]
+pub enum Outcome {
+    /// The target meets the condition.
+    Match,
+    /// It does not.
+    NoMatch,
+    /// The input asks nothing: it is too long, no UTF-8, or one of its lines is refused.
+    Refused,
+}
 
 /// What kept a run from an outcome.
 #[derive(Clone, Copy, Debug, PartialEq, Eq)]

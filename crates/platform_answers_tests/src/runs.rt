@@ -4,9 +4,8 @@ use crate::scripted::{
     Calls, Failing, NEVER, ScriptedReader, ScriptedWriter, only, reader_over, reads_of, writer_to,
     writes_of,
 };
-use platform_answers::answering::Outcome;
 use platform_answers::counted::{Input, Output, ReadCounts, WriteCounts};
-use platform_answers::{RunError, run};
+use platform_answers::{Outcome, RunError, run};
 use std::alloc::Global;
 use std::io;
 use std::io::{ErrorKind, Read, Write};
@@ -522,4 +521,16 @@ fn errors_are_passed_back(rt: HostRuntime) {
     assert_passed_back(&rt, ErrorKind::BrokenPipe);
     assert_passed_back(&rt, ErrorKind::TimedOut);
     assert_passed_back(&rt, ErrorKind::UnexpectedEof);
+}
+
+#[test]
+fn a_piece_of_no_bytes(rt: HostRuntime) {
+    let mut writer = writer_to(rt.alloc(), 0);
+    let mut output = Output::new(&mut writer);
+    let taken = output.write(b"").expect(&rt, "a write");
+    let counted = writes_of(&output);
+    assert_count(&rt, taken as u64, 0);
+    assert_count(&rt, counted.writes, 1);
+    assert_count(&rt, counted.empty_writes, 0);
+    assert_writes(&rt, &writer, counted);
 }

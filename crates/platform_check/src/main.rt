@@ -1,8 +1,7 @@
 // Reads a condition of Cargo's dependency tables, a target's name and its facts, and says whether the target meets it.
 #![tactic(auto)]
 
-use platform_answers::answering::Outcome;
-use platform_answers::{counted, run};
+use platform_answers::{Outcome, counted, run};
 use std::process::ExitCode;
 
 fn main(rt: HostRuntime) -> ExitCode {

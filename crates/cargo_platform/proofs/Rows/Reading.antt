@@ -1,5 +1,5 @@
 -- Some calls of a tokenizer one after another, what they cost, and what no calls give.
-use Rattle.std.proofs.Common.{◌≡◌, refl, sym, ap, ℕ, lit≤, lit<, true, false, true≢false, List, [], ◌∷◌, codes}
+use Rattle.std.proofs.Common.{◌≡◌, ◌≤◌, refl, sym, ap, ℕ, lit≤, lit<, true, false, true≢false, List, [], ◌∷◌, codes}
 use Rattle.std.proofs.Common.{inl, inr, arith, length, Option, Result, None, Some, Err}
 use Rattle.std.specs.Char.{encode_utf8}
 use Rattle.std.specs.Str.{chars}
@@ -128,26 +128,40 @@ next_after_fault = record {
   gives = inr (refl, refl, refl);
   begins = tt;
   reached = (lit≤ tt, λ below high. absurd (omega (arith, high)));
-  each = λ going. absurd (true≢false going);
-  at_most = lit≤ tt;
+  at_least = λ going. absurd (true≢false going);
+  at_most = λ going. absurd (true≢false going);
+  at_most_ever = lit≤ tt;
+  call = λ going. absurd (true≢false going);
+  call_ever = lit≤ tt;
 }
 
--- after a token the space there was looked at, and at the end the end
+-- after a token it was looked at, and what is there; at the end the end
 looks_at_space : (old : Progress) (r : Option (Result Spanned TokenFault)) (looks : ℕ) →
-    NextCall old r (reached (codes "a ") 1 looks) → looks ≡ 2
+    NextCall old r (reached (codes "a ") 1 looks) → (2 ≤ looks) × (looks ≤ 10)
 unfolding chars
-looks_at_space old r looks n = omega (arith, n.each refl)
+looks_at_space old r looks n = (omega (arith, n.at_least refl), omega (arith, n.at_most refl))
 
 looks_at_end : (old : Progress) (r : Option (Result Spanned TokenFault)) (looks : ℕ) →
-    NextCall old r (reached (codes "a ") 2 looks) → looks ≡ 3
+    NextCall old r (reached (codes "a ") 2 looks) → (3 ≤ looks) × (looks ≤ 19)
 unfolding chars
-looks_at_end old r looks n = omega (arith, n.each refl)
+looks_at_end old r looks n = (omega (arith, n.at_least refl), omega (arith, n.at_most refl))
 
--- nothing is looked at again before a fault
+-- with a fault too, no more than nine at each of three characters, and one
 looks_up_to_fault : (old : Progress) (r : Option (Result Spanned TokenFault)) →
-    NextCall old r (stopped (codes "a #") 2 5) → ⊥
+    NextCall old r (stopped (codes "a #") 2 29) → ⊥
 unfolding chars
-looks_up_to_fault old r n = absurd (omega (arith, n.at_most))
+looks_up_to_fault old r n = absurd (omega (arith, n.at_most_ever))
+
+-- one call past one character makes no more than ten, and one at a fault no more than nine for each that was left
+one_call : (r : Option (Result Spanned TokenFault)) →
+    NextCall (reached (codes "a ") 0 0) r (reached (codes "a ") 1 11) → ⊥
+unfolding chars
+one_call r n = absurd (omega (arith, n.call refl))
+
+one_call_to_fault : (r : Option (Result Spanned TokenFault)) →
+    NextCall (reached (codes "a #") 1 2) r (stopped (codes "a #") 2 22) → ⊥
+unfolding chars
+one_call_to_fault r n = absurd (omega (arith, n.call_ever))
 
 -- ---- strings
 

@@ -1,16 +1,15 @@
 -- What a look at a place of a text gives, and what looks cost.
-use Rattle.std.specs.Prelude.{◌≡◌, ◌≢◌, ℕ, ◌+◌, ◌-◌, ◌<◌, ◌≤◌, ◌^◌, Bool, true, false, List, ◌∷◌, ◌++◌, length, drop}
-use Rattle.std.specs.Prelude.{slice_index, not}
+use Rattle.std.specs.Prelude.{◌≡◌, ◌≢◌, ◌⊎◌, ℕ, ◌+◌, ◌-◌, ◌*◌, ◌<◌, ◌≤◌, ◌^◌, Bool, true, false, List, ◌∷◌, ◌++◌, length}
+use Rattle.std.specs.Prelude.{drop, slice_index, not}
 use Rattle.std.specs.Prelude.{encode_utf8, Option, Some, None}
 use Rattle.std.specs.Char.{IsScalar, len_utf8}
 use Rattle.std.specs.Str.{IsUtf8, IsCharBoundary, chars}
-use Rattle.std.specs.List.{count_by}
-use Rattle.cargo_platform.specs.Chars.{is_character_start, is_quote}
+use Rattle.cargo_platform.specs.Chars.{is_quote}
 use Rattle.cargo_platform.specs.declared.source.Look.{Look}
 use Rattle.cargo_platform.specs.declared.tokens.TokenFaultKind.{TokenFaultKind}
 use Rattle.cargo_platform.specs.declared.source.Look.TheVariants.{End, Ascii, Wide}
 use Rattle.cargo_platform.specs.Cut.{BeginsFault}
-use Rattle.cargo_platform.specs.Reading.{characters_from, IsLookedTo}
+use Rattle.cargo_platform.specs.Reading.{characters_from}
 use Rattle.cargo_platform.specs.Faults.{lexical_span}
 
 -- the character c begins at the place
@@ -49,26 +48,41 @@ abbrev pub unseen : Option Look → ℕ
 unseen None = 1
 unseen (Some look) = 0
 
--- from the one place to the other each character was looked at once, and so many looks were made beside
-pub record Costs (text : List ℕ) (from to beside old new : ℕ) : Type 0 where
+-- between two places stand no more characters than bytes, and no more than four times as many bytes
+pub record AreBetween (text : List ℕ) (from to : ℕ) : Type 0 where
+  pub characters : ℕ
+  pub all : characters_from text from ≡ characters + characters_from text to
+  pub few : characters ≤ to - from
+  pub many : to - from ≤ 4 * characters
+
+-- From the one place to the other no fewer looks were made than characters stand between them, and so many beside; and
+-- no more than nine for each of these, and so many over.
+pub record Costs (text : List ℕ) (from to over beside old new : ℕ) : Type 0 where
   pub forward : characters_from text to ≤ characters_from text from
   pub grows : old ≤ new
-  pub at_most : new + characters_from text to ≤ old + characters_from text from + beside
+  pub at_most : new + 9 * characters_from text to ≤ old + 9 * characters_from text from + over
   -- below the greatest count
   pub at_least : new < 2 ^ 64 - 1 → old + characters_from text from + beside ≤ new + characters_from text to
 
--- below the greatest count, no fewer looks were made than characters stand before the place
-abbrev pub IsCountedTo : List ℕ → ℕ → ℕ → Type 0
-IsCountedTo text to looks = looks < 2 ^ 64 - 1 → IsLookedTo text to looks
+-- A scan that goes over so many of the bytes that are left compares so many: one block of sixteen after another while
+-- so many are left, where the last has the byte that ends the scan, and else one byte after another with what ends it.
+pub record Compares (left run count : ℕ) : Type 0 where
+  pub blocks : ℕ
+  pub passed : 16 * blocks ≤ run
+  pub all : (run < 16 * blocks + 16) × (16 * blocks + 16 ≤ left) × (count ≡ 16 * blocks + 16)
+      ⊎ (left < 16 * blocks + 16) × (count ≡ run + 1)
 
--- where a tokenizer stands: until a fault each character before the place was looked at once, and once it began what is
--- at the place too
+-- Where a tokenizer stands: until a fault the characters before the place were looked at, and once it began what is at
+-- the place too.
 pub record IsStanding (text : List ℕ) (place : ℕ) (seen : Option Look) (failed : Bool) (looks : ℕ) : Type 0 where
   pub short : characters_from text 0 < 2 ^ 63
   pub reached : IsCharBoundary text place
   pub sees : ShowedBefore text place seen
-  pub each : failed ≡ false → looks + characters_from text place + unseen seen ≡ characters_from text 0 + 1
-  pub at_most : looks ≤ characters_from text 0 + 1
+  pub at_least :
+      failed ≡ false → characters_from text 0 + 1 ≤ looks + characters_from text place + unseen seen
+  pub at_most :
+      failed ≡ false → looks + 9 * characters_from text place + unseen seen ≤ 9 * characters_from text 0 + 1
+  pub at_most_ever : looks ≤ 9 * characters_from text 0 + 1
 
 -- the fault that a text begins with, if it was found
 abbrev pub IsFound : List ℕ → Option TokenFaultKind → Type 0
@@ -90,30 +104,22 @@ pub record FindsFault (text : List ℕ) (at : ℕ) (kind : TokenFaultKind) (befo
       new < 2 ^ 64 - 1
       → old + characters_from text at ≤ new + characters_from text (lexical_span text at kind).end + before
 
--- Where a reader stands: at no space, with what is there seen. Until a fault is found each character before the place
--- was looked at once, and what is at the place too.
-pub record IsReadingAt (text : List ℕ) (place : ℕ) (seen : Look) (fault : Option TokenFaultKind) (looks : ℕ)
+-- Where a reader stands: at no space, with what is there seen, in a text of so many bytes. Until a fault is found the
+-- characters before the place were looked at, and what is at the place too.
+pub record IsReadingAt (text : List ℕ) (place : ℕ) (seen : Look) (fault : Option TokenFaultKind) (looks long : ℕ)
     : Type 0 where
   pub utf8 : IsUtf8 text
   pub short : characters_from text 0 < 2 ^ 63
+  pub measured : long ≡ length text
   pub reached : IsCharBoundary text place
   pub sees : Shows text place seen
   pub past : slice_index text place ≢ 0x20
   pub found : IsFound (drop place text) fault
-  pub each : fault ≡ None → looks + characters_from text place ≡ characters_from text 0 + 1
+  pub whole : fault ≡ None → characters_from text 0 + 1 ≤ looks + characters_from text place
   pub at_least : characters_from text 0 ≤ looks + characters_from text place
   pub seen_fault : IsSeenFault text place fault looks
-  pub at_most : looks ≤ characters_from text 0 + 1
-
--- the first quote from a place on stands at another, or none does and that is the end; and so many bytes between them
--- begin a character
-pub record IsFirstQuote (bytes : List ℕ) (from end starts : ℕ) : Type 0 where
-  pub order : from ≤ end
-  pub within : end ≤ length bytes
-  pub value : (i : ℕ) → from ≤ i → i < end → slice_index bytes i ≢ 0x22
-  pub quote : end < length bytes → slice_index bytes end ≡ 0x22
-  pub few : starts + from ≤ end
-  pub starts_are : count_by is_character_start (drop from bytes) ≡ starts + count_by is_character_start (drop end bytes)
+  pub at_most : fault ≡ None → looks + 9 * characters_from text place ≤ 9 * characters_from text 0 + 1
+  pub at_most_ever : looks ≤ 9 * characters_from text 0 + 1
 
 -- a byte of a string's value
 abbrev pub is_no_quote : ℕ → Bool

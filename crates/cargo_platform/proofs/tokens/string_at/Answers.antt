@@ -1,20 +1,18 @@
-use Rattle.std.proofs.Common.{◌∙◌, ap, subst, arith, ◌+◌}
-use Rattle.std.specs.List.{between}
+use Rattle.std.proofs.Common.{subst, arith, ◌+◌}
 use Rattle.cargo_platform.specs.Inside.Looking.{Shows}
 use Rattle.cargo_platform.proofs.Scanning.{string_stands, unterminated}
 use Rattle.cargo_platform.proofs.tokens.string_at.Goals as goal
 
 pub returns-in-Some-clause-token : goal.returns-in-Some-clause-token
 returns-in-Some-clause-token c =
-    let quote = c.in-Some.ensures.at_quote in
-    let same = c.in-Some.ensures.same in
+    let found = c.in-Some.ensures in
+    let quote = found.at_quote in
     record {
       stands = string_stands c.args.source.now.text.now _ c.args.start c.in-Some.quote
-          (c.requires.there.ascii (omega arith)) (quote.ascii (omega arith)) c.in-Some.ensures.order quote.within
-          (c.slice.ensures ∙ ap (λ t. between (c.args.start + 1) c.in-Some.quote t.now)
-          (c.look-seen.ensures.same ∙ same)) c.slice.utf8 c.in-Some.ensures.value;
+          (c.requires.there.ascii (omega arith)) (quote.ascii (omega arith)) found.order quote.within
+          found.value found.utf8 found.inside;
       boundary = quote.boundary;
-      sees = subst (λ t. Shows t.now (c.in-Some.quote + 1) c.look-seen.result) same c.look-seen.ensures.sees;
+      sees = subst (λ t. Shows t.now (c.in-Some.quote + 1) c.look-seen.result) found.same c.look-seen.ensures.sees;
     }
 
 pub returns-in-None-clause-fault : goal.returns-in-None-clause-fault

@@ -29,15 +29,16 @@ invariant_of-self c =
     let end = r.place + 1 in
     let here = rw (c.is_byte.ensures.yes c.if-not-is_byte.false) at i.sees in
     let stands = punctuation_stands text r.place c.byte_of.result c.args.wanted c.byte_of.ensures here.1 here.0 in
-    let none = token_no_fault text r.place end (lexeme_of c.args.wanted) r.seen r.fault r.source.looks i stands in
+    let none = token_no_fault text r.place end (lexeme_of c.args.wanted) r.seen r.fault r.source.looks r.length i stands
+    in
     let step = ascii_step text r.place i.utf8 here.1.within (omega (arith, here.1.ascii here.0, here.0)) i.reached in
     let found = rw c.look-behind.ensures.same at c.past_spaces.ensures in
     subst
     (λ t. IsReadingAt t.now c.past_spaces.result.0 c.past_spaces.result.1
-    r.fault c.past_spaces.new.self.looks)
+    r.fault c.past_spaces.new.self.looks r.length)
     (sym found.same)
-    (reads_on text r.place end end c.past_spaces.result.0 r.seen c.past_spaces.result.1 r.fault
-    r.source.looks c.look-behind.new.self.looks c.past_spaces.new.self.looks i none step.1
+    (reads_on text r.place end end c.past_spaces.result.0 1 r.seen c.past_spaces.result.1 r.fault
+    r.source.looks c.look-behind.new.self.looks c.past_spaces.new.self.looks r.length i none step.1 (omega arith)
     c.look-behind.ensures.cost found.cost found.boundary found.sees found.past)
 
 pub returns-clause-taken : goal.returns-clause-taken

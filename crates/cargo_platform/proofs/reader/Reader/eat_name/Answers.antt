@@ -1,6 +1,5 @@
 use Rattle.std.proofs.Common.{◌≡◌, refl, sym, ap, subst, ◌∙◌, ◌+◌, true, false, true≢false, arith}
 use Rattle.std.specs.Prelude.{slice_index}
-use Rattle.std.specs.List.{between}
 use Rattle.cargo_platform.specs.declared.source.Look.TheVariants.{Ascii}
 use Rattle.cargo_platform.specs.Chars.{is_identifier_start}
 use Rattle.cargo_platform.specs.Tokens.{Ident}
@@ -56,26 +55,26 @@ invariant_of-self c =
     let i = c.self.invariant in
     let text = r.source.text.now in
     let next = r.place + 1 in
-    let end = c.past_identifier-end.result.0 in
+    let end = c.name-end.result.1 in
     let to = c.past_spaces.result.0 in
-    let name = c.slice-name.result.now in
+    let name = c.name-end.result.0.now in
     let here = rw c.in-Ascii.is at i.sees in
     let byte = here.1.ascii here.0 in
     let class : is_identifier_start (slice_index text r.place) ≡ true = ap is_identifier_start byte
     ∙ sym c.begins_identifier.ensures ∙ c.if-not-begins_identifier.false in
-    let named = rw c.look-second.ensures.same at c.past_identifier-end.ensures in
+    let named = rw c.look-second.ensures.same at c.name-end.ensures in
     let stands : IsTokenAt text (Ident false name) r.place end = plain_stands text name r.place end class named.order
-    named.boundary.0 (c.slice-name.ensures ∙ ap (λ t. between r.place end t.now) named.same) named.rest named.end
+    named.boundary.0 named.name named.rest named.end
     (λ is. absurd (c.if-first-eq114.false (sym byte ∙ is))) in
-    let none = token_no_fault text r.place end (Ident false name) r.seen r.fault r.source.looks i stands in
+    let none = token_no_fault text r.place end (Ident false name) r.seen r.fault r.source.looks r.length i stands in
     let step = ascii_step text r.place i.utf8 here.1.within (omega (arith, byte, here.0)) i.reached in
     let found = rw named.same at c.past_spaces.ensures in
     let looks = c.past_spaces.new.self.looks in
     subst
-    (λ t. IsReadingAt t.now to c.past_spaces.result.1 r.fault looks) (sym found.same)
-    (reads_on text r.place next end to r.seen c.past_spaces.result.1 r.fault r.source.looks
-    c.past_identifier-end.new.self.looks looks i none step.1
-    (costs_then text next next end 1 0 r.source.looks c.look-second.new.self.looks c.past_identifier-end.new.self.looks
+    (λ t. IsReadingAt t.now to c.past_spaces.result.1 r.fault looks r.length) (sym found.same)
+    (reads_on text r.place next end to 9 r.seen c.past_spaces.result.1 r.fault r.source.looks
+    c.name-end.new.self.looks looks r.length i none step.1 (omega arith)
+    (costs_then text next next end 1 1 8 0 r.source.looks c.look-second.new.self.looks c.name-end.new.self.looks
     c.look-second.ensures.cost named.cost)
     found.cost found.boundary found.sees found.past)
 
@@ -84,16 +83,16 @@ returns-clause-taken c =
     let r = c.self.inside in
     let i = c.self.invariant in
     let text = r.source.text.now in
-    let end = c.past_identifier-end.result.0 in
+    let end = c.name-end.result.1 in
     let to = c.past_spaces.result.0 in
-    let name = c.slice-name.result.now in
+    let name = c.name-end.result.0.now in
     let here = rw c.in-Ascii.is at i.sees in
     let byte = here.1.ascii here.0 in
     let class : is_identifier_start (slice_index text r.place) ≡ true = ap is_identifier_start byte
     ∙ sym c.begins_identifier.ensures ∙ c.if-not-begins_identifier.false in
-    let named = rw c.look-second.ensures.same at c.past_identifier-end.ensures in
+    let named = rw c.look-second.ensures.same at c.name-end.ensures in
     let stands : IsTokenAt text (Ident false name) r.place end = plain_stands text name r.place end class named.order
-    named.boundary.0 (c.slice-name.ensures ∙ ap (λ t. between r.place end t.now) named.same) named.rest named.end
+    named.boundary.0 named.name named.rest named.end
     (λ is. absurd (c.if-first-eq114.false (sym byte ∙ is))) in
     let found = rw named.same at c.past_spaces.ensures in
     rw (← ap (λ (z : Standing). z.ahead) c.self.view_is)

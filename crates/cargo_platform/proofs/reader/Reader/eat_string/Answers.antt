@@ -1,5 +1,4 @@
 use Rattle.std.proofs.Common.{◌≡◌, refl, sym, ap, subst, ◌∙◌, ◌+◌, ◌++◌, Some, arith}
-use Rattle.std.specs.List.{between}
 use Rattle.cargo_platform.specs.declared.tokens.TokenFaultKind.TheVariants.{UnterminatedString}
 use Rattle.cargo_platform.specs.Tokens.{Lexeme, String, written}
 use Rattle.cargo_platform.specs.Inside.Ahead.{Standing}
@@ -38,23 +37,23 @@ invariant_of-self c =
     let text = r.source.text.now in
     let here = rw (c.is_byte.ensures.yes c.if-not-is_byte.false) at i.sees in
     let step = ascii_step text r.place i.utf8 here.1.within (omega (arith, here.1.ascii here.0)) i.reached in
-    let ends = c.in_default-closing_quote.ensures in
+    let ends = c.in_default-value.ensures in
     subst
-    (λ t. IsReadingAt t.now r.place r.seen (Some UnterminatedString) c.closing_quote.new.self.looks) (sym ends.same)
-    (finds text r.place r.seen r.fault UnterminatedString r.source.looks c.closing_quote.new.self.looks i
+    (λ t. IsReadingAt t.now r.place r.seen (Some UnterminatedString) c.value.new.self.looks r.length) (sym ends.same)
+    (finds text r.place r.seen r.fault UnterminatedString r.source.looks c.value.new.self.looks r.length i
     c.in_default.is (unterminated text r.place here.1 ends.none) (omega (arith, ends.cost_to_end.at_most, step.1))
     (record {
       grows = ends.cost_to_end.grows;
       at_least = λ small. omega (arith, ends.cost_to_end.at_least small, step.1);
     }))
 
-pub returns-in_default-closing_quote-clause-not_taken : goal.returns-in_default-closing_quote-clause-not_taken
-returns-in_default-closing_quote-clause-not_taken c =
+pub returns-in_default-value-clause-not_taken : goal.returns-in_default-value-clause-not_taken
+returns-in_default-value-clause-not_taken c =
     let r = c.self.inside in
     let i = c.self.invariant in
     let text = r.source.text.now in
     let here = rw (c.is_byte.ensures.yes c.if-not-is_byte.false) at i.sees in
-    let ends = c.in_default-closing_quote.ensures in (
+    let ends = c.in_default-value.ensures in (
       rw (← ap (λ (z : Standing). z.ahead) c.self.view_is) (ap (λ z. ahead_at z.now r.place) ends.same),
       rw (← ap (λ (z : Standing). z.ahead) c.self.view_is)
           (fault_lacks IsString text r.place UnterminatedString i.reached.0
@@ -67,14 +66,13 @@ returns-clause-taken c =
     let i = c.self.invariant in
     let text = r.source.text.now in
     let to = c.past_spaces.result.0 in
-    let end = c.in-Some-closing_quote.quote in
-    let value = c.slice-value.result.now in
+    let end = c.in-Some-value.quote in
+    let value = c.in-Some-value.value.now in
     let here = rw (c.is_byte.ensures.yes c.if-not-is_byte.false) at i.sees in
-    let ends = c.in-Some-closing_quote.ensures in
+    let ends = c.in-Some-value.ensures in
     let quote = ends.at_quote in
     let stands = string_stands text value r.place end (here.1.ascii here.0) (quote.ascii (omega arith)) ends.order
-    quote.within (c.slice-value.ensures ∙ ap (λ t. between (r.place + 1) end t.now) ends.same) c.slice-value.utf8
-    ends.value in
+    quote.within ends.value ends.utf8 ends.inside in
     let found = rw (c.look-behind.ensures.same ∙ ends.same) at c.past_spaces.ensures in
     rw (← ap (λ (z : Standing). z.ahead) c.self.view_is)
     (subst

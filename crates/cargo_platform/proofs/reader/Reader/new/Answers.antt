@@ -1,8 +1,8 @@
-use Rattle.std.proofs.Common.{sym, ap, subst, ◌∙◌, ◌<◌, ◌^◌, List, ℕ, None, arith}
+use Rattle.std.proofs.Common.{refl, sym, ap, length, subst, ◌∙◌, ◌<◌, ◌≤◌, ◌+◌, ◌-◌, ◌*◌, ◌^◌, List, ℕ, None, arith}
 use Rattle.std.proofs.lemmas.Str.{IsCharBoundary-start}
 use Rattle.cargo_platform.specs.Reading.{characters_from}
 use Rattle.cargo_platform.specs.Inside.Looking.{IsReadingAt}
-use Rattle.cargo_platform.proofs.Looking.{chars_fit}
+use Rattle.cargo_platform.proofs.Looking.{chars_fit, looks_are_many}
 use Rattle.cargo_platform.proofs.reader.Reader.new.Goals as goal
 
 pub look-first-requires : goal.look-first-requires
@@ -20,35 +20,28 @@ invariant_of-result c =
     let first = ap (λ t. t.now) c.look-first.ensures.same ∙ c.new-source.ensures.text in
     let found = rw first at c.past_spaces-place.ensures in
     let fits : characters_from c.args.text.now 0 < 2 ^ 63 = omega (arith, chars_fit c.args.text.now c.utf8.text) in
-    let I : List ℕ → Type 0 = λ z. IsReadingAt z c.past_spaces-place.result.0 c.past_spaces-place.result.1 None
-    c.past_spaces-place.new.self.looks in
+    let looks = c.past_spaces-place.new.self.looks in
+    let to = c.past_spaces-place.result.0 in
+    let I : List ℕ → Type 0 = λ z. IsReadingAt z to c.past_spaces-place.result.1 None looks (length c.args.text.now) in
+    let most : looks + 9 * characters_from c.args.text.now to ≤ 9 * characters_from c.args.text.now 0 + 1 =
+    omega (arith, look.at_most, found.cost.at_most, c.new-source.ensures.looks) in
+    let need = characters_from c.args.text.now 0 + 1 - characters_from c.args.text.now to in
+    let many : need ≤ looks = looks_are_many looks need (omega (arith, fits)) (λ small.
+    let still : c.look-first.new.self.looks < 2 ^ 64 - 1 = omega (arith, small, found.cost.grows) in
+    omega (arith, look.at_least still, found.cost.at_least small, c.new-source.ensures.looks)) in
     subst I (sym (ap (λ t. t.now) c.past_spaces-place.ensures.same ∙ first)) (record {
       utf8 = c.utf8.text;
       short = fits;
+      measured = refl;
       reached = found.boundary;
       sees = found.sees;
       past = found.past;
       found = tt;
-      each = λ _. omega (
-        arith,
-        look.at_most,
-        look.at_least,
-        found.cost.at_most,
-        found.cost.at_least,
-        fits,
-        c.new-source.ensures.looks,
-      );
-      at_least = omega (
-        arith,
-        look.at_most,
-        look.at_least,
-        found.cost.at_most,
-        found.cost.at_least,
-        fits,
-        c.new-source.ensures.looks,
-      );
+      whole = λ _. omega (arith, many);
+      at_least = omega (arith, many);
       seen_fault = tt;
-      at_most = omega (arith, look.at_most, found.cost.at_most, c.new-source.ensures.looks);
+      at_most = λ _. most;
+      at_most_ever = omega (arith, most);
     })
 
 pub returns-clause-first : goal.returns-clause-first

@@ -1,5 +1,4 @@
 use Rattle.std.proofs.Common.{ap, sym, ◌∙◌}
-use Rattle.cargo_platform.specs.Faults.{from_to}
 use Rattle.cargo_platform.specs.Inside.Ahead.{Standing}
 use Rattle.cargo_platform.proofs.Coming.{end_ahead, rest_ahead, nothing_seen, something_seen}
 use Rattle.cargo_platform.proofs.reader.Reader.rest.Goals as goal
@@ -16,6 +15,5 @@ returns-in-Some-clause-rest c =
     let r = c.self.inside in
     let i = c.self.invariant in
     let within = something_seen r.source.text.now r.place _ r.seen i.sees (sym c.character_of.ensures ∙ c.in-Some.is) in
-    let span = from_to r.place c.len.result in
     rw (← ap (λ (z : Standing). z.ahead) c.self.view_is)
-    (rw (c.rest_from.ensures, c.len.ensures) (rest_ahead r.source.text.now r.place i.utf8 i.reached i.past within))
+    (rw (c.rest_from.ensures, i.measured) (rest_ahead r.source.text.now r.place i.utf8 i.reached i.past within))

@@ -10,5 +10,5 @@ returns-clause-rest c =
     let seen = rw c.in-Ascii.is at c.requires.seen in
     let class : is_identifier_rest c.in-Ascii.byte ≡ true =
     grind (arith, c.continues_identifier.ensures, c.if-not-continues_identifier.false) in
-    first_and_others (λ i. is_identifier_rest (slice_index text i) ≡ true) c.args.from c.identifier_end-end.result
+    first_and_others (λ i. is_identifier_rest (slice_index text i) ≡ true) c.args.from c.identifier_end-end.result.0
     (ap is_identifier_rest (seen.1.ascii seen.0) ∙ class) c.identifier_end-end.ensures.rest

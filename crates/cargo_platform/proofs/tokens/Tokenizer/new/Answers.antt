@@ -11,6 +11,7 @@ invariant_of-result c =
       short = fits;
       reached = IsCharBoundary-start c.args.text.now c.utf8.text;
       sees = tt;
-      each = λ going. omega (arith, c.new.ensures.looks);
-      at_most = omega (arith, c.new.ensures.looks);
+      at_least = λ going. omega (arith, c.new.ensures.looks);
+      at_most = λ going. omega (arith, c.new.ensures.looks);
+      at_most_ever = omega (arith, c.new.ensures.looks);
     })
