@@ -1,22 +1,24 @@
-# make lint MANIFEST=path  tells what is wrong or odd about the keys of `target` in a manifest
-# make run    builds the program and runs it on its sample input
-# make build  leaves both programs, and says where
+# make run    runs `platform_check` on its sample input, from source if it is not built; PROVED=yes proves and builds it
+# make lint MANIFEST=path  tells what is wrong or odd about the keys of `target` in a manifest, in the same way
+# make build  proves and builds both programs, and says where they are
 # make install PREFIX=..  puts both programs into PREFIX/bin, and manifest_check as cargo-manifest-check too
 # make take INTO=FOLDER CRATES=".."  copies crates into another repository, with those that they stand on
-# make test   proves everything from nothing, and runs all tests and programs
-# make gate   what decides whether a change lands: make test, and the mutants
-# make quick  the checks alone, over the cache
-# make mutants    the mutants of crates/*/mutants alone, over the cache where there is some
-# make refusals   each allocation refused in turn, in each call and in the program, and what is released counted
+# make test   THE GATE: proves everything from nothing, tries wrong bodies, and runs all tests and programs
+# make quick  the proofs alone, over what earlier checks kept
+# make fits   in a second: whether each wrong body can still be applied
+# make mutants    all wrong bodies, those that `make test` does not try too; ONLY=".." tries some crates' alone
+# make measure    times the calls, and prints the tables that `.ci/performance` takes
+# make targets    asks the rustc at hand for its targets, and writes the table of crates/known_targets anew
+# make fmt    lays out the files
+# Parts of `make test`, alone:
+# make refusals   each allocation refused in turn, in each row and in both programs, and what is released counted
 # make statuses   the program where reading or writing fails
 # make manifests  the program manifest_check over questions whose answers are known, and hostile input
 # make cargo-select  what `manifest_check select` selects, beside what Cargo does; it needs cargo and rustc 1.95.0
 # make pages      what the pages say, beside what it is said of
 # make depths     the programs on the deepest conditions that their inputs hold
-# make targets    asks the rustc at hand for its targets, and writes the table of crates/known_targets anew
-# make fmt    lays out the files
-.PHONY: lint run build install take test gate mutants refusals statuses manifests cargo-select pages depths quick \
-	targets fmt rt
+.PHONY: lint run build install take test gate fits mutants refusals statuses manifests cargo-select pages depths quick \
+	measure targets fmt rt
 
 PROGRAM := crates/platform_check
 CHECK := crates/manifest_check
@@ -28,13 +30,11 @@ rt:
 
 # The status is the program's own: 1 where there is an error or a warning.
 lint: rt
-	@.ci/build manifest_check
-	@$(CHECK)/out/manifest_check lint $(MANIFEST)
+	@.ci/start manifest_check lint $(MANIFEST)
 
 # The status is the program's own: 0 where the condition matches.
 run: rt
-	@.ci/build
-	cd $(PROGRAM) && out/platform_check < stdin
+	@$(if $(PROVED),.ci/build &&) .ci/start platform_check < $(PROGRAM)/stdin
 
 build: rt
 	@.ci/build platform_check
@@ -53,35 +53,25 @@ take:
 test: rt
 	@.ci/test
 
-gate: rt
-	@.ci/gate
-
-mutants: rt
-	.ci/mutants
-
-refusals: rt
-	.ci/refusals
-
-statuses: rt
-	.ci/statuses
-
-manifests: rt
-	.ci/manifests
-
-cargo-select: rt
-	.ci/cargo-select
-
-pages: rt
-	.ci/pages
-
-depths: rt
-	.ci/depths
+gate: test
 
 quick: rt
 	rt all check --jobs 2
+
+fits:
+	@.ci/fits
+
+mutants: rt
+	.ci/mutants $(ONLY)
+
+measure: rt
+	.ci/measure
 
 targets:
 	.ci/known-targets --renew
 
 fmt: rt
 	for crate in crates/*/; do (cd $$crate && rt fmt) || exit 1; done
+
+refusals statuses manifests cargo-select pages depths: rt
+	.ci/$@

@@ -1,7 +1,11 @@
-"""Which crates of this repository stand on which."""
+"""Which crates of this repository stand on which, and copies of them."""
 import pathlib
+import shutil
 
 ROOT = pathlib.Path(__file__).resolve().parent.parent
+
+# What a copy of a crate leaves out: its mutants, and what was made of it.
+LEFT_OUT = ("mutants", "out")
 
 
 def stands_on():
@@ -22,3 +26,15 @@ def with_those_below(names, below):
 def listed(names, below):
     """The lines of a crates.txt that has these crates."""
     return "".join(f"{name}: {' '.join(below[name])}\n" for name in names)
+
+
+def lay_out(folder, names, below):
+    """Makes a repository of copies of these crates and those that they stand on. Its crates.txt names all of `names`,
+    also one of which there is nothing to copy yet."""
+    taken = with_those_below(names, below)
+    for name in taken:
+        if (ROOT / "crates" / name).is_dir():
+            ignored = shutil.ignore_patterns(*LEFT_OUT)
+            shutil.copytree(ROOT / "crates" / name, folder / "crates" / name, ignore=ignored)
+    (folder / "crates.txt").write_text(listed(taken, below), encoding="utf-8")
+    shutil.copyfile(ROOT / "HANDLES", folder / "HANDLES")

@@ -35,10 +35,10 @@ class Step(NamedTuple):
     folder: pathlib.Path
     again: str
     counts: bool = False
-    told: str = "$^"
-    done: str = "$^"
+    told: str = "(?!)"
+    done: str = "(?!)"
     total: str = ""
-    wrong: str = "$^"
+    wrong: str = "(?!)"
 
 
 class Steps:
@@ -111,16 +111,23 @@ class Steps:
         self.say(f"{step.name}: {passed} passed, {failed} failed in {minutes:.1f} minutes")
 
     def run_in_turn(self, steps):
+        """Runs steps one after the other. A list in place of a step is lists of steps that go side by side."""
         for step in steps:
-            self.run(step)
+            if isinstance(step, Step):
+                self.run(step)
+            else:
+                self.run_side_by_side(step)
 
-    def run_sides(self, sides):
-        """Runs lists of steps side by side, each list in turn."""
+    def run_side_by_side(self, sides):
+        with concurrent.futures.ThreadPoolExecutor(len(sides)) as lanes:
+            [*lanes.map(self.run_in_turn, sides)]
+
+    def run_all(self, sides):
+        """Runs lists of steps side by side, each list in turn, and tells how far they are."""
         LOGS.mkdir(parents=True, exist_ok=True)
         ended = threading.Event()
         threading.Thread(target=self.beat, args=(ended,), daemon=True).start()
-        with concurrent.futures.ThreadPoolExecutor(len(sides)) as lanes:
-            [*lanes.map(self.run_in_turn, sides)]
+        self.run_side_by_side(sides)
         ended.set()
 
     def finish(self):

@@ -1,15 +1,7 @@
-//! Callers of `exact_answers`, proved, and its tests, over its public calls alone.
+//! Callers of `exact_answers`, proved, and their tests. The tests of the library are rows of `test_answers`.
 #![tactic(auto)]
 
 pub mod audit;
-#[cfg(test)]
-mod budgets;
 pub mod linter;
 #[cfg(test)]
-mod sizes;
-#[cfg(test)]
-mod support;
-#[cfg(test)]
-mod tables;
-#[cfg(test)]
-mod targets;
+mod tests;

@@ -5,11 +5,13 @@ ghost use Rattle.cargo_platform.specs.Trees.{value_of, condition_of};
 ghost use Rattle.cargo_platform.specs.Facts.{fact_set, IsTrueCondition};
 
 use cargo_platform::{Cfg, FactIndex, FactsError, Platform, ReadError, read_facts};
+use declared_cfgs::Declared;
 use key_answers::answer::{Answer, Status};
 use key_answers::conditions::read_key;
 use key_answers::printing::{fact_lines, refused_cfg, refused_fact, shown_name};
 use known_targets::{COUNT, KnownTarget, RUSTC_VERSION, TargetSet, matching};
-use manifest_lints::{Code, Finding, Report, Words, lint, nearest_target};
+use manifest_lints_findings::{Code, Finding};
+use manifest_lints_hints::{Words, nearest_target, unknown_in};
 use manifest_tables::TargetKey;
 use serde_json::Value;
 use std::alloc::{AllocError, Global};
@@ -29,14 +31,9 @@ pub fn unknown_name(alloc: Global, name: &str) -> Result<String, AllocError> {
     }
 }
 
-/// Whether `match` tells a finding of this code: what no known target has, and what only `--cfg` sets unless facts are
-/// given.
+/// Whether `match` tells a finding of this code: not what only `--cfg` sets, where facts are given.
 fn is_told(code: Code, has_facts: bool) -> bool {
-    match code {
-        Code::UnknownTarget | Code::UnknownFact => true,
-        Code::Custom => !has_facts,
-        _ => false,
-    }
+    code != Code::Custom || !has_facts
 }
 
 /// Appends the line of a finding.
@@ -48,19 +45,26 @@ fn push_finding(text: &mut String, alloc: Global, finding: &Finding) -> Result<(
     text.push_str(line.as_str())
 }
 
-/// The findings on a key that stands alone.
-fn findings_on(alloc: Global, key: &str) -> Result<Report, AllocError> {
+/// The findings on what a key that stands alone asks for and no known target has.
+fn findings_on(alloc: Global, key: &str, condition: &Platform) -> Result<Vec<Finding>, AllocError> {
+    let none = toml::Table::new(alloc);
     let value = toml::Value::Table(toml::Table::new(alloc));
-    let keys = [TargetKey { key, value: &value }];
     let words = Words::new(alloc)?;
-    lint(alloc, &toml::Table::new(alloc), &keys, &words)
+    let declared = Declared::of(alloc, &none)?;
+    let key = TargetKey { key, value: &value };
+    unknown_in(alloc, &words, &declared, key, condition)
 }
 
 /// What there is to tell of the names and facts of a key that no known target has.
-fn unknown_in(alloc: Global, key: &str, has_facts: bool) -> Result<String, AllocError> {
-    let report = findings_on(alloc, key)?;
+fn unknown_lines(
+    alloc: Global,
+    key: &str,
+    condition: &Platform,
+    has_facts: bool,
+) -> Result<String, AllocError> {
+    let findings = findings_on(alloc, key, condition)?;
     let mut text = String::new(alloc);
-    for finding in &report.findings {
+    for finding in &findings {
         if is_told(finding.code, has_facts) {
             push_finding(&mut text, alloc, finding)?;
         }
@@ -242,6 +246,7 @@ pub fn applies(
         Err(answer) => return Ok(answer),
     };
     let applies = holds(alloc, &condition, name, &facts)?;
-    let errors = unknown_in(alloc, key, lines.is_some() || !added.is_empty())?;
+    let has_facts = lines.is_some() || !added.is_empty();
+    let errors = unknown_lines(alloc, key, &condition, has_facts)?;
     verdict(alloc, applies, errors)
 }

@@ -1,10 +1,11 @@
 //! The subcommands, asked by the words that `clap` read.
 
+use crate::linting::lint_each;
 use anyhow::{Context, Result};
 use clap::ArgMatches;
 use key_answers::answer::Answer;
 use key_answers::comparing::compare;
-use manifest_answers::linting::{Style, lint_each};
+use manifest_answers::findings::Style;
 use manifest_answers::questions;
 use manifest_answers::selecting::{Target, select_each};
 use std::alloc::Global;

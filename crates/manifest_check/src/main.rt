@@ -2,6 +2,7 @@
 #![tactic(auto)]
 
 mod asking;
+mod linting;
 
 use anyhow::Result;
 use asking::{Terminals, answer_to};

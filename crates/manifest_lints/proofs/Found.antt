@@ -2,7 +2,7 @@
 use Rattle.std.proofs.Common.{◌≡◌, refl, true, false, true≢false, ℕ, Bool, ◌||◌, List}
 use Rattle.cargo_platform.specs.Trees.{Condition}
 use Rattle.exact_answers.specs.declared.known.Known.{Known}
-use Rattle.manifest_lints.specs.declared.hiding.Holding.{Holding}
+use Rattle.manifest_lints_findings.specs.declared.hiding.Holding.{Holding}
 use Rattle.declared_cfgs.specs.Declarations.{DeclaredEntry}
 use Rattle.manifest_lints.specs.Reports.{IsFoundOfCondition}
 

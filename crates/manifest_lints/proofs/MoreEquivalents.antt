@@ -1,20 +1,19 @@
 -- One more key among those that later ones are compared with.
-use Rattle.std.proofs.Common.{◌≡◌, refl, sym, subst, ℕ, true, List, [], ◌∷◌, ◌++◌, inl, inr, length, get_or, ltb}
+use Rattle.std.proofs.Common.{◌≡◌, refl, sym, subst, ℕ, List, [], ◌∷◌, ◌++◌, inl, inr}
 use Rattle.std.specs.Prelude.{IsTrue}
 use Rattle.std.specs.Borrow.{Bor}
-use Rattle.std.specs.List.{Any}
-use Rattle.std.proofs.lemmas.Bool.{ltb-true}
 use Rattle.std.proofs.lemmas.List.Elements.{All-nil, All-same, All-push, All-weaker}
 use Rattle.cargo_platform.specs.declared.Platform.{Platform}
 use Rattle.cargo_platform.specs.Trees.{Condition, condition_of}
 use Rattle.cargo_platform.specs.Platforms.{IsConditionText}
 use Rattle.cargo_platform.proofs.Conditions.{one_condition}
 use Rattle.exact_answers.specs.declared.known.Known.{Known}
-use Rattle.manifest_lints.specs.declared.earlier.Keys.{Keys}
-use Rattle.manifest_lints.specs.declared.hiding.Holding.{Holding}
+use Rattle.manifest_lints_questions.specs.declared.earlier.Keys.{Keys}
+use Rattle.manifest_lints_findings.specs.declared.hiding.Holding.{Holding}
 use Rattle.manifest_tables.specs.Entries.{Entry}
 use Rattle.manifest_lints.proofs.MoreSames.{has_more, has_so}
-use Rattle.manifest_lints.specs.Sames.{HasSpelled, AreMembers, AddsMember, AreEquivalent, HasEquivalent, HasEquivalentMember}
+use Rattle.manifest_lints.specs.Sames.{HasSpelled, AreMembers, HasEquivalent}
+use Rattle.manifest_lints_questions.specs.Earlier.{AddsMember, AreEquivalent, HasEquivalentMember}
 use Rattle.manifest_lints.specs.Sames.{TellsEquivalent}
 
 abbrev IsSpelledBy : List Entry → ℕ × Bor Platform → Type 0
@@ -45,11 +44,3 @@ tells_equivalent k es e old c before text h told = λ d t holds.
     subst (HasEquivalent k es) (one_condition e.0 c d text t)
     (has_so (λ x. x ≡ condition_of m.1.1.now) (λ x. AreEquivalent k x c) es
     (λ x is. subst (λ y. AreEquivalent k y c) (sym is) m.4) (subst (IsSpelledBy es) m.3 (before m.0 m.1 m.2)))
-
--- a member that is found at a place
-pub member_at : (k : Known) (ms : List (ℕ × Bor Platform)) (keys : Keys) (c : Condition) (i : ℕ)
-    (m : ℕ × Bor Platform) → ms ≡ keys.members.items → ltb i (length ms) ≡ true → m ≡ get_or ms i m
-    → AreEquivalent k (condition_of m.1.now) c → HasEquivalentMember k keys c
-member_at k ms keys c i m are within at alike =
-    subst (Any (λ (n : ℕ × Bor Platform). AreEquivalent k (condition_of n.1.now) c)) are
-    (i, m, ltb-true i (length ms) within, sym at, alike)

@@ -1,42 +1,19 @@
 -- One more key among those that were noted.
-use Rattle.std.proofs.Common.{◌≡◌, ◌∙◌, refl, sym, ap, subst, ℕ, true≢false, cond, List, [], ◌∷◌}
+use Rattle.std.proofs.Common.{◌≡◌, ◌∙◌, refl, sym, ap, subst, ℕ, true≢false, List, [], ◌∷◌}
 use Rattle.std.proofs.Common.{◌++◌, ◌↔◌, ◌⊎◌, inl, inr, Option, Some, None, IsTrue, IsSome}
-use Rattle.std.specs.Ordering.{is_eq}
 use Rattle.std.specs.Borrow.{Bor}
-use Rattle.std.specs.declared.cmp.Ordering.{Ordering}
-use Rattle.std.specs.declared.cmp.Ordering.TheVariants.{Less, Equal, Greater}
 use Rattle.cargo_platform.specs.declared.Platform.{Platform}
 use Rattle.cargo_platform.specs.Trees.{Condition, condition_of}
-use Rattle.cargo_platform.specs.Key.{condition_key, condition_cmp}
-use Rattle.cargo_platform.specs.OrderLaws.{condition_equal_iff}
+use Rattle.cargo_platform.specs.Key.{condition_key}
 use Rattle.cargo_platform.specs.Platforms.{IsConditionText}
 use Rattle.cargo_platform.proofs.Conditions.{one_condition}
-use Rattle.manifest_lints.specs.declared.earlier.Keys.{Keys}
-use Rattle.manifest_lints.specs.declared.hiding.Holding.{Holding}
+use Rattle.manifest_lints_questions.specs.declared.earlier.Keys.{Keys}
+use Rattle.manifest_lints_findings.specs.declared.hiding.Holding.{Holding}
 use Rattle.manifest_tables.specs.Entries.{Entry}
-use Rattle.manifest_lints.specs.Reports.{SpellsNothing}
-use Rattle.manifest_lints.specs.Sames.{noted, NotesBy, Notes, SpellsOne, HasOne, IsSameAs, HasSame, AreNoted}
+use Rattle.manifest_lints_findings.specs.Spells.{SpellsNothing}
+use Rattle.manifest_lints_questions.specs.Earlier.{noted, NotesBy, Notes}
+use Rattle.manifest_lints.specs.Sames.{SpellsOne, HasOne, IsSameAs, HasSame, AreNoted}
 use Rattle.manifest_lints.specs.Sames.{TellsSame}
-
--- ---- a map in which one key is set
-
-set_by : (o : Ordering) (n : ℕ) (old : Option ℕ)
-    → IsSome (cond (is_eq o) (Some n) old) ↔ ((o ≡ Equal) ⊎ IsSome old)
-set_by Less n old = (λ h. inr h, λ h. elim h [ inl e ↦ absurd cc | inr s ↦ s ])
-set_by Equal n old = (λ h. inl refl, λ h. refl)
-set_by Greater n old = (λ h. inr h, λ h. elim h [ inl e ↦ absurd cc | inr s ↦ s ])
-
-pub set_one : (c d : Condition) (n : ℕ) (old new : Option ℕ)
-    → new ≡ cond (is_eq (condition_cmp c d)) (Some n) old
-    → IsSome new ↔ ((condition_key c ≡ condition_key d) ⊎ IsSome old)
-set_one c d n old new is =
-    let s = set_by (condition_cmp c d) n old in
-    let k = condition_equal_iff c d in (
-      λ h. elim (s.0 (subst IsSome is h)) [ inl e ↦ inl (k.0 e) | inr o ↦ inr o ],
-      λ h. subst IsSome (sym is) (s.1 (elim h [ inl e ↦ inl (k.1 e) | inr o ↦ inr o ])),
-    )
-
--- ---- the keys so far
 
 module _ (P : Condition → Type 0) where
   pub has_more : (es : List Entry) (e : Entry) → SpellsOne P e.0 ⊎ HasOne P es → HasOne P (es ++ e ∷ [])

@@ -6,12 +6,13 @@ use Rattle.std.proofs.lemmas.List.{take_more, map-append, append-nil, length-map
 use Rattle.std.proofs.lemmas.List.Elements.{filter-append}
 use Rattle.std.proofs.Math.Bool.{cond}
 use Rattle.exact_answers.specs.declared.known.Known.{Known}
-use Rattle.manifest_lints.specs.declared.findings.Code.{Code}
-use Rattle.manifest_lints.specs.declared.findings.Finding.{Finding}
-use Rattle.manifest_lints.specs.declared.hiding.Holding.{Holding}
+use Rattle.manifest_lints_findings.specs.declared.findings.Code.{Code}
+use Rattle.manifest_lints_findings.specs.declared.findings.Finding.{Finding}
+use Rattle.manifest_lints_findings.specs.declared.hiding.Holding.{Holding}
 use Rattle.manifest_lints.specs.declared.subjects.Read.{Read}
 use Rattle.declared_cfgs.specs.Declarations.{DeclaredEntry}
-use Rattle.manifest_lints.specs.Reports.{Entry, Mark, AreFindingsOn, on_more, IsFoundOf, IsRead, entry_of, mark, marks}
+use Rattle.manifest_lints.specs.Reports.{Entry, AreFindingsOn, on_more, IsFoundOf, IsRead, entry_of}
+use Rattle.manifest_lints_findings.specs.Marks.{Mark, mark, marks}
 use Rattle.manifest_lints.specs.Reports.{told_marks, left_open}
 use Rattle.manifest_lints.specs.Sames.{TellsSame, TellsEquivalent}
 

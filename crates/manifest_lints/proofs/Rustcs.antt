@@ -1,24 +1,14 @@
 -- What is known of each target allows the sets of facts that rustc may set, and no others.
-use Rattle.std.proofs.Common.{◌≡◌, ◌∙◌, ◌↔◌, sym, ap, subst, true, false, true≢false, ℕ, List, [], map}
-use Rattle.std.specs.Borrow.{Bor}
-use Rattle.std.specs.FinSet.{contains, contains-from_list}
+use Rattle.std.proofs.Common.{◌≡◌, ◌∙◌, ◌↔◌, sym, subst, true, true≢false, ℕ, List, [], map}
 use Rattle.cargo_platform.specs.Trees.{tree_of, value_of}
-use Rattle.cargo_platform.specs.Facts.{Pair, FactSet, fact_set, truth}
+use Rattle.cargo_platform.specs.Facts.{FactSet, fact_set, truth}
 use Rattle.cargo_platform.specs.declared.cfg.Cfg.{Cfg}
-use Rattle.cargo_platform.proofs.FactSets.{pairs_total}
-use Rattle.partial_facts.specs.Partly.{is_named}
 use Rattle.partial_facts.specs.declared.one_valued.TheConstants.{ONE_VALUED}
 use Rattle.exact_answers.specs.declared.known.Known.{Known}
 use Rattle.exact_answers.specs.Possible.{HasOneValue}
 use Rattle.exact_answers.specs.Families.{KeepsFamilyRule}
+use Rattle.manifest_lints_questions.proofs.Tried.{none_listed, none_named}
 use Rattle.manifest_lints.specs.Reports.{AllowsRustcs}
-
-pub none_listed : (cs : List Cfg) (p : Pair) → cs ≡ [] → contains (fact_set (map value_of cs)) p ≡ false
-none_listed cs p is =
-    ap (λ ds. contains (fact_set (map value_of ds)) p) is ∙ contains-from_list pairs_total [] p
-
-pub none_named : (name : List ℕ) (ns : List (Bor (List ℕ))) → ns ≡ [] → is_named name (map (λ t. t.now) ns) ≡ false
-none_named name ns is = ap (λ ms. is_named name (map (λ t. t.now) ms)) is
 
 pub allows_rustcs : (k : Known) → k.facts.now ≡ [] → k.complete.now ≡ []
     → map (λ t. t.now) k.single.now ≡ map (λ t. t.now) ONE_VALUED.now

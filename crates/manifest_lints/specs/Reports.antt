@@ -1,8 +1,8 @@
 -- What is found of the keys of a manifest, and which findings are told of them.
 use Rattle.std.specs.Prelude.{◌≡◌, ◌≤◌, ◌⊎◌, ◌↔◌, ℕ, false, IsTrue, List}
-use Rattle.std.specs.Prelude.{[], ◌∷◌, ◌++◌, map, length, cond, Option, Some}
+use Rattle.std.specs.Prelude.{[], ◌∷◌, ◌++◌, map, length, cond, Some}
 use Rattle.std.specs.List.{list_any}
-use Rattle.cargo_platform.specs.Trees.{Condition, condition_of}
+use Rattle.cargo_platform.specs.Trees.{Condition}
 use Rattle.cargo_platform.specs.Warnings.{condition_values}
 use Rattle.cargo_platform.specs.Facts.{FactSet, fact_set}
 use Rattle.cargo_platform.specs.Platforms.{IsConditionText}
@@ -11,30 +11,22 @@ use Rattle.exact_answers.specs.declared.known.Known.{Known}
 use Rattle.partial_facts.specs.declared.one_valued.TheConstants.{ONE_VALUED}
 use Rattle.exact_answers.specs.Possible.{HasOneValue, IsAllowed}
 use Rattle.exact_answers.specs.Families.{KeepsFamilyRule}
-use Rattle.manifest_lints.specs.declared.findings.Code.{Code}
-use Rattle.manifest_lints.specs.declared.findings.Finding.{Finding}
-use Rattle.manifest_lints.specs.declared.hiding.Holding.{Holding}
-use Rattle.manifest_lints.specs.declared.spelled.Spelled.{Spelled}
-use Rattle.manifest_lints.specs.declared.spelled.Spelled.TheVariants as spelled
+use Rattle.manifest_lints_findings.specs.declared.findings.Code.{Code}
+use Rattle.manifest_lints_findings.specs.declared.hiding.Holding.{Holding}
+use Rattle.manifest_lints_findings.specs.Marks.{Mark}
+use Rattle.manifest_lints_findings.specs.Spells.{SpellsNothing, IsSpelledAs}
 use Rattle.manifest_lints.specs.declared.subjects.Read.{Read}
-use Rattle.manifest_lints.specs.declared.subjects.TheConstants.{MANY}
+use Rattle.manifest_lints_questions.specs.declared.deciding.TheConstants.{MANY}
 use Rattle.declared_cfgs.specs.Declarations.{DeclaredEntry}
-use Rattle.manifest_lints.specs.Standings.{is_unsupported, is_mistaken, is_undeclared_custom, AreOpen}
+use Rattle.manifest_lints_standings.specs.Standings.{is_unsupported, is_mistaken, is_undeclared_custom, AreOpen}
+use Rattle.manifest_lints_standings.specs.Standings.{IsUnknownTarget}
 pub use Rattle.manifest_tables.specs.Entries.{Entry, entry_of}
 use Rattle.manifest_lints.specs.Sames.{TellsSame, TellsEquivalent}
-use Rattle.manifest_lints.specs.Hiding.{is_told, told_codes, IsUnspelled}
-use Rattle.manifest_lints.specs.NoTables.{is_no_table}
-use Rattle.manifest_lints.specs.Truths.{IsNever, IsAlways, CanHold, CanFail, IsNowhere, IsEverywhere, IsUnknownTarget}
+use Rattle.manifest_lints_findings.specs.Hiding.{is_told, told_codes, IsUnspelled}
+use Rattle.manifest_lints_findings.specs.NoTables.{is_no_table}
+use Rattle.manifest_lints_questions.specs.Truths.{IsNever, IsAlways, CanHold, CanFail, IsNowhere, IsEverywhere}
 
 -- ---- what a key spells
-
-abbrev pub SpellsNothing : List ℕ → Type 0
-SpellsNothing text = (c : Condition) → IsConditionText text c → ⊥
-
-abbrev pub IsSpelledAs : List ℕ → Spelled → Type 0
-IsSpelledAs text (spelled.Condition p) = IsConditionText text (condition_of p)
-IsSpelledAs text (spelled.ByCargo read) = SpellsNothing text
-IsSpelledAs text (spelled.Refused e) = SpellsNothing text
 
 abbrev pub IsRead : Read → Type 0
 IsRead r = IsSpelledAs r.key.key.now r.spelled
@@ -85,16 +77,6 @@ abbrev pub IsFoundOf : Known → List DeclaredEntry → Entry → Holding → Ty
 IsFoundOf k ds e h = IsFoundSpelled k ds e h ⊎ IsFoundUnspelled e h
 
 -- ---- the findings
-
--- the place of the key that a finding is on, and its code
-abbrev pub Mark : Type 0
-Mark = Option ℕ × Code
-
-abbrev pub mark : Finding → Mark
-mark f = (f.key, f.code)
-
-abbrev pub marks : List Finding → List Mark
-marks fs = map mark fs
 
 -- the finding of a code on the key at a place, where it is told
 abbrev pub told_mark : ℕ → Holding → Code → List Mark

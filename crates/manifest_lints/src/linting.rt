@@ -3,189 +3,23 @@
 ghost use Rattle.std.specs.Prelude.{◌≡◌, ◌++◌, IfOk, OnOk, Some, List, map};
 ghost use Rattle.std.specs.List.{All};
 ghost use Rattle.declared_cfgs.specs.Declarations.{DeclaredEntry, IsDeclaredBy, declarations_of};
-ghost use Rattle.manifest_lints.specs.Reports.{mark, marks, told_mark, told_marks, left_open};
+ghost use Rattle.manifest_lints_findings.specs.Marks.{mark, marks};
+ghost use Rattle.manifest_lints.specs.Reports.{told_mark, told_marks, left_open};
 ghost use Rattle.toml.specs.View.{table_view};
 ghost use Rattle.manifest_lints.specs.Reports.{entry_of, AreFindingsOn, IsRead, AreFindings};
 
-use crate::earlier::Keys;
-use crate::findings::{Code, Finding, Level, Report};
-use crate::hiding::is_told;
-use crate::messages::message_of;
-use crate::nearest::{Words, key_instead_of};
-use crate::repairs::repaired;
-use crate::spelled::{Marked, Spelled, read_key};
-use crate::subjects::{Asking, Matter, Read, Spelling, Subject, subject_of};
-use crate::telling::joined;
-use cargo_platform::{ParseError, Platform, shown_start, shown_text};
+use crate::subjects::{Asking, Matter, Read, Subject, subject_of};
 use declared_cfgs::Declared;
 use exact_answers::{Known, ONE_VALUED, family_rule};
+use manifest_lints_findings::findings::CODES;
+use manifest_lints_findings::hiding::is_told;
+use manifest_lints_findings::spelled::{Spelled, read_key};
+use manifest_lints_findings::{Code, Finding, Report};
+use manifest_lints_hints::Words;
+use manifest_lints_hints::making::{no_table, on_condition, read_otherwise, refused};
+use manifest_lints_questions::earlier::Keys;
 use manifest_tables::TargetKey;
 use std::alloc::{AllocError, Global};
-
-/// The codes in the order in which they are told of one key.
-pub const CODES: [Code; 14] = [
-    Code::Refused,
-    Code::NoTable,
-    Code::ReadOtherwise,
-    Code::Unsupported,
-    Code::Never,
-    Code::UnknownTarget,
-    Code::UnknownFact,
-    Code::Nowhere,
-    Code::Same,
-    Code::Equivalent,
-    Code::Always,
-    Code::Everywhere,
-    Code::Custom,
-    Code::NotCanonical,
-];
-
-/// The names of what stands under a key.
-fn members_of<'a>(alloc: Global, key: TargetKey<'a>) -> Result<Vec<&'a str>, AllocError> {
-    let mut names = Vec::new(alloc);
-    if let Some(table) = key.value.as_table() {
-        for (name, _) in table.iter() {
-            names.push(name.as_str())?;
-        }
-    }
-    Ok(names)
-}
-
-/// A finding on the key at this place, with no span and no snippet.
-fn plain_finding(
-    level: Level,
-    code: Code,
-    key: usize,
-    message: String,
-    suggestion: Option<String>,
-) -> Finding
-    ensures { mark result ≡ (Some key, code) }
-{
-    Finding {
-        level,
-        code,
-        key: Some(key),
-        message,
-        suggestion,
-        span: None,
-        snippet: None,
-    }
-}
-
-/// The finding on a key that is refused.
-fn refused(
-    alloc: Global,
-    index: usize,
-    key: &str,
-    error: &ParseError,
-    code: Code,
-) -> Result<Finding, AllocError>
-    ensures { IfOk result (λ f. mark f ≡ (Some index, code)) }
-{
-    let kind = error.kind();
-    let fault = format!(in alloc; "{kind}")?;
-    let fault = shown_start(alloc, fault.as_str())?;
-    Ok(Finding {
-        level: Level::Error,
-        code,
-        key: Some(index),
-        message: format!(in alloc; "the key spells no condition: {fault}")?,
-        suggestion: None,
-        span: error.span_in(key),
-        snippet: error.snippet_in(alloc, key)?,
-    })
-}
-
-/// How much a finding of this code weighs, on a condition with so many names and pairs.
-fn level_of(code: Code, count: usize) -> Level {
-    match code {
-        Code::Always | Code::Everywhere | Code::Custom | Code::NotCanonical => Level::Note,
-        Code::Never if count == 0 => Level::Note,
-        _ => Level::Warning,
-    }
-}
-
-/// What may stand in the place of the key, by the finding of this code.
-fn suggestion_of(
-    alloc: Global,
-    words: &Words,
-    key: TargetKey<'_>,
-    platform: &Platform,
-    canonical: &str,
-    code: Code,
-) -> Result<Option<String>, AllocError> {
-    match code {
-        Code::UnknownTarget => {
-            let members = members_of(alloc, key)?;
-            key_instead_of(alloc, key.key, &members)
-        }
-        Code::UnknownFact => repaired(alloc, words, key.key, platform),
-        Code::NotCanonical => Ok(Some(String::from_str(alloc, canonical)?)),
-        _ => Ok(None),
-    }
-}
-
-/// The finding on what is no table.
-fn no_table(
-    alloc: Global,
-    index: usize,
-    texts: &[String],
-    code: Code,
-) -> Result<Finding, AllocError>
-    ensures { IfOk result (λ f. mark f ≡ (Some index, code)) }
-{
-    let message = joined(alloc, texts, texts.len(), ", ")?;
-    Ok(plain_finding(Level::Error, code, index, message, None))
-}
-
-/// The finding on a key that only Cargo of today reads.
-fn read_otherwise(
-    alloc: Global,
-    index: usize,
-    marked: &Marked,
-    code: Code,
-) -> Result<Finding, AllocError>
-    ensures { IfOk result (λ f. mark f ≡ (Some index, code)) }
-{
-    let text = joined(alloc, &marked.warnings, marked.count, " ")?;
-    let text = shown_text(alloc, text.as_str())?;
-    let message = format!(in alloc; "Cargo of today reads the key, and warns: {text}")?;
-    let meant = Some(marked.key.clone()?);
-    Ok(plain_finding(Level::Warning, code, index, message, meant))
-}
-
-/// The finding of this code on a condition.
-fn on_condition(
-    alloc: Global,
-    words: &Words,
-    subject: &Subject<'_>,
-    spelling: &Spelling<'_>,
-    code: Code,
-) -> Result<Finding, AllocError>
-    ensures { IfOk result (λ f. mark f ≡ (Some subject.now.index, code)) }
-{
-    let facts = &spelling.facts;
-    let canonical = spelling.canonical.as_str();
-    let suggestion = suggestion_of(
-        alloc,
-        words,
-        subject.key,
-        spelling.platform,
-        canonical,
-        code,
-    )?;
-    let message = message_of(
-        alloc,
-        words,
-        facts,
-        canonical,
-        spelling.other,
-        &suggestion,
-        code,
-    )?;
-    let level = level_of(code, facts.count);
-    Ok(plain_finding(level, code, subject.index, message, suggestion))
-}
 
 /// The finding of this code on a key.
 fn told(
@@ -201,7 +35,9 @@ fn told(
         return no_table(alloc, index, &subject.no_tables, code);
     }
     match &subject.matter {
-        Matter::Condition(spelling) => on_condition(alloc, words, subject, spelling, code),
+        Matter::Condition(spelling) => {
+            on_condition(alloc, words, index, subject.key, spelling, code)
+        }
         Matter::Unspelled(Spelled::Refused(error)) => {
             refused(alloc, index, subject.key.key, error, code)
         }

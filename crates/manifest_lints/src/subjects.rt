@@ -1,39 +1,32 @@
 //! The keys of a manifest, each with what was found of it.
 
-ghost use Rattle.std.specs.Prelude.{◌≡◌, ◌≤◌, ◌↔◌, ◌||◌, ◌++◌, ◌∷◌, [], List, length, IsTrue, IsSome, IfOk, OnOk};
-ghost use Rattle.std.specs.Prelude.{false};
+ghost use Rattle.std.specs.Prelude.{◌≡◌, ◌↔◌, ◌++◌, ◌∷◌, [], List, IsTrue, IsSome, IfOk, OnOk};
 ghost use Rattle.std.specs.Prelude.{string_bytes};
 ghost use Rattle.cargo_platform.specs.Trees.{condition_of};
 ghost use Rattle.cargo_platform.specs.Print.{print_condition};
-ghost use Rattle.partial_facts.specs.Partly.{names_of};
-ghost use Rattle.manifest_lints.specs.Truths.{IsNever, IsAlways, CanHold, CanFail};
-ghost use Rattle.manifest_lints.specs.Truths.{IsNowhere, IsEverywhere, IsUnknownTarget};
 ghost use Rattle.declared_cfgs.specs.Declarations.{declarations_of};
 ghost use Rattle.manifest_tables.specs.Entries.{Entry};
-ghost use Rattle.manifest_lints.specs.Sames.{noted, Notes, AreNoted, TellsSame};
-ghost use Rattle.manifest_lints.specs.Sames.{AddsMember, HasEquivalentMember, AreMembers, TellsEquivalent};
+ghost use Rattle.manifest_lints_findings.specs.Hiding.{IsUnspelled};
+ghost use Rattle.manifest_lints_findings.specs.NoTables.{is_no_table};
+ghost use Rattle.manifest_lints_questions.specs.Earlier.{noted, Notes, AddsMember, HasEquivalentMember};
+ghost use Rattle.manifest_lints.specs.Sames.{AreNoted, TellsSame, AreMembers, TellsEquivalent};
 ghost use Rattle.manifest_lints.specs.Reports.{entry_of, IsFoundOf, IsFoundOfCondition, IsRead};
-ghost use Rattle.manifest_lints.specs.Hiding.{IsUnspelled};
-ghost use Rattle.manifest_lints.specs.NoTables.{is_no_table};
 ghost use Rattle.toml.specs.View.{view};
 
-use crate::deciding::{
-    budget_for, is_everywhere, is_nowhere, is_unknown, is_yes, may_ask, settled,
-};
-use crate::earlier::{Earlier, Keys};
-use crate::facts::{Facts, facts_in};
-use crate::hiding::Holding;
-use crate::no_tables::no_tables;
-use crate::spelled::Spelled;
 use cargo_platform::Platform;
 use declared_cfgs::Declared;
 use exact_answers::Known;
-use known_targets::KnownTarget;
+use manifest_lints_findings::hiding::Holding;
+use manifest_lints_findings::no_tables::no_tables;
+use manifest_lints_findings::spelled::Spelled;
+use manifest_lints_hints::making::Spelling;
+use manifest_lints_questions::deciding::{MANY, asked, budget_for, either, places};
+use manifest_lints_questions::earlier::{Earlier, Keys};
+use manifest_lints_questions::may_ask;
+use manifest_lints_standings::facts::{Facts, facts_in};
+use manifest_lints_standings::standing::is_unknown_target;
 use manifest_tables::TargetKey;
 use std::alloc::{AllocError, Global};
-
-/// Of a condition with more open names and keys it is not asked whether it holds nowhere or everywhere.
-const MANY: usize = 4096;
 
 /// A key, and what it spells.
 #[derive(Drop)]
@@ -66,19 +59,6 @@ pub struct Seen<'a> {
     pub canonical: String,
 }
 
-/// A condition, with what the messages on it tell.
-#[derive(Drop)]
-pub struct Spelling<'a> {
-    /// The condition.
-    pub platform: &'a Platform,
-    /// Its facts.
-    pub facts: Facts<'a>,
-    /// Its canonical form.
-    pub canonical: String,
-    /// The earlier key that is the same or as true.
-    pub other: &'a str,
-}
-
 /// What a key spells.
 #[derive(Drop)]
 pub enum Matter<'a> {
@@ -103,16 +83,6 @@ pub struct Subject<'a> {
     pub matter: Matter<'a>,
 }
 
-/// Whether a condition is the name of a target that is not known.
-fn is_unknown_target(platform: &Platform) -> bool
-    ensures { IsTrue result ↔ IsUnknownTarget (condition_of platform.now) }
-{
-    match platform {
-        Platform::Name(name) => KnownTarget::by_name(name.as_str()).is_none(),
-        Platform::Cfg(_) => false,
-    }
-}
-
 /// The canonical form of a condition.
 fn canonical(alloc: Global, platform: &Platform) -> Result<String, AllocError>
     ensures { IfOk result (λ s. string_bytes s ≡ print_condition (condition_of platform.now)) }
@@ -120,62 +90,11 @@ fn canonical(alloc: Global, platform: &Platform) -> Result<String, AllocError>
     format!(in alloc; "{platform}")
 }
 
-/// Whether a condition holds at no and whether at every known target, whatever is open; of too many open names and keys
-/// it is not asked.
-fn places(
-    alloc: Global,
-    platform: &Platform,
-    open_keys: &[&str],
-) -> Result<(bool, bool), AllocError>
-    ensures nowhere { IfOk result (λ h. IsTrue h.0 → IsNowhere (names_of open_keys.now) (condition_of platform.now)) }
-    ensures everywhere { IfOk result
-        (λ h. IsTrue h.1 → IsEverywhere (names_of open_keys.now) (condition_of platform.now)) }
-    ensures all { length open_keys.now ≤ MANY → IfOk result
-        (λ h. (IsNowhere (names_of open_keys.now) (condition_of platform.now) → IsTrue h.0)
-        × (IsEverywhere (names_of open_keys.now) (condition_of platform.now) → IsTrue h.1)) }
-{
-    if open_keys.len() > MANY {
-        return Ok((false, false));
-    }
-    let nowhere = is_nowhere(alloc, platform, open_keys)?;
-    let everywhere = is_everywhere(alloc, platform, open_keys)?;
-    Ok((nowhere, everywhere))
-}
-
-/// Whether a condition is never and whether it is always true, and whether something of that is not known.
-#[tactic(auto, using(crate::proofs::Verdicts::verdicts))]
-fn asked<'a>(
-    alloc: Global,
-    platform: &'a Platform,
-    known: &'a Known<'a>,
-    budget: u64,
-    may_ask: bool,
-) -> Result<(bool, bool, bool), AllocError>
-    ensures never { IfOk result (λ h. IsTrue h.0 → IsNever known.now (condition_of platform.now)) }
-    ensures always { IfOk result (λ h. IsTrue h.1 → IsAlways known.now (condition_of platform.now)) }
-    ensures can_hold { IfOk result (λ h. h.0 ≡ false → h.2 ≡ false → CanHold known.now (condition_of platform.now)) }
-    ensures can_fail { IfOk result (λ h. h.1 ≡ false → h.2 ≡ false → CanFail known.now (condition_of platform.now)) }
-{
-    if !may_ask {
-        return Ok((false, false, true));
-    }
-    let (never, always) = settled(alloc, platform, known, budget)?;
-    let unknown = either(is_unknown(never), is_unknown(always));
-    Ok((is_yes(never), is_yes(always), unknown))
-}
-
 /// Whether the text is not the other one.
 fn is_other_text(text: &str, other: &str) -> bool
     ensures { IsTrue result ↔ (text.now ≡ other.now → ⊥) }
 {
     text != other
-}
-
-/// Whether one of two things is so.
-fn either(first: bool, second: bool) -> bool
-    ensures { result ≡ (first || second) }
-{
-    first || second
 }
 
 /// What there is to find of a condition by itself.

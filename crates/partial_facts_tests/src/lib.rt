@@ -1,23 +1,11 @@
-//! Callers of `partial_facts`, proved, and its tests, over its public calls alone. They stand in a crate of their own,
-//! so that the library is proved once and not once more with its tests.
+//! Callers of `partial_facts`, proved, and their tests. They stand in a crate of their own, so that the library is proved
+//! once and not once more with them. The tests of the library are rows of `test_answers`.
 #![tactic(auto)]
 
 pub mod audit;
-#[cfg(test)]
-mod completions;
-#[cfg(test)]
-mod deep;
 pub mod flags;
-#[cfg(test)]
-mod one_valued;
 pub mod planner;
-#[cfg(test)]
-mod residuals;
-#[cfg(test)]
-mod sizes;
 pub mod steps;
-#[cfg(test)]
-mod stepwise;
-#[cfg(test)]
-mod support;
 pub mod targets;
+#[cfg(test)]
+mod tests;

@@ -1,5 +1,5 @@
-use Rattle.manifest_lints.specs.Hiding.{is_told}
-use Rattle.manifest_lints.specs.declared.linting.TheConstants.{CODES}
+use Rattle.manifest_lints_findings.specs.Hiding.{is_told}
+use Rattle.manifest_lints_findings.specs.declared.findings.TheConstants.{CODES}
 use Rattle.manifest_lints.proofs.Reports.{one_code}
 use Rattle.manifest_lints.proofs.linting.add_findings.Goals as goal
 

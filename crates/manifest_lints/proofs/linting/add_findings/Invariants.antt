@@ -1,8 +1,8 @@
 use Rattle.std.proofs.Common.{◌≡◌, ◌++◌, map, take, Some}
 use Rattle.std.specs.List.{filter}
-use Rattle.manifest_lints.specs.Hiding.{is_told}
-use Rattle.manifest_lints.specs.Reports.{marks}
-use Rattle.manifest_lints.specs.declared.linting.TheConstants.{CODES}
+use Rattle.manifest_lints_findings.specs.Hiding.{is_told}
+use Rattle.manifest_lints_findings.specs.Marks.{marks}
+use Rattle.manifest_lints_findings.specs.declared.findings.TheConstants.{CODES}
 use Rattle.manifest_lints.proofs.linting.add_findings.Given as goal
 
 abbrev pub invariant-codes : goal.invariant-codes

@@ -6,11 +6,12 @@ use Rattle.cargo_platform.specs.Trees.{tree_of}
 use Rattle.exact_answers.specs.declared.known.Known.{Known}
 use Rattle.exact_answers.specs.Families.{KeepsFamilyRule}
 use Rattle.partial_facts.specs.declared.one_valued.TheConstants.{ONE_VALUED}
-use Rattle.manifest_lints.specs.declared.findings.Report.{Report}
+use Rattle.manifest_lints_findings.specs.declared.findings.Report.{Report}
 use Rattle.toml.specs.Data.{Members}
 use Rattle.toml.specs.View.{table_view}
 use Rattle.declared_cfgs.specs.Declarations.{DeclaredEntry, IsDeclaredBy}
-use Rattle.manifest_lints.specs.Reports.{Entry, IsRead, entry_of, AreFindings, AreFindingsOn, marks}
+use Rattle.manifest_lints.specs.Reports.{Entry, IsRead, entry_of, AreFindings, AreFindingsOn}
+use Rattle.manifest_lints_findings.specs.Marks.{marks}
 use Rattle.manifest_lints.proofs.Rustcs.{allows_rustcs}
 use Rattle.manifest_lints.proofs.linting.lint.Goals as goal
 

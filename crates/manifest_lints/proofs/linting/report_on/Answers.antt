@@ -1,10 +1,11 @@
 use Rattle.std.proofs.Common.{◌≡◌, ◌∙◌, sym, ap, subst, ℕ, List, [], ◌∷◌, ◌++◌, take, map}
 use Rattle.exact_answers.specs.declared.known.Known.{Known}
-use Rattle.manifest_lints.specs.declared.findings.Finding.{Finding}
+use Rattle.manifest_lints_findings.specs.declared.findings.Finding.{Finding}
 use Rattle.manifest_lints.specs.declared.subjects.Read.{Read}
 use Rattle.declared_cfgs.specs.Declarations.{DeclaredEntry, declarations_of}
 use Rattle.manifest_lints.specs.Sames.{AreNoted, TellsSame, AreMembers, TellsEquivalent}
-use Rattle.manifest_lints.specs.Reports.{AreFindingsOn, on_none, IsFoundOf, IsRead, marks, told_marks, left_open}
+use Rattle.manifest_lints.specs.Reports.{AreFindingsOn, on_none, IsFoundOf, IsRead, told_marks, left_open}
+use Rattle.manifest_lints_findings.specs.Marks.{marks}
 use Rattle.manifest_lints.proofs.MoreSames.{none_noted}
 use Rattle.manifest_lints.proofs.MoreEquivalents.{no_members}
 use Rattle.manifest_lints.proofs.Reports.{one_more, next_entries, read_entry}

@@ -2,7 +2,8 @@ use Rattle.std.proofs.Common.{map, take}
 use Rattle.std.specs.List.{All}
 use Rattle.manifest_lints.specs.Sames.{AreNoted, AreMembers}
 use Rattle.declared_cfgs.specs.Declarations.{declarations_of}
-use Rattle.manifest_lints.specs.Reports.{AreFindingsOn, IsRead, entry_of, marks}
+use Rattle.manifest_lints.specs.Reports.{AreFindingsOn, IsRead, entry_of}
+use Rattle.manifest_lints_findings.specs.Marks.{marks}
 use Rattle.manifest_lints.proofs.linting.report_on.Given as goal
 
 abbrev pub invariant-keys : goal.invariant-keys

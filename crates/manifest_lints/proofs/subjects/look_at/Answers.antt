@@ -1,9 +1,9 @@
 use Rattle.std.proofs.Common.{◌≡◌, ◌∙◌, ◌↔◌, ◌≤◌, IsTrue, refl, sym, subst}
 use Rattle.std.proofs.lemmas.List.{length-map}
-use Rattle.manifest_lints.specs.declared.subjects.TheConstants.{MANY}
+use Rattle.manifest_lints_questions.specs.declared.deciding.TheConstants.{MANY}
 use Rattle.cargo_platform.specs.Trees.{condition_of}
 use Rattle.cargo_platform.specs.Warnings.{condition_values}
-use Rattle.manifest_lints.specs.Standings.{AreOpen}
+use Rattle.manifest_lints_standings.specs.Standings.{AreOpen}
 use Rattle.partial_facts.specs.Partly.{names_of}
 use Rattle.manifest_lints.proofs.Found.{left_false}
 use Rattle.manifest_lints.proofs.subjects.look_at.Goals as goal

@@ -3,8 +3,9 @@ use Rattle.std.specs.Borrow.{Bor}
 use Rattle.cargo_platform.specs.declared.Platform.{Platform}
 use Rattle.cargo_platform.specs.Trees.{condition_of}
 use Rattle.cargo_platform.specs.Platforms.{IsConditionText}
-use Rattle.manifest_lints.specs.declared.spelled.Spelled.{Spelled}
-use Rattle.manifest_lints.specs.Reports.{IsSpelledAs, SpellsNothing, entry_of}
+use Rattle.manifest_lints_findings.specs.declared.spelled.Spelled.{Spelled}
+use Rattle.manifest_lints_findings.specs.Spells.{IsSpelledAs, SpellsNothing}
+use Rattle.manifest_lints.specs.Reports.{entry_of}
 use Rattle.manifest_lints.proofs.MoreSames.{one_noted, tells_same, none_more, tells_none}
 use Rattle.manifest_lints.proofs.MoreEquivalents.{one_member, tells_equivalent, more_members}
 use Rattle.manifest_lints.proofs.subjects.subject_of.Goals as goal

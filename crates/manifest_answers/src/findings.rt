@@ -1,0 +1,294 @@
+//! Findings on the keys of a manifest, as they are printed.
+
+use cargo_platform::shown_start;
+use key_answers::answer::Status;
+use key_answers::printing::{push_indented, push_json, put, put_text, text_value};
+use manifest_files::lines::{Appearance, Lines};
+use manifest_lints_findings::{Finding, Level, Report};
+use manifest_tables::TargetKey;
+use serde_json::{Map, Value, json};
+use std::alloc::{AllocError, Global};
+use std::ops::Range;
+
+/// How findings are printed.
+#[derive(Clone, Copy, Drop)]
+pub struct Style {
+    /// One object a line.
+    pub json: bool,
+    /// Words for levels have colours.
+    pub colours: bool,
+    /// Notes count for the status too.
+    pub deny_notes: bool,
+}
+
+/// A key, and where it first appears.
+pub type Placed<'a> = (TargetKey<'a>, Option<Appearance>);
+
+/// The keys in the order in which they first appear; those whose line is not certain stand after the others.
+pub fn in_order<'a>(
+    alloc: Global,
+    keys: &[TargetKey<'a>],
+    lines: &Lines,
+) -> Result<Vec<Placed<'a>>, AllocError> {
+    let mut placed = Vec::new(alloc);
+    for key in keys {
+        placed.push((*key, lines.of_key(key.key)))?;
+    }
+    placed.sort_by_key(|key| match key.1 {
+        Some(appearance) => appearance.place,
+        None => usize::MAX,
+    })?;
+    Ok(placed)
+}
+
+/// The word for a level, in colours where these are wanted.
+fn level_word(alloc: Global, level: Level, style: Style) -> Result<String, AllocError> {
+    let word = level.word();
+    if !style.colours {
+        return String::from_str(alloc, word);
+    }
+    let colour = match level {
+        Level::Error => "31",
+        Level::Warning => "33",
+        Level::Note => "36",
+    };
+    format!(in alloc; "\x1b[{colour}m{word}\x1b[0m")
+}
+
+/// Where a finding is.
+#[derive(Clone, Copy, Drop)]
+pub struct Place<'a> {
+    path: &'a str,
+    /// The key that it is on, if it is on one.
+    key: Option<&'a str>,
+    /// The line, where it is certain.
+    line: Option<usize>,
+}
+
+/// The place of a finding among the keys.
+pub fn place_of<'a>(
+    path: &'a str,
+    keys: &[Placed<'a>],
+    lines: &Lines,
+    finding: &Finding,
+) -> Place<'a> {
+    match key_of(keys, finding) {
+        Some((key, appearance)) => Place {
+            path,
+            key: Some(key.key),
+            line: appearance.map(|appearance| appearance.line),
+        },
+        None => Place {
+            path,
+            key: None,
+            line: lines.target,
+        },
+    }
+}
+
+/// Appends the path, and the line where it is certain.
+fn push_place(text: &mut String, alloc: Global, place: &Place<'_>) -> Result<(), AllocError> {
+    text.push_str(place.path)?;
+    match place.line {
+        Some(line) => {
+            let line = format!(in alloc; ":{line}")?;
+            text.push_str(line.as_str())
+        }
+        None => Ok(()),
+    }
+}
+
+/// Appends the level, the code, and `target` with the key.
+fn push_code(
+    text: &mut String,
+    alloc: Global,
+    key: Option<&str>,
+    finding: &Finding,
+    style: Style,
+) -> Result<(), AllocError> {
+    let level = level_word(alloc, finding.level, style)?;
+    let code = finding.code.word();
+    let head = format!(in alloc; ": {level}[{code}]: target")?;
+    text.push_str(head.as_str())?;
+    match key {
+        Some(key) => {
+            let key = shown_start(alloc, key)?;
+            let key = format!(in alloc; ".'{key}'")?;
+            text.push_str(key.as_str())
+        }
+        None => Ok(()),
+    }
+}
+
+/// Appends the lines of a finding.
+fn push_lines(
+    text: &mut String,
+    alloc: Global,
+    place: &Place<'_>,
+    finding: &Finding,
+    style: Style,
+) -> Result<(), AllocError> {
+    push_place(text, alloc, place)?;
+    push_code(text, alloc, place.key, finding, style)?;
+    text.push_str(": ")?;
+    text.push_str(finding.message.as_str())?;
+    text.push_str("\n")?;
+    match &finding.snippet {
+        Some(snippet) => push_indented(text, snippet.as_str()),
+        None => Ok(()),
+    }
+}
+
+/// A number, or null.
+fn number_value(alloc: Global, number: Option<usize>) -> Result<Value, AllocError> {
+    match number {
+        Some(number) => json!(in alloc; number),
+        None => Ok(Value::Null),
+    }
+}
+
+/// The beginning and the end of a span, or null.
+fn span_value(alloc: Global, span: &Option<Range<usize>>) -> Result<Value, AllocError> {
+    match span {
+        Some(span) => {
+            let start = span.start;
+            let end = span.end;
+            json!(in alloc; [start, end])
+        }
+        None => Ok(Value::Null),
+    }
+}
+
+/// Adds the words of a finding.
+fn put_words(
+    object: &mut Map<String, Value>,
+    alloc: Global,
+    finding: &Finding,
+) -> Result<(), AllocError> {
+    put_text(object, alloc, "level", finding.level.word())?;
+    put_text(object, alloc, "code", finding.code.word())?;
+    put_text(object, alloc, "message", finding.message.as_str())
+}
+
+/// Adds where a finding is, and what may stand in the key's place.
+fn put_place(
+    object: &mut Map<String, Value>,
+    alloc: Global,
+    place: &Place<'_>,
+    finding: &Finding,
+) -> Result<(), AllocError> {
+    put_text(object, alloc, "manifest", place.path)?;
+    put(object, alloc, "line", number_value(alloc, place.line)?)?;
+    put(object, alloc, "key", text_value(alloc, place.key)?)?;
+    put(object, alloc, "span", span_value(alloc, &finding.span)?)?;
+    let suggestion = finding
+        .suggestion
+        .as_ref()
+        .map(|text: &String| text.as_str());
+    put(object, alloc, "suggestion", text_value(alloc, suggestion)?)
+}
+
+/// Appends the object of a finding, on a line of its own.
+fn push_object(
+    text: &mut String,
+    alloc: Global,
+    place: &Place<'_>,
+    finding: &Finding,
+) -> Result<(), AllocError> {
+    let mut object = Map::new(alloc);
+    put_place(&mut object, alloc, place, finding)?;
+    put_words(&mut object, alloc, finding)?;
+    push_json(text, alloc, &Value::Object(object))
+}
+
+/// How many findings there are of each level.
+#[derive(Clone, Copy, Drop)]
+pub struct Counts {
+    errors: usize,
+    warnings: usize,
+    notes: usize,
+}
+
+impl Counts {
+    /// None.
+    pub fn none() -> Counts {
+        Counts {
+            errors: 0,
+            warnings: 0,
+            notes: 0,
+        }
+    }
+
+    /// One more of this level.
+    pub fn add(&mut self, level: Level) {
+        match level {
+            Level::Error => self.errors = self.errors.saturating_add(1),
+            Level::Warning => self.warnings = self.warnings.saturating_add(1),
+            Level::Note => self.notes = self.notes.saturating_add(1),
+        }
+    }
+
+    /// The last line, which sums up.
+    pub fn line(self, alloc: Global) -> Result<String, AllocError> {
+        let Counts {
+            errors,
+            warnings,
+            notes,
+        } = self;
+        format!(in alloc; "{errors} errors, {warnings} warnings, {notes} notes\n")
+    }
+}
+
+/// The status by a level that is found.
+pub fn status_of(level: Level, style: Style) -> Status {
+    match level {
+        Level::Error | Level::Warning => Status::Found,
+        Level::Note => {
+            if style.deny_notes {
+                Status::Found
+            } else {
+                Status::Fine
+            }
+        }
+    }
+}
+
+/// What is told of the keys that are not decided.
+pub fn push_undecided(
+    errors: &mut String,
+    alloc: Global,
+    path: &str,
+    keys: &[Placed<'_>],
+    report: &Report,
+) -> Result<(), AllocError> {
+    for index in &report.undecided {
+        if let Some((key, _)) = keys.get(*index) {
+            let key = shown_start(alloc, key.key)?;
+            let note = format!(in alloc;
+                "{path}: note: target.'{key}': whether it is always, never or equivalent takes too many splits\n"
+            )?;
+            errors.push_str(note.as_str())?;
+        }
+    }
+    Ok(())
+}
+
+/// The key that the finding is on, if it is on one.
+fn key_of<'k, 'a>(keys: &'k [Placed<'a>], finding: &Finding) -> Option<&'k Placed<'a>> {
+    keys.get(finding.key?)
+}
+
+/// Appends what is printed of a finding.
+pub fn push_finding(
+    text: &mut String,
+    alloc: Global,
+    place: &Place<'_>,
+    finding: &Finding,
+    style: Style,
+) -> Result<(), AllocError> {
+    if style.json {
+        push_object(text, alloc, place, finding)
+    } else {
+        push_lines(text, alloc, place, finding, style)
+    }
+}

@@ -1,0 +1,4 @@
+pub mod NoTables
+pub mod Spells
+pub mod Hiding
+pub mod Marks

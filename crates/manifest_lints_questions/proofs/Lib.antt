@@ -1,0 +1,3 @@
+pub mod Verdicts
+pub mod Tried
+pub mod Noting

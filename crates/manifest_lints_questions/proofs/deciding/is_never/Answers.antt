@@ -1,0 +1,23 @@
+use Rattle.std.proofs.Common.{subst, [], ◌∷◌}
+use Rattle.cargo_platform.specs.Trees.{condition_of}
+use Rattle.cargo_platform.specs.Facts.{IsTrueCondition}
+use Rattle.exact_answers.specs.declared.platforms.CanSelect.{CanSelect}
+use Rattle.exact_answers.specs.Targets.{SaysCanSelect}
+use Rattle.manifest_lints_questions.specs.Truths.{SaysNever}
+use Rattle.manifest_lints_questions.proofs.Verdicts.{as_ok, can_hold}
+use Rattle.manifest_lints_questions.proofs.deciding.is_never.Goals as goal
+use Rattle.manifest_lints_questions.proofs.deciding.is_never.Goals.{in-No, in-Yes, in-Undecided}
+
+pub returns : goal.returns
+returns c =
+    let k = c.args.known.now in
+    let p = condition_of c.args.platform.now in
+    let says : CanSelect → Type 0 = λ a. SaysCanSelect a k (p ∷ []) c.args.budget (λ name s. IsTrueCondition name s p)
+    (λ name s. IsTrueCondition name s p → ⊥) in
+    elim c.match-branch-2.branch [
+      | in-No w ↦ as_ok (λ d. SaysNever d k p) _ _ w.result-is (subst says w.in-No.is c.in_ok-can_hold_platform.ensures)
+      | in-Yes w ↦
+          as_ok (λ d. SaysNever d k p) _ _ w.result-is
+          (can_hold k p w.in-Yes.field-0 (subst says w.in-Yes.is c.in_ok-can_hold_platform.ensures))
+      | in-Undecided w ↦ as_ok (λ d. SaysNever d k p) _ _ w.result-is w.never_tried.ensures
+    ]

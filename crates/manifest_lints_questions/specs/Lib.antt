@@ -1,0 +1,3 @@
+pub mod Truths
+pub mod Doubled
+pub mod Earlier

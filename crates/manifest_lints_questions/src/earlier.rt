@@ -1,0 +1,175 @@
+//! How a key stands to those before it: the same condition, or one that is as true.
+
+ghost use Rattle.std.specs.Prelude.{◌≡◌, ◌↔◌, false, None, [], IfOk, OnOk, IsTrue, IsSome};
+ghost use Rattle.std.specs.Borrow.{Bor};
+ghost use Rattle.cargo_platform.specs.declared.Platform.{Platform as Shown};
+ghost use Rattle.cargo_platform.specs.Trees.{condition_of};
+ghost use Rattle.manifest_lints_questions.specs.Earlier.{is_same, is_equivalent, noted, Notes, AddsMember};
+ghost use Rattle.manifest_lints_questions.specs.Earlier.{HasEquivalentMember};
+
+use cargo_platform::{CfgExpr, Platform};
+use exact_answers::{Known, MustSelect, equivalent_platform};
+use known_targets::matching;
+use manifest_lints_samples::truths;
+use std::alloc::{AllocError, Global};
+use std::collections::BTreeMap;
+
+/// So many keys of its class a key is compared with at most.
+const MOST: usize = 64;
+
+/// What is known of an earlier key.
+#[derive(Clone, Copy, Debug, PartialEq, Eq, Drop)]
+pub enum Earlier {
+    /// None is the same or as true.
+    Unlike,
+    /// This one is the same.
+    Same(usize),
+    /// This one is as true.
+    Equivalent(usize),
+    /// It is not known whether one is as true.
+    Undecided,
+}
+
+impl Earlier {
+    /// Whether an earlier key is the same.
+    pub fn is_same(self) -> bool
+        ensures { result ≡ is_same self }
+    {
+        matches!(self, Earlier::Same(_))
+    }
+
+    /// Whether an earlier key is as true.
+    pub fn is_equivalent(self) -> bool
+        ensures { result ≡ is_equivalent self }
+    {
+        matches!(self, Earlier::Equivalent(_))
+    }
+}
+
+/// What equivalent conditions share: their truths at the known targets and over the sets of facts that are tried.
+type Class = [u64; 6];
+
+/// Keys in their order, each with what its class has.
+#[derive(Drop)]
+pub struct Keys<'a> {
+    seen: BTreeMap<&'a Platform, usize>,
+    // The conditions that are compared with later ones, and the places of their keys.
+    members: Vec<(usize, &'a Platform)>,
+    // Where among them those of a class stand.
+    classes: BTreeMap<Class, Vec<usize>>,
+}
+
+impl<'a> Keys<'a> {
+    /// No keys.
+    pub fn new(alloc: Global) -> Keys<'a>
+        ensures none { (q : Bor Shown) → noted result q ≡ None }
+        ensures no_members { result.members.items ≡ [] }
+    {
+        Keys {
+            seen: BTreeMap::new(alloc),
+            members: Vec::new(alloc),
+            classes: BTreeMap::new(alloc),
+        }
+    }
+
+    /// Adds a key at a place after those that were added, and tells how it stands to them. Where `may_ask` is false
+    /// it is not asked what is as true.
+    pub fn add(
+        &mut self,
+        alloc: Global,
+        index: usize,
+        platform: &'a Platform,
+        known: &'a Known<'a>,
+        budget: u64,
+        may_ask: bool,
+    ) -> Result<Earlier, AllocError>
+        ensures same { IfOk result (λ r. IsTrue (is_same r) ↔ IsSome (noted self.old platform.entry)) }
+        ensures equivalent { IfOk result (λ r. IsTrue (is_equivalent r)
+            → HasEquivalentMember known.now self.old (condition_of platform.entry.now)) }
+        ensures notes { OnOk result (Notes self.old self.new platform.entry) }
+        ensures members { OnOk result (AddsMember self.old self.new index platform.entry) }
+    {
+        match self.note(index, platform)? {
+            Some(first) => Ok(Earlier::Same(first)),
+            None => self.compare(alloc, index, platform, known, budget, may_ask),
+        }
+    }
+
+    /// Notes a condition, and answers the place of the same one where there is one.
+    fn note(&mut self, index: usize, platform: &'a Platform) -> Result<Option<usize>, AllocError>
+        ensures first { IfOk result (λ first. first ≡ noted self.old platform.entry) }
+        ensures notes { OnOk result (Notes self.old self.new platform.entry) }
+        ensures members { OnOk result (self.new.members.items ≡ self.old.members.items) }
+    {
+        if let Some(first) = self.seen.get(&platform) {
+            return Ok(Some(*first));
+        }
+        let _none = self.seen.insert(platform, index)?;
+        Ok(None)
+    }
+
+    /// Compares a condition with those of its class.
+    fn compare(
+        &mut self,
+        alloc: Global,
+        index: usize,
+        platform: &'a Platform,
+        known: &'a Known<'a>,
+        budget: u64,
+        may_ask: bool,
+    ) -> Result<Earlier, AllocError>
+        ensures other { IfOk result (λ r. is_same r ≡ false) }
+        ensures equivalent { IfOk result (λ r. IsTrue (is_equivalent r)
+            → HasEquivalentMember known.now self.old (condition_of platform.entry.now)) }
+        ensures noted { OnOk result ((q : Bor Shown) → noted self.new q ≡ noted self.old q) }
+        ensures members { OnOk result (AddsMember self.old self.new index platform.entry) }
+    {
+        let Platform::Cfg(e) = platform else {
+            return Ok(Earlier::Unlike);
+        };
+        let class = class_of(alloc, platform, e)?;
+        let Some(others) = self.classes.get(&class) else {
+            let mut places = Vec::new(alloc);
+            places.push(self.members.len())?;
+            let _none = self.classes.insert(class, places)?;
+            self.members.push((index, platform))?;
+            return Ok(Earlier::Unlike);
+        };
+        if !may_ask {
+            return Ok(Earlier::Undecided);
+        }
+        let mut asked: usize = 0;
+        for place in others {
+            if asked == MOST {
+                return Ok(Earlier::Undecided);
+            }
+            asked = asked.saturating_add(1);
+            let Some((first, other)) = self.members.get(*place) else {
+                continue;
+            };
+            match equivalent_platform(alloc, *other, platform, known, budget)? {
+                MustSelect::Yes => return Ok(Earlier::Equivalent(*first)),
+                MustSelect::No(_) => {}
+                MustSelect::Undecided => return Ok(Earlier::Undecided),
+            }
+        }
+        if let Some(others) = self.classes.get_mut(&class) {
+            others.push(self.members.len())?;
+        }
+        self.members.push((index, platform))?;
+        Ok(Earlier::Unlike)
+    }
+}
+
+/// The class of a condition that is no target's name.
+fn class_of(alloc: Global, platform: &Platform, e: &CfgExpr) -> Result<Class, AllocError> {
+    let mut class = [0; 6];
+    for target in matching(alloc, platform)?.iter() {
+        let index = target.index();
+        if let Some(word) = class.get_mut(index / 64) {
+            *word |= 1u64 << (index % 64);
+        }
+    }
+    class[5] = truths(alloc, e)?;
+    Ok(class)
+}

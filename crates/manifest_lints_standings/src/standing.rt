@@ -1,0 +1,246 @@
+//! What a name or pair that a condition asks for is to rustc: one of its own, a mistake, or a custom one.
+
+ghost use Rattle.std.specs.Prelude.{◌≡◌, ◌↔◌, IfOk, IsTrue, is_some};
+ghost use Rattle.std.specs.List.{list_any};
+ghost use Rattle.cargo_platform.specs.Trees.{Alone, KeyPair, value_of, condition_of};
+ghost use Rattle.cargo_platform.specs.Warnings.{is_unsupported_name};
+ghost use Rattle.known_targets.specs.Listed.{is_had};
+ghost use Rattle.partial_facts.specs.Partly.{names_of};
+ghost use Rattle.known_targets.specs.Rows.{plain};
+ghost use Rattle.known_targets.specs.Table.{table_keys};
+ghost use Rattle.manifest_lints_standings.specs.Standings.{has_as_value, is_near_one, is_one_edit_from, sort_of, sort_in};
+ghost use Rattle.manifest_lints_standings.specs.Standings.{sort_of_key};
+ghost use Rattle.manifest_lints_standings.specs.Standings.{sort_of_other, is_unsupported_sort, is_mistaken_sort, is_custom_sort};
+ghost use Rattle.manifest_lints_standings.specs.Standings.{is_open_sort, IsUnknownTarget};
+
+use cargo_platform::{Cfg, Platform};
+use known_targets::{KnownTarget, having};
+use manifest_lints_names::names::{FLAGGED, PLAIN, VALUED, pair};
+use partial_facts::names::is_among;
+use std::alloc::{AllocError, Global};
+use strsim::osa_distance;
+
+/// The keys with one value, and `target_family`, in the order in which a name is looked for among their values.
+const NAMED_BY_VALUE: [&str; 9] = [
+    "target_os",
+    "target_arch",
+    "target_family",
+    "target_env",
+    "target_vendor",
+    "target_abi",
+    "target_endian",
+    "target_pointer_width",
+    "panic",
+];
+
+/// A name of fewer characters is near to none.
+const SHORTEST: usize = 4;
+
+/// What a name or pair is.
+#[derive(Clone, Copy, Debug, PartialEq, Eq, Drop)]
+pub enum Standing {
+    /// rustc sets it at a known target, or flags may make it set it.
+    Rustc,
+    /// Cargo says that it does not select dependencies.
+    Unsupported,
+    /// A value of this key that is used as a name.
+    ValueAsName(&'static str),
+    /// A key that has a value, without one.
+    NoValue,
+    /// A name that has no value, with one.
+    WithValue,
+    /// A value that no known target has of the key.
+    OtherValue,
+    /// A value of the key `target`.
+    TargetKey,
+    /// A name or key that is one edit away from this one of rustc's.
+    Near(&'static str),
+    /// Only `--cfg` sets it.
+    Custom,
+}
+
+impl Standing {
+    /// Whether Cargo warns of it.
+    pub fn is_unsupported(self) -> bool
+        ensures { result ≡ is_unsupported_sort (sort_in self) }
+    {
+        matches!(self, Standing::Unsupported)
+    }
+
+    /// Whether it is taken for one of rustc's, and none.
+    pub fn is_mistake(self) -> bool
+        ensures { result ≡ is_mistaken_sort (sort_in self) }
+    {
+        match self {
+            Standing::ValueAsName(_)
+            | Standing::NoValue
+            | Standing::WithValue
+            | Standing::OtherValue
+            | Standing::TargetKey
+            | Standing::Near(_) => true,
+            Standing::Rustc | Standing::Unsupported | Standing::Custom => false,
+        }
+    }
+
+    /// Whether only `--cfg` sets it.
+    pub fn is_custom(self) -> bool
+        ensures { result ≡ is_custom_sort (sort_in self) }
+    {
+        matches!(self, Standing::Custom)
+    }
+
+    /// Whether it is open what is said of it.
+    pub fn is_open(self) -> bool
+        ensures { result ≡ is_open_sort (sort_in self) }
+    {
+        matches!(self, Standing::Unsupported | Standing::Custom)
+    }
+}
+
+/// Whether some known target has the fact. Raw marks play no part.
+fn is_had(c: &Cfg) -> bool
+    ensures { result ≡ is_had table_keys (value_of c.now) }
+{
+    !having(c).is_empty()
+}
+
+/// Whether some known target has this value of the key.
+pub fn is_value_of(alloc: Global, key: &str, value: &str) -> Result<bool, AllocError>
+    ensures { IfOk result (λ has. has ≡ is_had table_keys (KeyPair (plain key.now) value.now)) }
+{
+    let pair = pair(alloc, key, value)?;
+    Ok(is_had(&pair))
+}
+
+/// The first of the keys of which a known target has this value.
+fn key_of_value(
+    alloc: Global,
+    value: &str,
+    keys: &[&'static str],
+) -> Result<Option<&'static str>, AllocError>
+    ensures { IfOk result (λ key. is_some key ≡ list_any (has_as_value value.now) (names_of keys.now)) }
+{
+    'keys: for key in keys {
+        if is_value_of(alloc, key, value)? {
+            return Ok(Some(*key));
+        }
+    }
+    Ok(None)
+}
+
+/// The first of these that is one edit away.
+fn near(
+    alloc: Global,
+    text: &str,
+    words: &[&'static str],
+) -> Result<Option<&'static str>, AllocError>
+    ensures { IfOk result (λ word. is_some word ≡ list_any (is_one_edit_from text.now) (names_of words.now)) }
+{
+    'words: for word in words {
+        if word.len().abs_diff(text.len()) <= 1 && osa_distance(alloc, text, word)? == 1 {
+            return Ok(Some(*word));
+        }
+    }
+    Ok(None)
+}
+
+/// The first of rustc's names and keys that is one edit away.
+fn near_one(alloc: Global, text: &str) -> Result<Option<&'static str>, AllocError>
+    ensures { IfOk result (λ word. is_some word ≡ is_near_one text.now) }
+{
+    if let Some(word) = near(alloc, text, &PLAIN)? {
+        return Ok(Some(word));
+    }
+    if let Some(word) = near(alloc, text, &FLAGGED)? {
+        return Ok(Some(word));
+    }
+    near(alloc, text, &VALUED)
+}
+
+/// What a name or key is that rustc does not have.
+#[tactic(auto, unfolding(crate::specs::Standings::is_near))]
+fn other(alloc: Global, name: &str) -> Result<Standing, AllocError>
+    ensures { IfOk result (λ s. sort_in s ≡ sort_of_other name.now) }
+{
+    if name.len() < SHORTEST {
+        return Ok(Standing::Custom);
+    }
+    match near_one(alloc, name)? {
+        Some(word) => Ok(Standing::Near(word)),
+        None => Ok(Standing::Custom),
+    }
+}
+
+/// Whether Cargo says of the name that it does not select dependencies.
+fn is_unsupported(name: &str) -> bool
+    ensures { result ≡ is_unsupported_name (plain name.now) }
+{
+    matches!(name, "test" | "debug_assertions" | "proc_macro")
+}
+
+/// What a name alone is.
+fn standing_of_name(alloc: Global, name: &str) -> Result<Standing, AllocError>
+    ensures { IfOk result (λ s. sort_in s ≡ sort_of (Alone (plain name.now))) }
+{
+    if is_unsupported(name) {
+        return Ok(Standing::Unsupported);
+    }
+    if is_among(name, &PLAIN) {
+        return Ok(Standing::Rustc);
+    }
+    if is_among(name, &VALUED) {
+        return Ok(Standing::NoValue);
+    }
+    if is_among(name, &FLAGGED) {
+        return Ok(Standing::Custom);
+    }
+    match key_of_value(alloc, name, &NAMED_BY_VALUE)? {
+        Some(key) => Ok(Standing::ValueAsName(key)),
+        None => other(alloc, name),
+    }
+}
+
+/// What a pair with this key is.
+fn standing_of_pair(alloc: Global, c: &Cfg, key: &str) -> Result<Standing, AllocError>
+    ensures { IfOk result (λ s. sort_in s ≡ sort_of_key key.now (is_had table_keys (value_of c.now))) }
+{
+    if key == "feature" {
+        return Ok(Standing::Unsupported);
+    }
+    if is_among(key, &FLAGGED) {
+        return Ok(Standing::Rustc);
+    }
+    if is_among(key, &VALUED) {
+        if is_had(c) {
+            return Ok(Standing::Rustc);
+        }
+        return Ok(Standing::OtherValue);
+    }
+    if is_among(key, &PLAIN) {
+        return Ok(Standing::WithValue);
+    }
+    if key == "target" {
+        return Ok(Standing::TargetKey);
+    }
+    other(alloc, key)
+}
+
+/// What a name or pair is. Raw marks play no part.
+pub fn standing_of(alloc: Global, c: &Cfg) -> Result<Standing, AllocError>
+    ensures { IfOk result (λ s. sort_in s ≡ sort_of (value_of c.now)) }
+{
+    match c {
+        Cfg::Name(name) => standing_of_name(alloc, name.as_str()),
+        Cfg::KeyPair(key, _) => standing_of_pair(alloc, c, key.as_str()),
+    }
+}
+
+/// Whether a condition is the name of a target that is not known.
+pub fn is_unknown_target(platform: &Platform) -> bool
+    ensures { IsTrue result ↔ IsUnknownTarget (condition_of platform.now) }
+{
+    match platform {
+        Platform::Name(name) => KnownTarget::by_name(name.as_str()).is_none(),
+        Platform::Cfg(_) => false,
+    }
+}

@@ -1,0 +1,29 @@
+//! The rule of families, and the names of the targets at which a condition holds where names and keys are open.
+
+use crate::targets::names;
+use exact_answers::family_rule;
+use known_targets::{certainly_matching, possibly_matching};
+use std::alloc::Global;
+use test_rows::Fault;
+use test_rows::bars::barred;
+use test_rows::fields::Fields;
+use test_rows::forms::printed;
+use test_rows::texts::platform;
+
+pub fn answer(alloc: Global, call: &str, fields: &mut Fields<'_>) -> Result<String, Fault> {
+    match call {
+        "rule" => {
+            let rule = printed(alloc, &family_rule(alloc)?)?;
+            Ok(barred(alloc, &rule)?)
+        }
+        "certain" => {
+            let p = platform(alloc, &fields.text(alloc)?)?;
+            names(alloc, certainly_matching(alloc, &p, &fields.list(alloc)?)?)
+        }
+        "possible" => {
+            let p = platform(alloc, &fields.text(alloc)?)?;
+            names(alloc, possibly_matching(alloc, &p, &fields.list(alloc)?)?)
+        }
+        _ => Err(Fault::Row("there is no such kind")),
+    }
+}

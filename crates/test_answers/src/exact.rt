@@ -1,0 +1,256 @@
+//! Exact answers, each beside what trying all sets of facts gives.
+
+use crate::facts;
+use crate::trying::Question;
+use cargo_platform::{Cfg, CfgExpr, Platform};
+use exact_answers::{
+    CanHold, CanSelect, Known, MustHold, MustSelect, ONE_VALUED, PossibleTarget, always,
+    always_platform, can_be_met, can_hold, can_hold_platform, equivalent, equivalent_platform,
+    exclude, exclude_platform, family_rule, implies, implies_platform,
+};
+use std::alloc::{AllocError, Global};
+use test_rows::Fault;
+use test_rows::fields::Fields;
+use test_rows::forms::{self, word};
+use test_rows::texts::{platform, spelled};
+
+/// What is known of a target, as a setting has it: facts, complete names, keys with one value, and what is assumed.
+#[derive(Drop)]
+struct Held<'a> {
+    facts: Vec<Cfg>,
+    complete: Vec<&'a str>,
+    single: Vec<&'a str>,
+    assumed: CfgExpr,
+}
+
+/// The keys with one value: those that are named, where `rustc` stands for those of rustc.
+fn keys<'a>(alloc: Global, words: &[&'a str]) -> Result<Vec<&'a str>, Fault> {
+    let mut keys = Vec::new(alloc);
+    for word in words {
+        if *word != "rustc" {
+            keys.push(*word).map_err(AllocError::from)?;
+            continue;
+        }
+        for key in ONE_VALUED {
+            keys.push(*key).map_err(AllocError::from)?;
+        }
+    }
+    Ok(keys)
+}
+
+/// What is set under a name.
+fn set_under<'a>(alloc: Global, fields: &mut Fields<'a>) -> Result<Held<'a>, Fault> {
+    let name = fields.need()?;
+    let Some(mut set) = fields.set(name) else {
+        return Err(Fault::Row("nothing is set under this name"));
+    };
+    let facts = facts::values(alloc, &mut set)?;
+    let complete = set.list(alloc)?;
+    let single = keys(alloc, &set.list(alloc)?)?;
+    let assumed = match set.word() {
+        None => CfgExpr::True,
+        Some("family") => family_rule(alloc)?,
+        Some(word) => spelled(alloc, &test_rows::bars::text_of(alloc, word)?)?,
+    };
+    Ok(Held {
+        facts,
+        complete,
+        single,
+        assumed,
+    })
+}
+
+/// The kind of the question, and behind a `.` how it is asked and told.
+pub fn answer(alloc: Global, call: &str, fields: &mut Fields<'_>) -> Result<String, Fault> {
+    let (kind, more) = call.split_once('.').unwrap_or((call, ""));
+    let budget = if more == "within" {
+        fields.number()?
+    } else {
+        1000
+    };
+    let held = set_under(alloc, fields)?;
+    let known = Known {
+        facts: &held.facts,
+        complete: &held.complete,
+        single: &held.single,
+        assumed: &held.assumed,
+    };
+    let of_keys = matches!(more, "key" | "target");
+    let question = question(alloc, kind, of_keys, fields)?;
+    if more == "least" {
+        return least(alloc, &question, &known);
+    }
+    let found = if of_keys {
+        of_targets(alloc, &question, &known)?
+    } else {
+        of_facts(alloc, &question, &known, budget)?
+    };
+    judged(alloc, &question, &known, &found, more)
+}
+
+/// Expressions are asked as conditions, but by the calls for expressions.
+fn question<'a>(
+    alloc: Global,
+    kind: &'a str,
+    of_keys: bool,
+    fields: &mut Fields<'_>,
+) -> Result<Question<'a>, Fault> {
+    let counted = match kind {
+        "met" => 0,
+        "can" | "always" => 1,
+        "implies" | "exclude" | "same" => 2,
+        _ => return Err(Fault::Row("there is no such question")),
+    };
+    let first = condition(alloc, counted > 0, of_keys, fields)?;
+    let second = condition(alloc, counted > 1, of_keys, fields)?;
+    Ok(Question {
+        kind,
+        first,
+        second,
+    })
+}
+
+fn condition(
+    alloc: Global,
+    is_there: bool,
+    of_keys: bool,
+    fields: &mut Fields<'_>,
+) -> Result<Platform, Fault> {
+    if !is_there {
+        return Ok(Platform::Cfg(CfgExpr::True));
+    }
+    let text = fields.text(alloc)?;
+    if of_keys {
+        return platform(alloc, &text);
+    }
+    Ok(Platform::Cfg(spelled(alloc, &text)?))
+}
+
+/// Whether a target was found that is an example, or a counterexample.
+#[derive(Drop)]
+enum Found {
+    Target(PossibleTarget),
+    None,
+    Undecided,
+}
+
+fn of_facts(
+    alloc: Global,
+    question: &Question<'_>,
+    known: &Known<'_>,
+    budget: u64,
+) -> Result<Found, Fault> {
+    let (Platform::Cfg(a), Platform::Cfg(b)) = (&question.first, &question.second) else {
+        return Err(Fault::Row("the question is on expressions"));
+    };
+    match question.kind {
+        "can" => Ok(example(can_hold(alloc, a, known, budget)?)),
+        "met" => Ok(example(can_be_met(alloc, known, budget)?)),
+        "always" => Ok(counterexample(always(alloc, a, known, budget)?)),
+        "implies" => Ok(counterexample(implies(alloc, a, b, known, budget)?)),
+        "exclude" => Ok(counterexample(exclude(alloc, a, b, known, budget)?)),
+        _ => Ok(counterexample(equivalent(alloc, a, b, known, budget)?)),
+    }
+}
+
+fn with_facts(facts: Vec<Cfg>) -> Found {
+    Found::Target(PossibleTarget { name: None, facts })
+}
+
+fn example(answer: CanHold) -> Found {
+    match answer {
+        CanHold::Yes(facts) => with_facts(facts),
+        CanHold::No => Found::None,
+        CanHold::Undecided => Found::Undecided,
+    }
+}
+
+fn counterexample(answer: MustHold) -> Found {
+    match answer {
+        MustHold::Yes => Found::None,
+        MustHold::No(facts) => with_facts(facts),
+        MustHold::Undecided => Found::Undecided,
+    }
+}
+
+fn of_targets(alloc: Global, question: &Question<'_>, known: &Known<'_>) -> Result<Found, Fault> {
+    let (a, b) = (&question.first, &question.second);
+    let answer = match question.kind {
+        "can" => {
+            return match can_hold_platform(alloc, a, known, 1000)? {
+                CanSelect::Yes(target) => Ok(Found::Target(target)),
+                CanSelect::No => Ok(Found::None),
+                CanSelect::Undecided => Ok(Found::Undecided),
+            };
+        }
+        "always" => always_platform(alloc, a, known, 1000)?,
+        "implies" => implies_platform(alloc, a, b, known, 1000)?,
+        "exclude" => exclude_platform(alloc, a, b, known, 1000)?,
+        _ => equivalent_platform(alloc, a, b, known, 1000)?,
+    };
+    match answer {
+        MustSelect::Yes => Ok(Found::None),
+        MustSelect::No(target) => Ok(Found::Target(target)),
+        MustSelect::Undecided => Ok(Found::Undecided),
+    }
+}
+
+/// The answer, where trying all names and sets gives the same, and the target is one that is possible and sought.
+fn judged(
+    alloc: Global,
+    question: &Question<'_>,
+    known: &Known<'_>,
+    found: &Found,
+    more: &str,
+) -> Result<String, Fault> {
+    let is_right = match found {
+        Found::Target(target) => { question.is_found(known, target.name.as_deref(), &target.facts) }
+        Found::None => !question.is_met(alloc, known)?,
+        Found::Undecided => true,
+    };
+    if is_right {
+        return told(alloc, question.kind, found, more);
+    }
+    Ok(word(alloc, "trying all sets says otherwise")?)
+}
+
+fn told(alloc: Global, kind: &str, found: &Found, more: &str) -> Result<String, Fault> {
+    let is_example = matches!(kind, "can" | "met");
+    match found {
+        Found::Target(target) => match more {
+            "set" => Ok(forms::values(alloc, &target.facts)?),
+            "target" => shown(alloc, target),
+            _ => Ok(forms::yes(alloc, is_example)?),
+        },
+        Found::None => Ok(forms::yes(alloc, !is_example)?),
+        Found::Undecided => Ok(word(alloc, "undecided")?),
+    }
+}
+
+/// The name, or `-`, and the facts of the target.
+fn shown(alloc: Global, target: &PossibleTarget) -> Result<String, Fault> {
+    let facts = forms::values(alloc, &target.facts)?;
+    match &target.name {
+        Some(name) => Ok(format!(in alloc; "{name} {facts}")?),
+        None => Ok(format!(in alloc; "- {facts}")?),
+    }
+}
+
+/// The least budget that decides the question, and the answer, which the next ones give too.
+fn least(alloc: Global, question: &Question<'_>, known: &Known<'_>) -> Result<String, Fault> {
+    let mut before = word(alloc, "undecided")?;
+    let mut least = 0u64;
+    for budget in 0..20u64 {
+        let found = of_facts(alloc, question, known, budget)?;
+        let answer = judged(alloc, question, known, &found, "")?;
+        if answer == before {
+            continue;
+        }
+        if before.as_str() != "undecided" {
+            return Ok(format!(in alloc; "{before}, but {answer} within {budget}")?);
+        }
+        before = answer;
+        least = budget;
+    }
+    Ok(format!(in alloc; "{before} from {least}")?)
+}

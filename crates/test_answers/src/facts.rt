@@ -1,0 +1,30 @@
+//! Facts of a row: names and pairs made by hand, and those of the targets that rustc knows.
+
+use cargo_platform::Cfg;
+use known_targets::KnownTarget;
+use std::alloc::{AllocError, Global};
+use test_rows::Fault;
+use test_rows::facts::value;
+use test_rows::fields::Fields;
+
+/// The values of a list. A target's name after `@` stands for its facts, where nothing is set under that name.
+pub fn values(alloc: Global, fields: &mut Fields<'_>) -> Result<Vec<Cfg>, Fault> {
+    let mut all = Vec::new(alloc);
+    for word in fields.list(alloc)? {
+        match word.strip_prefix('@') {
+            Some(target) => add_facts(alloc, target, &mut all)?,
+            None => all.push(value(alloc, word)?).map_err(AllocError::from)?,
+        }
+    }
+    Ok(all)
+}
+
+fn add_facts(alloc: Global, name: &str, all: &mut Vec<Cfg>) -> Result<(), Fault> {
+    let Some(target) = KnownTarget::by_name(name) else {
+        return Err(Fault::Row("nothing is set under this name, and no target has it"));
+    };
+    for fact in target.facts(alloc)? {
+        all.push(fact).map_err(AllocError::from)?;
+    }
+    Ok(())
+}

@@ -1,0 +1,288 @@
+//! The targets that rustc knows, each also by itself.
+
+use crate::facts;
+use cargo_platform::{Cfg, CfgExpr, FactIndex, Facts, Platform};
+use known_targets::{
+    COUNT, KnownFact, KnownTarget, OpenTarget, RUSTC_VERSION, TargetSet, all_facts,
+    certainly_matching, having, matching, possibly_matching,
+};
+use partial_facts::decide_platform;
+use std::alloc::Global;
+use test_rows::Fault;
+use test_rows::fields::Fields;
+use test_rows::forms::{self, word};
+use test_rows::texts::{platform, spelled};
+
+pub fn answer(alloc: Global, call: &str, fields: &mut Fields<'_>) -> Result<String, Fault> {
+    match call {
+        "targets" | "set" => {
+            let p = platform(alloc, &fields.text(alloc)?)?;
+            counted(alloc, &p, call == "targets")
+        }
+        "names" => {
+            let p = platform(alloc, &fields.text(alloc)?)?;
+            names(alloc, matching(alloc, &p)?)
+        }
+        "open" | "bounds" => {
+            let p = platform(alloc, &fields.text(alloc)?)?;
+            open(alloc, &p, &fields.list(alloc)?, call == "open")
+        }
+        "having" => {
+            let fact = test_rows::facts::value(alloc, fields.need()?)?;
+            had(alloc, &fact)
+        }
+        "match" => {
+            let e = spelled(alloc, &fields.text(alloc)?)?;
+            over_facts(alloc, e, fields.need()?)
+        }
+        "facts" => match KnownTarget::by_name(fields.need()?) {
+            Some(target) => facts_of(alloc, target),
+            None => Ok(word(alloc, "no target")?),
+        },
+        "only" => only(alloc, &fields.list(alloc)?),
+        "values" => values_of(alloc, fields.need()?),
+        "named" => {
+            let name = fields.text(alloc)?;
+            Ok(word(alloc, name_of(KnownTarget::by_name(&name)))?)
+        }
+        "each" => each(alloc, fields.need()?),
+        _ => Err(Fault::Row("there is no such kind")),
+    }
+}
+
+/// Whether an expression holds over the facts of a target, where a list, an index and the target itself say the same.
+fn over_facts(alloc: Global, e: CfgExpr, name: &str) -> Result<String, Fault> {
+    let Some(target) = KnownTarget::by_name(name) else {
+        return Ok(word(alloc, "no target")?);
+    };
+    let facts = target.facts(alloc)?;
+    let index = FactIndex::new(alloc, &facts)?;
+    let answer = e.matches(&facts);
+    let is_same = e.matches_in(&index) == answer;
+    if is_same && target.matches(&Platform::Cfg(e)) == answer {
+        return Ok(forms::yes(alloc, answer)?);
+    }
+    Ok(word(alloc, "the facts say one thing, the target another")?)
+}
+
+/// The target's name, `-` where there is none.
+fn name_of(target: Option<KnownTarget>) -> &'static str {
+    match target {
+        Some(target) => target.name(),
+        None => "-",
+    }
+}
+
+/// How many targets are in a set, by each way to count them.
+fn count(set: TargetSet) -> Result<usize, Fault> {
+    let count = set.len();
+    if set.iter().count() == count && set.is_empty() == (count == 0) {
+        return Ok(count);
+    }
+    Err(Fault::Row("the counts of a set differ"))
+}
+
+/// Whether each target by itself says the same as the set.
+fn is_of_each(p: &Platform, set: TargetSet) -> bool {
+    for target in TargetSet::all().iter() {
+        if target.matches(p) != set.contains(target) {
+            return false;
+        }
+    }
+    true
+}
+
+/// How many targets there are, and the first and the last. If wanted, each target is asked by itself too.
+fn counted(alloc: Global, p: &Platform, each: bool) -> Result<String, Fault> {
+    let set = matching(alloc, p)?;
+    if each && !is_of_each(p, set) {
+        return Ok(word(alloc, "a target by itself says otherwise")?);
+    }
+    let count = count(set)?;
+    let first = name_of(set.iter().next());
+    let last = name_of(set.iter().last());
+    Ok(format!(in alloc; "{count} {first} {last}")?)
+}
+
+/// The names of the targets of a set.
+pub fn names(alloc: Global, set: TargetSet) -> Result<String, Fault> {
+    let mut out = String::new(alloc);
+    for target in set.iter() {
+        if !out.is_empty() {
+            out.push(' ')?;
+        }
+        out.push_str(target.name())?;
+    }
+    if out.is_empty() {
+        Ok(word(alloc, "none")?)
+    } else {
+        Ok(out)
+    }
+}
+
+/// What is decided of a target by itself, where names and keys are open.
+fn decided(p: &Platform, keys: &[&str], target: KnownTarget) -> Option<bool> {
+    let known = OpenTarget {
+        target,
+        open_keys: &*keys,
+    };
+    decide_platform(p, Some(target.name()), &known)
+}
+
+/// Whether what is decided of each target by itself is what the sets say.
+fn is_decided(p: &Platform, keys: &[&str], certain: TargetSet, possible: TargetSet) -> bool {
+    for target in TargetSet::all().iter() {
+        let decided = decided(p, keys, target);
+        if (decided == Some(true)) != certain.contains(target)
+            || (decided == Some(false)) == possible.contains(target)
+        {
+            return false;
+        }
+    }
+    true
+}
+
+/// How many targets a condition holds at for certain, and at how many it may, where names and keys are open. If wanted,
+/// each target is asked by itself too.
+fn open(alloc: Global, p: &Platform, keys: &[&str], each: bool) -> Result<String, Fault> {
+    let certain = certainly_matching(alloc, p, keys)?;
+    let possible = possibly_matching(alloc, p, keys)?;
+    if each && !is_decided(p, keys, certain, possible) {
+        return Ok(word(alloc, "a target by itself says otherwise")?);
+    }
+    let least = count(certain)?;
+    let most = count(possible)?;
+    Ok(format!(in alloc; "{least} {most}")?)
+}
+
+/// How many of the facts are this one.
+fn times(facts: &[KnownFact], fact: &Cfg) -> usize {
+    facts.iter().filter(|known| known.fact == *fact).count()
+}
+
+/// How many targets have a fact, which the list of all facts has once or not at all.
+fn had(alloc: Global, fact: &Cfg) -> Result<String, Fault> {
+    let count = count(having(fact))?;
+    if times(&all_facts(alloc)?, fact) != usize::from(count > 0) {
+        return Ok(word(alloc, "the list of all facts says otherwise")?);
+    }
+    Ok(format!(in alloc; "{count}")?)
+}
+
+/// The facts of a target, each of which it has, also among those that have the fact.
+fn facts_of(alloc: Global, target: KnownTarget) -> Result<String, Fault> {
+    let facts = target.facts(alloc)?;
+    for fact in &facts {
+        if !target.holds(fact) || !having(fact).contains(target) {
+            return Ok(word(alloc, "one of its facts is none of it")?);
+        }
+    }
+    Ok(forms::values(alloc, &facts)?)
+}
+
+/// The targets of these names in their order, after which no more come.
+fn only(alloc: Global, wanted: &[&str]) -> Result<String, Fault> {
+    let mut set = TargetSet::none();
+    for name in wanted {
+        let Some(target) = KnownTarget::by_name(name) else {
+            return Ok(word(alloc, "no target")?);
+        };
+        set = TargetSet::only(target).union(set);
+    }
+    let mut targets = set.iter();
+    for _ in 0..count(set)? {
+        targets.next();
+    }
+    if targets.next().is_some() || targets.next().is_some() {
+        return Ok(word(alloc, "more targets come")?);
+    }
+    names(alloc, set)
+}
+
+/// How many values of a key a target has at least, and at most.
+fn values_of(alloc: Global, key: &str) -> Result<String, Fault> {
+    let mut least = usize::MAX;
+    let mut most = 0;
+    for target in TargetSet::all().iter() {
+        let facts = target.facts(alloc)?;
+        let count = facts.iter().filter(|fact| is_of(fact, key)).count();
+        least = least.min(count);
+        most = most.max(count);
+    }
+    Ok(format!(in alloc; "{least} {most}")?)
+}
+
+fn is_of(fact: &Cfg, key: &str) -> bool {
+    match fact {
+        Cfg::Name(_) => false,
+        Cfg::KeyPair(name, _) => name.as_str() == key,
+    }
+}
+
+/// How many names, facts or sets of one target there are, where each of them is as it has to be.
+fn each(alloc: Global, of: &str) -> Result<String, Fault> {
+    match of {
+        "name" => each_name(alloc),
+        "fact" => each_fact(alloc),
+        "set" => each_set(alloc),
+        _ => Err(Fault::Row("there is no such kind")),
+    }
+}
+
+/// Each name is found, but neither with a character more nor without its last one.
+fn each_name(alloc: Global) -> Result<String, Fault> {
+    for name in known_targets::names() {
+        let longer = format!(in alloc; "{name}0")?;
+        let shorter = name.get(..name.len().saturating_sub(1)).unwrap_or("");
+        if name_of(KnownTarget::by_name(name)) != *name
+            || KnownTarget::by_name(&longer).is_some()
+            || KnownTarget::by_name(shorter).is_some()
+        {
+            return Ok(format!(in alloc; "otherwise at {name}")?);
+        }
+    }
+    let count = known_targets::names().len();
+    Ok(format!(in alloc; "{count} of {COUNT}, rustc {RUSTC_VERSION}")?)
+}
+
+/// Each fact is listed once, with the targets that have it, of which there are some.
+fn each_fact(alloc: Global) -> Result<String, Fault> {
+    let facts = all_facts(alloc)?;
+    for known in &facts {
+        let set = having(&known.fact);
+        if times(&facts, &known.fact) != 1 || !known.targets.equals(set) || set.is_empty() {
+            return Ok(word(alloc, "otherwise at a fact")?);
+        }
+    }
+    let count = facts.len();
+    Ok(format!(in alloc; "{count}")?)
+}
+
+/// Whether the sets of a target and of the others are as they have to be.
+fn is_parted(target: KnownTarget) -> Result<bool, Fault> {
+    let one = TargetSet::only(target);
+    let others = one.complement();
+    let all = count(TargetSet::all())?;
+    Ok(
+        count(one)? == 1
+            && count(others)?.saturating_add(1) == all
+            && one.contains(target)
+            && !others.contains(target)
+            && one.union(others).equals(TargetSet::all())
+            && one.intersection(others).equals(TargetSet::none())
+            && !one.equals(others)
+            && !one.equals(TargetSet::none()),
+    )
+}
+
+fn each_set(alloc: Global) -> Result<String, Fault> {
+    for target in TargetSet::all().iter() {
+        if !is_parted(target)? {
+            let name = target.name();
+            return Ok(format!(in alloc; "otherwise at {name}")?);
+        }
+    }
+    let all = count(TargetSet::all())?;
+    let none = count(TargetSet::none())?;
+    Ok(format!(in alloc; "{all} {none}")?)
+}

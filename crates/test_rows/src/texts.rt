@@ -1,0 +1,23 @@
+//! Texts of rows that are known to be read.
+
+use crate::Fault;
+use cargo_platform::{CfgExpr, Platform, ReadError};
+use std::alloc::Global;
+
+/// The expression that a text is known to spell.
+pub fn spelled(alloc: Global, text: &str) -> Result<CfgExpr, Fault> {
+    known(CfgExpr::from_str(alloc, text))
+}
+
+/// The condition or the target that a text is known to spell.
+pub fn platform(alloc: Global, text: &str) -> Result<Platform, Fault> {
+    known(Platform::from_str(alloc, text))
+}
+
+fn known<T: Drop>(read: Result<T, ReadError>) -> Result<T, Fault> {
+    match read {
+        Ok(value) => Ok(value),
+        Err(ReadError::Parse(_)) => Err(Fault::Row("the text is refused")),
+        Err(ReadError::Memory(_)) => Err(Fault::Memory),
+    }
+}

@@ -1,0 +1,46 @@
+//! Errors that are made by hand, and the parts of an expression.
+
+use cargo_platform::{CfgExpr, CfgExprParts, ParseError, ParseErrorKind};
+use std::alloc::{AllocError, Global};
+use test_rows::Fault;
+use test_rows::fields::Fields;
+use test_rows::forms::{self, add_error, add_tree, tree, word};
+use test_rows::texts::spelled;
+
+pub fn answer(alloc: Global, call: &str, fields: &mut Fields<'_>) -> Result<String, Fault> {
+    let text = fields.text(alloc)?;
+    match call {
+        "error" => made(alloc, &text, ParseErrorKind::UnterminatedString),
+        "error-left" => {
+            let left = fields.text(alloc)?;
+            made(alloc, &text, ParseErrorKind::UnterminatedExpression(left))
+        }
+        "parts" => Ok(parts(alloc, spelled(alloc, &text)?)?),
+        _ => Err(Fault::Row("there is no such kind")),
+    }
+}
+
+/// What an error says that is made by hand.
+fn made(alloc: Global, text: &str, kind: ParseErrorKind) -> Result<String, Fault> {
+    let error = ParseError::new(alloc, text, kind)?;
+    let mut out = word(alloc, "made")?;
+    add_error(alloc, &mut out, &error, text)?;
+    Ok(out)
+}
+
+/// The trees that an expression is taken apart into.
+fn parts(alloc: Global, e: CfgExpr) -> Result<String, AllocError> {
+    match e.into_parts() {
+        CfgExprParts::Not(negated) => tree(alloc, &Box::into_inner(negated)),
+        CfgExprParts::All(members) | CfgExprParts::Any(members) => {
+            let mut out = word(alloc, "members")?;
+            for member in &members {
+                out.push(' ')?;
+                add_tree(&mut out, member)?;
+            }
+            Ok(out)
+        }
+        CfgExprParts::Value(value) => forms::values(alloc, &[value]),
+        CfgExprParts::True | CfgExprParts::False => word(alloc, "none"),
+    }
+}

@@ -1,0 +1,223 @@
+//! Texts that are read, or refused, and what is printed of trees.
+
+use cargo_platform::{
+    Cfg, CfgExpr, FactsError, JsonError, ParseError, Platform, ReadError, read_facts,
+};
+use serde_json::Value;
+use std::alloc::Global;
+use test_rows::bars::{add_text, barred};
+use test_rows::fields::Fields;
+use test_rows::forms::{self, add_error, add_other, add_printed, add_span, refused, tree, word};
+use test_rows::texts::{platform, spelled};
+use test_rows::{Fault, trees};
+
+/// A text is looked at no more often than this for each of its characters and for its end. `.ci/second-reader` takes
+/// the number from here.
+const LOOKS_A_CHARACTER: u128 = 12;
+
+pub fn answer(alloc: Global, call: &str, fields: &mut Fields<'_>) -> Result<String, Fault> {
+    match call {
+        "expr" => expression(alloc, &fields.text(alloc)?),
+        "fact" => fact(alloc, &fields.text(alloc)?),
+        "key" => key(alloc, &fields.text(alloc)?),
+        "facts" => lines(alloc, &fields.text(alloc)?),
+        "looks" => looks(alloc, &fields.text(alloc)?),
+        "bounds" => bounds(alloc, &fields.text(alloc)?),
+        "json" => json(alloc, &fields.text(alloc)?),
+        "from-json" => from_json(alloc, &fields.text(alloc)?),
+        "print" => print(alloc, trees::tree(alloc, fields)?),
+        "print-target" => print_target(alloc, fields.text(alloc)?),
+        "debug" => debug(alloc, &fields.text(alloc)?),
+        _ => Err(Fault::Row("there is no such kind")),
+    }
+}
+
+/// The tree of an expression and what it prints, if not the text. Its print and its copy have to give the same tree.
+fn expression(alloc: Global, text: &str) -> Result<String, Fault> {
+    match CfgExpr::from_str(alloc, text) {
+        Ok(e) => {
+            let form = tree(alloc, &e)?;
+            let mut out = word(alloc, &form)?;
+            let printed = forms::printed(alloc, &e)?;
+            add_other(&mut out, " prints ", &printed, text)?;
+            let again = tree(alloc, &spelled(alloc, &printed)?)?;
+            add_other(&mut out, ", but reads back as ", &again, &form)?;
+            let copy = tree(alloc, &e.clone(alloc)?)?;
+            add_other(&mut out, ", but copies as ", &copy, &form)?;
+            Ok(out)
+        }
+        Err(refusal) => refused(alloc, &refusal, text),
+    }
+}
+
+fn fact(alloc: Global, text: &str) -> Result<String, Fault> {
+    match Cfg::from_str(alloc, text) {
+        Ok(fact) => {
+            let mut out = String::new(alloc);
+            forms::add_value(&mut out, &fact)?;
+            add_printed(alloc, &mut out, " prints ", &fact, text)?;
+            Ok(out)
+        }
+        Err(refusal) => refused(alloc, &refusal, text),
+    }
+}
+
+/// The target or the condition. Of a refused one also where the fault lies in the key, where its part is another text.
+fn key(alloc: Global, text: &str) -> Result<String, Fault> {
+    match Platform::from_str(alloc, text) {
+        Ok(p) => {
+            let mut out = forms::platform(alloc, &p, text)?;
+            let copy = forms::platform(alloc, &p.clone(alloc)?, text)?;
+            let form = forms::platform(alloc, &p, text)?;
+            add_other(&mut out, ", but copies as ", &copy, &form)?;
+            Ok(out)
+        }
+        Err(refusal) => {
+            let mut out = refused(alloc, &refusal, text)?;
+            if let ReadError::Parse(error) = &refusal {
+                add_place(&mut out, error, text)?;
+            }
+            Ok(out)
+        }
+    }
+}
+
+fn add_place(out: &mut String, error: &ParseError, key: &str) -> Result<(), Fault> {
+    if error.orig() != key {
+        out.push_str(", in the key")?;
+        add_span(out, &error.span_in(key))?;
+    }
+    if error.span_in("cfg(a)").is_some() && key != "cfg(a)" {
+        out.push_str(", but in any key")?;
+    }
+    Ok(())
+}
+
+/// The facts of the lines, or the number of the first line that spells none, with its error, and where that lies in the
+/// whole text.
+fn lines(alloc: Global, text: &str) -> Result<String, Fault> {
+    match read_facts(alloc, text) {
+        Ok(facts) => Ok(forms::values(alloc, &facts)?),
+        Err(refusal) => refused_line(alloc, &refusal, text),
+    }
+}
+
+fn refused_line(alloc: Global, refusal: &FactsError, text: &str) -> Result<String, Fault> {
+    match refusal {
+        FactsError::Line { number, error } => {
+            let mut out = format!(in alloc; "refused line {number}, of the text")?;
+            add_span(&mut out, &refusal.span_in(text))?;
+            if refusal.span_in("a\n").is_some() {
+                out.push_str(", but in any text")?;
+            }
+            out.push(',')?;
+            add_error(alloc, &mut out, error, text)?;
+            let whole = format!(in alloc; "line {number}: {error}")?;
+            add_printed(
+                alloc,
+                &mut out,
+                ", but the refusal prints ",
+                refusal,
+                &whole,
+            )?;
+            Ok(out)
+        }
+        FactsError::Memory(_) => Err(Fault::Memory),
+    }
+}
+
+/// Whether a text is read, and how often it is looked at.
+fn counted(alloc: Global, text: &str) -> Result<(bool, u128), Fault> {
+    let (read, looks) = CfgExpr::from_str_counted(alloc, text);
+    match read {
+        Ok(_) => Ok((true, looks.count())),
+        Err(ReadError::Parse(_)) => Ok((false, looks.count())),
+        Err(ReadError::Memory(_)) => Err(Fault::Memory),
+    }
+}
+
+fn looks(alloc: Global, text: &str) -> Result<String, Fault> {
+    let (is_read, count) = counted(alloc, text)?;
+    let word = if is_read { "read" } else { "refused" };
+    Ok(format!(in alloc; "{word}, {count} looks")?)
+}
+
+/// Whether a text is read, and how often it is looked at where that is out of bounds: a text that is read is looked at
+/// at least once at each character and at its end.
+fn bounds(alloc: Global, text: &str) -> Result<String, Fault> {
+    let (is_read, count) = counted(alloc, text)?;
+    let mut out = word(alloc, if is_read { "read" } else { "refused" })?;
+    let each_once = (text.chars().count() as u128).saturating_add(1);
+    let most = each_once.saturating_mul(LOOKS_A_CHARACTER);
+    if (is_read && count < each_once) || count > most {
+        write!(out, ", but {count} looks")?;
+    }
+    Ok(out)
+}
+
+/// The text that is the JSON of a condition, which has to read back as what prints so.
+fn json(alloc: Global, text: &str) -> Result<String, Fault> {
+    let value = platform(alloc, text)?.to_json(alloc)?;
+    let Some(written) = value.as_str() else {
+        return Ok(word(alloc, "no text")?);
+    };
+    let mut out = barred(alloc, written)?;
+    let again = from_value(alloc, &value)?;
+    let wanted = key(alloc, written)?;
+    add_other(&mut out, ", but reads back as ", &again, &wanted)?;
+    Ok(out)
+}
+
+/// What a JSON value stands for. The text is known to be JSON, so that only memory can be lacking.
+fn from_json(alloc: Global, json: &str) -> Result<String, Fault> {
+    match Value::from_str(alloc, json) {
+        Ok(value) => from_value(alloc, &value),
+        Err(_) => Err(Fault::Memory),
+    }
+}
+
+fn from_value(alloc: Global, value: &Value) -> Result<String, Fault> {
+    let text = value.as_str().unwrap_or("");
+    match Platform::from_json(alloc, value) {
+        Ok(p) => Ok(forms::platform(alloc, &p, text)?),
+        Err(JsonError::NotText) => Ok(word(alloc, "no text")?),
+        Err(JsonError::Parse(error)) => {
+            let mut out = word(alloc, "refused")?;
+            add_error(alloc, &mut out, &error, text)?;
+            Ok(out)
+        }
+        Err(JsonError::Memory(_)) => Err(Fault::Memory),
+    }
+}
+
+/// What a tree that is made by hand prints, also in a condition. Its copy has to be the same.
+fn print(alloc: Global, e: CfgExpr) -> Result<String, Fault> {
+    let printed = forms::printed(alloc, &e)?;
+    let form = tree(alloc, &e)?;
+    let mut out = barred(alloc, &printed)?;
+    let copy = tree(alloc, &e.clone(alloc)?)?;
+    add_other(&mut out, ", but copies as ", &copy, &form)?;
+    let condition = format!(in alloc; "cfg({printed})")?;
+    add_printed(
+        alloc,
+        &mut out,
+        ", but as a condition ",
+        &Platform::Cfg(e),
+        &condition,
+    )?;
+    Ok(out)
+}
+
+/// What a target of this name prints.
+fn print_target(alloc: Global, name: String) -> Result<String, Fault> {
+    let printed = forms::printed(alloc, &Platform::Name(name))?;
+    Ok(barred(alloc, &printed)?)
+}
+
+fn debug(alloc: Global, text: &str) -> Result<String, Fault> {
+    let e = spelled(alloc, text)?;
+    let printed = format!(in alloc; "{e:?}")?;
+    let mut out = String::new(alloc);
+    add_text(&mut out, &printed)?;
+    Ok(out)
+}

@@ -1,0 +1,57 @@
+//! What people are shown of a refused text.
+
+use cargo_platform::{CfgExpr, ParseError, Platform, ReadError, shown_start, shown_text};
+use std::alloc::Global;
+use test_rows::Fault;
+use test_rows::bars::{add_text, barred};
+use test_rows::fields::Fields;
+use test_rows::forms::word;
+
+pub fn answer(alloc: Global, call: &str, fields: &mut Fields<'_>) -> Result<String, Fault> {
+    let text = fields.text(alloc)?;
+    match call {
+        "expr" => of_expression(alloc, &text),
+        "key" => of_key(alloc, &text),
+        "shown" => shown(alloc, &text),
+        _ => Err(Fault::Row("there is no such kind")),
+    }
+}
+
+/// The error of a text that is known to be refused.
+fn error_of(refusal: Option<ReadError>) -> Result<ParseError, Fault> {
+    match refusal {
+        Some(ReadError::Parse(error)) => Ok(error),
+        Some(ReadError::Memory(_)) => Err(Fault::Memory),
+        None => Err(Fault::Row("the text is read")),
+    }
+}
+
+fn of_expression(alloc: Global, text: &str) -> Result<String, Fault> {
+    let error = error_of(CfgExpr::from_str(alloc, text).err())?;
+    lines(alloc, error.snippet(alloc)?)
+}
+
+/// The lines on a key. In another key the error has none.
+fn of_key(alloc: Global, key: &str) -> Result<String, Fault> {
+    let error = error_of(Platform::from_str(alloc, key).err())?;
+    let mut out = lines(alloc, error.snippet_in(alloc, key)?)?;
+    if error.snippet_in(alloc, "unix")?.is_some() {
+        out.push_str(", but in any key")?;
+    }
+    Ok(out)
+}
+
+fn lines(alloc: Global, snippet: Option<String>) -> Result<String, Fault> {
+    match snippet {
+        Some(lines) => Ok(barred(alloc, &lines)?),
+        None => Ok(word(alloc, "nothing")?),
+    }
+}
+
+/// A text as it is shown in whole, and its start.
+fn shown(alloc: Global, text: &str) -> Result<String, Fault> {
+    let mut out = barred(alloc, &shown_text(alloc, text)?)?;
+    out.push(' ')?;
+    add_text(&mut out, &shown_start(alloc, text)?)?;
+    Ok(out)
+}

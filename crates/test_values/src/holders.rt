@@ -1,0 +1,166 @@
+//! Truth over holders of a user's own.
+
+ghost use Rattle.std.specs.FinSet.{union};
+ghost use Rattle.std.specs.Prelude.{map, codes};
+ghost use Rattle.cargo_platform.specs.Facts.{fact_set};
+ghost use Rattle.cargo_platform.specs.Holders.{name_fact, pair_fact, only, where_set};
+ghost use Rattle.cargo_platform.specs.Trees.{value_of};
+
+use cargo_platform::CfgExpr;
+use cargo_platform::cfg::{Cfg, Facts, Listed};
+use std::alloc::Global;
+use std::cell::Cell;
+use std::process::Abort;
+use test_rows::facts;
+use test_rows::fields::Fields;
+
+/// Two lists of facts as one set, as those of a target and those of a build.
+#[derive(Drop)]
+struct Joined<'a> {
+    target: &'a [Cfg],
+    build: &'a [Cfg],
+}
+
+impl<'a> Facts for Joined<'a> {
+    ghost meant = { λ facts. union (fact_set (map value_of facts.target.now))
+        (fact_set (map value_of facts.build.now)) };
+
+    fn holds(&self, c: &Cfg) -> bool {
+        Listed(self.target).holds(c) || Listed(self.build).holds(c)
+    }
+}
+
+/// Facts that are kept in no list: `unix` and `target_os = "linux"`, each where its flag is set. The answer is a
+/// function of the name, or of the key and its value.
+#[derive(Drop)]
+struct Flags {
+    unix: bool,
+    linux: bool,
+}
+
+impl Facts for Flags {
+    ghost meant = { λ flags. union (where_set flags.unix (only (name_fact (codes "unix"))))
+        (where_set flags.linux (only (pair_fact (codes "target_os") (codes "linux")))) };
+
+    fn holds(&self, c: &Cfg) -> bool {
+        match c {
+            Cfg::Name(name) => self.unix && name.eq_text("unix"),
+            Cfg::KeyPair(key, value) => {
+                self.linux && key.eq_text("target_os") && value.as_str() == "linux"
+            }
+        }
+    }
+}
+
+/// A list that counts how often it is asked.
+#[derive(Drop)]
+struct Counting<'a> {
+    facts: &'a [Cfg],
+    calls: Cell<u32>,
+}
+
+impl<'a> Facts for Counting<'a> {
+    ghost meant = { λ counting. fact_set (map value_of counting.facts.now) };
+
+    fn holds(&self, c: &Cfg) -> bool {
+        self.calls.set(self.calls.get().saturating_add(1));
+        Listed(self.facts).holds(c)
+    }
+}
+
+/// The facts that words stand for.
+fn facts_of(rt: &impl Abort, alloc: Global, words: &str) -> Vec<Cfg> {
+    facts::values(alloc, &mut Fields::new(words, &[]))
+        .ok()
+        .expect(rt, words)
+}
+
+fn read(rt: &impl Abort, alloc: Global, text: &str) -> CfgExpr {
+    CfgExpr::from_str(alloc, text).expect(rt, text)
+}
+
+/// Whether an expression is true over a holder, if it is the same where asks are counted.
+fn over<F: Facts>(rt: &impl Abort, e: &CfgExpr, holder: &F) -> bool {
+    let answer = e.matches_in(holder);
+    assert_eq!(rt; e.matches_counted(holder).0, answer);
+    answer
+}
+
+/// An expression, and whether it is true with both flags, and with `unix` alone.
+const FLAGGED: &[(&str, bool, bool)] = &[
+    ("unix", true, true),
+    ("r#unix", true, true),
+    ("unix = \"\"", false, false),
+    ("target_os = \"linux\"", true, false),
+    ("r#target_os = \"linux\"", true, false),
+    ("target_os = \"unix\"", false, false),
+    ("target_os", false, false),
+    (
+        "any(linux, target_os = \"\", unix = \"linux\")",
+        false,
+        false,
+    ),
+    ("all(r#unix, not(target_os = \"linux\"))", false, true),
+];
+
+#[test]
+fn flags_are_asked(rt: HostRuntime) {
+    for (text, with_both, with_unix) in FLAGGED {
+        let e = read(&rt, rt.alloc(), text);
+        for (linux, wanted) in [(true, *with_both), (false, *with_unix)] {
+            let flags = Flags { unix: true, linux };
+            assert!(rt; over(&rt, &e, &flags) == wanted, "{text}, {linux}");
+        }
+    }
+}
+
+#[test]
+fn two_lists_are_asked(rt: HostRuntime) {
+    let target = facts_of(&rt, rt.alloc(), "r#unix");
+    let build = facts_of(&rt, rt.alloc(), "target_os=|linux|");
+    for (text, with_both, with_unix) in FLAGGED {
+        let e = read(&rt, rt.alloc(), text);
+        for (first, second, wanted) in [
+            (target.as_slice(), build.as_slice(), *with_both),
+            (build.as_slice(), target.as_slice(), *with_both),
+            (target.as_slice(), &[], *with_unix),
+        ] {
+            let joined = Joined {
+                target: first,
+                build: second,
+            };
+            assert!(rt; over(&rt, &e, &joined) == wanted, "{text}");
+        }
+    }
+}
+
+/// An expression, the facts, and how many asks say what it is over them.
+const ASKED: &[(&str, &str, u32)] = &[
+    ("true", "", 0),
+    ("all(a, b, c)", "a", 2),
+    ("any(a, b, c)", "", 3),
+    ("any(all(a, b), not(c), d)", "d", 2),
+    ("all(any(a, b), any(c, d), e)", "b d e", 5),
+];
+
+/// The holder's own count is the one that is told.
+#[test]
+fn the_holder_is_asked_so_often(rt: HostRuntime) {
+    for (text, words, wanted) in ASKED {
+        let e = read(&rt, rt.alloc(), text);
+        let facts = facts_of(&rt, rt.alloc(), words);
+        let counting = Counting {
+            facts: &facts,
+            calls: Cell::new(0),
+        };
+        let answer = e.matches_in(&counting);
+        assert!(rt; answer == e.matches(&facts), "{text}");
+        assert!(rt; counting.calls.get() == *wanted, "{text}");
+        let (again, asks) = e.matches_counted(&counting);
+        assert!(rt;
+            again == answer && asks.count() == u128::from(*wanted),
+            "{text}"
+        );
+        assert!(rt; counting.calls.get() == 2 * *wanted, "{text}, counted");
+    }
+}
