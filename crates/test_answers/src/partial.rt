@@ -99,7 +99,7 @@ fn later(alloc: Global, fields: &mut Fields<'_>) -> Result<String, Fault> {
         facts: &facts,
         complete: &complete,
     };
-    left(alloc, &asked, &second)
+    Ok(forms::printed(alloc, &residual(alloc, &asked, &second)?)?)
 }
 
 /// Of a condition, where the target's name is known or `-`.
