@@ -8,13 +8,13 @@
 //! `Tokenizer::rest` alone, which tells what was not looked at.
 
 ghost use Rattle.std.specs.Prelude.{◌≡◌, ◌≢◌, ℕ, ◌+◌, ◌-◌, ◌^◌, ◌<◌, ◌≤◌, true, false, length, drop, slice_index};
-ghost use Rattle.std.specs.Prelude.{slice_range, IfSome, IfNone};
+ghost use Rattle.std.specs.Prelude.{slice_range, IfSome, IfNone, MatchOption};
 ghost use Rattle.std.specs.Str.{IsUtf8, IsCharBoundary};
 ghost use Rattle.cargo_platform.specs.Chars.{is_identifier_start, is_identifier_rest};
 ghost use Rattle.cargo_platform.specs.Cut.{AreSpaces};
 ghost use Rattle.cargo_platform.specs.Reading.{characters_from};
 ghost use Rattle.cargo_platform.specs.Inside.Looking.{IsCharAt, Shows, AreBetween, Costs, Compares, IsRun};
-ghost use Rattle.cargo_platform.specs.Inside.Looking.{character_of, is_no_quote};
+ghost use Rattle.cargo_platform.specs.Inside.Looking.{Adds, Scans, character_of, is_no_quote};
 
 mod rest;
 
@@ -91,6 +91,7 @@ impl<'a> Source<'a> {
         ensures same { self.new.text ≡ self.old.text }
         ensures sees { Shows self.old.text.now at result }
         ensures cost { Costs self.old.text.now at at 1 1 self.old.looks self.new.looks }
+        ensures counted { Adds 1 self.old.looks self.new.looks }
     {
         self.add_looks(1);
         character_at(self.text, at)
@@ -108,6 +109,8 @@ impl<'a> Source<'a> {
         ensures sees { Shows self.old.text.now result.0 result.1 }
         ensures past { slice_index self.old.text.now result.0 ≢ 0x20 }
         ensures cost { Costs self.old.text.now from result.0 0 0 self.old.looks self.new.looks }
+        ensures counted { slice_index self.old.text.now from ≡ 0x20
+            → Adds (result.0 - from + 1) self.old.looks self.new.looks }
     {
         let Look::Ascii(byte) = first else {
             return (from, first);
@@ -139,6 +142,8 @@ impl<'a> Source<'a> {
         ensures end { is_identifier_rest (slice_index self.old.text.now result.1) ≡ false }
         ensures sees { Shows self.old.text.now result.1 result.2 }
         ensures cost { Costs self.old.text.now (start + 1) result.1 8 0 self.old.looks self.new.looks }
+        ensures counted { is_identifier_rest (slice_index self.old.text.now (start + 1)) ≡ true
+            → Scans self.old.text.now (start + 2) result.1 1 self.old.looks self.new.looks }
     {
         let (end, seen) = self.past_identifier(start + 1, second);
         let text: &'a str = self.text;
@@ -158,6 +163,8 @@ impl<'a> Source<'a> {
         ensures end { is_identifier_rest (slice_index self.old.text.now result.0) ≡ false }
         ensures sees { Shows self.old.text.now result.0 result.1 }
         ensures cost { Costs self.old.text.now from result.0 8 0 self.old.looks self.new.looks }
+        ensures counted { is_identifier_rest (slice_index self.old.text.now from) ≡ true
+            → Scans self.old.text.now (from + 1) result.0 1 self.old.looks self.new.looks }
     {
         let Look::Ascii(byte) = first else {
             return (from, first);
@@ -187,6 +194,9 @@ impl<'a> Source<'a> {
         ensures cost { IfSome result (λ r. Costs self.old.text.now from r.1 16 1 self.old.looks self.new.looks) }
         ensures cost_to_end { IfNone result
             (Costs self.old.text.now from (length self.old.text.now) 1 1 self.old.looks self.new.looks) }
+        ensures counted { MatchOption result
+            (Scans self.old.text.now from (length self.old.text.now) 0 self.old.looks self.new.looks)
+            (λ r. Scans self.old.text.now from r.1 0 self.old.looks self.new.looks) }
     {
         let text: &'a str = self.text;
         let (end, compared) = value_end(text, from);
@@ -223,6 +233,7 @@ impl<'a> Source<'a> {
         ensures grows { self.old.looks ≤ self.new.looks }
         ensures at_most { self.new.looks ≤ self.old.looks + looks }
         ensures at_least { self.new.looks < 2 ^ 64 - 1 → self.old.looks + looks ≤ self.new.looks }
+        ensures counted { Adds looks self.old.looks self.new.looks }
     {
         self.looks = self.looks.saturating_add(looks);
     }

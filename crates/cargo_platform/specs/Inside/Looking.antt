@@ -1,6 +1,6 @@
 -- What a look at a place of a text gives, and what looks cost.
 use Rattle.std.specs.Prelude.{◌≡◌, ◌≢◌, ◌⊎◌, ℕ, ◌+◌, ◌-◌, ◌*◌, ◌<◌, ◌≤◌, ◌^◌, Bool, true, false, List, ◌∷◌, ◌++◌, length}
-use Rattle.std.specs.Prelude.{drop, slice_index, not}
+use Rattle.std.specs.Prelude.{drop, min, slice_index, not}
 use Rattle.std.specs.Prelude.{encode_utf8, Option, Some, None}
 use Rattle.std.specs.Char.{IsScalar, len_utf8}
 use Rattle.std.specs.Str.{IsUtf8, IsCharBoundary, chars}
@@ -71,6 +71,16 @@ pub record Compares (left run count : ℕ) : Type 0 where
   pub passed : 16 * blocks ≤ run
   pub all : (run < 16 * blocks + 16) × (16 * blocks + 16 ≤ left) × (count ≡ 16 * blocks + 16)
       ⊎ (left < 16 * blocks + 16) × (count ≡ run + 1)
+
+-- so many looks more were made, up to the greatest count
+abbrev pub Adds : ℕ → ℕ → ℕ → Type 0
+Adds many old new = new ≡ min (old + many) (2 ^ 64 - 1)
+
+-- a scan went from one place to another; each byte that it compared was counted, and so many looks after it
+pub record Scans (text : List ℕ) (from to after old new : ℕ) : Type 0 where
+  pub count : ℕ
+  pub compared : Compares (length text - from) (to - from) count
+  pub counted : Adds (count + after) old new
 
 -- Where a tokenizer stands: until a fault the characters before the place were looked at, and once it began what is at
 -- the place too.

@@ -1,5 +1,5 @@
-use Rattle.std.proofs.Common.{◌≡◌, length, arith}
-use Rattle.cargo_platform.specs.Inside.Looking.{AreBetween}
+use Rattle.std.proofs.Common.{◌≡◌, ◌+◌, length, sym, subst, add-zero, arith}
+use Rattle.cargo_platform.specs.Inside.Looking.{AreBetween, Adds}
 use Rattle.cargo_platform.proofs.Looking.{compares_few, compares_all}
 use Rattle.cargo_platform.proofs.source.Source.value.Goals as goal
 
@@ -27,4 +27,17 @@ returns-else-end-text-clause-cost_to_end c =
       grows = omega arith;
       at_most = omega (arith, between.all, between.many, all);
       at_least = λ below. omega (arith, between.all, between.few, all);
+    }
+
+pub returns-else-end-text-clause-counted : goal.returns-else-end-text-clause-counted
+returns-else-end-text-clause-counted c =
+    let text = c.args.self.now.text.now in
+    let found = c.value_end-end.ensures in
+    let end : c.value_end-end.result.0 ≡ length text = omega (arith, found.within) in
+    let count = c.value_end-end.result.1 in
+    let none : count ≡ count + 0 = sym (add-zero count) in
+    record {
+      count = count;
+      compared = rw end at found.compared;
+      counted = subst (λ n. Adds n c.args.self.now.looks c.add_looks.new.self.looks) none c.add_looks.ensures.counted;
     }
