@@ -4,3 +4,6 @@ pub mod Waiting
 pub mod Carried
 pub mod Complete
 pub mod Reached
+pub mod Chosen
+pub mod Sided
+pub mod Alone

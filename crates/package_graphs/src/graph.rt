@@ -57,4 +57,12 @@ impl Graph {
         self.nodes[from].push(edge)?;
         Ok(())
     }
+
+    /// Adds a node, with the edges that begin at it. It refuses only where memory is refused.
+    pub fn push(&mut self, edges: Vec<Edge>) -> Result<(), AllocError>
+        ensures { OnOk result (edge_lists self.new ≡ edge_lists self.old ++ edges.items ∷ []) }
+    {
+        self.nodes.push(edges)?;
+        Ok(())
+    }
 }

@@ -1,7 +1,8 @@
 //! Laws over the definitions. The functions do nothing: each contract is a law.
 
-ghost use Rattle.std.specs.Prelude.{◌⊎◌, ◌↔◌, ◌++◌, ℕ, Bool, List, IsTrue, Contains};
+ghost use Rattle.std.specs.Prelude.{◌⊎◌, ◌↔◌, ◌++◌, ℕ, Bool, List, IsTrue, Contains, Some, None};
 ghost use Rattle.package_graphs.specs.Graphs.{Edges, IsPartOf, IsPresent, LeadsAt};
+ghost use Rattle.package_graphs.specs.Packages.{Packages, KindSet, HostTarget, Sided, IsThere, IsThereOn, IsForTarget, IsPlain};
 
 /// The targets of the nodes are the least sets that have the roots and that the edges lead on from: these are such, and
 /// are parts of any other such sets.
@@ -37,4 +38,16 @@ pub fn more_roots_keep_targets()
 pub fn roots_add_up()
     ensures { (graph : Edges) (roots others : List ℕ) (k n : ℕ)
         → IsPresent graph (roots ++ others) k n ↔ (IsPresent graph roots k n ⊎ IsPresent graph others k n) }
+{}
+
+/// Without a host a package is there, built for the target, where it is by the targets alone.
+pub fn without_a_host_the_target_is_asked()
+    ensures { (packages : Packages) (kinds : KindSet) (k : ℕ) (n : Sided)
+        → IsThereOn packages kinds None k n ↔ (IsThere packages kinds k n.0 × IsForTarget n) }
+{}
+
+/// Where each dependency is a normal one and no package is a procedural macro, the host does not count.
+pub fn plain_packages_need_no_host()
+    ensures { (packages : Packages) (kinds : KindSet) (host : HostTarget) (k : ℕ) (n : Sided) → IsPlain packages
+        → IsThereOn packages kinds (Some host) k n ↔ (IsThere packages kinds k n.0 × IsForTarget n) }
 {}
