@@ -4,7 +4,8 @@ use Rattle.std.specs.Prelude.{Contains, IsTrue}
 use Rattle.known_targets.specs.Sets.{is_member}
 use Rattle.known_targets.specs.declared.known.KnownTarget.{KnownTarget}
 use Rattle.package_graphs.specs.Reaching.{starts, goes_on}
-use Rattle.package_graphs.specs.Packages.{is_root, is_macro, dependencies, LeadsTo, IsThere, Sided, IsForTarget, StartsOn, LeadsOn}
+use Rattle.package_graphs.specs.Packages.{is_root, is_macro, dependencies, LeadsTo, IsThere, Sided, IsForTarget}
+use Rattle.package_graphs.specs.Packages.{StartsOn, LeadsOn}
 use Rattle.package_graphs.specs.Packages.{IsThereOn, IsPlain, asked_at, side_after, side}
 use Rattle.package_graphs.specs.declared.packages.Kind.{Kind}
 use Rattle.package_graphs.specs.declared.packages.Kind.TheVariants.{Normal}
@@ -75,7 +76,8 @@ module _ (packages : List Package) (kinds : Kinds) (k : ℕ) where
         let d = leads.depends.dependency in
         goes_on (p, Target) (r, Target) here (record {
           depends = leads.depends;
-          holds = subst (λ (x : ℕ). IsTrue (is_member d.holds x)) (sym (asked_here p d leads.depends.begins)) leads.holds;
+          holds = subst (λ (x : ℕ). IsTrue (is_member d.holds x))
+              (sym (asked_here p d leads.depends.begins)) leads.holds;
           on = sym (after_here p r d leads.depends.begins);
         }))
         n.0 alone.0 in

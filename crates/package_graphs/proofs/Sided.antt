@@ -1,5 +1,6 @@
 -- The graph of both sides leads on as the packages do.
-use Rattle.std.proofs.Common.{◌≡◌, ℕ, zero, suc, ◌<◌, ◌≤◌, ◌*◌, Bool, true, false, cond, ◌&&◌, List, [], ◌∷◌, map, length, get_or}
+use Rattle.std.proofs.Common.{◌≡◌, ℕ, zero, suc, ◌<◌, ◌≤◌, ◌*◌, Bool, true, false, cond, ◌&&◌, List, [], ◌∷◌, map}
+use Rattle.std.proofs.Common.{length, get_or}
 use Rattle.std.proofs.Common.{refl, sym, ◌∙◌, ap, subst, inl, inr, arith, Option, Some, None}
 use Rattle.std.specs.Prelude.{Contains, flat_map, nat_lt, IsTrue}
 use Rattle.std.proofs.lemmas.Bool.{cases_lt, and_parts, and_from, lt-ltb}
@@ -10,7 +11,8 @@ use Rattle.known_targets.specs.declared.target_set.TargetSet.{TargetSet}
 use Rattle.package_graphs.specs.Reaching.{starts, goes_on}
 use Rattle.package_graphs.specs.Graphs.{Edges, edges_from, IsPresent, LeadsAt}
 use Rattle.package_graphs.specs.Kinds.{is_followed}
-use Rattle.package_graphs.specs.Packages.{is_root, is_macro, dependencies, Sided, is_of_host, asked_at, side_after, first_side}
+use Rattle.package_graphs.specs.Packages.{is_root, is_macro, dependencies, Sided, is_of_host, asked_at, side_after}
+use Rattle.package_graphs.specs.Packages.{first_side}
 use Rattle.package_graphs.specs.Packages.{StartsOn, LeadsOn, IsThereOn, node_of}
 use Rattle.package_graphs.specs.Inside.Numbered.{holds_by, edge_of, edges_of, numbered, AreFirst}
 use Rattle.package_graphs.specs.declared.graph.Edge.{Edge}
@@ -28,7 +30,8 @@ two_on : (p : ℕ) (from : Side) → node_of (suc p) from ≡ suc (suc (node_of 
 two_on p Target = omega arith
 two_on p Host = omega arith
 
-pub length_numbered : (q : Question) (packages units : List Package) → length (numbered q packages units) ≡ 2 * length units
+pub length_numbered : (q : Question) (packages units : List Package)
+    → length (numbered q packages units) ≡ 2 * length units
 length_numbered q packages [] = refl
 length_numbered q packages (u ∷ us) = let before = length_numbered q packages us in omega (arith, before)
 
@@ -110,10 +113,12 @@ module _ (q : Question) (packages : List Package) (k : ℕ) (roots : List ℕ)
       × IsTrue (is_member (edge_of q packages n.1 d).holds k)
   chosen m r n is leads =
       let begins = subst (λ (x : ℕ). Contains (edges_from Graph x) leads.edge) is leads.begins in
-      let listed = subst (λ (es : List Edge). Contains es leads.edge) (edges_of_node q packages packages n.0 n.1) begins in
+      let listed = subst (λ (es : List Edge). Contains es leads.edge)
+      (edges_of_node q packages packages n.0 n.1) begins in
       let from = contains_flat_map (edges_of q packages (is_root packages n.0) n.1) (dependencies packages n.0)
       leads.edge listed in
-      let picked = contains_if (nat_lt from.0.to (length packages) && is_followed q.kinds (is_root packages n.0) from.0.kind)
+      let picked = contains_if
+      (nat_lt from.0.to (length packages) && is_followed q.kinds (is_root packages n.0) from.0.kind)
       (edge_of q packages n.1 from.0) leads.edge from.2 in
       let parts = and_parts (nat_lt from.0.to (length packages)) _ picked.0 in (
         from.0,
@@ -161,8 +166,10 @@ module _ (q : Question) (packages : List Package) (k : ℕ) (roots : List ℕ)
       let is_inside : nat_lt d.to (length packages) ≡ true =
       lt-ltb d.to (length packages) (subst (λ (x : ℕ). x < length packages) (sym leads.depends.ends) inside) in
       let listed = in_flat_map (edges_of q packages (is_root packages m.0) m.1) (dependencies packages m.0) d edge
-      leads.depends.begins (in_if _ edge (and_from (nat_lt d.to (length packages)) _ is_inside leads.depends.followed)) in
-      let begins = subst (λ (es : List Edge). Contains es edge) (sym (edges_of_node q packages packages m.0 m.1)) listed in
+      leads.depends.begins
+      (in_if _ edge (and_from (nat_lt d.to (length packages)) _ is_inside leads.depends.followed)) in
+      let begins = subst (λ (es : List Edge). Contains es edge)
+      (sym (edges_of_node q packages packages m.0 m.1)) listed in
       let on : side_after q.host m.1 d.kind (is_macro packages d.to) ≡ n.1 =
       ap (λ (x : ℕ). side_after q.host m.1 d.kind (is_macro packages x)) leads.depends.ends ∙ sym leads.on in
       let ends : edge.to ≡ node_of n.0 n.1 =

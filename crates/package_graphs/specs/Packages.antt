@@ -1,5 +1,6 @@
 -- At which targets a package is there: by the targets alone, and where a build runs on a host.
-use Rattle.std.specs.Prelude.{◌≡◌, ℕ, ◌+◌, ◌*◌, Bool, true, false, ◌||◌, cond, IsTrue, Option, Some, None, List, [], map, Contains}
+use Rattle.std.specs.Prelude.{◌≡◌, ℕ, ◌+◌, ◌*◌, Bool, true, false, ◌||◌, cond, IsTrue, Option, Some, None, List, []}
+use Rattle.std.specs.Prelude.{map, Contains}
 use Rattle.std.specs.List.{slice_index_or}
 use Rattle.known_targets.specs.Sets.{place, is_member}
 use Rattle.known_targets.specs.declared.known.KnownTarget.{KnownTarget}
@@ -15,12 +16,15 @@ use Rattle.package_graphs.specs.declared.packages.Side.{Side}
 use Rattle.package_graphs.specs.declared.packages.Side.TheVariants.{Target, Host}
 use Rattle.package_graphs.specs.declared.package_sets.PackageSets.{PackageSets}
 
--- the types, for the laws
+-- types, as laws and callers name them
 abbrev pub Packages : Type 0
 Packages = List Package
 
 abbrev pub KindSet : Type 0
 KindSet = Kinds
+
+abbrev pub BuiltFor : Type 0
+BuiltFor = Side
 
 abbrev pub HostTarget : Type 0
 HostTarget = KnownTarget
@@ -97,7 +101,8 @@ pub record StartsOn (packages : List Package) (host : Option KnownTarget) (n : S
   pub root : IsTrue (is_root packages n.0)
   pub on : n.1 ≡ first_side host (is_macro packages n.0)
 
-pub record LeadsOn (packages : List Package) (kinds : Kinds) (host : Option KnownTarget) (k : ℕ) (m n : Sided) : Type 0 where
+pub record LeadsOn (packages : List Package) (kinds : Kinds) (host : Option KnownTarget) (k : ℕ) (m n : Sided)
+    : Type 0 where
   pub depends : DependsOn packages kinds m.0 n.0
   pub holds : IsTrue (is_member depends.dependency.holds (asked_at host k m.1 depends.dependency.kind))
   pub on : n.1 ≡ side_after host m.1 depends.dependency.kind (is_macro packages n.0)

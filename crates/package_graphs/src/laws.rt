@@ -2,7 +2,8 @@
 
 ghost use Rattle.std.specs.Prelude.{◌⊎◌, ◌↔◌, ◌++◌, ℕ, Bool, List, IsTrue, Contains, Some, None};
 ghost use Rattle.package_graphs.specs.Graphs.{Edges, IsPartOf, IsPresent, LeadsAt};
-ghost use Rattle.package_graphs.specs.Packages.{Packages, KindSet, HostTarget, Sided, IsThere, IsThereOn, IsForTarget, IsPlain};
+ghost use Rattle.package_graphs.specs.Packages.{Packages, KindSet, HostTarget, Sided, IsThere, IsThereOn};
+ghost use Rattle.package_graphs.specs.Packages.{IsForTarget, IsPlain};
 
 /// The targets of the nodes are the least sets that have the roots and that the edges lead on from: these are such, and
 /// are parts of any other such sets.

@@ -1,6 +1,7 @@
 //! The targets at which each node is there.
 
-ghost use Rattle.std.specs.Prelude.{◌≡◌, ◌<◌, ◌+◌, ◌*◌, ◌≤◌, ◌↔◌, ℕ, true, false, ◌&&◌, ◌||◌, ◌==◌, IsTrue, IfOk, OnOk};
+ghost use Rattle.std.specs.Prelude.{◌≡◌, ◌<◌, ◌+◌, ◌*◌, ◌≤◌, ◌↔◌, ℕ, true, false, ◌&&◌, ◌||◌, ◌==◌, IsTrue, IfOk};
+ghost use Rattle.std.specs.Prelude.{OnOk};
 ghost use Rattle.std.specs.Prelude.{length, vec_len, List};
 ghost use Rattle.std.specs.VecDeque.{deque_len};
 ghost use Rattle.known_targets.specs.Sets.{is_member};

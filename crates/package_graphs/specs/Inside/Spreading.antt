@@ -1,5 +1,6 @@
 -- What holds while targets are carried along edges: which nodes wait to be gone over, and what is still missing.
-use Rattle.std.specs.Prelude.{◌≡◌, ◌<◌, ℕ, zero, suc, ◌+◌, Bool, true, false, cond, List, length, sum_by, Contains, All}
+use Rattle.std.specs.Prelude.{◌≡◌, ◌<◌, ℕ, zero, suc, ◌+◌, Bool, true, false, cond, List, length, sum_by, Contains}
+use Rattle.std.specs.Prelude.{All}
 use Rattle.std.specs.List.{slice_index_or}
 use Rattle.known_targets.specs.Sets.{is_member}
 use Rattle.known_targets.specs.declared.target_set.TargetSet.{TargetSet}

@@ -1,4 +1,5 @@
-use Rattle.std.proofs.Common.{◌≡◌, ◌<◌, length, ◌||◌, ◌&&◌, ◌==◌, ◌+◌, ◌≤◌, true, false, Bool, set, refl, sym, ◌∙◌, ap, inl, inr, arith}
+use Rattle.std.proofs.Common.{◌≡◌, ◌<◌, length, ◌||◌, ◌&&◌, ◌==◌, ◌+◌, ◌≤◌, true, false, Bool, set, refl, sym, ◌∙◌}
+use Rattle.std.proofs.Common.{ap, inl, inr, arith}
 use Rattle.std.proofs.lemmas.Bool.{cases_eq, or_parts, or_left, eq-eqb, ne_eqb, eqb-false, false≢true}
 use Rattle.std.proofs.lemmas.List.Sums.{sum_by-set}
 use Rattle.known_targets.specs.Sets.{is_member}
@@ -24,14 +25,16 @@ returns-in_ok-add-clause-sets c n k below =
     let node = c.args.node in
     let more = is_member c.args.more k in
     let fits : node < length sets = omega (arith, c.requires.known, c.args.sets.now.ok.0) in
-    elim (cases_eq n node) as (λ _. is_in (set sets node c.union-all.result) n k ≡ (is_in sets n k || ((n == node) && more))) [
+    elim (cases_eq n node)
+    as (λ _. is_in (set sets node c.union-all.result) n k ≡ (is_in sets n k || ((n == node) && more))) [
       | inl same ↦
           rw same (is_in_same sets node c.union-all.result k fits
           ∙ c.union-all.ensures k below
           ∙ ap (λ (b : Bool). b || more) (sym (is_in_read sets node c.index-old.result.now k fits c.index-old.ensures))
           ∙ or_both (is_in sets node k) (node == node) more (eq-eqb node node refl))
       | inr other ↦
-          is_in_other sets node c.union-all.result n k other ∙ or_none (is_in sets n k) (n == node) more (ne_eqb n node other)
+          is_in_other sets node c.union-all.result n k other
+          ∙ or_none (is_in sets n k) (n == node) more (ne_eqb n node other)
     ]
 
 pub returns-in_ok-add-clause-same : goal.returns-in_ok-add-clause-same

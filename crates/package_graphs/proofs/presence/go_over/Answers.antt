@@ -33,7 +33,8 @@ edges-preserved c =
       count = c.in_ok-add.ensures.count ∙ c.edges.invariant.count;
       grown = λ n k known here. grown n k known (c.edges.invariant.grown n k known here);
       waited = λ n rests. c.edges.invariant.waited n (c.in_ok-add.ensures.waited n rests);
-      same = λ n k known rests. c.in_ok-add.ensures.same n k known rests ∙ c.edges.invariant.same n k known (c.in_ok-add.ensures.waited n rests);
+      same = λ n k known rests. c.in_ok-add.ensures.same n k known rests
+          ∙ c.edges.invariant.same n k known (c.in_ok-add.ensures.waited n rests);
       carried = λ rests.
           carried_more graph at new node i edge grown (λ k known. c.in_ok-add.ensures.same node k known rests) is
           (c.edges.invariant.carried (c.in_ok-add.ensures.waited node rests))

@@ -1,4 +1,5 @@
-use Rattle.std.proofs.Common.{◌≡◌, ◌<◌, ℕ, true, false, ◌==◌, List, length, get_or, vec_len, refl, sym, ◌∙◌, ap, below_more, rules, arith}
+use Rattle.std.proofs.Common.{◌≡◌, ◌<◌, ℕ, true, false, ◌==◌, List, length, get_or, vec_len, refl, sym, ◌∙◌, ap}
+use Rattle.std.proofs.Common.{below_more, rules, arith}
 use Rattle.std.proofs.lemmas.Bool.{false≢true, or_left, or_right, and_from, eq-eqb}
 use Rattle.std.proofs.lemmas.List.{get_or_default}
 use Rattle.known_targets.specs.Sets.{is_member}
@@ -30,7 +31,8 @@ pub returns-clause-exact : goal.returns-clause-exact
 returns-clause-exact c n k inside known = (
   c.nodes.invariant.sound n k known,
   λ h. complete (edge_lists c.args.graph.now) c.args.roots.now (is_in c.nodes.sets.items) k known
-      (by_place c.args.roots.now (λ root. root < length (edge_lists c.args.graph.now) → is_in c.nodes.sets.items root k ≡ true)
+      (by_place c.args.roots.now
+      (λ root. root < length (edge_lists c.args.graph.now) → is_in c.nodes.sets.items root k ≡ true)
       (λ i below fits. c.nodes.invariant.rooted i below (omega (arith, fits, c.nodes.invariant.count)) k known))
       (λ m. c.nodes.invariant.carried m (c.in_default.ensures.none m))
       n h inside,

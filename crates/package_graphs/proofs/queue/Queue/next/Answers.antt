@@ -10,6 +10,7 @@ returns-clause-queue c =
     let node = c.in_ok-node.node in
     let known = known_first (length waiting) nodes rest node c.in_ok-node.ensures.items c.requires.known in
     record {
-      known = rw (length-set waiting node _) (known_rest (length waiting) nodes rest node c.in_ok-node.ensures.items c.requires.known);
+      known = rw (length-set waiting node _)
+          (known_rest (length waiting) nodes rest node c.in_ok-node.ensures.items c.requires.known);
       listed = in_rest waiting nodes rest node known c.in_ok-node.ensures.items c.requires.listed;
     }
