@@ -21,7 +21,8 @@ more_seen items i v below is =
     ∙ map-append view (take i items) (get_or items i v ∷ [])
     ∙ ap (λ (w : Value). map view (take i items) ++ view w ∷ []) (sym is)
 
-pub rows_more : {X : Type 0} (IsRow : Data → X → Type 0) (items : List Value) (i : ℕ) (v : Value) (xs ys : List X) (x : X)
+pub rows_more : {X : Type 0} (IsRow : Data → X → Type 0) (items : List Value) (i : ℕ) (v : Value)
+    (xs ys : List X) (x : X)
     → i < length items → v ≡ get_or items i v → ys ≡ xs ++ x ∷ []
     → AreRows IsRow (map view (take i items)) xs → IsRow (view v) x → AreRows IsRow (map view (take (i + 1) items)) ys
 rows_more {X} IsRow items i v xs ys x below is pushed rows row =

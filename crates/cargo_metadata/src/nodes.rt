@@ -97,7 +97,8 @@ fn kind_row<'a>(value: &'a Value) -> Result<KindRow<'a>, Wrong>
 
 /// The dependency that an object is.
 fn dependency_of<'a>(alloc: Global, value: &'a Value) -> Result<Dependency<'a>, InDependency>
-    ensures { MatchResult result (λ d. IsDependency (view value.now) d) (λ wrong. IsInDependency (view value.now) wrong) }
+    ensures { MatchResult result (λ d. IsDependency (view value.now) d)
+        (λ wrong. IsInDependency (view value.now) wrong) }
 {
     let on = match wanted_text(value, "pkg") {
         Ok(text) => text,

@@ -1,10 +1,7 @@
 //! A caller of `cargo_metadata`, as its users write it.
 
-ghost use Rattle.std.specs.Prelude.{◌≡◌, IfOk, Some, length, codes};
-ghost use Rattle.std.specs.Prelude.{List};
+ghost use Rattle.std.specs.Prelude.{IfOk};
 ghost use Rattle.serde_json.specs.View.{view};
-ghost use Rattle.cargo_metadata.specs.Fields.{IsWrong};
-ghost use Rattle.cargo_metadata.specs.Documents.{IsMetadata, IsRefused};
 ghost use Rattle.cargo_metadata_tests.specs.Counted.{HasSoManyPackages};
 
 use cargo_metadata::{Refusal, read};

@@ -8,5 +8,7 @@ members-init c = rows_none IsMember c.new-members.result.items c.new-members.ens
 
 pub members-preserved : goal.members-preserved
 members-preserved c =
-    rows_more IsMember c.in-Ok.items.now c.members.i c.index-items-i.result c.members.members.items c.push.new.self.items
-    c.in-Some.id c.members-test.true c.index-items-i.is c.in_default.ensures.items c.members.invariant (sym c.in-Some.ensures)
+    rows_more IsMember c.in-Ok.items.now c.members.i c.index-items-i.result c.members.members.items
+    c.push.new.self.items
+    c.in-Some.id c.members-test.true c.index-items-i.is c.in_default.ensures.items
+    c.members.invariant (sym c.in-Some.ensures)

@@ -8,4 +8,5 @@ nodes-init c = rows_none IsNode c.new-nodes.result.items c.new-nodes.ensures.ite
 pub nodes-preserved : goal.nodes-preserved
 nodes-preserved c =
     rows_more IsNode c.in-Ok.items.now c.nodes.i c.index-items-i.result c.nodes.nodes.items c.push.new.self.items
-    c.in-Ok-node_of.node c.nodes-test.true c.index-items-i.is c.in_default.ensures.items c.nodes.invariant c.in-Ok-node_of.ensures
+    c.in-Ok-node_of.node c.nodes-test.true c.index-items-i.is c.in_default.ensures.items
+    c.nodes.invariant c.in-Ok-node_of.ensures

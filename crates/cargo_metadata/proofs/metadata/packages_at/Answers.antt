@@ -7,5 +7,7 @@ packages-init c = rows_none IsPackage c.new-packages.result.items c.new-packages
 
 pub packages-preserved : goal.packages-preserved
 packages-preserved c =
-    rows_more IsPackage c.in-Ok.items.now c.packages.i c.index-items-i.result c.packages.packages.items c.push.new.self.items
-    c.in-Ok-package_of.unit c.packages-test.true c.index-items-i.is c.in_default.ensures.items c.packages.invariant c.in-Ok-package_of.ensures
+    rows_more IsPackage c.in-Ok.items.now c.packages.i c.index-items-i.result c.packages.packages.items
+    c.push.new.self.items
+    c.in-Ok-package_of.unit c.packages-test.true c.index-items-i.is c.in_default.ensures.items
+    c.packages.invariant c.in-Ok-package_of.ensures
