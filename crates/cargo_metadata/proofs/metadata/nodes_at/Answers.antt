@@ -1,0 +1,12 @@
+use Rattle.cargo_metadata.specs.Nodes.{IsNode}
+use Rattle.cargo_metadata.proofs.Elements.{rows_none, rows_more}
+use Rattle.cargo_metadata.proofs.metadata.nodes_at.Goals as goal
+
+pub nodes-init : goal.nodes-init
+nodes-init c = rows_none IsNode c.new-nodes.result.items c.new-nodes.ensures.items
+
+pub nodes-preserved : goal.nodes-preserved
+nodes-preserved c =
+    rows_more IsNode c.in-Ok.items.now c.nodes.i c.index-items-i.result c.nodes.nodes.items c.push.new.self.items
+    c.in-Ok-node_of.node c.nodes-test.true c.index-items-i.is c.in_default.ensures.items
+    c.nodes.invariant c.in-Ok-node_of.ensures

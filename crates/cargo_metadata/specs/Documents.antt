@@ -1,0 +1,50 @@
+-- A whole document.
+use Rattle.std.specs.Prelude.{◌≡◌, ℕ, true, false, List, Some, codes, is_some}
+use Rattle.std.specs.Borrow.{Bor}
+use Rattle.serde_json.specs.Data.{Data}
+use Rattle.serde_json.specs.Find.{get, as_str, as_object}
+use Rattle.cargo_metadata.specs.Fields.{fits, IsWrong}
+use Rattle.cargo_metadata.specs.Rows.{AreRowsAt, IsElementAt}
+use Rattle.cargo_metadata.specs.Packages.{IsPackage}
+use Rattle.cargo_metadata.specs.Nodes.{IsNode, IsInNode}
+use Rattle.cargo_metadata.specs.declared.metadata.Metadata.{Metadata}
+use Rattle.cargo_metadata.specs.declared.refusals.Wanted.TheVariants as wanted
+use Rattle.cargo_metadata.specs.declared.refusals.InResolve.{InResolve}
+use Rattle.cargo_metadata.specs.declared.refusals.InResolve.TheVariants as in_resolve
+use Rattle.cargo_metadata.specs.declared.refusals.Refusal.{Refusal}
+use Rattle.cargo_metadata.specs.declared.refusals.Refusal.TheVariants as refusals
+
+abbrev pub IsMember : Data → Bor (List ℕ) → Type 0
+IsMember d id = as_str d ≡ Some id.now
+
+abbrev pub IsVersionOne : Data → Type 0
+IsVersionOne d = fits wanted.One (get (codes "version") d) ≡ true
+
+-- an object stands at `resolve`
+pub record IsResolve (d : Data) (resolve : Data) : Type 0 where
+  pub stands : get (codes "resolve") d ≡ Some resolve
+  pub is_object : is_some (as_object resolve) ≡ true
+
+-- what stands at `resolve`, of which this holds
+abbrev pub InsideResolve : Data → (Data → Type 0) → Type 0
+InsideResolve d Is = (resolve : Data) × IsResolve d resolve × Is resolve
+
+pub record IsMetadata (d : Data) (m : Metadata) : Type 0 where
+  pub version : IsVersionOne d
+  pub packages : AreRowsAt IsPackage (codes "packages") d m.packages.items
+  pub members : AreRowsAt IsMember (codes "workspace_members") d m.members.items
+  pub nodes : InsideResolve d (λ resolve. AreRowsAt IsNode (codes "nodes") resolve m.nodes.items)
+
+-- ---- why it is refused
+
+abbrev pub IsInResolve : Data → InResolve → Type 0
+IsInResolve d (in_resolve.Field wrong) = IsWrong d wrong
+IsInResolve d (in_resolve.Node i wrong) = IsElementAt (λ e. IsInNode e wrong) (codes "nodes") i d
+IsInResolve d (in_resolve.Memory error) = Unit {0}
+
+abbrev pub IsRefused : Data → Refusal → Type 0
+IsRefused d (refusals.Field wrong) = IsWrong d wrong
+IsRefused d (refusals.Package i wrong) = IsElementAt (λ e. IsWrong e wrong) (codes "packages") i d
+IsRefused d (refusals.Member i) = IsElementAt (λ e. is_some (as_str e) ≡ false) (codes "workspace_members") i d
+IsRefused d (refusals.Resolve wrong) = InsideResolve d (λ resolve. IsInResolve resolve wrong)
+IsRefused d (refusals.Memory error) = Unit {0}

@@ -1,0 +1,5 @@
+pub mod Fields
+pub mod Rows
+pub mod Packages
+pub mod Nodes
+pub mod Documents

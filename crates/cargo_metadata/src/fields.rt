@@ -1,0 +1,66 @@
+//! What stands at a field.
+
+ghost use Rattle.std.specs.Prelude.{◌≡◌, map, option_map, MatchResult, Some};
+ghost use Rattle.serde_json.specs.View.{view};
+ghost use Rattle.cargo_metadata.specs.Fields.{field_at, text_at, list_at, IsWrong};
+
+use crate::refusals::{Wanted, Wrong};
+use serde_json::Value;
+
+/// What stands at a field.
+pub fn field_at<'a>(value: &'a Value, field: &str) -> Option<&'a Value>
+    ensures { option_map (λ v. view v.now) result ≡ field_at field.now (view value.now) }
+{
+    value.get(field)
+}
+
+/// The text at a field, if one stands there.
+pub fn text_at<'a>(value: &'a Value, field: &str) -> Option<&'a str>
+    ensures { option_map (λ s. s.now) result ≡ text_at field.now (view value.now) }
+{
+    match field_at(value, field) {
+        Some(found) => found.as_str(),
+        None => None,
+    }
+}
+
+/// The list at a field, if one stands there.
+pub fn list_at<'a>(value: &'a Value, field: &str) -> Option<&'a [Value]>
+    ensures { option_map (λ vs. map view vs.now) result ≡ list_at field.now (view value.now) }
+{
+    match field_at(value, field) {
+        Some(found) => match found.as_array() {
+            Some(items) => Some(items.as_slice()),
+            None => None,
+        },
+        None => None,
+    }
+}
+
+/// The text at a field.
+pub fn wanted_text<'a>(value: &'a Value, field: &'static str) -> Result<&'a str, Wrong>
+    ensures { MatchResult result (λ s. text_at field.now (view value.now) ≡ Some s.now)
+        (λ wrong. IsWrong (view value.now) wrong) }
+{
+    match text_at(value, field) {
+        Some(text) => Ok(text),
+        None => Err(Wrong {
+            field,
+            wanted: Wanted::Text,
+        }),
+    }
+}
+
+/// The list at a field.
+pub fn wanted_list<'a>(value: &'a Value, field: &'static str) -> Result<&'a [Value], Wrong>
+    ensures { MatchResult result (λ vs. list_at field.now (view value.now) ≡ Some (map view vs.now))
+        (λ wrong. IsWrong (view value.now) wrong) }
+{
+    match list_at(value, field) {
+        Some(items) => Ok(items),
+        None => Err(Wrong {
+            field,
+            wanted: Wanted::List,
+        }),
+    }
+}

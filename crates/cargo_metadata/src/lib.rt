@@ -1,0 +1,14 @@
+//! What `cargo metadata --format-version 1` prints, as far as a graph of packages needs it.
+#![tactic(auto)]
+
+mod fields;
+mod metadata;
+mod nodes;
+mod packages;
+mod refusals;
+mod shown;
+
+pub use metadata::{Metadata, read};
+pub use nodes::{Dependency, Kind, KindRow, Node};
+pub use packages::Package;
+pub use refusals::{InDependency, InNode, InResolve, Refusal, Wanted, Wrong};

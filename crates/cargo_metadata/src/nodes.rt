@@ -1,0 +1,147 @@
+//! Nodes of a document's graph, and their dependencies.
+
+ghost use Rattle.std.specs.Prelude.{◌≡◌, MatchResult, Some};
+ghost use Rattle.std.specs.Option.{option_copied};
+ghost use Rattle.serde_json.specs.View.{view};
+ghost use Rattle.cargo_metadata.specs.Fields.{IsWrong};
+ghost use Rattle.cargo_metadata.specs.Nodes.{kind_at, condition_at, IsKindRow, IsDependency, IsNode};
+ghost use Rattle.cargo_metadata.specs.Nodes.{IsInDependency, IsInNode};
+
+use crate::fields::{field_at, wanted_list, wanted_text};
+use crate::refusals::{InDependency, InNode, Wanted, Wrong};
+use serde_json::Value;
+use std::alloc::{AllocError, Global};
+
+/// What a dependency is for.
+#[derive(Clone, Copy, Debug, PartialEq, Eq, Drop)]
+pub enum Kind {
+    Normal,
+    Build,
+    Dev,
+}
+
+/// A kind of a dependency, and its condition as it is written, if it has one.
+#[derive(Clone, Copy, Drop)]
+pub struct KindRow<'a> {
+    pub kind: Kind,
+    pub condition: Option<&'a str>,
+}
+
+/// A dependency on the package with an id.
+#[derive(Drop)]
+pub struct Dependency<'a> {
+    pub on: &'a str,
+    pub kinds: Vec<KindRow<'a>>,
+}
+
+/// A node, by the id of its package.
+#[derive(Drop)]
+pub struct Node<'a> {
+    pub id: &'a str,
+    pub dependencies: Vec<Dependency<'a>>,
+}
+
+/// The kind of a dependency: nothing or null is the normal one.
+fn kind_of(value: &Value) -> Result<Kind, Wrong>
+    ensures { MatchResult result (λ kind. kind_at (view value.now) ≡ Some kind)
+        (λ wrong. IsWrong (view value.now) wrong) }
+{
+    let wrong = Wrong {
+        field: "kind",
+        wanted: Wanted::Kind,
+    };
+    let found = match field_at(value, "kind") {
+        None => return Ok(Kind::Normal),
+        Some(found) => found,
+    };
+    if found.is_null() {
+        return Ok(Kind::Normal);
+    }
+    match found.as_str() {
+        None => Err(wrong),
+        Some("build") => Ok(Kind::Build),
+        Some("dev") => Ok(Kind::Dev),
+        Some(_) => Err(wrong),
+    }
+}
+
+/// The condition of a dependency: nothing or null is none.
+fn condition_of<'a>(value: &'a Value) -> Result<Option<&'a str>, Wrong>
+    ensures { MatchResult result (λ text. condition_at (view value.now) ≡ Some (option_copied text))
+        (λ wrong. IsWrong (view value.now) wrong) }
+{
+    let found = match field_at(value, "target") {
+        None => return Ok(None),
+        Some(found) => found,
+    };
+    if found.is_null() {
+        return Ok(None);
+    }
+    match found.as_str() {
+        Some(text) => Ok(Some(text)),
+        None => Err(Wrong {
+            field: "target",
+            wanted: Wanted::Condition,
+        }),
+    }
+}
+
+/// The kind and the condition that an object is.
+fn kind_row<'a>(value: &'a Value) -> Result<KindRow<'a>, Wrong>
+    ensures { MatchResult result (λ row. IsKindRow (view value.now) row) (λ wrong. IsWrong (view value.now) wrong) }
+{
+    let kind = kind_of(value)?;
+    let condition = condition_of(value)?;
+    Ok(KindRow { kind, condition })
+}
+
+/// The dependency that an object is.
+fn dependency_of<'a>(alloc: Global, value: &'a Value) -> Result<Dependency<'a>, InDependency>
+    ensures { MatchResult result (λ d. IsDependency (view value.now) d)
+        (λ wrong. IsInDependency (view value.now) wrong) }
+{
+    let on = match wanted_text(value, "pkg") {
+        Ok(text) => text,
+        Err(wrong) => return Err(InDependency::Field(wrong)),
+    };
+    let items = match wanted_list(value, "dep_kinds") {
+        Ok(items) => items,
+        Err(wrong) => return Err(InDependency::Field(wrong)),
+    };
+    let mut kinds = Vec::new(alloc);
+    'kinds: for i in 0..items.len() {
+        let row = match kind_row(&items[i]) {
+            Ok(row) => row,
+            Err(wrong) => return Err(InDependency::Kind(i, wrong)),
+        };
+        if let Err(error) = kinds.push(row) {
+            return Err(InDependency::Memory(AllocError::from(error)));
+        }
+    }
+    Ok(Dependency { on, kinds })
+}
+
+/// The node that an object is.
+pub fn node_of<'a>(alloc: Global, value: &'a Value) -> Result<Node<'a>, InNode>
+    ensures { MatchResult result (λ n. IsNode (view value.now) n) (λ wrong. IsInNode (view value.now) wrong) }
+{
+    let id = match wanted_text(value, "id") {
+        Ok(text) => text,
+        Err(wrong) => return Err(InNode::Field(wrong)),
+    };
+    let items = match wanted_list(value, "deps") {
+        Ok(items) => items,
+        Err(wrong) => return Err(InNode::Field(wrong)),
+    };
+    let mut dependencies = Vec::new(alloc);
+    'dependencies: for i in 0..items.len() {
+        let dependency = match dependency_of(alloc, &items[i]) {
+            Ok(dependency) => dependency,
+            Err(wrong) => return Err(InNode::Dependency(i, wrong)),
+        };
+        if let Err(error) = dependencies.push(dependency) {
+            return Err(InNode::Memory(AllocError::from(error)));
+        }
+    }
+    Ok(Node { id, dependencies })
+}

@@ -1,0 +1,81 @@
+//! Packages of a document.
+
+ghost use Rattle.std.specs.Prelude.{◌≡◌, MatchResult};
+ghost use Rattle.serde_json.specs.View.{view};
+ghost use Rattle.cargo_metadata.specs.Fields.{IsWrong};
+ghost use Rattle.cargo_metadata.specs.Packages.{IsPackage, is_macro, has_macro_kind, is_macro_kind};
+
+use crate::fields::{list_at, text_at, wanted_text};
+use crate::refusals::Wrong;
+use serde_json::Value;
+
+/// A package.
+#[derive(Clone, Copy, Drop)]
+pub struct Package<'a> {
+    pub id: &'a str,
+    pub name: &'a str,
+    pub version: &'a str,
+    pub license: Option<&'a str>,
+    /// Whether one of its targets is a procedural macro.
+    pub is_macro: bool,
+}
+
+/// The package that an object is.
+pub fn package_of<'a>(value: &'a Value) -> Result<Package<'a>, Wrong>
+    ensures { MatchResult result (λ p. IsPackage (view value.now) p) (λ wrong. IsWrong (view value.now) wrong) }
+{
+    let id = wanted_text(value, "id")?;
+    let name = wanted_text(value, "name")?;
+    let version = wanted_text(value, "version")?;
+    let license = text_at(value, "license");
+    let is_macro = is_macro(value);
+    Ok(Package {
+        id,
+        name,
+        version,
+        license,
+        is_macro,
+    })
+}
+
+/// Whether one of a package's targets is a procedural macro.
+fn is_macro(value: &Value) -> bool
+    ensures { result ≡ is_macro (view value.now) }
+{
+    let targets = match list_at(value, "targets") {
+        None => return false,
+        Some(targets) => targets,
+    };
+    for target in targets {
+        if has_macro_kind(target) {
+            return true;
+        }
+    }
+    false
+}
+
+/// Whether one of a target's kinds is that of procedural macros.
+fn has_macro_kind(target: &Value) -> bool
+    ensures { result ≡ has_macro_kind (view target.now) }
+{
+    let kinds = match list_at(target, "kind") {
+        None => return false,
+        Some(kinds) => kinds,
+    };
+    for kind in kinds {
+        if is_macro_kind(kind) {
+            return true;
+        }
+    }
+    false
+}
+
+/// Whether it is the text of procedural macros.
+fn is_macro_kind(kind: &Value) -> bool
+    ensures { result ≡ is_macro_kind (view kind.now) }
+{
+    match kind.as_str() {
+        None => false,
+        Some(text) => text == "proc-macro",
+    }
+}

@@ -1,0 +1,65 @@
+//! Refusals, as people read them: the path in the document, and what was wanted there.
+
+use crate::refusals::{InDependency, InNode, InResolve, Refusal, Wanted, Wrong};
+use std::fmt::{self, Display, Formatter, Write};
+
+impl Display for Wanted {
+    fn fmt<W: Write>(&self, f: &mut Formatter<W>) -> fmt::Result {
+        match self {
+            Wanted::Text => write!(f, "a text is wanted"),
+            Wanted::List => write!(f, "a list is wanted"),
+            Wanted::One => write!(f, "1 is wanted"),
+            Wanted::Resolve => write!(f, "an object is wanted; `--no-deps` leaves it out"),
+            Wanted::Kind => write!(f, "null, \"build\" or \"dev\" is wanted"),
+            Wanted::Condition => write!(f, "a text or null is wanted"),
+        }
+    }
+}
+
+impl Display for Wrong {
+    fn fmt<W: Write>(&self, f: &mut Formatter<W>) -> fmt::Result {
+        write!(f, "{}: {}", self.field, self.wanted)
+    }
+}
+
+impl Display for InDependency {
+    fn fmt<W: Write>(&self, f: &mut Formatter<W>) -> fmt::Result {
+        match self {
+            InDependency::Field(wrong) => write!(f, ".{wrong}"),
+            InDependency::Kind(i, wrong) => write!(f, ".dep_kinds[{i}].{wrong}"),
+            InDependency::Memory(error) => write!(f, ": {error}"),
+        }
+    }
+}
+
+impl Display for InNode {
+    fn fmt<W: Write>(&self, f: &mut Formatter<W>) -> fmt::Result {
+        match self {
+            InNode::Field(wrong) => write!(f, ".{wrong}"),
+            InNode::Dependency(i, wrong) => write!(f, ".deps[{i}]{wrong}"),
+            InNode::Memory(error) => write!(f, ": {error}"),
+        }
+    }
+}
+
+impl Display for InResolve {
+    fn fmt<W: Write>(&self, f: &mut Formatter<W>) -> fmt::Result {
+        match self {
+            InResolve::Field(wrong) => write!(f, ".{wrong}"),
+            InResolve::Node(i, wrong) => write!(f, ".nodes[{i}]{wrong}"),
+            InResolve::Memory(error) => write!(f, ": {error}"),
+        }
+    }
+}
+
+impl Display for Refusal {
+    fn fmt<W: Write>(&self, f: &mut Formatter<W>) -> fmt::Result {
+        match self {
+            Refusal::Field(wrong) => write!(f, "{wrong}"),
+            Refusal::Package(i, wrong) => write!(f, "packages[{i}].{wrong}"),
+            Refusal::Member(i) => write!(f, "workspace_members[{i}]: {}", Wanted::Text),
+            Refusal::Resolve(wrong) => write!(f, "resolve{wrong}"),
+            Refusal::Memory(error) => write!(f, "{error}"),
+        }
+    }
+}

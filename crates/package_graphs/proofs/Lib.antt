@@ -1,0 +1,9 @@
+pub mod Lacking
+pub mod SetLists
+pub mod Waiting
+pub mod Carried
+pub mod Complete
+pub mod Reached
+pub mod Chosen
+pub mod Sided
+pub mod Alone

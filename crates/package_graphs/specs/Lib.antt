@@ -1,0 +1,5 @@
+pub mod Reaching
+pub mod Graphs
+pub mod Kinds
+pub mod Packages
+pub mod Inside

@@ -1,0 +1,68 @@
+//! Graphs, as the edges that begin at each node.
+
+ghost use Rattle.std.specs.Prelude.{◌≡◌, ◌<◌, [], ◌∷◌, ◌++◌, IfOk, OnOk, length, slice_set, replicate};
+ghost use Rattle.package_graphs.specs.Graphs.{edge_lists, edges_from};
+
+use known_targets::TargetSet;
+use std::alloc::{AllocError, Global};
+
+/// Where an edge leads, and at which targets.
+#[derive(Clone, Copy, Drop)]
+pub struct Edge {
+    /// The node that it leads to.
+    pub to: usize,
+    /// The targets at which its condition holds.
+    pub holds: TargetSet,
+}
+
+/// Nodes, which are numbers from 0 on, and the edges between them.
+#[derive(Drop)]
+pub struct Graph {
+    nodes: Vec<Vec<Edge>>,
+}
+
+impl Graph {
+    /// A graph of so many nodes, without an edge. It refuses only where memory is refused.
+    pub fn new(alloc: Global, count: usize) -> Result<Graph, AllocError>
+        ensures { IfOk result (λ graph. edge_lists graph ≡ replicate count []) }
+    {
+        let mut nodes = Vec::new(alloc);
+        'nodes: for _ in 0..count {
+            nodes.push(Vec::new(alloc))?;
+        }
+        Ok(Graph { nodes })
+    }
+
+    /// How many nodes it has.
+    pub fn len(&self) -> usize
+        ensures { result ≡ length (edge_lists self.now) }
+    {
+        self.nodes.len()
+    }
+
+    /// The edges that begin at this node.
+    pub fn edges_from(&self, from: usize) -> &[Edge]
+        requires { from < length (edge_lists self.now) }
+        ensures { result.now ≡ edges_from (edge_lists self.now) from }
+    {
+        &self.nodes[from]
+    }
+
+    /// Adds an edge that begins at this node. It refuses only where memory is refused.
+    pub fn add_edge(&mut self, from: usize, edge: Edge) -> Result<(), AllocError>
+        requires { from < length (edge_lists self.old) }
+        ensures { OnOk result (edge_lists self.new
+            ≡ slice_set (edge_lists self.old) from (edges_from (edge_lists self.old) from ++ edge ∷ [])) }
+    {
+        self.nodes[from].push(edge)?;
+        Ok(())
+    }
+
+    /// Adds a node, with the edges that begin at it. It refuses only where memory is refused.
+    pub fn push(&mut self, edges: Vec<Edge>) -> Result<(), AllocError>
+        ensures { OnOk result (edge_lists self.new ≡ edge_lists self.old ++ edges.items ∷ []) }
+    {
+        self.nodes.push(edges)?;
+        Ok(())
+    }
+}

@@ -1,0 +1,15 @@
+//! Graphs whose edges hold at some targets, and the targets at which each node is there.
+#![tactic(auto)]
+
+mod graph;
+pub mod laws;
+mod package_sets;
+mod packages;
+mod presence;
+mod queue;
+mod sides;
+
+pub use graph::{Edge, Graph};
+pub use package_sets::{PackageSets, present_packages};
+pub use packages::{Dependency, Kind, Kinds, Package, Side};
+pub use presence::present;

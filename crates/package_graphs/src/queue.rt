@@ -1,0 +1,63 @@
+//! The nodes whose edges are to be gone over, each once in a list.
+
+ghost use Rattle.std.specs.Prelude.{◌≡◌, ◌<◌, ◌+◌, ◌≤◌, ℕ, false, not, ◌&&◌, ◌||◌, ◌==◌, IfOk, OnOk, IfNone, IfSome};
+ghost use Rattle.std.specs.Prelude.{length};
+ghost use Rattle.std.specs.VecDeque.{deque_len};
+ghost use Rattle.package_graphs.specs.Inside.Spreading.{waits, IsQueue, node_count};
+
+use std::alloc::{AllocError, Global};
+use std::collections::VecDeque;
+
+/// Nodes in the order in which they are gone over, and for each node whether it is among them.
+#[derive(Drop)]
+pub struct Queue {
+    nodes: VecDeque<usize>,
+    waiting: Vec<bool>,
+}
+
+impl Queue {
+    /// No node of so many waits.
+    pub fn new(alloc: Global, count: usize) -> Result<Queue, AllocError>
+        ensures queue { IfOk result IsQueue }
+        ensures count { IfOk result (λ queue. node_count queue ≡ count) }
+        ensures waits { IfOk result (λ queue. (n : ℕ) → waits queue n ≡ false) }
+    {
+        let waiting = vec![in alloc; false; count]?;
+        Ok(Queue {
+            nodes: VecDeque::new(alloc),
+            waiting,
+        })
+    }
+
+    /// Lets the node wait.
+    pub fn add(&mut self, node: usize) -> Result<(), AllocError>
+        requires queue { IsQueue self.old }
+        requires known { node < node_count self.old }
+        ensures queue { OnOk result (IsQueue self.new) }
+        ensures count { node_count self.new ≡ node_count self.old }
+        ensures waits { OnOk result ((n : ℕ) → waits self.new n ≡ ((n == node) || waits self.old n)) }
+        ensures work { deque_len self.new.nodes ≤ deque_len self.old.nodes + 1 }
+    {
+        if !self.waiting[node] {
+            self.nodes.push_back(node)?;
+            self.waiting[node] = true;
+        }
+        Ok(())
+    }
+
+    /// The node that waits longest. It waits no more.
+    pub fn next(&mut self) -> Option<usize>
+        requires { IsQueue self.old }
+        ensures queue { IsQueue self.new }
+        ensures count { node_count self.new ≡ node_count self.old }
+        ensures none { IfNone result ((n : ℕ) → waits self.old n ≡ false) }
+        ensures same { IfNone result ((n : ℕ) → waits self.new n ≡ waits self.old n) }
+        ensures known { IfSome result (λ node. node < node_count self.old) }
+        ensures waits { IfSome result (λ node. (n : ℕ) → waits self.new n ≡ (not (n == node) && waits self.old n)) }
+        ensures work { IfSome result (λ node. deque_len self.new.nodes + 1 ≡ deque_len self.old.nodes) }
+    {
+        let node = self.nodes.pop_front()?;
+        self.waiting[node] = false;
+        Some(node)
+    }
+}

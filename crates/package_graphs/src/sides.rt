@@ -1,0 +1,155 @@
+//! The graph of packages on both sides: for each package a node for the target, and one for the host.
+
+ghost use Rattle.std.specs.Prelude.{◌≡◌, ◌<◌, ◌^◌, IfOk, length};
+ghost use Rattle.known_targets.specs.Sets.{is_member};
+ghost use Rattle.package_graphs.specs.Graphs.{edge_lists};
+ghost use Rattle.package_graphs.specs.Kinds.{is_followed};
+ghost use Rattle.package_graphs.specs.Packages.{node_of, side, is_macro, is_of_host, side_after, first_side};
+ghost use Rattle.package_graphs.specs.Inside.Numbered.{holds_by, edge_of, edges_on, numbered, AreFirst};
+
+use crate::graph::{Edge, Graph};
+use crate::packages::{Dependency, Kind, Kinds, Package, Side};
+use known_targets::{KnownTarget, TargetSet};
+use std::alloc::{AllocError, Global};
+
+/// What is asked of packages: by which kinds, and of which host.
+#[derive(Clone, Copy, Drop)]
+pub struct Question {
+    pub kinds: Kinds,
+    pub host: Option<KnownTarget>,
+    /// All targets, where a dependency is asked of the host and holds there.
+    pub always: TargetSet,
+    /// No target, where it does not.
+    pub never: TargetSet,
+}
+
+/// The place of a package's node among those of all packages.
+pub fn node_of(index: usize, side: Side) -> usize
+    requires { index < 2 ^ 62 }
+    ensures { result ≡ node_of index side }
+{
+    match side {
+        Side::Target => 2 * index,
+        Side::Host => 2 * index + 1,
+    }
+}
+
+/// Whether a dependency is one of the host: what the host needs, and what a build script does.
+fn is_of_host(from: Side, kind: Kind) -> bool
+    ensures { result ≡ is_of_host from kind }
+{
+    match from {
+        Side::Host => true,
+        Side::Target => matches!(kind, Kind::Build),
+    }
+}
+
+/// The side of what is built for the host, or is not.
+fn side(is_for_host: bool) -> Side
+    ensures { result ≡ side is_for_host }
+{
+    if is_for_host {
+        Side::Host
+    } else {
+        Side::Target
+    }
+}
+
+impl Question {
+    /// What a package is built for that a dependency leads to.
+    fn side_after(&self, from: Side, kind: Kind, is_macro: bool) -> Side
+        ensures { result ≡ side_after self.now.host from kind is_macro }
+    {
+        match self.host {
+            None => Side::Target,
+            Some(_) => side(is_of_host(from, kind) || is_macro),
+        }
+    }
+
+    /// What a root is built for.
+    fn first_side(&self, is_macro: bool) -> Side
+        ensures { result ≡ first_side self.now.host is_macro }
+    {
+        match self.host {
+            None => Side::Target,
+            Some(_) => side(is_macro),
+        }
+    }
+
+    /// Where a dependency holds: everywhere or nowhere, where it is asked of the host.
+    fn holds_by(&self, from: Side, dependency: &Dependency) -> TargetSet
+        ensures { result ≡ holds_by self.now.host self.now.always self.now.never from dependency.now }
+    {
+        match self.host {
+            None => dependency.holds,
+            Some(host) => {
+                if !is_of_host(from, dependency.kind) {
+                    dependency.holds
+                } else if dependency.holds.contains(host) {
+                    self.always
+                } else {
+                    self.never
+                }
+            }
+        }
+    }
+
+    /// The edge of a dependency.
+    fn edge_of(&self, packages: &[Package], from: Side, dependency: &Dependency) -> Edge
+        requires { dependency.now.to < length packages.now }
+        ensures { result ≡ edge_of self.now packages.now from dependency.now }
+    {
+        let is_macro = packages[dependency.to].is_macro;
+        let side = self.side_after(from, dependency.kind, is_macro);
+        Edge {
+            to: node_of(dependency.to, side),
+            holds: self.holds_by(from, dependency),
+        }
+    }
+
+    /// The edges that begin at a package's node: one for each dependency that is followed to a package.
+    fn edges_on(
+        &self,
+        alloc: Global,
+        packages: &[Package],
+        unit: &Package,
+        from: Side,
+    ) -> Result<Vec<Edge>, AllocError>
+        ensures { IfOk result (λ edges. edges.items ≡ edges_on self.now packages.now unit.now from) }
+    {
+        let mut edges = Vec::new(alloc);
+        'dependencies: for dependency in &unit.dependencies {
+            let is_there = dependency.to < packages.len();
+            if is_there && self.kinds.follow(unit.is_root, dependency.kind) {
+                edges.push(self.edge_of(packages, from, dependency))?;
+            }
+        }
+        Ok(edges)
+    }
+
+    /// The graph of both sides.
+    pub fn graph(&self, alloc: Global, packages: &[Package]) -> Result<Graph, AllocError>
+        ensures { IfOk result (λ graph. edge_lists graph ≡ numbered self.now packages.now packages.now) }
+    {
+        let mut graph = Graph::new(alloc, 0)?;
+        'packages: for unit in packages {
+            graph.push(self.edges_on(alloc, packages, unit, Side::Target)?)?;
+            graph.push(self.edges_on(alloc, packages, unit, Side::Host)?)?;
+        }
+        Ok(graph)
+    }
+
+    /// The nodes of the roots.
+    pub fn roots(&self, alloc: Global, packages: &[Package]) -> Result<Vec<usize>, AllocError>
+        ensures { IfOk result (λ roots. AreFirst self.now packages.now (length packages.now) roots.items) }
+    {
+        let mut roots = Vec::new(alloc);
+        'packages: for i in 0..packages.len() {
+            if !packages[i].is_root {
+                continue;
+            }
+            roots.push(node_of(i, self.first_side(packages[i].is_macro)))?;
+        }
+        Ok(roots)
+    }
+}
