@@ -52,7 +52,7 @@ fn a_plan_is_asked_later(rt: HostRuntime) {
     let alloc = rt.alloc();
     let facts = facts(&rt, alloc, LINUX);
     let condition = "all(unix, any(loom, not(feature = \"std\")))";
-    let e = expression(&rt, alloc, condition);
+    let e = CfgExpr::from_str(alloc, condition).expect(&rt, condition);
     let plan = plan(alloc, &e, &listed(&facts)).expect(&rt, "memory");
     assert_asked(&rt, alloc, &plan, "unix\nloom", true);
     assert_asked(&rt, alloc, &plan, "unix\nfeature = \"std\"", false);

@@ -43,7 +43,8 @@ pub fn answer(alloc: Global, call: &str, fields: &mut Fields<'_>) -> Result<Stri
         "lint" => Ok(barred(alloc, &lint(alloc, "Cargo.toml", &text)?)?),
         "canonical" => match canonical(alloc, &text) {
             Ok(text) => Ok(barred(alloc, &text)?),
-            Err(_) => Ok(word(alloc, "refused")?),
+            Err(ReadError::Parse(_)) => Ok(word(alloc, "refused")?),
+            Err(ReadError::Memory(_)) => Err(Fault::Memory),
         },
         "one" => one(alloc, &text, &fields.text(alloc)?),
         "key" => key(alloc, &text),
