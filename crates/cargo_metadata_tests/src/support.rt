@@ -30,3 +30,11 @@ pub fn assert_graph_refused(rt: &impl Abort, alloc: Global, resolve: &str, wante
     let wanted = format!(in alloc; "resolve{wanted}").expect(rt, "memory");
     assert_refused(rt, alloc, text.as_str(), wanted.as_str());
 }
+
+/// Whether it is this text.
+pub fn is_text(found: Option<&str>, wanted: &str) -> bool {
+    match found {
+        Some(text) => text == wanted,
+        None => false,
+    }
+}

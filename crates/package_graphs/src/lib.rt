@@ -12,4 +12,4 @@ mod sides;
 pub use graph::{Edge, Graph};
 pub use package_sets::{PackageSets, present_packages};
 pub use packages::{Dependency, Kind, Kinds, Package, Side};
-pub use presence::present;
+pub use presence::{Counted, present, present_counted};

@@ -2,12 +2,13 @@
 
 ghost use Rattle.std.specs.Prelude.{◌≡◌, ◌<◌, ◌+◌, ◌*◌, ◌≤◌, ◌↔◌, ℕ, true, false, ◌&&◌, ◌||◌, ◌==◌, IsTrue, IfOk};
 ghost use Rattle.std.specs.Prelude.{OnOk};
-ghost use Rattle.std.specs.Prelude.{length, vec_len, List};
+ghost use Rattle.std.specs.Prelude.{length, vec_len, List, slice_index};
 ghost use Rattle.std.specs.VecDeque.{deque_len};
 ghost use Rattle.known_targets.specs.Sets.{is_member};
 ghost use Rattle.known_targets.specs.declared.table.TheConstants.{COUNT};
 ghost use Rattle.package_graphs.specs.Graphs.{edge_lists, edges_from, IsPresent, is_in};
-ghost use Rattle.package_graphs.specs.Inside.Spreading.{waits, IsQueue, node_count, missing, AreSound, AreCarried};
+ghost use Rattle.package_graphs.specs.Inside.Spreading.{waits, IsQueue, node_count, missing, rounds_left, AreSound};
+ghost use Rattle.package_graphs.specs.Inside.Spreading.{AreCarried};
 
 use crate::graph::Graph;
 use crate::queue::Queue;
@@ -23,7 +24,26 @@ pub fn present(alloc: Global, graph: &Graph, roots: &[usize]) -> Result<Vec<Targ
     ensures exact { IfOk result (λ sets. (n k : ℕ) → n < length (edge_lists graph.now) → k < COUNT
         → IsTrue (is_in sets.items n k) ↔ IsPresent (edge_lists graph.now) roots.now k n) }
 {
+    let Counted { sets, .. } = present_counted(alloc, graph, roots)?;
+    Ok(sets)
+}
+
+/// The targets at which each node is there, and how often its edges were gone over.
+#[derive(Drop)]
+pub struct Counted {
+    pub sets: Vec<TargetSet>,
+    pub rounds: Vec<usize>,
+}
+
+/// What `present` answers, and for each node how often its edges were gone over: at most once for each known target.
+pub fn present_counted(alloc: Global, graph: &Graph, roots: &[usize]) -> Result<Counted, AllocError>
+    ensures count { IfOk result (λ c. vec_len c.sets ≡ length (edge_lists graph.now)) }
+    ensures exact { IfOk result (λ c. (n k : ℕ) → n < length (edge_lists graph.now) → k < COUNT
+        → IsTrue (is_in c.sets.items n k) ↔ IsPresent (edge_lists graph.now) roots.now k n) }
+    ensures rounds { IfOk result (λ c. (n : ℕ) → slice_index c.rounds.items n ≤ COUNT) }
+{
     let mut sets = vec![in alloc; TargetSet::none(); graph.len()]?;
+    let mut rounds = vec![in alloc; 0; graph.len()]?;
     let mut queue = Queue::new(alloc, graph.len())?;
     'roots: for root in roots {
         if *root >= sets.len() {
@@ -33,8 +53,9 @@ pub fn present(alloc: Global, graph: &Graph, roots: &[usize]) -> Result<Vec<Targ
     }
     'nodes: while let Some(node) = queue.next() {
         go_over(graph, node, &mut sets, &mut queue)?;
+        rounds[node] += 1;
     }
-    Ok(sets)
+    Ok(Counted { sets, rounds })
 }
 
 /// Adds targets to the set of a node. Where the set grows, the node waits.
@@ -55,6 +76,8 @@ fn add(
     ensures waited { OnOk result ((n : ℕ) → waits queue.new n ≡ false → waits queue.old n ≡ false) }
     ensures same { OnOk result ((n k : ℕ) → k < COUNT → waits queue.new n ≡ false
         → is_in sets.new.items n k ≡ is_in sets.old.items n k) }
+    ensures left { OnOk result ((n : ℕ)
+        → rounds_left sets.new.items queue.new n ≤ rounds_left sets.old.items queue.old n) }
     ensures work { OnOk result (2 * missing sets.new.items + deque_len queue.new.nodes
         ≤ 2 * missing sets.old.items + deque_len queue.old.nodes) }
 {
@@ -91,6 +114,8 @@ fn go_over(
         (length (edges_from (edge_lists graph.now) node))) }
     ensures sound { OnOk result ((roots : List ℕ) → AreSound (edge_lists graph.now) roots (is_in sets.old.items)
         → AreSound (edge_lists graph.now) roots (is_in sets.new.items)) }
+    ensures left { OnOk result ((n : ℕ)
+        → rounds_left sets.new.items queue.new n ≤ rounds_left sets.old.items queue.old n) }
     ensures work { OnOk result (2 * missing sets.new.items + deque_len queue.new.nodes
         ≤ 2 * missing sets.old.items + deque_len queue.old.nodes) }
 {

@@ -1,6 +1,7 @@
 //! The nodes whose edges are to be gone over, each once in a list.
 
-ghost use Rattle.std.specs.Prelude.{◌≡◌, ◌<◌, ◌+◌, ◌≤◌, ℕ, false, not, ◌&&◌, ◌||◌, ◌==◌, IfOk, OnOk, IfNone, IfSome};
+ghost use Rattle.std.specs.Prelude.{◌≡◌, ◌<◌, ◌+◌, ◌≤◌, ℕ, true, false, not, ◌&&◌, ◌||◌, ◌==◌, IfOk, OnOk, IfNone};
+ghost use Rattle.std.specs.Prelude.{IfSome};
 ghost use Rattle.std.specs.Prelude.{length};
 ghost use Rattle.std.specs.VecDeque.{deque_len};
 ghost use Rattle.package_graphs.specs.Inside.Spreading.{waits, IsQueue, node_count};
@@ -53,6 +54,7 @@ impl Queue {
         ensures none { IfNone result ((n : ℕ) → waits self.old n ≡ false) }
         ensures same { IfNone result ((n : ℕ) → waits self.new n ≡ waits self.old n) }
         ensures known { IfSome result (λ node. node < node_count self.old) }
+        ensures was { IfSome result (λ node. waits self.old node ≡ true) }
         ensures waits { IfSome result (λ node. (n : ℕ) → waits self.new n ≡ (not (n == node) && waits self.old n)) }
         ensures work { IfSome result (λ node. deque_len self.new.nodes + 1 ≡ deque_len self.old.nodes) }
     {

@@ -1,6 +1,6 @@
 -- What holds while targets are carried along edges: which nodes wait to be gone over, and what is still missing.
 use Rattle.std.specs.Prelude.{◌≡◌, ◌<◌, ℕ, zero, suc, ◌+◌, Bool, true, false, cond, List, length, sum_by, Contains}
-use Rattle.std.specs.Prelude.{All}
+use Rattle.std.specs.Prelude.{All, map, slice_index}
 use Rattle.std.specs.List.{slice_index_or}
 use Rattle.known_targets.specs.Sets.{is_member}
 use Rattle.known_targets.specs.declared.target_set.TargetSet.{TargetSet}
@@ -15,10 +15,15 @@ waits queue n = slice_index_or queue.waiting.items n false
 abbrev pub node_count : Queue → ℕ
 node_count queue = length queue.waiting.items
 
--- the nodes of the list are known, and each that waits is in it
-pub record IsQueue (queue : Queue) : Type 0 where
-  pub known : All (λ n. n < node_count queue) queue.nodes.items
-  pub listed : (n : ℕ) → waits queue n ≡ true → Contains queue.nodes.items n
+-- the nodes of the list are known; those that wait are in it, each once, and no others are
+pub record IsList (waiting : List Bool) (nodes : List ℕ) : Type 0 where
+  pub known : All (λ n. n < length waiting) nodes
+  pub listed : (n : ℕ) → slice_index_or waiting n false ≡ true → Contains nodes n
+  pub flagged : (i : ℕ) → i < length nodes → slice_index_or waiting (slice_index nodes i) false ≡ true
+  pub once : (i j : ℕ) → i < length nodes → j < length nodes → slice_index nodes i ≡ slice_index nodes j → i ≡ j
+
+abbrev pub IsQueue : Queue → Type 0
+IsQueue queue = IsList queue.waiting.items queue.nodes.items
 
 -- how many of the first numbers do not pass
 unfoldable pub count_lacking : ℕ → (ℕ → Bool) → ℕ
@@ -45,3 +50,11 @@ AreCarried graph at m many = (j : ℕ) → j < many → (d : Edge) → j < lengt
 -- each member of the sets is one by the relation
 abbrev pub AreSound : Edges → List ℕ → (ℕ → ℕ → Bool) → Type 0
 AreSound graph roots at = (n k : ℕ) → k < COUNT → at n k ≡ true → IsPresent graph roots k n
+
+-- how many members the set of a node lacks
+abbrev pub lacking_at : List TargetSet → ℕ → ℕ
+lacking_at sets n = slice_index_or (map lacking sets) n 0
+
+-- how often the edges of a node may yet be gone over
+abbrev pub rounds_left : List TargetSet → Queue → ℕ → ℕ
+rounds_left sets queue n = lacking_at sets n + cond (waits queue n) 1 0
