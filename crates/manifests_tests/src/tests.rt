@@ -60,3 +60,12 @@ fn a_mistake_is_found(rt: HostRuntime) {
     assert!(rt; report.findings[0].code.word() == "unknown-fact");
     assert!(rt; report.undecided.is_empty());
 }
+
+#[test]
+fn a_target_that_is_no_table_is_told(rt: HostRuntime) {
+    let manifest = toml::table_from_str(rt.alloc(), "target = 1").expect(&rt, "the manifest");
+    let report = report_on(rt.alloc(), &manifest).expect(&rt, "a report");
+    assert!(rt; report.findings.len() == 1);
+    assert!(rt; report.findings[0].code.word() == "no-table");
+    assert!(rt; report.findings[0].key.is_none());
+}
