@@ -12,13 +12,14 @@
 # make fmt    lays out the files
 # Parts of `make test`, alone:
 # make refusals   each allocation refused in turn, in each row and in both programs, and what is released counted
+# make second-reader  what a reader in Python says of the rows on texts, and of 1.3 million questions to the library
 # make statuses   the program where reading or writing fails
 # make manifests  the program manifest_check over questions whose answers are known, and hostile input
 # make cargo-select  what `manifest_check select` selects, beside what Cargo does; it needs cargo and rustc 1.95.0
 # make pages      what the pages say, beside what it is said of
 # make depths     the programs on the deepest conditions that their inputs hold
-.PHONY: lint run build install take test gate fits mutants refusals statuses manifests cargo-select pages depths quick \
-	measure targets fmt rt
+.PHONY: lint run build install take test gate fits mutants refusals second-reader statuses manifests cargo-select \
+	pages depths quick measure targets fmt rt
 
 PROGRAM := crates/platform_check
 CHECK := crates/manifest_check
@@ -73,5 +74,5 @@ targets:
 fmt: rt
 	for crate in crates/*/; do (cd $$crate && rt fmt) || exit 1; done
 
-refusals statuses manifests cargo-select pages depths: rt
+refusals second-reader statuses manifests cargo-select pages depths: rt
 	.ci/$@
