@@ -34,12 +34,6 @@ class Function(NamedTuple):
         within = rf"(\w+::)*{self.type}{of_trait}::" if self.type else of_module
         return [name for name in named if re.fullmatch(within + self.word, name)]
 
-    def end(self):
-        """How its name ends, as far as that is known without a check."""
-        if self.type:
-            return f"{self.type}{self.trait if self.word != 'drop' else ''}::{self.word}"
-        return self.word if self.module in ("main", "lib") else f"{self.module}::{self.word}"
-
 
 @functools.cache
 def functions_of(crate):
