@@ -8,10 +8,10 @@ use Rattle.std.specs.List.{last_or}
 use Rattle.cargo_platform.specs.Tokens.{Lexeme, LeftParen, RightParen, Ident, Comma, Equals, String, Placed, called}
 use Rattle.cargo_platform.specs.Cut.{lexemes, Item, Token, is_token}
 use Rattle.cargo_platform.specs.Trees.{Name, Alone, KeyPair, Tree, Not, All, Any, Value, True, False}
-use Rattle.cargo_platform.specs.Spelling.{Expressions, identifier, is_group_word, is_literal_word, Role}
+use Rattle.cargo_platform.specs.Spelling.{Expressions, is_group_word, is_literal_word, Role}
 use Rattle.cargo_platform.specs.Spelling.{GroupWord, LiteralWord, PlainName, role}
 use Rattle.cargo_platform.specs.Faults.{Fault, UnexpectedToken, UnterminatedExpression, IsCompletable, IsCompletableBy}
-use Rattle.cargo_platform.specs.Faults.{fault_of, expected_after, expected_token, IsRefused}
+use Rattle.cargo_platform.specs.Faults.{fault_of, expected_after, IsRefused}
 use Rattle.cargo_platform.specs.Walk.{role_in, Opening, Negated, Listed, list_tree, Position, Wanting, WithWord}
 use Rattle.cargo_platform.specs.Walk.{WithKey, WithTree, start, at_role, at_key, after_tree}
 use Rattle.cargo_platform.specs.Walk.{Word, walk, kind, kinds, ends, is_lone, state_of}
@@ -77,7 +77,7 @@ IsLiteral e = ⊥
 
 -- the token was unmarked `true` or `false`, where an expression is wanted
 abbrev IsFromLiteral : Position → Lexeme → List Opening → Type 0
-IsFromLiteral p t gs = (n : Name) × IsTrue (is_literal_word n) × (t ≡ identifier n) × (p ≡ Wanting gs)
+IsFromLiteral p t gs = (n : Name) × IsTrue (is_literal_word n) × (t ≡ Ident n.raw n.name) × (p ≡ Wanting gs)
 
 -- what is known of a step by where it leads: never back to the start, and to a literal by its word alone
 abbrev Came : Position → Lexeme → Position → Type 0
@@ -105,13 +105,14 @@ literal_role true l h = absurd cc
 literal_role false true h = refl
 literal_role false false h = absurd cc
 
-came_name : (gs : List Opening) (n : Name) (r : Role) → role n ≡ r → Came (Wanting gs) (identifier n) (at_role r n gs)
+came_name : (gs : List Opening) (n : Name) (r : Role) → role n ≡ r
+    → Came (Wanting gs) (Ident n.raw n.name) (at_role r n gs)
 came_name gs n GroupWord h = tt
 came_name gs n PlainName h = tt
 came_name gs n LiteralWord h =
     let is = literal_role (is_group_word n) (is_literal_word n) h in
     elim (bytes_eq n.name (codes "true")) as
-    (λ b. Came (Wanting gs) (identifier n) (WithTree (if b then True else False) gs)) [
+    (λ b. Came (Wanting gs) (Ident n.raw n.name) (WithTree (if b then True else False) gs)) [
       | true ↦ (n, is, refl, refl)
       | false ↦ (n, is, refl, refl)
     ]
@@ -192,7 +193,7 @@ record EndsWithLiteral (ts : List Lexeme) (gs : List Opening) : Type 0 where
   before : List Lexeme
   n : Name
   literal : IsTrue (is_literal_word n)
-  is : ts ≡ before ++ identifier n ∷ []
+  is : ts ≡ before ++ Ident n.raw n.name ∷ []
   led : lead_from false (Some start) before ≡ Some (Wanting gs)
 
 ends_with_literal : (ts : List Lexeme) (e : Tree) (gs : List Opening) → IsLiteral e
@@ -308,9 +309,9 @@ after_member text fault q e g gs t led next =
     false_from_ne_true q.accepted (λ a. true≢false
     (sym (accepted_whole Expressions s ts walked (q.is_accepted.0 a))
     ∙ open_not_whole (is_lone e) (kind g) (kinds gs))) in
-    let expected : expected_token Expressions (last_or None ts) ≡ codes "`)`" =
-    walk_matches Expressions ts s walked (codes "identifier")
-    ∙ ap (expected_after Expressions (codes "identifier")) (like_end (is_lone e) (kinds (g ∷ gs))) in
+    let expected : expected_after Expressions (last_or None ts) false ≡ codes "`)`" =
+    walk_matches Expressions ts s walked false
+    ∙ ap (λ last. expected_after Expressions last false) (like_end (is_lone e) (kinds (g ∷ gs))) in
     same_Some _ _
     (sym q.is_fault ∙ (λ i. fault_of Expressions text (no i) (last_or None ts) (next i))
     ∙ ap (λ (z : List ℕ). Some (UnexpectedToken z (called t.token))) expected)

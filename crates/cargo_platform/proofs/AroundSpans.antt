@@ -15,13 +15,12 @@ use Rattle.cargo_platform.specs.Cut.{IsCutFrom, IsPiece, AreSpaces, EndsBefore, 
 use Rattle.cargo_platform.specs.Cut.{Item, Token, Lexical, Nothing, Comes, ComesBehind, lexemes}
 use Rattle.cargo_platform.specs.Spelling.{Grammar}
 use Rattle.cargo_platform.specs.Faults.{Fault, UnterminatedExpression, IsRefused, fault_of, span_of}
-use Rattle.cargo_platform.specs.Faults.{character_start}
 use Rattle.cargo_platform.specs.FaultLaws.{IsBehindPrefix, IsSurplusAt}
 use Rattle.cargo_platform.specs.SpanLaws.{IsNothingOrMark, IsCutBefore}
 use Rattle.cargo_platform.proofs.OneCut.{IsTail, char_is}
 use Rattle.cargo_platform.proofs.Paths.{next_before, behind_is}
 use Rattle.cargo_platform.proofs.SomeCut.{cut_ends, cut_cons}
-use Rattle.cargo_platform.proofs.Spans.{first_byte, marked_start, plain_start}
+use Rattle.cargo_platform.proofs.Spans.{character_start, first_byte, marked_start, plain_start}
 
 -- ---- what is left
 

@@ -18,7 +18,7 @@ use Rattle.cargo_platform.specs.Tokens.{IsWellWritten, Placed}
 use Rattle.cargo_platform.specs.Cut.{IsPiece, AreSpaces, BeginsFault}
 use Rattle.cargo_platform.specs.Reading.{characters_from}
 use Rattle.cargo_platform.specs.Cut.{Item, Token, Lexical, Nothing, is_token}
-use Rattle.cargo_platform.specs.Faults.{from_to, lexical_span}
+use Rattle.cargo_platform.specs.Faults.{from_to, span_of}
 use Rattle.cargo_platform.specs.Inside.Ahead.{Ahead, NextIs, GoesPast}
 use Rattle.cargo_platform.specs.Inside.Looking.{IsCharAt, Shows, Costs, character_of, IsReadingAt}
 use Rattle.cargo_platform.specs.Inside.Looking.{FindsFault}
@@ -260,7 +260,7 @@ pub finds : (text : List ℕ) (at : ℕ) (seen : Look) (fault : Option TokenFaul
     → new ≤ looks + 9 * characters_from text at → FindsFault text at k 1 looks new
     → IsReadingAt text at seen (Some k) new long
 finds text at seen fault k looks new long r none begins few found =
-    let end = (lexical_span text at k).end in
+    let end = (span_of text false (Lexical k at)).end in
     let need = characters_from text 0 - characters_from text end in
     let many : need ≤ new = looks_are_many new need (omega (arith, r.short)) (λ small.
     omega (arith, found.at_least small, r.whole none)) in

@@ -8,7 +8,7 @@ use Rattle.std.specs.List.{AllByRecursion, count_by, last_or}
 use Rattle.std.proofs.lemmas.List.Sums.{sum_by-cons}
 use Rattle.std.proofs.lemmas.Option.{same_Some}
 use Rattle.cargo_platform.specs.declared.tokens.TokenFaultKind.TheVariants as lexical
-use Rattle.cargo_platform.specs.Tokens.{Lexeme, LeftParen, RightParen, Ident, Comma, Equals, String, Placed, plain}
+use Rattle.cargo_platform.specs.Tokens.{Lexeme, LeftParen, RightParen, Ident, Comma, Equals, String, Placed}
 use Rattle.cargo_platform.specs.Tokens.{IsWellWritten}
 use Rattle.cargo_platform.specs.Cut.{lexemes}
 use Rattle.cargo_platform.specs.Cut.{Item, Token, Lexical, Nothing}
@@ -16,8 +16,8 @@ use Rattle.cargo_platform.specs.Trees.{Alone, KeyPair}
 use Rattle.cargo_platform.specs.Spelling.{Grammar, Values, Expressions, IsAccepted, Role, GroupWord, LiteralWord}
 use Rattle.cargo_platform.specs.Spelling.{PlainName, role}
 use Rattle.cargo_platform.specs.Faults.{IsCompletable, IsFaultPrefix, Fault, UnexpectedToken}
-use Rattle.cargo_platform.specs.Faults.{IncompleteExpr, expected_after, expected_token, expected_end, fault_of}
-use Rattle.cargo_platform.specs.Faults.{beginning_at_end, IsRefused}
+use Rattle.cargo_platform.specs.Faults.{IncompleteExpr, expected_after, fault_of}
+use Rattle.cargo_platform.specs.Faults.{IsRefused}
 use Rattle.cargo_platform.specs.Walk.{Word, Several, Negation, State, Wanted, Member, Behind, Named, Keyed, Ended}
 use Rattle.cargo_platform.specs.Walk.{after_role, after_name, after_expression, after, walk_from, walk, is_whole}
 use Rattle.cargo_platform.specs.FaultLaws.{is_left_paren, IsCompletedShortly, IsOfClass, CanFollow, Names}
@@ -155,62 +155,72 @@ leads_on : (g : Grammar) (ts : List Lexeme) (s next : State) (t : Lexeme) (class
 leads_on g ts s next t class h is well on = (t, is, well, (kept_by_walk g ts t s h).1 (next, on))
 
 abbrev an_a : Lexeme
-an_a = plain (codes "a")
+an_a = Ident false (codes "a")
 
--- what is expected after the last token can follow, if a name is what `beginning` calls
+-- what is expected after the last token can follow, at a token and at the end
 abbrev Follow : Grammar → List Lexeme → Option Lexeme → Type 0
-Follow g ts last = (beginning : List ℕ) → IsOfClass beginning an_a → CanFollow g ts (expected_after g beginning last)
+Follow g ts last = (at_end : Bool) → CanFollow g ts (expected_after g last at_end)
+
+-- where an expression is to begin, a name is expected
+begins_so : (at_end : Bool) → IsOfClass (expected_after Expressions None at_end) an_a
+begins_so true = inr refl
+begins_so false = inl refl
+
+begins_in_group : (at_end : Bool) → IsOfClass (expected_after Expressions (Some LeftParen) at_end) an_a
+begins_in_group true = inr refl
+begins_in_group false = inl refl
+
+begins_value : (at_end : Bool) → IsOfClass (expected_after Values None at_end) an_a
+begins_value true = inl refl
+begins_value false = inl refl
 
 state_followed : (ts : List Lexeme) (s : State) → walk Expressions ts ≡ Some s → is_whole s ≡ false
     → Follow Expressions ts (like s)
 state_followed ts (Wanted []) h w =
-    λ b is. leads_on Expressions ts (Wanted []) (Named []) an_a b h is (refl, refl) refl
+    λ b. leads_on Expressions ts (Wanted []) (Named []) an_a _ h (begins_so b) (refl, refl) refl
 state_followed ts (Wanted (v ∷ ws)) h w =
-    λ b is. leads_on Expressions ts (Wanted (v ∷ ws)) (Named (v ∷ ws)) an_a b h is (refl, refl) refl
+    λ b. leads_on Expressions ts (Wanted (v ∷ ws)) (Named (v ∷ ws)) an_a _ h (begins_in_group b) (refl, refl) refl
 state_followed ts (Member ws) h w =
-    λ b is. leads_on Expressions ts (Member ws) (Named (Several ∷ ws)) an_a b h is (refl, refl) refl
+    λ b. leads_on Expressions ts (Member ws) (Named (Several ∷ ws)) an_a _ h (begins_in_group b) (refl, refl) refl
 state_followed ts (Behind Negation ws) h w =
-    λ b is. leads_on Expressions ts (Behind Negation ws) (Wanted (Negation ∷ ws)) LeftParen (codes "`(`") h refl tt refl
+    λ b. leads_on Expressions ts (Behind Negation ws) (Wanted (Negation ∷ ws)) LeftParen (codes "`(`") h refl tt refl
 state_followed ts (Behind Several ws) h w =
-    λ b is. leads_on Expressions ts (Behind Several ws) (Member ws) LeftParen (codes "`(`") h refl tt refl
+    λ b. leads_on Expressions ts (Behind Several ws) (Member ws) LeftParen (codes "`(`") h refl tt refl
 state_followed ts (Named (v ∷ ws)) h w =
-    λ b is. leads_on Expressions ts (Named (v ∷ ws)) (Ended ws) RightParen (codes "`)`") h refl tt refl
+    λ b. leads_on Expressions ts (Named (v ∷ ws)) (Ended ws) RightParen (codes "`)`") h refl tt refl
 state_followed ts (Keyed ws) h w =
-    λ b is. leads_on Expressions ts (Keyed ws) (Ended ws) (String []) (codes "a string") h refl
+    λ b. leads_on Expressions ts (Keyed ws) (Ended ws) (String []) (codes "a string") h refl
     (([], (refl, refl)), refl) refl
 state_followed ts (Ended (v ∷ ws)) h w =
-    λ b is. leads_on Expressions ts (Ended (v ∷ ws)) (Ended ws) RightParen (codes "`)`") h refl tt refl
+    λ b. leads_on Expressions ts (Ended (v ∷ ws)) (Ended ws) RightParen (codes "`)`") h refl tt refl
 state_followed ts (Named []) h w = absurd (true≢false w)
 state_followed ts (Ended []) h w = absurd (true≢false w)
 
 followed : (g : Grammar) (ts : List Lexeme) (s : State) → walk g ts ≡ Some s → (IsAccepted g ts → ⊥)
     → Follow g ts (last_or None ts)
-followed Expressions ts s h refused = λ b is.
+followed Expressions ts s h refused = λ b.
     let unfinished : is_whole s ≡ false =
     false_from_ne_true (is_whole s) (λ w. refused (whole_accepted Expressions s ts w h)) in
-    rw (walk_matches Expressions ts s h b) (state_followed ts s h unfinished b is)
+    rw (walk_matches Expressions ts s h b) (state_followed ts s h unfinished b)
 followed Values [] s h refused =
-    λ b is. leads_on Values [] (Wanted []) (Named []) an_a b refl is (refl, refl) refl
+    λ b. leads_on Values [] (Wanted []) (Named []) an_a _ refl (begins_value b) (refl, refl) refl
 followed Values (Ident raw name ∷ []) s h refused =
     absurd (refused (Alone (record { raw = raw; name = name }), refl))
 followed Values (Ident raw name ∷ Equals ∷ []) s h refused =
-    λ b is. leads_on Values (Ident raw name ∷ Equals ∷ []) (Keyed []) (Ended []) (String []) (codes "a string") refl
+    λ b. leads_on Values (Ident raw name ∷ Equals ∷ []) (Keyed []) (Ended []) (String []) (codes "a string") refl
     refl (([], (refl, refl)), refl) refl
 followed Values (Ident raw name ∷ Equals ∷ String value ∷ []) s h refused =
     absurd (refused (KeyPair (record { raw = raw; name = name }) value, refl))
 followed Values ts s h refused = none_some h
 
-names_at_end : (g : Grammar) → IsOfClass (beginning_at_end g) an_a
-names_at_end Values = inl refl
-names_at_end Expressions = inr refl
-
 -- what is expected after a list that is completable and not accepted can follow it
 pub expected_follows : (g : Grammar) (ts : List Lexeme) → IsCompletable g ts → (IsAccepted g ts → ⊥)
-    → CanFollow g ts (expected_token g (last_or None ts)) × CanFollow g ts (expected_end g (last_or None ts))
+    → CanFollow g ts (expected_after g (last_or None ts) false)
+    × CanFollow g ts (expected_after g (last_or None ts) true)
 expected_follows g ts p refused =
     let s = completable_walks g ts p in
     let f = followed g ts s.0 s.1 refused in
-    (f (codes "identifier") (inl refl), f (beginning_at_end g) (names_at_end g))
+    (f false, f true)
 
 -- ---- the fault prefix
 
@@ -226,7 +236,7 @@ stopped_by_next g ts prefix after others next f h p =
 named : (g : Grammar) (text : List ℕ) (accepted : Bool) (last : Option Lexeme) (next : Item) (fault : Fault)
     (class : List ℕ) → fault_of g text accepted last next ≡ Some fault
     → ((found : List ℕ) × (fault ≡ UnexpectedToken class found)) ⊎ ((fault ≡ IncompleteExpr class) × (next ≡ Nothing))
-    → (accepted ≡ false) × ((expected_token g last ≡ class) ⊎ (expected_end g last ≡ class))
+    → (accepted ≡ false) × ((expected_after g last false ≡ class) ⊎ (expected_after g last true ≡ class))
 named g text true last (Token t) fault class h (inl n) = absurd (let e = n.1 in cc)
 named g text true last (Token t) fault class h (inr n) = absurd (let e = n.1 in cc)
 named g text true last (Lexical k at) fault class h (inl n) = absurd (let e = n.1 in cc)

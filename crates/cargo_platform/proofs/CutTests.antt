@@ -1,7 +1,7 @@
 -- A test of whether tokens with their places are cut so from a text, for worked rows: it computes.
 use Rattle.std.proofs.Common.{◌≡◌, refl, sym, ℕ, Bool, true, false, not, ◌&&◌, true≢false, List, [], ◌∷◌, codes, length}
 use Rattle.std.proofs.Common.{drop, slice_range, lit<, zero, suc}
-use Rattle.std.specs.Prelude.{bytes_eq}
+use Rattle.std.specs.Prelude.{bytes_eq, ◌==◌}
 use Rattle.std.specs.Str.{IsAscii}
 use Rattle.std.specs.Char.{is_ascii}
 use Rattle.std.specs.List.{list_all}
@@ -9,7 +9,7 @@ use Rattle.std.proofs.Math.Dec.{leb}
 use Rattle.std.proofs.lemmas.Bool.{and_parts, leb-true, ltb-true}
 use Rattle.std.proofs.lemmas.Str.{IsUtf8-from_ascii}
 use Rattle.std.proofs.lemmas.Slice.Eq.{bytes_eq-Decides}
-use Rattle.cargo_platform.specs.Chars.{is_identifier_start, is_identifier_rest, is_space, is_quote, is_number_sign}
+use Rattle.cargo_platform.specs.Chars.{is_identifier_start, is_identifier_rest, is_space, is_quote}
 use Rattle.cargo_platform.specs.Chars.{starts}
 use Rattle.cargo_platform.specs.Tokens.{Lexeme, LeftParen, RightParen, Ident, Comma, Equals, String, Placed, written}
 use Rattle.cargo_platform.specs.Tokens.{IsWellWritten}
@@ -40,7 +40,7 @@ well_written Equals h = tt
 
 abbrev pub ends_before : Lexeme → List ℕ → Bool
 ends_before (Ident raw name) rest =
-    not (starts is_identifier_rest rest) && not (not raw && bytes_eq name (codes "r") && starts is_number_sign rest)
+    not (starts is_identifier_rest rest) && not (not raw && bytes_eq name (codes "r") && starts (λ c. c == 0x23) rest)
 ends_before t rest = true
 
 false_of : (b : Bool) → not b ≡ true → b ≡ false

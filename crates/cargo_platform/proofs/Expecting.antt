@@ -4,7 +4,7 @@ use Rattle.std.proofs.Common.{Some, None, codes}
 use Rattle.std.specs.Prelude.{if◌then◌else◌}
 use Rattle.std.specs.List.{last_or}
 use Rattle.std.proofs.lemmas.Option.{same_Some}
-use Rattle.cargo_platform.specs.Tokens.{Lexeme, LeftParen, RightParen, Ident, Comma, Equals, String, plain}
+use Rattle.cargo_platform.specs.Tokens.{Lexeme, LeftParen, RightParen, Ident, Comma, Equals, String}
 use Rattle.cargo_platform.specs.Trees.{Name}
 use Rattle.cargo_platform.specs.Spelling.{Grammar, Values, Expressions, is_group_word, is_literal_word, GroupWord}
 use Rattle.cargo_platform.specs.Spelling.{LiteralWord, PlainName}
@@ -18,7 +18,7 @@ abbrev pub like : State → Option Lexeme
 like (Wanted []) = None
 like (Wanted (w ∷ ws)) = Some LeftParen
 like (Member ws) = Some LeftParen
-like (Behind w ws) = Some (plain (codes "not"))
+like (Behind w ws) = Some (Ident false (codes "not"))
 like (Named ws) = Some RightParen
 like (Keyed ws) = Some Equals
 like (Ended ws) = Some RightParen
@@ -26,29 +26,35 @@ like (Ended ws) = Some RightParen
 -- after the last token the same is expected as in the state
 abbrev pub Matches : Grammar → Option Lexeme → State → Type 0
 Matches g o s =
-    (beginning : List ℕ) → expected_after g beginning o ≡ expected_after g beginning (like s)
+    (at_end : Bool) → expected_after g o at_end ≡ expected_after g (like s) at_end
 
-picks : (group literal : Bool) (name beginning : List ℕ) (ws : List Word)
+-- an expression is expected after a comma as it is after `(`
+separates : (g : Grammar) → Matches g (Some Comma) (Member [])
+separates g false = refl
+separates Values true = refl
+separates Expressions true = refl
+
+picks : (group literal : Bool) (name : List ℕ) (ws : List Word) (at_end : Bool)
     → let s = after_role (if group then GroupWord else (if literal then LiteralWord else PlainName)) name ws in
-    (if group then codes "`(`" else codes "`)`") ≡ expected_after Expressions beginning (like s)
-picks true literal name beginning ws = refl
-picks false true name beginning ws = refl
-picks false false name beginning ws = refl
+    (if group then codes "`(`" else codes "`)`") ≡ expected_after Expressions (like s) at_end
+picks true literal name ws at_end = refl
+picks false true name ws at_end = refl
+picks false false name ws at_end = refl
 
 named_matches : (g : Grammar) (raw : Bool) (name : List ℕ) (ws : List Word)
     → Matches g (Some (Ident raw name)) (after_name g raw name ws)
-named_matches Values raw name ws = λ beginning. refl
+named_matches Values raw name ws = λ at_end. refl
 named_matches Expressions raw name ws =
     let n : Name = record { raw = raw; name = name } in
-    λ beginning. picks (is_group_word n) (is_literal_word n) name beginning ws
+    λ at_end. picks (is_group_word n) (is_literal_word n) name ws at_end
 
 moved : (g : Grammar) (o : Option Lexeme) (s t : State) → Some s ≡ Some t → Matches g o s → Matches g o t
-moved g o s t h m = λ beginning. rw (← same_Some _ _ h) (m beginning)
+moved g o s t h m = λ at_end. rw (← same_Some _ _ h) (m at_end)
 
 ended_matches : (g : Grammar) (ws : List Word) (t : Lexeme) (st : State) → after_expression ws t ≡ Some st
     → Matches g (Some t) st
 ended_matches g (w ∷ ws) RightParen st h = moved g (Some RightParen) (Ended ws) st h (λ _. refl)
-ended_matches g (Several ∷ ws) Comma st h = moved g (Some Comma) (Member ws) st h (λ _. refl)
+ended_matches g (Several ∷ ws) Comma st h = moved g (Some Comma) (Member ws) st h (separates g)
 ended_matches g ws t st h = none_some h
 
 after_matches : (g : Grammar) (s : State) (t : Lexeme) (st : State) → after g s t ≡ Some st → Matches g (Some t) st

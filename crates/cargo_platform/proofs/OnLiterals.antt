@@ -6,13 +6,13 @@ use Rattle.std.proofs.Common.{◌++◌, Option, Some, None, codes, inl, inr, len
 use Rattle.std.specs.Prelude.{◌==◌, IsFalse, bytes_eq}
 use Rattle.std.proofs.lemmas.List.{take-append-drop}
 use Rattle.std.specs.List.{last_or}
-use Rattle.cargo_platform.specs.Chars.{is_identifier_start, is_identifier_rest, is_space, is_quote, is_number_sign}
+use Rattle.cargo_platform.specs.Chars.{is_identifier_start, is_identifier_rest, is_space, is_quote}
 use Rattle.cargo_platform.specs.Tokens.{Lexeme, LeftParen, RightParen, Ident, Comma, Equals, String, Placed}
 use Rattle.cargo_platform.specs.declared.tokens.TokenFaultKind.{TokenFaultKind}
 use Rattle.cargo_platform.specs.Cut.{IsCut, lexemes, BeginsFault}
 use Rattle.cargo_platform.specs.Cut.{Item, Lexical, Nothing, ComesBehind, is_token}
 use Rattle.cargo_platform.specs.Trees.{CfgValue, Tree}
-use Rattle.cargo_platform.specs.Spelling.{Grammar, IsTreeText, IsValueText, Spells, SpellsValue}
+use Rattle.cargo_platform.specs.Spelling.{Grammar, IsTreeText, IsValueText, Spells, value_spelling}
 use Rattle.cargo_platform.specs.WellFormed.{IsWellFormed}
 use Rattle.cargo_platform.specs.Faults.{Fault, fault_of, IsRefused}
 use Rattle.cargo_platform.specs.Walk.{State, Wanted, after, walk, is_whole}
@@ -53,7 +53,7 @@ abbrev pub step : Mode → ℕ → ℕ → List Placed × Mode
 step Between j c = begin j c
 step (InName raw i name) j c =
     if is_identifier_rest c then ([], InName raw i (name ++ c ∷ []))
-    else (if not raw && bytes_eq name (codes "r") && is_number_sign c then ([], Marked i)
+    else (if not raw && bytes_eq name (codes "r") && c == 0x23 then ([], Marked i)
     else behind_name (at (Ident raw name) i j) (begin j c))
 step (Marked i) j c = if is_identifier_start c then ([], InName true i (c ∷ [])) else ([], Stopped i)
 step (InString i value) j c =
@@ -103,7 +103,7 @@ spelling_on_literal text e cut spelled = (tokens_in text, cut_whole text cut, sp
 
 -- The text spells the name or the pair.
 pub value_on_literal : (text : List ℕ) (c : CfgValue) → is_cut_whole text ≡ true
-    → SpellsValue c (lexemes (tokens_in text))
+    → lexemes (tokens_in text) ≡ value_spelling c
     → IsValueText text c
 value_on_literal text c cut spelled = (tokens_in text, cut_whole text cut, spelled)
 

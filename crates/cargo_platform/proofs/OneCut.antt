@@ -14,11 +14,11 @@ use Rattle.std.proofs.lemmas.List.Folds.{list_all-append}
 use Rattle.cargo_platform.specs.declared.tokens.TokenFaultKind.{TokenFaultKind}
 use Rattle.cargo_platform.specs.declared.tokens.TokenFaultKind.TheVariants.{UnterminatedString, UnexpectedChar}
 use Rattle.cargo_platform.specs.declared.tokens.TokenFaultKind.TheVariants.{MissingIdentifier}
-use Rattle.cargo_platform.specs.Chars.{is_identifier_start, is_identifier_rest, is_space, is_quote, is_number_sign}
-use Rattle.cargo_platform.specs.Chars.{is_mark, is_known_start, starts}
+use Rattle.cargo_platform.specs.Chars.{is_identifier_start, is_identifier_rest, is_space, is_quote}
+use Rattle.cargo_platform.specs.Chars.{is_known_start, starts}
 use Rattle.cargo_platform.specs.Tokens.{Lexeme, LeftParen, RightParen, Ident, Comma, Equals, String, written}
 use Rattle.cargo_platform.specs.Tokens.{IsIdentifierName, IsWellWritten, Placed}
-use Rattle.cargo_platform.specs.Cut.{IsPiece, IsWrittenAt, AreSpaces, EndsBefore, IsWhole, BeginsFault, Item, Token}
+use Rattle.cargo_platform.specs.Cut.{IsPiece, IsWrittenAt, AreSpaces, EndsBefore, BeginsFault, Item, Token}
 use Rattle.cargo_platform.specs.Cut.{Lexical, Nothing, Comes, ComesBehind, is_token, IsCutFrom}
 use Rattle.cargo_platform.proofs.LexicalFaults.{no_fault, one_lexical_fault}
 
@@ -76,10 +76,10 @@ class_is (Ident false (c ∷ cs)) r w = ap (λ b. class_of b c) w.0
 mark_is_no_name : (c : ℕ) (cs r more : List ℕ) → IsIdentifierName (c ∷ cs) → EndsBefore (Ident false (c ∷ cs)) r
     → 0x72 ∷ 0x23 ∷ more ≡ (c ∷ cs) ++ r → ⊥
 mark_is_no_name c [] r more w e h =
-    let lone : IsFalse (bytes_eq (c ∷ []) (codes "r") && starts is_number_sign r) = e.1 in
-    let this : IsFalse (bytes_eq (0x72 ∷ []) (codes "r") && starts is_number_sign (0x23 ∷ more)) =
-    ap (λ (b : ℕ). bytes_eq (b ∷ []) (codes "r") && starts is_number_sign (0x23 ∷ more)) (head_of h)
-    ∙ ap (λ (z : List ℕ). bytes_eq (c ∷ []) (codes "r") && starts is_number_sign z) (tail_of h) ∙ lone in
+    let lone : IsFalse (bytes_eq (c ∷ []) (codes "r") && starts (λ c. c == 0x23) r) = e.1 in
+    let this : IsFalse (bytes_eq (0x72 ∷ []) (codes "r") && starts (λ c. c == 0x23) (0x23 ∷ more)) =
+    ap (λ (b : ℕ). bytes_eq (b ∷ []) (codes "r") && starts (λ c. c == 0x23) (0x23 ∷ more)) (head_of h)
+    ∙ ap (λ (z : List ℕ). bytes_eq (c ∷ []) (codes "r") && starts (λ c. c == 0x23) z) (tail_of h) ∙ lone in
     true≢false this
 mark_is_no_name c (d ∷ ds) r more w e h =
     true≢false
@@ -136,6 +136,11 @@ pub record Begins (text : List ℕ) : Type 0 where
   pub ascii : byte < 128
   pub no_space : is_space byte ≡ false
 
+known_name : (c : ℕ) → is_identifier_start c ≡ true → is_known_start c ≡ true
+known_name c h =
+    ap (λ b. is_space c || c == 0x28 || c == 0x29 || c == 0x2C || c == 0x3D || is_quote c || b) h
+    ∙ or-true (is_space c || c == 0x28 || c == 0x29 || c == 0x2C || c == 0x3D || is_quote c)
+
 pub token_begins : (t : Lexeme) (r : List ℕ) → IsWellWritten t → Begins (written t ++ r)
 token_begins LeftParen r w =
     record { byte = 0x28; others = r; parts = refl; known = refl; ascii = lit≤ tt; no_space = refl }
@@ -162,7 +167,7 @@ token_begins (Ident false (c ∷ cs)) r w = record {
   byte = c;
   others = cs ++ r;
   parts = refl;
-  known = ap (λ b. is_space c || is_mark c || is_quote c || b) w.0 ∙ or-true (is_space c || is_mark c || is_quote c);
+  known = known_name c w.0;
   ascii = start_is_ascii c w.0;
   no_space = start_is_no_space c w.0;
 }
@@ -265,7 +270,7 @@ starts_clear text t w = ap (starts is_space) (written_rest text t w) ∙ token_n
 
 -- no tail begins where a token does
 pub not_both : (text : List ℕ) (from i : ℕ) (t : Placed) → AreSpaces text from i → IsTail (drop i text)
-    → AreSpaces text from t.start → IsWrittenAt text t → IsWhole text t → ⊥
+    → AreSpaces text from t.start → IsWrittenAt text t → EndsBefore t.token (drop t.end text) → ⊥
 not_both text from i t p tail q w whole =
     let same : i ≡ t.start = same_start text from i t.start p q (tail_no_space (drop i text) tail)
     (starts_clear text t w) in
@@ -273,7 +278,8 @@ not_both text from i t p tail q w whole =
     (rw (← ap (λ k. drop k text) same ∙ written_rest text t w) tail)
 
 pub same_token : (text : List ℕ) (from : ℕ) (t u : Placed) → AreSpaces text from t.start → AreSpaces text from u.start
-    → IsWrittenAt text t → IsWrittenAt text u → IsWhole text t → IsWhole text u → t ≡ u
+    → IsWrittenAt text t → IsWrittenAt text u → EndsBefore t.token (drop t.end text)
+    → EndsBefore u.token (drop u.end text) → t ≡ u
 same_token text from t u p q v w e f =
     let start : t.start ≡ u.start = same_start text from t.start u.start p q (starts_clear text t v)
     (starts_clear text u w) in

@@ -3,7 +3,7 @@ use Rattle.std.proofs.Common.{◌≡◌, refl, sym, ap, ◌∙◌, ℕ, false, L
 use Rattle.cargo_platform.specs.Tokens.{Lexeme, Ident, Equals, String}
 use Rattle.cargo_platform.specs.Cut.{lexemes}
 use Rattle.cargo_platform.specs.Trees.{CfgValue, Alone, KeyPair, Tree}
-use Rattle.cargo_platform.specs.Spelling.{value_spelling, SpellsValue, Spells, TextSpells, IsValueText, IsTreeText}
+use Rattle.cargo_platform.specs.Spelling.{value_spelling, Spells, TextSpells, IsValueText, IsTreeText}
 use Rattle.cargo_platform.proofs.OneCut.{one_cut_from}
 use Rattle.cargo_platform.proofs.Building.{one_built}
 
@@ -19,7 +19,7 @@ told (Alone n) = refl
 told (KeyPair k v) = refl
 
 -- A list of tokens spells at most one value.
-pub one_value : (c d : CfgValue) (ts : List Lexeme) → SpellsValue c ts → SpellsValue d ts → c ≡ d
+pub one_value : (c d : CfgValue) (ts : List Lexeme) → ts ≡ value_spelling c → ts ≡ value_spelling d → c ≡ d
 one_value c d ts p q = sym (told c) ∙ ap value_in (sym p ∙ q) ∙ told d
 
 -- A list of tokens spells at most one tree: that which it builds.
@@ -34,7 +34,7 @@ one_text spells one text a b p q =
     one a b (lexemes p.0) p.2 (rw same q.2)
 
 pub one_value_text : (text : List ℕ) (c d : CfgValue) → IsValueText text c → IsValueText text d → c ≡ d
-one_value_text text c d p q = one_text SpellsValue one_value text c d p q
+one_value_text text c d p q = one_text (λ c ts. ts ≡ value_spelling c) one_value text c d p q
 
 pub one_tree_text : (text : List ℕ) (d e : Tree) → IsTreeText text d → IsTreeText text e → d ≡ e
 one_tree_text text d e p q = one_text Spells one_tree text d e p q

@@ -15,7 +15,7 @@ use Rattle.cargo_platform.specs.Tokens.{written}
 use Rattle.cargo_platform.specs.Cut.{lexemes, Item, Nothing}
 use Rattle.cargo_platform.specs.Trees.{Name, CfgValue, Alone, KeyPair, Tree, Value}
 use Rattle.cargo_platform.specs.Spelling.{Grammar, Values, Expressions, MayStand, Spells, value_spelling}
-use Rattle.cargo_platform.specs.Faults.{Fault, expected_token, expected_end, beginning_at_end}
+use Rattle.cargo_platform.specs.Faults.{Fault, expected_after}
 use Rattle.cargo_platform.specs.Walk.{role_in, Opening, Negated, Listed, list_tree, Position, Wanting, WithWord}
 use Rattle.cargo_platform.specs.Walk.{WithKey}
 use Rattle.cargo_platform.specs.Walk.{WithTree, start, at_role, key_of, after_tree, step, steps}
@@ -158,8 +158,8 @@ refused_here g l next p r comes unfit h = each_fault (refused_at r) (StopsAt g l
 
 -- the state is no end, and this is expected there
 abbrev Expects : Grammar → State → List ℕ → List ℕ → Type 0
-Expects g s expected at_end = (is_whole s ≡ false) × (expected_token g (like s) ≡ expected)
-    × (expected_end g (like s) ≡ at_end)
+Expects g s expected at_end = (is_whole s ≡ false) × (expected_after g (like s) false ≡ expected)
+    × (expected_after g (like s) true ≡ at_end)
 
 stops_here : (g : Grammar) (l m : Ahead) (p : Position) (r : Refusal) (expected at_end : List ℕ) → m ≡ l
     → RefusesNext m expected at_end r → Expects g (state_of p) expected at_end → Unfit g l p → Stops g l p r
@@ -167,7 +167,7 @@ stops_here g l m p r expected at_end e h x unfit =
     let n : RefusesNext l expected at_end r = rw (← e) h in
     refused_here g l n.0 p r n.1 unfit (λ ts led.
     let m = walk_matches g ts (state_of p) (led_state g ts p led) in
-    rw x.0 (n.2 g (last_or None ts) (m (codes "identifier") ∙ x.1) (m (beginning_at_end g) ∙ x.2)))
+    rw x.0 (n.2 g (last_or None ts) (m false ∙ x.1) (m true ∙ x.2)))
 
 -- ---- names and pairs
 

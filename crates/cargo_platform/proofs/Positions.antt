@@ -2,9 +2,9 @@
 use Rattle.std.proofs.Common.{◌≡◌, refl, sym, ap, subst, ◌∙◌, ℕ, Bool, true, false, List, [], ◌∷◌, ◌++◌, Some}
 use Rattle.std.proofs.Common.{None, codes, inl, inr, append_assoc, append-nil}
 use Rattle.std.proofs.lemmas.Option.{same_Some}
-use Rattle.cargo_platform.specs.Tokens.{Lexeme, LeftParen, RightParen, Ident, Comma, Equals, String, plain}
+use Rattle.cargo_platform.specs.Tokens.{Lexeme, LeftParen, RightParen, Ident, Comma, Equals, String}
 use Rattle.cargo_platform.specs.Trees.{Name, Alone, KeyPair, Tree, Not, Value, True, False, trees_of}
-use Rattle.cargo_platform.specs.Spelling.{identifier, MayStand, group, Spells, SpellsBy, SpellMembersBy}
+use Rattle.cargo_platform.specs.Spelling.{MayStand, group, Spells, SpellsBy, SpellMembersBy}
 use Rattle.cargo_platform.specs.Spelling.{SpellsLiteral}
 use Rattle.cargo_platform.specs.Spelling.{Expressions, Role, GroupWord, LiteralWord, PlainName, role}
 use Rattle.cargo_platform.specs.Walk.{Opening, Negated, Listed, list_tree, Position, Wanting, WithWord, WithKey}
@@ -30,10 +30,10 @@ AreFinished keys (e ∷ es) ts =
 abbrev Wants : Bool → List Opening → List Lexeme → Type 0
 Wants keys [] ts = ts ≡ []
 Wants keys (Negated ∷ gs) ts =
-    (before : List Lexeme) × Wants keys gs before × (ts ≡ before ++ (plain (codes "not") ∷ LeftParen ∷ []))
+    (before : List Lexeme) × Wants keys gs before × (ts ≡ before ++ (Ident false (codes "not") ∷ LeftParen ∷ []))
 Wants keys (Listed all es ∷ gs) ts =
     (before : List Lexeme) × (inside : List Lexeme) × Wants keys gs before × AreFinished keys es inside
-    × (ts ≡ before ++ (plain (list_word all) ∷ LeftParen ∷ inside))
+    × (ts ≡ before ++ (Ident false (list_word all) ∷ LeftParen ∷ inside))
 
 -- an expression stands after them
 abbrev EndsWith : Bool → List Opening → Tree → List Lexeme → Type 0
@@ -45,7 +45,7 @@ record HasWord (keys : Bool) (gs : List Opening) (o : Opening) (ts : List Lexeme
   before : List Lexeme
   wanted : Wants keys gs before
   fresh : IsFresh o
-  is : ts ≡ before ++ (plain (opening_word o) ∷ [])
+  is : ts ≡ before ++ (Ident false (opening_word o) ∷ [])
 
 -- ---- members
 
@@ -96,7 +96,7 @@ record HasKey (keys : Bool) (gs : List Opening) (n : Name) (ts : List Lexeme) : 
   before : List Lexeme
   wanted : Wants keys gs before
   may : (v : List ℕ) → may_of keys (KeyPair n v)
-  is : ts ≡ before ++ (identifier n ∷ Equals ∷ [])
+  is : ts ≡ before ++ (Ident n.raw n.name ∷ Equals ∷ [])
 
 word_open : (keys : Bool) (gs : List Opening) (o : Opening) (ts : List Lexeme) → HasWord keys gs o ts
     → Wants keys (o ∷ gs) (ts ++ LeftParen ∷ [])
@@ -104,7 +104,7 @@ word_open keys gs Negated ts h = (
   h.before,
   h.wanted,
   ap (λ (z : List Lexeme). z ++ LeftParen ∷ []) h.is
-      ∙ append_assoc h.before (plain (codes "not") ∷ []) (LeftParen ∷ []),
+      ∙ append_assoc h.before (Ident false (codes "not") ∷ []) (LeftParen ∷ []),
 )
 word_open keys gs (Listed all es) ts h = (
   h.before,
@@ -112,10 +112,10 @@ word_open keys gs (Listed all es) ts h = (
   h.wanted,
   rw h.fresh refl,
   ap (λ (z : List Lexeme). z ++ LeftParen ∷ []) h.is
-      ∙ append_assoc h.before (plain (list_word all) ∷ []) (LeftParen ∷ []),
+      ∙ append_assoc h.before (Ident false (list_word all) ∷ []) (LeftParen ∷ []),
 )
 
--- a plain name may stand alone, and as a key
+-- a Ident false name may stand alone, and as a key
 alone_may : (keys : Bool) (n : Name) → MayStand (Alone n) → may_of keys (Alone n)
 alone_may true n may = may
 alone_may false n may = may
@@ -125,34 +125,34 @@ key_may true n v may = may.0
 key_may false n v may = may
 
 name_ends : (keys : Bool) (gs : List Opening) (n : Name) (ts : List Lexeme) → Wants keys gs ts → MayStand (Alone n)
-    → EndsWith keys gs (Value (Alone n)) (ts ++ identifier n ∷ [])
-name_ends keys gs n ts w may = (ts, identifier n ∷ [], w, (refl, alone_may keys n may), refl)
+    → EndsWith keys gs (Value (Alone n)) (ts ++ Ident n.raw n.name ∷ [])
+name_ends keys gs n ts w may = (ts, Ident n.raw n.name ∷ [], w, (refl, alone_may keys n may), refl)
 
 -- an expression whose one token is an identifier is before `=` a key
 has_key : (keys : Bool) (gs : List Opening) (e : Tree) (n : Name) (ts : List Lexeme) → (h : EndsWith keys gs e ts)
-    → h.1 ≡ identifier n ∷ [] → ((v : List ℕ) → may_of keys (KeyPair n v)) → HasKey keys gs n (ts ++ Equals ∷ [])
+    → h.1 ≡ Ident n.raw n.name ∷ [] → ((v : List ℕ) → may_of keys (KeyPair n v)) → HasKey keys gs n (ts ++ Equals ∷ [])
 has_key keys gs e n ts h one may = record {
   before = h.0;
   wanted = h.2;
   may = may;
   is =
       ap (λ (z : List Lexeme). z ++ Equals ∷ []) (h.4 ∙ ap (λ (z : List Lexeme). h.0 ++ z) one)
-      ∙ append_assoc h.0 (identifier n ∷ []) (Equals ∷ []);
+      ∙ append_assoc h.0 (Ident n.raw n.name ∷ []) (Equals ∷ []);
 }
 
 key_pair : (keys : Bool) (gs : List Opening) (n : Name) (v : List ℕ) (ts : List Lexeme) → HasKey keys gs n ts
     → EndsWith keys gs (Value (KeyPair n v)) (ts ++ String v ∷ [])
 key_pair keys gs n v ts h = (
   h.before,
-  identifier n ∷ Equals ∷ String v ∷ [],
+  Ident n.raw n.name ∷ Equals ∷ String v ∷ [],
   h.wanted,
   (refl, h.may v),
   ap (λ (z : List Lexeme). z ++ String v ∷ []) h.is
-      ∙ append_assoc h.before (identifier n ∷ Equals ∷ []) (String v ∷ []),
+      ∙ append_assoc h.before (Ident n.raw n.name ∷ Equals ∷ []) (String v ∷ []),
 )
 
 abbrev head : Bool → List Lexeme → List Lexeme
-head all inner = plain (list_word all) ∷ LeftParen ∷ inner
+head all inner = Ident false (list_word all) ∷ LeftParen ∷ inner
 
 -- `)` after `all(` or after a comma
 members_close : (keys : Bool) (gs : List Opening) (all : Bool) (es : List Tree) (ts : List Lexeme)
@@ -174,8 +174,9 @@ negation_close keys gs e ts o =
       b.1,
       (o.1, o.3, refl),
       ap (λ (z : List Lexeme). z ++ RightParen ∷ [])
-          (o.4 ∙ ap (λ (z : List Lexeme). z ++ o.1) b.2 ∙ append_assoc b.0 (plain (codes "not") ∷ LeftParen ∷ []) o.1)
-          ∙ append_assoc b.0 (plain (codes "not") ∷ LeftParen ∷ o.1) (RightParen ∷ []),
+          (o.4 ∙ ap (λ (z : List Lexeme). z ++ o.1) b.2
+          ∙ append_assoc b.0 (Ident false (codes "not") ∷ LeftParen ∷ []) o.1)
+          ∙ append_assoc b.0 (Ident false (codes "not") ∷ LeftParen ∷ o.1) (RightParen ∷ []),
     )
 
 list_close : (keys : Bool) (gs : List Opening) (all : Bool) (es : List Tree) (e : Tree) (ts : List Lexeme)
@@ -220,30 +221,30 @@ no_position : {A : Type 0} {p : Position} → None ≡ Some p → A
 no_position h = absurd cc
 
 word_holds : (keys : Bool) (gs : List Opening) (ts : List Lexeme) (name : List ℕ) → Wants keys gs ts → IsGroupWord name
-    → HasWord keys gs (opened_by name) (ts ++ plain name ∷ [])
+    → HasWord keys gs (opened_by name) (ts ++ Ident false name ∷ [])
 word_holds keys gs ts name w is = go is
   where
     W : List ℕ → Type 0
-    W z = HasWord keys gs (opened_by z) (ts ++ plain z ∷ [])
+    W z = HasWord keys gs (opened_by z) (ts ++ Ident false z ∷ [])
 
-    go : IsGroupWord name → HasWord keys gs (opened_by name) (ts ++ plain name ∷ [])
+    go : IsGroupWord name → HasWord keys gs (opened_by name) (ts ++ Ident false name ∷ [])
     go (inl h) = subst W (sym h) (record { before = ts; wanted = w; fresh = tt; is = refl })
     go (inr (inl h)) = subst W (sym h) (record { before = ts; wanted = w; fresh = refl; is = refl })
     go (inr (inr h)) = subst W (sym h) (record { before = ts; wanted = w; fresh = refl; is = refl })
 
 literal_holds : (keys : Bool) (gs : List Opening) (ts : List Lexeme) (name : List ℕ) → Wants keys gs ts
-    → IsLiteralWord name → EndsWith keys gs (literal_of name) (ts ++ plain name ∷ [])
+    → IsLiteralWord name → EndsWith keys gs (literal_of name) (ts ++ Ident false name ∷ [])
 literal_holds keys gs ts name w is = go is
   where
     L : List ℕ → Type 0
-    L z = EndsWith keys gs (literal_of z) (ts ++ plain z ∷ [])
+    L z = EndsWith keys gs (literal_of z) (ts ++ Ident false z ∷ [])
 
-    go : IsLiteralWord name → EndsWith keys gs (literal_of name) (ts ++ plain name ∷ [])
-    go (inl h) = subst L (sym h) (ts, plain (codes "true") ∷ [], w, refl, refl)
-    go (inr h) = subst L (sym h) (ts, plain (codes "false") ∷ [], w, refl, refl)
+    go : IsLiteralWord name → EndsWith keys gs (literal_of name) (ts ++ Ident false name ∷ [])
+    go (inl h) = subst L (sym h) (ts, Ident false (codes "true") ∷ [], w, refl, refl)
+    go (inr h) = subst L (sym h) (ts, Ident false (codes "false") ∷ [], w, refl, refl)
 
 role_holds : (keys : Bool) (gs : List Opening) (ts : List Lexeme) (n : Name) (r : Role) → Wants keys gs ts
-    → IsOfRole n r → Holds keys (at_role r n gs) (ts ++ identifier n ∷ [])
+    → IsOfRole n r → Holds keys (at_role r n gs) (ts ++ Ident n.raw n.name ∷ [])
 role_holds keys gs ts n GroupWord w is =
     rw is.0 (word_holds keys gs ts n.name w is.1)
 role_holds keys gs ts n LiteralWord w is =

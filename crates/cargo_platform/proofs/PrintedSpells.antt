@@ -3,18 +3,18 @@ use Rattle.std.proofs.Common.{◌≡◌, refl, sym, ap, subst, ◌∙◌, ℕ, �
 use Rattle.std.proofs.Common.{◌∷◌, ◌++◌, codes, inl, inr, append_assoc, append-nil, arith, length, drop, map}
 use Rattle.std.proofs.Common.{length-drop}
 use Rattle.std.proofs.Math.Bool.{and-false}
-use Rattle.std.specs.Prelude.{IsTrue, IsFalse, bytes_eq}
+use Rattle.std.specs.Prelude.{IsTrue, IsFalse, bytes_eq, ◌==◌}
 use Rattle.std.specs.List.{list_all}
-use Rattle.cargo_platform.specs.Chars.{is_identifier_rest, is_space, is_number_sign, starts}
-use Rattle.cargo_platform.specs.Tokens.{Lexeme, LeftParen, RightParen, Ident, Comma, Equals, String, plain, written}
+use Rattle.cargo_platform.specs.Chars.{is_identifier_rest, is_space, starts}
+use Rattle.cargo_platform.specs.Tokens.{Lexeme, LeftParen, RightParen, Ident, Comma, Equals, String, written}
 use Rattle.cargo_platform.specs.Tokens.{IsWellWritten, Placed}
 use Rattle.cargo_platform.specs.Cut.{EndsBefore, Nothing, IsCutFrom, lexemes}
 use Rattle.cargo_platform.specs.Trees.{CfgValue, Alone, KeyPair, Tree, Not, All, Any, Value, True, False, Trees, none}
 use Rattle.cargo_platform.specs.Trees.{tree}
-use Rattle.cargo_platform.specs.Spelling.{identifier, value_spelling, group, Spells, SpellMembers}
+use Rattle.cargo_platform.specs.Spelling.{value_spelling, group, Spells, SpellMembers}
 use Rattle.cargo_platform.specs.Spelling.{IsValueText, IsTreeText}
 use Rattle.cargo_platform.specs.WellFormed.{IsWellFormedValue, IsWellFormed, AreWellFormed}
-use Rattle.cargo_platform.specs.Print.{print_name, print_value, print, print_members, print_others}
+use Rattle.cargo_platform.specs.Print.{print_name, print_value, print, print_members}
 use Rattle.cargo_platform.proofs.SomeCut.{piece_at, rest_at, cut_cons}
 use Rattle.cargo_platform.proofs.Scanning.{no_spaces}
 
@@ -81,20 +81,20 @@ cut_laid text from (p ∷ ps) le h s =
 -- ---- the tokens of a printed tree, and then ps
 
 abbrev value_pieces : Bool → CfgValue → List Piece → List Piece
-value_pieces b (Alone n) ps = piece b (identifier n) ∷ ps
-value_pieces b (KeyPair k v) ps = piece b (identifier k) ∷ piece true Equals ∷ piece true (String v) ∷ ps
+value_pieces b (Alone n) ps = piece b (Ident n.raw n.name) ∷ ps
+value_pieces b (KeyPair k v) ps = piece b (Ident k.raw k.name) ∷ piece true Equals ∷ piece true (String v) ∷ ps
 
 abbrev mutual
   pieces : Tree → Bool → List Piece → List Piece
   pieces (Not e) b ps =
-      piece b (plain (codes "not")) ∷ piece false LeftParen ∷ pieces e false (piece false RightParen ∷ ps)
+      piece b (Ident false (codes "not")) ∷ piece false LeftParen ∷ pieces e false (piece false RightParen ∷ ps)
   pieces (All es) b ps =
-      piece b (plain (codes "all")) ∷ piece false LeftParen ∷ members false es (piece false RightParen ∷ ps)
+      piece b (Ident false (codes "all")) ∷ piece false LeftParen ∷ members false es (piece false RightParen ∷ ps)
   pieces (Any es) b ps =
-      piece b (plain (codes "any")) ∷ piece false LeftParen ∷ members false es (piece false RightParen ∷ ps)
+      piece b (Ident false (codes "any")) ∷ piece false LeftParen ∷ members false es (piece false RightParen ∷ ps)
   pieces (Value c) b ps = value_pieces b c ps
-  pieces True b ps = piece b (plain (codes "true")) ∷ ps
-  pieces False b ps = piece b (plain (codes "false")) ∷ ps
+  pieces True b ps = piece b (Ident false (codes "true")) ∷ ps
+  pieces False b ps = piece b (Ident false (codes "false")) ∷ ps
 
   members : Bool → Trees → List Piece → List Piece
   members b none ps = ps
@@ -111,6 +111,15 @@ laid_pair k v rest =
     let w = codes "\"" in
     ap (λ (z : List ℕ). k ++ (q ++ z)) (append_assoc v w rest) ∙ sym (append_assoc k q (v ++ (w ++ rest)))
     ∙ sym (append_assoc (k ++ q) v (w ++ rest)) ∙ sym (append_assoc ((k ++ q) ++ v) w rest)
+
+-- what is printed of the members after the first
+abbrev printed_others : Trees → List ℕ
+printed_others none = []
+printed_others (tree e es) = codes ", " ++ print_members (tree e es)
+
+members_printed : (e : Tree) (es : Trees) → print e ++ printed_others es ≡ print_members (tree e es)
+members_printed e none = append-nil (print e)
+members_printed e (tree d es) = sym (append_assoc (print e) (codes ", ") (print_members (tree d es)))
 
 mutual
   laid_is : (e : Tree) (b : Bool) (ps : List Piece) → laid (pieces e b ps) ≡ gap b ++ (print e ++ laid ps)
@@ -132,23 +141,25 @@ mutual
   laid_members none ps = refl
   laid_members (tree e es) ps =
       laid_is e false (others es ps) ∙ ap (λ (z : List ℕ). print e ++ z) (laid_others es ps)
-      ∙ sym (append_assoc (print e) (print_others es) (laid ps))
+      ∙ sym (append_assoc (print e) (printed_others es) (laid ps))
+      ∙ ap (λ (z : List ℕ). z ++ laid ps) (members_printed e es)
 
-  laid_others : (es : Trees) (ps : List Piece) → laid (others es ps) ≡ print_others es ++ laid ps
+  laid_others : (es : Trees) (ps : List Piece) → laid (others es ps) ≡ printed_others es ++ laid ps
   laid_others none ps = refl
   laid_others (tree e es) ps =
       ap (λ (z : List ℕ). codes "," ++ z) (laid_is e true (others es ps))
       ∙ ap (λ (z : List ℕ). codes ", " ++ z)
       (ap (λ (z : List ℕ). print e ++ z) (laid_others es ps)
-      ∙ sym (append_assoc (print e) (print_others es) (laid ps)))
+      ∙ sym (append_assoc (print e) (printed_others es) (laid ps))
+      ∙ ap (λ (z : List ℕ). z ++ laid ps) (members_printed e es))
 
 -- ---- what follows a printed tree ends its last token
 
 abbrev IsClean : List Piece → Type 0
-IsClean ps = IsFalse (starts is_identifier_rest (laid ps)) × IsFalse (starts is_number_sign (laid ps))
+IsClean ps = IsFalse (starts is_identifier_rest (laid ps)) × IsFalse (starts (λ c. c == 0x23) (laid ps))
 
 ends : (raw : Bool) (name rest : List ℕ) → IsFalse (starts is_identifier_rest rest)
-    → IsFalse (starts is_number_sign rest) → EndsBefore (Ident raw name) rest
+    → IsFalse (starts (λ c. c == 0x23) rest) → EndsBefore (Ident raw name) rest
 ends raw name rest a b =
     (a, ap (λ v. not raw && bytes_eq name (codes "r") && v) b ∙ and-false (not raw && bytes_eq name (codes "r")))
 
@@ -199,14 +210,14 @@ abbrev Spelled : Tree → List Lexeme → List Lexeme → Type 0
 Spelled e ts after = (s : List Lexeme) × Spells e s × (ts ≡ s ++ after)
 
 group_is : (w : List ℕ) (inner after : List Lexeme)
-    → plain w ∷ LeftParen ∷ (inner ++ (RightParen ∷ after)) ≡ group w inner ++ after
+    → Ident false w ∷ LeftParen ∷ (inner ++ (RightParen ∷ after)) ≡ group w inner ++ after
 group_is w inner after =
-    ap (λ (z : List Lexeme). plain w ∷ LeftParen ∷ z) (sym (append_assoc inner (RightParen ∷ []) after))
+    ap (λ (z : List Lexeme). Ident false w ∷ LeftParen ∷ z) (sym (append_assoc inner (RightParen ∷ []) after))
 
 value_spelled : (c : CfgValue) (b : Bool) (ps : List Piece) → IsWellFormed (Value c)
     → Spelled (Value c) (tokens (value_pieces b c ps)) (tokens ps)
-value_spelled (Alone n) b ps w = (identifier n ∷ [], (refl, w.1), refl)
-value_spelled (KeyPair k v) b ps w = (identifier k ∷ Equals ∷ String v ∷ [], (refl, w.1), refl)
+value_spelled (Alone n) b ps w = (Ident n.raw n.name ∷ [], (refl, w.1), refl)
+value_spelled (KeyPair k v) b ps w = (Ident k.raw k.name ∷ Equals ∷ String v ∷ [], (refl, w.1), refl)
 
 mutual
   spelled : (e : Tree) (b : Bool) (ps : List Piece) → IsWellFormed e → Spelled e (tokens (pieces e b ps)) (tokens ps)
@@ -214,24 +225,26 @@ mutual
       let r = spelled e false (piece false RightParen ∷ ps) w in (
         group (codes "not") r.0,
         (r.0, r.1, refl),
-        ap (λ (z : List Lexeme). plain (codes "not") ∷ LeftParen ∷ z) r.2
+        ap (λ (z : List Lexeme). Ident false (codes "not") ∷ LeftParen ∷ z) r.2
             ∙ group_is (codes "not") r.0 (tokens ps),
       )
   spelled (All es) b ps w =
       let r = spelled_members es false (piece false RightParen ∷ ps) w in (
         group (codes "all") r.0,
         (r.0, r.1, refl),
-        ap (λ (z : List Lexeme). plain (codes "all") ∷ LeftParen ∷ z) r.2 ∙ group_is (codes "all") r.0 (tokens ps),
+        ap (λ (z : List Lexeme). Ident false (codes "all") ∷ LeftParen ∷ z) r.2
+            ∙ group_is (codes "all") r.0 (tokens ps),
       )
   spelled (Any es) b ps w =
       let r = spelled_members es false (piece false RightParen ∷ ps) w in (
         group (codes "any") r.0,
         (r.0, r.1, refl),
-        ap (λ (z : List Lexeme). plain (codes "any") ∷ LeftParen ∷ z) r.2 ∙ group_is (codes "any") r.0 (tokens ps),
+        ap (λ (z : List Lexeme). Ident false (codes "any") ∷ LeftParen ∷ z) r.2
+            ∙ group_is (codes "any") r.0 (tokens ps),
       )
   spelled (Value c) b ps w = value_spelled c b ps w
-  spelled True b ps w = (plain (codes "true") ∷ [], refl, refl)
-  spelled False b ps w = (plain (codes "false") ∷ [], refl, refl)
+  spelled True b ps w = (Ident false (codes "true") ∷ [], refl, refl)
+  spelled False b ps w = (Ident false (codes "false") ∷ [], refl, refl)
 
   spelled_members : (es : Trees) (b : Bool) (ps : List Piece) → AreWellFormed es
       → (inner : List Lexeme) × SpellMembers es inner × (tokens (members b es ps) ≡ inner ++ tokens ps)

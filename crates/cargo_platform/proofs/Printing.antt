@@ -14,7 +14,7 @@ use Rattle.cargo_platform.specs.declared.cfg.CfgExpr.TheOpen as layer
 use Rattle.cargo_platform.specs.declared.cfg.CfgExpr.TheFolds.{fold_out-CfgExpr, map-CfgExpr}
 use Rattle.cargo_platform.specs.declared.cfg.CfgExpr.TheViews.{out-CfgExpr}
 use Rattle.cargo_platform.specs.Trees.{Tree, Not, All, Any, Value, True, False, Trees, none, tree, tree_of, trees_of}
-use Rattle.cargo_platform.specs.Print.{print, print_members, print_others, print_value}
+use Rattle.cargo_platform.specs.Print.{print, print_members, print_value}
 use Rattle.cargo_platform.specs.Inside.Printing.{is_group, word, begun, begun_members, between, ending, ending_last}
 use Rattle.cargo_platform.specs.Inside.Printing.{closed}
 use Rattle.cargo_platform.specs.Inside.Printing.{HasWrittenBut}
@@ -47,9 +47,6 @@ around word print begun n same =
     ∙ ap (λ (z : List ℕ). word ++ (begun ++ z)) (closed_more n)
     ∙ sym (append_assoc word begun (codes ")" ++ closed n))
 
-joined : (a b c d : List ℕ) → a ++ (b ++ c ++ d) ≡ a ++ b ++ (c ++ d)
-joined a b c d = ap (λ (z : List ℕ). a ++ z) (append_assoc b c d) ∙ sym (append_assoc a b (c ++ d))
-
 mutual
   -- a print is what stands before the parentheses that end it, and these
   pub print_is : (e : Tree) → print e ≡ begun e ++ closed (ending e)
@@ -62,10 +59,9 @@ mutual
 
   members_are : (es : Trees) → print_members es ≡ begun_members es ++ closed (ending_last es)
   members_are none = refl
-  members_are (tree e none) = append-nil (print e) ∙ print_is e
+  members_are (tree e none) = print_is e
   members_are (tree e (tree d es)) =
-      joined (print e) (codes ", ") (print d) (print_others es)
-      ∙ ap (λ (z : List ℕ). print e ++ codes ", " ++ z) (members_are (tree d es))
+      ap (λ (z : List ℕ). print e ++ codes ", " ++ z) (members_are (tree d es))
       ∙ sym (append_assoc (print e ++ codes ", ") (begun_members (tree d es)) (closed (ending_last (tree d es))))
 
 -- what stands before the last members is the same for an expression and for a list of it alone

@@ -2,7 +2,7 @@
 use Rattle.std.proofs.Common.{◌≡◌, ◌≢◌, ℕ, zero, suc, ◌+◌, ◌-◌, ◌<◌, ◌≤◌, Bool, true, false, not, ◌&&◌, List, [], ◌∷◌}
 use Rattle.std.proofs.Common.{◌++◌, length, get_or, take, drop, refl, sym, ap, ◌∙◌, arith, add-one, codes, length-drop}
 use Rattle.std.proofs.Common.{subst, true≢false, ltb}
-use Rattle.std.specs.Prelude.{slice_index, slice_range, IsUtf8, bytes_eq}
+use Rattle.std.specs.Prelude.{slice_index, slice_range, IsUtf8, bytes_eq, ◌==◌}
 use Rattle.std.specs.List.{between, list_all}
 use Rattle.std.proofs.lemmas.List.{get_or-drop}
 use Rattle.std.proofs.lemmas.List.Edits.{between_none, between_more, length-between, get_or-between}
@@ -11,7 +11,7 @@ use Rattle.std.proofs.lemmas.Slice.Eq.{bytes_eq-Decides}
 use Rattle.std.proofs.lemmas.Bool.{and_from, and_parts, false_from_ne_true, ltb-false, ltb-true, ne_eqb}
 use Rattle.std.proofs.Math.Seq.{drop-cons}
 use Rattle.cargo_platform.specs.declared.tokens.TokenFaultKind.TheVariants.{UnterminatedString}
-use Rattle.cargo_platform.specs.Chars.{is_identifier_start, is_identifier_rest, is_space, is_quote, is_number_sign}
+use Rattle.cargo_platform.specs.Chars.{is_identifier_start, is_identifier_rest, is_space, is_quote}
 use Rattle.cargo_platform.specs.Chars.{starts}
 use Rattle.cargo_platform.specs.Tokens.{Ident, String, IsIdentifierName}
 use Rattle.cargo_platform.specs.Cut.{AreSpaces, EndsBefore, BeginsFault}
@@ -137,11 +137,11 @@ name_ends : (text name : List ℕ) (raw : Bool) (end : ℕ) → is_identifier_re
 name_ends text name true end rest plain = (starts_at is_identifier_rest text end rest, refl)
 name_ends text name false end rest plain = (
   starts_at is_identifier_rest text end rest,
-  false_from_ne_true (bytes_eq name (codes "r") && starts is_number_sign (drop end text)) (λ both.
+  false_from_ne_true (bytes_eq name (codes "r") && starts (λ c. c == 0x23) (drop end text)) (λ both.
       let is : name ≡ codes "r" = (bytes_eq-Decides name (codes "r")).0
-      (and_parts (bytes_eq name (codes "r")) (starts is_number_sign (drop end text)) both).0 in
-      let sign = starts_at is_number_sign text end (ne_eqb (slice_index text end) 0x23 (plain refl is)) in
-      true≢false (sym (and_parts (bytes_eq name (codes "r")) (starts is_number_sign (drop end text)) both).1 ∙ sign)),
+      (and_parts (bytes_eq name (codes "r")) (starts (λ c. c == 0x23) (drop end text)) both).0 in
+      let sign = starts_at (λ c. c == 0x23) text end (ne_eqb (slice_index text end) 0x23 (plain refl is)) in
+      true≢false (sym (and_parts (bytes_eq name (codes "r")) (starts (λ c. c == 0x23) (drop end text)) both).1 ∙ sign)),
 )
 
 pub plain_stands : (text name : List ℕ) (start end : ℕ) → is_identifier_start (slice_index text start) ≡ true

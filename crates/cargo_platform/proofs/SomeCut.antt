@@ -13,11 +13,11 @@ use Rattle.std.proofs.lemmas.List.{drop-drop}
 use Rattle.std.proofs.lemmas.Bool.{and_parts, eqb-true, false_from_ne_true, leb-true, or_cases}
 use Rattle.cargo_platform.specs.declared.tokens.TokenFaultKind.TheVariants.{UnterminatedString, UnexpectedChar}
 use Rattle.cargo_platform.specs.declared.tokens.TokenFaultKind.TheVariants.{MissingIdentifier}
-use Rattle.cargo_platform.specs.Chars.{is_identifier_start, is_identifier_rest, is_space, is_quote, is_number_sign}
+use Rattle.cargo_platform.specs.Chars.{is_identifier_start, is_identifier_rest, is_space, is_quote}
 use Rattle.cargo_platform.specs.Chars.{is_known_start, starts, BeginsWith}
 use Rattle.cargo_platform.specs.Tokens.{Lexeme, LeftParen, RightParen, Ident, Comma, Equals, String, written}
 use Rattle.cargo_platform.specs.Tokens.{IsWellWritten, Placed}
-use Rattle.cargo_platform.specs.Cut.{IsPiece, IsWrittenAt, AreSpaces, EndsBefore, IsWhole, Item, Lexical, Nothing}
+use Rattle.cargo_platform.specs.Cut.{IsPiece, IsWrittenAt, AreSpaces, EndsBefore, Item, Lexical, Nothing}
 use Rattle.cargo_platform.specs.Cut.{Comes, is_token, IsCutFrom, IsCut}
 use Rattle.cargo_platform.proofs.OneCut.{IsTail, start_is_ascii}
 use lib.Utf8.{scalars, scalar, encodes}
@@ -146,7 +146,7 @@ marked (d ∷ ds) u =
           ))
     ] refl
 
-number_sign : (rest : List ℕ) → starts is_number_sign rest ≡ true → (after : List ℕ) × (rest ≡ 0x23 ∷ after)
+number_sign : (rest : List ℕ) → starts (λ c. c == 0x23) rest ≡ true → (after : List ℕ) × (rest ≡ 0x23 ∷ after)
 number_sign [] h = absurd (true≢false (sym h))
 number_sign (b ∷ bs) h = (bs, ap (λ (z : ℕ). z ∷ bs) (eqb-true b 0x23 h))
 
@@ -155,14 +155,14 @@ name : (b : ℕ) (bs : List ℕ) → IsUtf8 (b ∷ bs) → is_identifier_start b
 name b bs u h =
     let r = run is_identifier_rest rest_is_ascii bs (ascii_rest b bs (start_is_ascii b h) u) in
     let parts : b ∷ bs ≡ (b ∷ r.xs) ++ r.rest = ap (λ (z : List ℕ). b ∷ z) r.parts in
-    let test = bytes_eq (b ∷ r.xs) (codes "r") && starts is_number_sign r.rest in
-    elim test as (λ v. (bytes_eq (b ∷ r.xs) (codes "r") && starts is_number_sign r.rest) ≡ v → Outcome (b ∷ bs)) [
+    let test = bytes_eq (b ∷ r.xs) (codes "r") && starts (λ c. c == 0x23) r.rest in
+    elim test as (λ v. (bytes_eq (b ∷ r.xs) (codes "r") && starts (λ c. c == 0x23) r.rest) ≡ v → Outcome (b ∷ bs)) [
       | false ↦ λ f. lexed (Ident false (b ∷ r.xs)) r.rest parts (h, r.pass) (r.stops, f) r.utf8
       | true ↦ λ t.
           let is : b ∷ r.xs ≡ codes "r" = (bytes_eq-Decides (b ∷ r.xs) (codes "r")).0
-          (and_parts (bytes_eq (b ∷ r.xs) (codes "r")) (starts is_number_sign r.rest) t).0 in
+          (and_parts (bytes_eq (b ∷ r.xs) (codes "r")) (starts (λ c. c == 0x23) r.rest) t).0 in
           let after = number_sign r.rest
-          (and_parts (bytes_eq (b ∷ r.xs) (codes "r")) (starts is_number_sign r.rest) t).1 in
+          (and_parts (bytes_eq (b ∷ r.xs) (codes "r")) (starts (λ c. c == 0x23) r.rest) t).1 in
           let whole : codes "r#" ++ after.0 ≡ b ∷ bs = sym (parts ∙ (λ i. is i ++ after.1 i)) in
           rw (← whole) (marked after.0 (ascii_rest 0x23 after.0 (lit≤ tt) (rw (← after.1) r.utf8)))
     ] refl
@@ -216,7 +216,7 @@ lex (b ∷ bs) u h =
                 or_mark RightParen b 0x29 bs tt tt refl (lit≤ tt) u (λ m1.
                 or_mark Comma b 0x2C bs tt tt refl (lit≤ tt) u (λ m2.
                 or_mark Equals b 0x3D bs tt tt refl (lit≤ tt) u (λ m3.
-                other b bs u (λ i. h i || (m0 i || m1 i || m2 i || m3 i) || q i || e i)))))
+                other b bs u (λ i. h i || m0 i || m1 i || m2 i || m3 i || q i || e i)))))
           ] refl
     ] refl
 
@@ -274,7 +274,8 @@ cut_ends text from tail spaces rest = record {
 
 -- a token is cut off in front of what is cut
 pub cut_cons : (text : List ℕ) (from tail : ℕ) (t : Placed) (ts : List Placed) → AreSpaces text from t.start
-    → IsWrittenAt text t → IsWhole text t → IsCutFrom text t.end ts tail → IsCutFrom text from (t ∷ ts) tail
+    → IsWrittenAt text t → EndsBefore t.token (drop t.end text) → IsCutFrom text t.end ts tail
+    → IsCutFrom text from (t ∷ ts) tail
 cut_cons text from tail t ts spaces written whole others = record {
   last = others.last;
   no_token = others.no_token;

@@ -24,7 +24,7 @@ use Rattle.cargo_platform.specs.Tokens.{IsWellWritten}
 use Rattle.cargo_platform.specs.Cut.{AreSpaces, BeginsFault, IsWrittenAt, Item, Token, Lexical, Nothing, Comes}
 use Rattle.cargo_platform.specs.Cut.{ComesBehind}
 use Rattle.cargo_platform.specs.Spelling.{Grammar}
-use Rattle.cargo_platform.specs.Faults.{Fault, IsRefusedAt, character_start, lexical_span, span_of}
+use Rattle.cargo_platform.specs.Faults.{Fault, IsRefusedAt, span_of}
 use Rattle.cargo_platform.specs.FaultLaws.{IsSpanIn}
 use Rattle.cargo_platform.proofs.OneCut.{piece_rest, written_rest}
 use Rattle.cargo_platform.proofs.SomeCut.{ascii_sides, rest_is_ascii}
@@ -32,6 +32,10 @@ use Rattle.cargo_platform.proofs.Looking.{char_here}
 use Rattle.cargo_platform.proofs.OneFault.{one_place}
 
 -- ---- the character that begins no token
+
+-- where it stands: at the place, or after the mark `r#` there
+abbrev pub character_start : List ℕ → ℕ → ℕ
+character_start text at = if slice_index text at == 0x72 then at + 2 else at
 
 pub first_byte : (text rest : List ℕ) (at b : ℕ) → drop at text ≡ b ∷ rest → slice_index text at ≡ b
 first_byte [] rest zero b h = absurd cc
@@ -175,7 +179,7 @@ to_end : (text : List ℕ) (at : ℕ) → IsCharBoundary text at → IsSpanIn te
 to_end text at b = (b.0, b, IsCharBoundary-end text)
 
 lexical_in : (text : List ℕ) (at : ℕ) (k : TokenFaultKind) → IsUtf8 text → IsCharBoundary text at
-    → BeginsFault (drop at text) k → IsSpanIn text (lexical_span text at k)
+    → BeginsFault (drop at text) k → IsSpanIn text (span_of text false (Lexical k at))
 lexical_in text at lexical.UnterminatedString utf8 b f = to_end text at b
 lexical_in text at lexical.MissingIdentifier utf8 b f = to_end text (length text) (IsCharBoundary-end text)
 lexical_in text at (lexical.UnexpectedChar c) utf8 b f =

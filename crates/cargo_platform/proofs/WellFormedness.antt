@@ -1,11 +1,11 @@
 -- What well-written tokens spell is well-formed.
-use Rattle.std.proofs.Common.{ℕ, subst, List, [], ◌∷◌, ◌++◌, codes, inl, inr, length}
+use Rattle.std.proofs.Common.{◌≡◌, ℕ, subst, List, [], ◌∷◌, ◌++◌, codes, inl, inr, length}
 use Rattle.std.specs.List.{AllByRecursion}
 use Rattle.cargo_platform.specs.Tokens.{Lexeme, RightParen, Comma, Placed, IsWellWritten}
 use Rattle.cargo_platform.specs.Cut.{Item, ComesBehind, lexemes}
 use Rattle.cargo_platform.specs.Trees.{CfgValue, Alone, KeyPair, Tree, Not, All, Any, Value, True, False, Trees, none}
 use Rattle.cargo_platform.specs.Trees.{tree}
-use Rattle.cargo_platform.specs.Spelling.{SpellsValue, group, Spells, SpellMembers, IsValueText}
+use Rattle.cargo_platform.specs.Spelling.{value_spelling, group, Spells, SpellMembers, IsValueText}
 use Rattle.cargo_platform.specs.Spelling.{IsTreeText}
 use Rattle.cargo_platform.specs.WellFormed.{IsWellFormedValue, IsWellFormed, AreWellFormed}
 
@@ -25,7 +25,7 @@ inside_written : (word : List ℕ) (inner : List Lexeme) → AreWellWritten (gro
 inside_written word inner w = prefix_written inner (RightParen ∷ []) w.1.1
 
 -- A list of well-written tokens spells only well-formed values.
-pub well_formed_value : (c : CfgValue) (ts : List Lexeme) → AllByRecursion IsWellWritten ts → SpellsValue c ts
+pub well_formed_value : (c : CfgValue) (ts : List Lexeme) → AllByRecursion IsWellWritten ts → ts ≡ value_spelling c
     → IsWellFormedValue c
 well_formed_value (Alone n) ts w p = (subst AreWellWritten p w).0
 well_formed_value (KeyPair k v) ts w p =

@@ -3,10 +3,10 @@
 use Rattle.std.specs.Prelude.{◌≡◌, ◌⊎◌, ◌↔◌, ◌&&◌, ◌≤◌, ◌<◌, ℕ, Bool, false, List, [], ◌∷◌, ◌++◌, IsTrue, IsFalse}
 use Rattle.std.specs.Prelude.{length, drop, codes}
 use Rattle.std.specs.List.{list_any}
-use Rattle.cargo_platform.specs.Tokens.{Lexeme, Equals, Placed}
+use Rattle.cargo_platform.specs.Tokens.{Lexeme, Ident, Equals, Placed}
 use Rattle.cargo_platform.specs.Trees.{Name, CfgValue, Alone, KeyPair, Tree, Condition}
 use Rattle.cargo_platform.specs.Cut.{lexemes, Token}
-use Rattle.cargo_platform.specs.Spelling.{identifier, is_literal_word, Spells, Expressions, IsAccepted, IsTreeText}
+use Rattle.cargo_platform.specs.Spelling.{is_literal_word, Spells, Expressions, IsAccepted, IsTreeText}
 use Rattle.cargo_platform.specs.Faults.{Fault, UnexpectedToken, UnterminatedExpression, IsRefusedBy, IsRefused}
 use Rattle.cargo_platform.specs.Faults.{IsCompletable, IsCompletableBy, span_of}
 use Rattle.cargo_platform.specs.WellFormed.{IsWellFormed}
@@ -117,7 +117,7 @@ pub record IsAtLiteralKey (text : List ℕ) (fault : Fault) (q : IsRefused Expre
   pub key : Name
   pub equals : Placed
   pub literal : IsTrue (is_literal_word key)
-  pub prefix : lexemes q.prefix ≡ before ++ identifier key ∷ []
+  pub prefix : lexemes q.prefix ≡ before ++ Ident key.raw key.name ∷ []
   pub next : q.next ≡ Token equals
   pub is_equals : equals.token ≡ Equals
   -- with `=` the tokens could still be completed

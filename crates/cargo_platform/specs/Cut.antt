@@ -1,11 +1,11 @@
 -- How a text is cut into tokens: what comes next at a place, and what is left that no token begins.
 use Rattle.std.specs.Prelude.{◌≡◌, ◌⊎◌, ℕ, ◌≤◌, Bool, true, false, List, [], ◌∷◌, ◌++◌, map, length, drop, codes}
-use Rattle.std.specs.Prelude.{slice_range, IsTrue, IsFalse, not, ◌&&◌, bytes_eq}
+use Rattle.std.specs.Prelude.{slice_range, IsTrue, IsFalse, not, ◌&&◌, ◌==◌, bytes_eq}
 use Rattle.std.specs.List.{list_all}
 use Rattle.cargo_platform.specs.declared.tokens.TokenFaultKind.{TokenFaultKind}
 use Rattle.cargo_platform.specs.declared.tokens.TokenFaultKind.TheVariants.{UnterminatedString, UnexpectedChar}
 use Rattle.cargo_platform.specs.declared.tokens.TokenFaultKind.TheVariants.{MissingIdentifier}
-use Rattle.cargo_platform.specs.Chars.{is_identifier_start, is_identifier_rest, is_space, is_quote, is_number_sign}
+use Rattle.cargo_platform.specs.Chars.{is_identifier_start, is_identifier_rest, is_space, is_quote}
 use Rattle.cargo_platform.specs.Chars.{is_known_start, starts, BeginsWith}
 use Rattle.cargo_platform.specs.Tokens.{Lexeme, LeftParen, RightParen, Ident, Comma, Equals, String, Placed, written}
 use Rattle.cargo_platform.specs.Tokens.{IsWellWritten}
@@ -28,15 +28,12 @@ AreSpaces text start end = (spaces : List ℕ) × IsPiece text start end spaces 
 abbrev pub EndsBefore : Lexeme → List ℕ → Type 0
 EndsBefore (Ident raw name) rest =
     IsFalse (starts is_identifier_rest rest)
-    × IsFalse (not raw && bytes_eq name (codes "r") && starts is_number_sign rest)
+    × IsFalse (not raw && bytes_eq name (codes "r") && starts (λ c. c == 0x23) rest)
 EndsBefore LeftParen rest = Unit {0}
 EndsBefore RightParen rest = Unit {0}
 EndsBefore Comma rest = Unit {0}
 EndsBefore Equals rest = Unit {0}
 EndsBefore (String value) rest = Unit {0}
-
-abbrev pub IsWhole : List ℕ → Placed → Type 0
-IsWhole text t = EndsBefore t.token (drop t.end text)
 
 -- the text begins a lexical fault
 abbrev pub BeginsFault : List ℕ → TokenFaultKind → Type 0
@@ -58,7 +55,8 @@ pub data Item : Type 0 where
 
 -- from a place on this item comes next, and the text goes on after it from another place
 abbrev pub Comes : List ℕ → ℕ → Item → ℕ → Type 0
-Comes text from (Token t) to = AreSpaces text from t.start × IsWrittenAt text t × IsWhole text t × (to ≡ t.end)
+Comes text from (Token t) to =
+    AreSpaces text from t.start × IsWrittenAt text t × EndsBefore t.token (drop t.end text) × (to ≡ t.end)
 Comes text from (Lexical fault at) to = AreSpaces text from at × BeginsFault (drop at text) fault × (to ≡ at)
 Comes text from Nothing to = AreSpaces text from (length text) × (to ≡ length text)
 

@@ -9,7 +9,7 @@ use Rattle.cargo_platform.specs.Tokens.{IsWellWritten}
 use Rattle.cargo_platform.specs.Cut.{lexemes, Nothing}
 use Rattle.cargo_platform.specs.Spelling.{Grammar, Expressions, IsAccepted}
 use Rattle.cargo_platform.specs.Faults.{IsCompletable, IsFaultPrefix, Fault, UnexpectedToken, IncompleteExpr}
-use Rattle.cargo_platform.specs.Faults.{expected_token, expected_end, UnterminatedExpression, IsRefused, IsRefusedAt}
+use Rattle.cargo_platform.specs.Faults.{expected_after, UnterminatedExpression, IsRefused, IsRefusedAt}
 use Rattle.cargo_platform.specs.Faults.{span_of}
 use Rattle.cargo_platform.specs.Walk.{State, after, walk}
 
@@ -63,8 +63,8 @@ IsStoppedByNext g ts prefix after = IsFaultPrefix g ts prefix after → (next : 
 abbrev pub IsExpectedToFollow : Grammar → List Placed → List Placed → List Placed → Type 0
 IsExpectedToFollow g ts prefix after =
     IsFaultPrefix g ts prefix after → (IsAccepted g (lexemes prefix) → ⊥) →
-    CanFollow g (lexemes prefix) (expected_token g (last_or None (lexemes prefix)))
-    × CanFollow g (lexemes prefix) (expected_end g (last_or None (lexemes prefix)))
+    CanFollow g (lexemes prefix) (expected_after g (last_or None (lexemes prefix)) false)
+    × CanFollow g (lexemes prefix) (expected_after g (last_or None (lexemes prefix)) true)
 
 -- the fault names the class as expected, at a token or at the end
 abbrev pub Names : {g : Grammar} {text : List ℕ} {fault : Fault} → IsRefused g text fault → List ℕ → Type 0

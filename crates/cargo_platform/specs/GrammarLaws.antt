@@ -3,7 +3,7 @@ use Rattle.std.specs.Prelude.{◌≡◌, List}
 use Rattle.std.specs.List.{AllByRecursion}
 use Rattle.cargo_platform.specs.Tokens.{Lexeme, IsWellWritten}
 use Rattle.cargo_platform.specs.Trees.{CfgValue, Tree}
-use Rattle.cargo_platform.specs.Spelling.{SpellsValue, Spells}
+use Rattle.cargo_platform.specs.Spelling.{value_spelling, Spells}
 use Rattle.cargo_platform.specs.WellFormed.{IsWellFormedValue, IsWellFormed}
 
 -- a list of tokens spells at most one tree
@@ -12,11 +12,11 @@ HasOneTree ts = (d e : Tree) → Spells d ts → Spells e ts → d ≡ e
 
 -- a list of tokens spells at most one name or pair
 abbrev pub HasOneValue : List Lexeme → Type 0
-HasOneValue ts = (c d : CfgValue) → SpellsValue c ts → SpellsValue d ts → c ≡ d
+HasOneValue ts = (c d : CfgValue) → ts ≡ value_spelling c → ts ≡ value_spelling d → c ≡ d
 
 -- a list of well-written tokens spells well-formed values and trees only
 abbrev pub SpellsWellFormed : List Lexeme → Type 0
 SpellsWellFormed ts =
     AllByRecursion IsWellWritten ts
-    → ((c : CfgValue) → SpellsValue c ts → IsWellFormedValue c)
+    → ((c : CfgValue) → ts ≡ value_spelling c → IsWellFormedValue c)
     × ((e : Tree) → Spells e ts → IsWellFormed e)

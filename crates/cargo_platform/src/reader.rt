@@ -1,12 +1,12 @@
 //! The tokens of a text, each taken where it is wanted: what the parsers read from.
 
 ghost use Rattle.std.specs.Prelude.{◌≡◌, ◌≤◌, ◌+◌, ◌*◌, length, [], ◌∷◌, IsTrue, IsFalse, IfSome, IfNone, IfErr, OnOk};
-ghost use Rattle.std.specs.Prelude.{MatchOption};
+ghost use Rattle.std.specs.Prelude.{MatchOption, false};
 ghost use Rattle.cargo_platform.specs.declared.source.Look.TheVariants.{Ascii};
 ghost use Rattle.cargo_platform.specs.Tokens.{Ident as ident_token, String as string_token, Placed, lexeme, written};
 ghost use Rattle.cargo_platform.specs.Reading.{characters_from};
 ghost use Rattle.cargo_platform.specs.Cut.{AreSpaces, Nothing};
-ghost use Rattle.cargo_platform.specs.Faults.{from_to, lexical_span};
+ghost use Rattle.cargo_platform.specs.Faults.{from_to, span_of};
 ghost use Rattle.cargo_platform.specs.Cut as cut;
 ghost use Rattle.cargo_platform.specs.Inside.Ahead.{NextIs, IsSeenTo};
 ghost use Rattle.cargo_platform.specs.Inside.Parsing.{IsIdentifier, SeesRest, Takes, TakesToken, LacksPunctuation};
@@ -197,7 +197,7 @@ impl<'a> Reader<'a> {
     /// The span of the lexical fault that begins here.
     fn fault_span(&self, kind: TokenFaultKind) -> Range<usize>
         requires { NextIs self.now.ahead (cut.Lexical kind self.now.ahead.place) }
-        ensures { result ≡ lexical_span self.now.ahead.text self.now.ahead.place kind }
+        ensures { result ≡ span_of self.now.ahead.text false (cut.Lexical kind self.now.ahead.place) }
     {
         let end = self.length;
         match kind {

@@ -1,5 +1,5 @@
 -- The cuts of some texts, and what is none.
-use Rattle.std.proofs.Common.{refl, sym, ap, ◌∙◌, ℕ, true, true≢false, List, [], ◌∷◌, ◌++◌, codes, inl, inr}
+use Rattle.std.proofs.Common.{refl, sym, ap, ◌∙◌, ℕ, true, false, true≢false, List, [], ◌∷◌, ◌++◌, codes, inl, inr}
 use Rattle.std.proofs.Common.{arith, length, drop}
 use Rattle.std.specs.Prelude.{not, ◌==◌}
 use Rattle.std.specs.List.{list_all}
@@ -7,8 +7,8 @@ use Rattle.std.specs.Char.{encode_utf8}
 use Rattle.cargo_platform.specs.declared.tokens.TokenFaultKind.TheVariants.{UnterminatedString, UnexpectedChar}
 use Rattle.cargo_platform.specs.declared.tokens.TokenFaultKind.TheVariants.{MissingIdentifier}
 use Rattle.cargo_platform.specs.Chars.{is_space, is_quote, starts}
-use Rattle.cargo_platform.specs.Tokens.{Lexeme, LeftParen, RightParen, Ident, Comma, Equals, String, Placed, plain}
-use Rattle.cargo_platform.specs.Cut.{IsPiece, IsWrittenAt, AreSpaces, EndsBefore, IsWhole, BeginsFault}
+use Rattle.cargo_platform.specs.Tokens.{Lexeme, LeftParen, RightParen, Ident, Comma, Equals, String, Placed}
+use Rattle.cargo_platform.specs.Cut.{IsPiece, IsWrittenAt, AreSpaces, EndsBefore, BeginsFault}
 use Rattle.cargo_platform.specs.Cut.{IsCut, Token, Lexical, Nothing, Comes}
 use Rattle.cargo_platform.specs.Reading.{IsRestFrom}
 use Rattle.cargo_platform.proofs.OneCut.{IsTail, tail_no_space, one_cut_from}
@@ -19,7 +19,7 @@ abbrev pub at : Lexeme → ℕ → ℕ → Placed
 at t i j = record { token = t; start = i; end = j }
 
 abbrev pub word : List ℕ → ℕ → ℕ → Placed
-word name i j = at (plain name) i j
+word name i j = at (Ident false name) i j
 
 -- ---- cuts
 
@@ -116,17 +116,17 @@ no_piece_outside piece p = absurd (omega (arith, p.inside))
 not_written_so : IsWrittenAt (codes "b") (word (codes "a") 0 1) → ⊥
 not_written_so p = true≢false (ap (starts (λ c. c == 0x62)) p.1.bytes)
 
-no_rest_behind_name : EndsBefore (plain (codes "a")) (codes "b") → ⊥
+no_rest_behind_name : EndsBefore (Ident false (codes "a")) (codes "b") → ⊥
 no_rest_behind_name p = true≢false p.0
 
-no_mark_behind_r : EndsBefore (plain (codes "r")) (codes "#a") → ⊥
+no_mark_behind_r : EndsBefore (Ident false (codes "r")) (codes "#a") → ⊥
 no_mark_behind_r p = true≢false p.1
 
 number_sign_behind_marked : EndsBefore (Ident true (codes "r")) (codes "#a")
 number_sign_behind_marked = (refl, refl)
 
-not_whole : IsWhole (codes "ab") (word (codes "a") 0 1) → ⊥
-not_whole p = true≢false p.0
+not_whole : (to : ℕ) → Comes (codes "ab") 0 (Token (word (codes "a") 0 1)) to → ⊥
+not_whole to p = true≢false p.2.0
 
 -- ---- what begins no lexical fault
 

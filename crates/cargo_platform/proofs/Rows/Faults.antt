@@ -4,14 +4,14 @@ use Rattle.std.proofs.Common.{codes, inl, inr, arith, drop}
 use Rattle.std.specs.Char.{encode_utf8}
 use Rattle.std.specs.List.{last_or}
 use Rattle.cargo_platform.specs.declared.tokens.TokenFaultKind.TheVariants as lexical
-use Rattle.cargo_platform.specs.Tokens.{Lexeme, LeftParen, RightParen, Ident, Comma, Equals, String, Placed, plain}
+use Rattle.cargo_platform.specs.Tokens.{Lexeme, LeftParen, RightParen, Ident, Comma, Equals, String, Placed}
 use Rattle.cargo_platform.specs.Cut.{BeginsFault, lexemes}
 use Rattle.cargo_platform.specs.Cut.{Item, Token, Lexical, Nothing, ComesBehind}
 use Rattle.cargo_platform.specs.Trees.{Alone, Value}
 use Rattle.cargo_platform.specs.Spelling.{Grammar, Values, Expressions}
 use Rattle.cargo_platform.specs.Faults.{IsCompletable, IsFaultPrefix, Fault}
 use Rattle.cargo_platform.specs.Faults.{UnterminatedString, UnexpectedChar, UnexpectedToken, IncompleteExpr}
-use Rattle.cargo_platform.specs.Faults.{UnterminatedExpression, expected_token, expected_end, lexical_fault, fault_of}
+use Rattle.cargo_platform.specs.Faults.{UnterminatedExpression, expected_after, lexical_fault, fault_of}
 use Rattle.cargo_platform.specs.Faults.{IsRefused}
 use Rattle.cargo_platform.specs.Walk.{Several, State, Named, Keyed, walk, is_whole}
 use Rattle.cargo_platform.proofs.Walk.{none_some}
@@ -29,11 +29,12 @@ use Rattle.cargo_platform.proofs.Rows.Cut.{at, word, lone_a, something_comes}
 -- ---- what can be completed
 
 abbrev word_a : Lexeme
-word_a = plain (codes "a")
+word_a = Ident false (codes "a")
 
 -- `all(a`
-open_group : IsCompletable Expressions (plain (codes "all") ∷ LeftParen ∷ word_a ∷ [])
-open_group = walked_completes Expressions (plain (codes "all") ∷ LeftParen ∷ word_a ∷ []) (Named (Several ∷ [])) refl
+open_group : IsCompletable Expressions (Ident false (codes "all") ∷ LeftParen ∷ word_a ∷ [])
+open_group =
+    walked_completes Expressions (Ident false (codes "all") ∷ LeftParen ∷ word_a ∷ []) (Named (Several ∷ [])) refl
 
 -- `a =` can be completed by a string
 key : IsCompletable Values (word_a ∷ Equals ∷ [])
@@ -42,22 +43,22 @@ key = walked_completes Values (word_a ∷ Equals ∷ []) (Keyed []) refl
 unwalked : (g : Grammar) (ts : List Lexeme) → walk g ts ≡ None → IsCompletable g ts → ⊥
 unwalked g ts h p = none_some (sym h ∙ (completable_walks g ts p).1)
 
-two_names : IsCompletable Expressions (word_a ∷ plain (codes "b") ∷ []) → ⊥
-two_names p = unwalked Expressions (word_a ∷ plain (codes "b") ∷ []) refl p
+two_names : IsCompletable Expressions (word_a ∷ Ident false (codes "b") ∷ []) → ⊥
+two_names p = unwalked Expressions (word_a ∷ Ident false (codes "b") ∷ []) refl p
 
 paren_first : IsCompletable Expressions (RightParen ∷ []) → ⊥
 paren_first p = unwalked Expressions (RightParen ∷ []) refl p
 
 -- `all(,`
-comma_first : IsCompletable Expressions (plain (codes "all") ∷ LeftParen ∷ Comma ∷ []) → ⊥
-comma_first p = unwalked Expressions (plain (codes "all") ∷ LeftParen ∷ Comma ∷ []) refl p
+comma_first : IsCompletable Expressions (Ident false (codes "all") ∷ LeftParen ∷ Comma ∷ []) → ⊥
+comma_first p = unwalked Expressions (Ident false (codes "all") ∷ LeftParen ∷ Comma ∷ []) refl p
 
-two_values : IsCompletable Values (word_a ∷ plain (codes "b") ∷ []) → ⊥
-two_values p = unwalked Values (word_a ∷ plain (codes "b") ∷ []) refl p
+two_values : IsCompletable Values (word_a ∷ Ident false (codes "b") ∷ []) → ⊥
+two_values p = unwalked Values (word_a ∷ Ident false (codes "b") ∷ []) refl p
 
 -- `all(` is no prefix of a name or a pair
-group_of_values : IsCompletable Values (plain (codes "all") ∷ LeftParen ∷ []) → ⊥
-group_of_values p = unwalked Values (plain (codes "all") ∷ LeftParen ∷ []) refl p
+group_of_values : IsCompletable Values (Ident false (codes "all") ∷ LeftParen ∷ []) → ⊥
+group_of_values p = unwalked Values (Ident false (codes "all") ∷ LeftParen ∷ []) refl p
 
 -- ---- the fault prefix
 
@@ -89,31 +90,32 @@ token_before_end to h = something_comes to h
 
 -- ---- what is expected
 
-expected_first : (expected_token Values None ≡ codes "identifier")
-    × (expected_token Expressions None ≡ codes "identifier") × (expected_end Values None ≡ codes "identifier")
-    × (expected_end Expressions None ≡ codes "start of a cfg expression")
+expected_first : (expected_after Values None false ≡ codes "identifier")
+    × (expected_after Expressions None false ≡ codes "identifier")
+    × (expected_after Values None true ≡ codes "identifier")
+    × (expected_after Expressions None true ≡ codes "start of a cfg expression")
 expected_first = (refl, refl, refl, refl)
 
-expected_member : (expected_token Expressions (Some LeftParen) ≡ codes "identifier")
-    × (expected_token Expressions (Some Comma) ≡ codes "identifier")
-    × (expected_end Expressions (Some LeftParen) ≡ codes "start of a cfg expression")
-    × (expected_end Expressions (Some Comma) ≡ codes "start of a cfg expression")
+expected_member : (expected_after Expressions (Some LeftParen) false ≡ codes "identifier")
+    × (expected_after Expressions (Some Comma) false ≡ codes "identifier")
+    × (expected_after Expressions (Some LeftParen) true ≡ codes "start of a cfg expression")
+    × (expected_after Expressions (Some Comma) true ≡ codes "start of a cfg expression")
 expected_member = (refl, refl, refl, refl)
 
-expected_value : (expected_token Values (Some Equals) ≡ codes "a string")
-    × (expected_token Expressions (Some Equals) ≡ codes "a string")
-    × (expected_end Values (Some Equals) ≡ codes "a string")
-    × (expected_end Expressions (Some Equals) ≡ codes "a string")
+expected_value : (expected_after Values (Some Equals) false ≡ codes "a string")
+    × (expected_after Expressions (Some Equals) false ≡ codes "a string")
+    × (expected_after Values (Some Equals) true ≡ codes "a string")
+    × (expected_after Expressions (Some Equals) true ≡ codes "a string")
 expected_value = (refl, refl, refl, refl)
 
-expected_group : (expected_token Expressions (Some (plain (codes "not"))) ≡ codes "`(`")
-    × (expected_end Expressions (Some (plain (codes "any"))) ≡ codes "`(`")
-    × (expected_end Expressions (Some (Ident true (codes "any"))) ≡ codes "`)`")
+expected_group : (expected_after Expressions (Some (Ident false (codes "not"))) false ≡ codes "`(`")
+    × (expected_after Expressions (Some (Ident false (codes "any"))) true ≡ codes "`(`")
+    × (expected_after Expressions (Some (Ident true (codes "any"))) true ≡ codes "`)`")
 expected_group = (refl, refl, refl)
 
-expected_close : (expected_token Expressions (Some word_a) ≡ codes "`)`")
-    × (expected_token Expressions (Some (String [])) ≡ codes "`)`")
-    × (expected_end Expressions (Some RightParen) ≡ codes "`)`")
+expected_close : (expected_after Expressions (Some word_a) false ≡ codes "`)`")
+    × (expected_after Expressions (Some (String [])) false ≡ codes "`)`")
+    × (expected_after Expressions (Some RightParen) true ≡ codes "`)`")
 expected_close = (refl, refl, refl)
 
 lexical_faults : (lexical_fault lexical.UnterminatedString ≡ UnterminatedString)

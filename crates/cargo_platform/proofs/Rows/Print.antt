@@ -6,7 +6,7 @@ use Rattle.cargo_platform.specs.Trees.{Alone, KeyPair, Not, All, Any, Value, Tru
 use Rattle.cargo_platform.specs.Trees.{Expression}
 use Rattle.cargo_platform.specs.Faults.{UnterminatedString, UnexpectedChar, UnexpectedToken, IncompleteExpr}
 use Rattle.cargo_platform.specs.Faults.{UnterminatedExpression, InvalidTarget}
-use Rattle.cargo_platform.specs.Print.{print_name, print_value, print, print_members, print_others, print_condition}
+use Rattle.cargo_platform.specs.Print.{print_name, print_value, print, print_members, print_condition}
 use Rattle.cargo_platform.specs.Print.{print_fault, print_error}
 use Rattle.cargo_platform.proofs.Rows.Trees.{name, marked, a}
 
@@ -42,7 +42,7 @@ group_printed : print
 group_printed = refl
 
 members_printed : (print_members (trees_of (a ∷ True ∷ [])) ≡ codes "a, true")
-    × (print_others (trees_of (a ∷ True ∷ [])) ≡ codes ", a, true") × (print_members none ≡ [])
+    × (print_members (trees_of (a ∷ [])) ≡ codes "a") × (print_members none ≡ [])
 members_printed = (refl, refl, refl)
 
 word_is_seen : print (All none) ≡ print (Any none) → ⊥

@@ -2,10 +2,10 @@
 use Rattle.std.proofs.Common.{◌≡◌, refl, sym, ap, Bool, true, false, true≢false, List, [], ◌∷◌, ◌++◌, None, codes, inl}
 use Rattle.std.proofs.Common.{inr, append-nil, arith, length}
 use Rattle.std.specs.Prelude.{IsTrue, IsFalse}
-use Rattle.cargo_platform.specs.Tokens.{Lexeme, LeftParen, RightParen, Ident, Comma, Equals, String, plain}
+use Rattle.cargo_platform.specs.Tokens.{Lexeme, LeftParen, RightParen, Ident, Comma, Equals, String}
 use Rattle.cargo_platform.specs.Trees.{CfgValue, Alone, KeyPair, Not, All, Any, Value, True, False, none, tree}
 use Rattle.cargo_platform.specs.Trees.{trees_of}
-use Rattle.cargo_platform.specs.Spelling.{SpellsValue, is_group_word, is_literal_word, MayStand, group}
+use Rattle.cargo_platform.specs.Spelling.{value_spelling, is_group_word, is_literal_word, MayStand, group}
 use Rattle.cargo_platform.specs.Spelling.{Spells, SpellMembers, Values, Expressions, IsAccepted, IsValueText}
 use Rattle.cargo_platform.specs.Spelling.{IsTreeText}
 use Rattle.cargo_platform.specs.Walk.{walk}
@@ -16,15 +16,15 @@ use Rattle.cargo_platform.proofs.Rows.Trees.{name, marked, a}
 use Rattle.cargo_platform.proofs.Rows.Cut.{late_mark, comma_behind, lone_a}
 
 abbrev word_a : Lexeme
-word_a = plain (codes "a")
+word_a = Ident false (codes "a")
 
 -- ---- names and pairs
 
-raw_spelled : SpellsValue (Alone (marked (codes "a"))) (Ident true (codes "a") ∷ [])
+raw_spelled : value_spelling (Alone (marked (codes "a"))) ≡ Ident true (codes "a") ∷ []
 raw_spelled = refl
 
-pair_spelled : SpellsValue (KeyPair (name (codes "all")) (codes "x"))
-    (plain (codes "all") ∷ Equals ∷ String (codes "x") ∷ [])
+pair_spelled : value_spelling (KeyPair (name (codes "all")) (codes "x"))
+    ≡ Ident false (codes "all") ∷ Equals ∷ String (codes "x") ∷ []
 pair_spelled = refl
 
 is_raw : List Lexeme → Bool
@@ -32,11 +32,11 @@ is_raw (Ident raw name ∷ ts) = raw
 is_raw ts = false
 
 -- the mark is a part of the name
-mark_kept : SpellsValue (Alone (marked (codes "a"))) (plain (codes "a") ∷ []) → ⊥
+mark_kept : value_spelling (Alone (marked (codes "a"))) ≡ Ident false (codes "a") ∷ [] → ⊥
 unfolding is_raw
-mark_kept p = true≢false (sym (ap is_raw p))
+mark_kept p = true≢false (ap is_raw p)
 
-two_names : IsAccepted Values (word_a ∷ plain (codes "b") ∷ []) → ⊥
+two_names : IsAccepted Values (word_a ∷ Ident false (codes "b") ∷ []) → ⊥
 two_names (Alone n, p) = absurd (omega (arith, ap length p))
 two_names (KeyPair k v, p) = absurd (omega (arith, ap length p))
 
@@ -78,16 +78,16 @@ none_spelled : Spells (All none) (group (codes "all") [])
 none_spelled = ([], refl, refl)
 
 -- `all(a, )`
-all_a_spelled : Spells (All (tree a none)) (plain (codes "all") ∷ LeftParen ∷ word_a ∷ Comma ∷ RightParen ∷ [])
+all_a_spelled : Spells (All (tree a none)) (Ident false (codes "all") ∷ LeftParen ∷ word_a ∷ Comma ∷ RightParen ∷ [])
 all_a_spelled = (word_a ∷ Comma ∷ [], (word_a ∷ [], a_spelled, inr ([], refl, refl)), refl)
 
 -- `any(a, not(true), b = "1")`
 any_spelled : Spells (Any (trees_of (a ∷ Not True ∷ Value (KeyPair (name (codes "b")) (codes "1")) ∷ [])))
-    (plain (codes "any") ∷ LeftParen ∷ word_a ∷ Comma ∷ plain (codes "not") ∷ LeftParen ∷ plain
-    (codes "true") ∷ RightParen ∷ Comma ∷ plain (codes "b") ∷ Equals ∷ String (codes "1") ∷ RightParen ∷ [])
+    (Ident false (codes "any") ∷ LeftParen ∷ word_a ∷ Comma ∷ Ident false (codes "not") ∷ LeftParen ∷ Ident false
+    (codes "true") ∷ RightParen ∷ Comma ∷ Ident false (codes "b") ∷ Equals ∷ String (codes "1") ∷ RightParen ∷ [])
 any_spelled =
-    let truth : List Lexeme = plain (codes "true") ∷ [] in
-    let pair : List Lexeme = plain (codes "b") ∷ Equals ∷ String (codes "1") ∷ [] in
+    let truth : List Lexeme = Ident false (codes "true") ∷ [] in
+    let pair : List Lexeme = Ident false (codes "b") ∷ Equals ∷ String (codes "1") ∷ [] in
     let last : SpellMembers (tree (Value (KeyPair (name (codes "b")) (codes "1"))) none) pair =
     (pair, (refl, (refl, refl)), inl (refl, refl)) in
     let two : SpellMembers (tree (Not True) (tree (Value (KeyPair (name (codes "b")) (codes "1"))) none))
@@ -95,7 +95,7 @@ any_spelled =
     (group (codes "not") truth, (truth, refl, refl), inr (pair, refl, last)) in
     (_, (word_a ∷ [], a_spelled, inr (_, refl, two)), refl)
 
-false_spelled : Spells False (plain (codes "false") ∷ [])
+false_spelled : Spells False (Ident false (codes "false") ∷ [])
 false_spelled = refl
 
 -- `r#true`
@@ -107,7 +107,7 @@ unfolding is_raw
 marked_is_no_literal p = true≢false (ap is_raw p)
 
 -- a literal is no value
-literal_is_no_value : Spells (Value (Alone (name (codes "true")))) (plain (codes "true") ∷ []) → ⊥
+literal_is_no_value : Spells (Value (Alone (name (codes "true")))) (Ident false (codes "true") ∷ []) → ⊥
 literal_is_no_value p = true≢false p.1.1
 
 -- one comma after the last member, and none after no members
@@ -133,7 +133,7 @@ comma_twice : IsAccepted Expressions (group (codes "all") (word_a ∷ Comma ∷ 
 comma_twice p = unwalked _ refl p
 
 -- `all(a b)`
-no_comma : IsAccepted Expressions (group (codes "all") (word_a ∷ plain (codes "b") ∷ [])) → ⊥
+no_comma : IsAccepted Expressions (group (codes "all") (word_a ∷ Ident false (codes "b") ∷ [])) → ⊥
 no_comma p = unwalked _ refl p
 
 -- `not()`
@@ -149,15 +149,15 @@ marked_group : IsAccepted Expressions (Ident true (codes "all") ∷ LeftParen �
 marked_group p = unwalked _ refl p
 
 -- `all = "x"`, which is a pair of the other grammar
-word_as_key : IsAccepted Expressions (plain (codes "all") ∷ Equals ∷ String (codes "x") ∷ []) → ⊥
+word_as_key : IsAccepted Expressions (Ident false (codes "all") ∷ Equals ∷ String (codes "x") ∷ []) → ⊥
 word_as_key p = unwalked _ refl p
 
 -- `true = "x"`, which is a pair of the other grammar
-literal_as_key : IsAccepted Expressions (plain (codes "true") ∷ Equals ∷ String (codes "x") ∷ []) → ⊥
+literal_as_key : IsAccepted Expressions (Ident false (codes "true") ∷ Equals ∷ String (codes "x") ∷ []) → ⊥
 literal_as_key p = unwalked _ refl p
 
 -- `all(a`
-open_group : IsAccepted Expressions (plain (codes "all") ∷ LeftParen ∷ word_a ∷ []) → ⊥
+open_group : IsAccepted Expressions (Ident false (codes "all") ∷ LeftParen ∷ word_a ∷ []) → ⊥
 open_group p = true≢false (sym (accepted_whole Expressions _ _ refl p))
 
 -- `a =`

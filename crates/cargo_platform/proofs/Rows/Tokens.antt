@@ -7,9 +7,9 @@ use Rattle.std.proofs.lemmas.Str.{length-encode, byte_from_char}
 use Rattle.std.proofs.lemmas.Bool.Decides.{nat_tests}
 use Rattle.std.specs.Str.{encode_utf8_all}
 use Rattle.cargo_platform.specs.declared.tokens.Token.TheVariants as token
-use Rattle.cargo_platform.specs.Chars.{is_identifier_start, is_identifier_rest, is_space, is_quote, is_number_sign}
-use Rattle.cargo_platform.specs.Chars.{is_mark, is_known_start, starts, BeginsWith}
-use Rattle.cargo_platform.specs.Tokens.{LeftParen, RightParen, Ident, Comma, Equals, String, plain, mark, written}
+use Rattle.cargo_platform.specs.Chars.{is_identifier_start, is_identifier_rest, is_space, is_quote}
+use Rattle.cargo_platform.specs.Chars.{is_known_start, starts, BeginsWith}
+use Rattle.cargo_platform.specs.Tokens.{LeftParen, RightParen, Ident, Comma, Equals, String, mark, written}
 use Rattle.cargo_platform.specs.Tokens.{IsIdentifierName, IsWellWritten, called, lexeme}
 
 -- ---- characters
@@ -31,14 +31,11 @@ spaces = refl
 quotes : map is_quote (codes "\"'`") ≡ true ∷ false ∷ false ∷ []
 quotes = refl
 
-number_signs : map is_number_sign (codes "#!") ≡ true ∷ false ∷ []
-number_signs = refl
-
-marks : map is_mark (codes "(),=[{;") ≡ true ∷ true ∷ true ∷ true ∷ false ∷ false ∷ false ∷ []
-marks = refl
-
-known_starts : map is_known_start (codes " (\"a_7#!") ≡ true ∷ true ∷ true ∷ true ∷ true ∷ false ∷ false ∷ false ∷ []
+known_starts : map is_known_start (codes " \"a_7#!") ≡ true ∷ true ∷ true ∷ true ∷ false ∷ false ∷ false ∷ []
 known_starts = refl
+
+known_marks : map is_known_start (codes "(),=[{;") ≡ true ∷ true ∷ true ∷ true ∷ false ∷ false ∷ false ∷ []
+known_marks = refl
 
 nothing_starts : IsFalse (starts is_space [])
 nothing_starts = refl
@@ -112,7 +109,7 @@ names_in_faults : (called LeftParen ≡ codes "`(`") × (called RightParen ≡ c
     × (called Equals ≡ codes "`=`")
 names_in_faults = (refl, refl, refl, refl)
 
-names_of_words : (called (plain (codes "all")) ≡ codes "an identifier")
+names_of_words : (called (Ident false (codes "all")) ≡ codes "an identifier")
     × (called (Ident true (codes "a")) ≡ codes "an identifier") × (called (String []) ≡ codes "a string")
 names_of_words = (refl, refl, refl)
 

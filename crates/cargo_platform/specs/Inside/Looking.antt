@@ -8,9 +8,9 @@ use Rattle.cargo_platform.specs.Chars.{is_quote}
 use Rattle.cargo_platform.specs.declared.source.Look.{Look}
 use Rattle.cargo_platform.specs.declared.tokens.TokenFaultKind.{TokenFaultKind}
 use Rattle.cargo_platform.specs.declared.source.Look.TheVariants.{End, Ascii, Wide}
-use Rattle.cargo_platform.specs.Cut.{BeginsFault}
+use Rattle.cargo_platform.specs.Cut.{BeginsFault, Lexical}
 use Rattle.cargo_platform.specs.Reading.{characters_from}
-use Rattle.cargo_platform.specs.Faults.{lexical_span}
+use Rattle.cargo_platform.specs.Faults.{span_of}
 
 -- the character c begins at the place
 pub record IsCharAt (text : List ℕ) (at c : ℕ) : Type 0 where
@@ -103,7 +103,7 @@ IsFound text (Some kind) = BeginsFault text kind
 abbrev pub IsSeenFault : List ℕ → ℕ → Option TokenFaultKind → ℕ → Type 0
 IsSeenFault text place None looks = Unit {0}
 IsSeenFault text place (Some kind) looks =
-    characters_from text 0 ≤ looks + characters_from text (lexical_span text place kind).end
+    characters_from text 0 ≤ looks + characters_from text (span_of text false (Lexical kind place)).end
 
 -- a fault was found at a place, from which on so many characters were looked at before: each other one up to the end of
 -- its span was looked at
@@ -112,7 +112,8 @@ pub record FindsFault (text : List ℕ) (at : ℕ) (kind : TokenFaultKind) (befo
   -- below the greatest count
   pub at_least :
       new < 2 ^ 64 - 1
-      → old + characters_from text at ≤ new + characters_from text (lexical_span text at kind).end + before
+      → old + characters_from text at
+      ≤ new + characters_from text (span_of text false (Lexical kind at)).end + before
 
 -- Where a reader stands: at no space, with what is there seen, in a text of so many bytes. Until a fault is found the
 -- characters before the place were looked at, and what is at the place too.

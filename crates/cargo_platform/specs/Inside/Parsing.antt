@@ -25,8 +25,7 @@ use Rattle.cargo_platform.specs.Inside.Ahead.{Ahead, NextIs, GoesPast, Path, Sta
 use Rattle.cargo_platform.specs.Cut as cut
 use Rattle.cargo_platform.specs.Trees.{Name, Alone, Tree, Value, tree_of}
 use Rattle.cargo_platform.specs.Spelling.{Grammar, role}
-use Rattle.cargo_platform.specs.Faults.{UnterminatedExpression, expected_token}
-use Rattle.cargo_platform.specs.Faults.{expected_end, lexical_span, looked_to}
+use Rattle.cargo_platform.specs.Faults.{UnterminatedExpression, expected_after, span_of, looked_to}
 use Rattle.cargo_platform.specs.Walk.{Opening, Negated, Listed, Position, Wanting, WithTree, start, at_role, step}
 use Rattle.cargo_platform.specs.Walk.{steps}
 use Rattle.cargo_platform.specs.Walk.{Word, Several, is_whole, state_of}
@@ -63,7 +62,8 @@ Takes old new (Some (Err kind)) = (new ≡ old) × NextIs old (cut.Lexical kind 
 abbrev pub SeesTaken : Standing → Option (Result Spanned TokenFaultKind) → Type 0
 SeesTaken new None = IsSeenTo new (length new.ahead.text)
 SeesTaken new (Some (Ok t)) = IsSeenTo new t.end
-SeesTaken new (Some (Err kind)) = IsSeenTo new (lexical_span new.ahead.text new.ahead.place kind).end
+SeesTaken new (Some (Err kind)) =
+    IsSeenTo new (span_of new.ahead.text false (cut.Lexical kind new.ahead.place)).end
 
 -- the token is an identifier
 abbrev pub IsIdentifier : Lexeme → Type 0
@@ -198,7 +198,8 @@ Stops g l p r = IfFault r (StopsAt g l p)
 abbrev pub RefusesNext : Ahead → List ℕ → List ℕ → Refusal → Type 0
 RefusesNext l expected at_end r =
     (next : Item) × NextIs l next
-    × ((g : Grammar) (last : Option Lexeme) → expected_token g last ≡ expected → expected_end g last ≡ at_end
+    × ((g : Grammar) (last : Option Lexeme) → expected_after g last false ≡ expected
+    → expected_after g last true ≡ at_end
     → IfFault r (λ fault. fault_at_of g l.text false last next ≡ Some fault))
 
 -- the next item is refused, after tokens that are accepted

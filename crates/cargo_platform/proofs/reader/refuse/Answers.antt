@@ -1,10 +1,10 @@
-use Rattle.std.proofs.Common.{◌≡◌, refl, sym, ap, ◌∙◌, ℕ, Some}
+use Rattle.std.proofs.Common.{◌≡◌, refl, sym, ap, ◌∙◌, ℕ, Some, false}
 use Rattle.std.specs.declared.ops.Range.{Range}
 use Rattle.cargo_platform.specs.declared.tokens.TokenFaultKind.{TokenFaultKind}
 use Rattle.cargo_platform.specs.declared.tokens.TokenFaultKind.TheVariants as lexical
 use Rattle.cargo_platform.specs.Cut.{Token, Lexical}
 use Rattle.cargo_platform.specs.Tokens.{placed}
-use Rattle.cargo_platform.specs.Faults.{UnexpectedToken, from_to, lexical_fault, lexical_span, looked_to}
+use Rattle.cargo_platform.specs.Faults.{UnexpectedToken, from_to, lexical_fault, span_of, looked_to}
 use Rattle.cargo_platform.specs.Inside.Ahead.{Ahead}
 use Rattle.cargo_platform.proofs.reader.refuse.Goals as goal
 
@@ -29,7 +29,7 @@ returns-in-Some-Err-clause-refused c =
       taken.1,
       λ g last _ _. λ i. Some (record {
         fault = lexical_fault k;
-        span = (sym (c.fault_span.ensures ∙ ap (λ (z : Ahead). lexical_span z.text z.place k) taken.0)) i;
+        span = (sym (c.fault_span.ensures ∙ ap (λ (z : Ahead). span_of z.text false (Lexical k z.place)) taken.0)) i;
       }),
     )
 
