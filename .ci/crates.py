@@ -1,6 +1,7 @@
 """Which crates of this repository stand on which, and copies of them."""
 import pathlib
 import shutil
+import sys
 
 ROOT = pathlib.Path(__file__).resolve().parent.parent
 
@@ -23,18 +24,26 @@ def with_those_below(names, below):
     return found
 
 
-def listed(names, below):
-    """The lines of a crates.txt that has these crates."""
-    return "".join(f"{name}: {' '.join(below[name])}\n" for name in names)
+def add_crates(folder, names, below, left_out=LEFT_OUT):
+    """Copies crates into a repository, and names them in its crates.txt, also one of which there is nothing to copy."""
+    for name in names:
+        if (ROOT / "crates" / name).is_dir():
+            ignored = shutil.ignore_patterns(*left_out)
+            shutil.copytree(ROOT / "crates" / name, folder / "crates" / name, ignore=ignored)
+    file = folder / "crates.txt"
+    told = file.read_text(encoding="utf-8") if file.exists() else ""
+    ended = "" if told.endswith("\n") or not told else "\n"
+    lines = "".join(f"{name}: {' '.join(below[name])}\n" for name in names)
+    file.write_text(told + ended + lines, encoding="utf-8")
 
 
 def lay_out(folder, names, below):
-    """Makes a repository of copies of these crates and those that they stand on. Its crates.txt names all of `names`,
-    also one of which there is nothing to copy yet."""
-    taken = with_those_below(names, below)
-    for name in taken:
-        if (ROOT / "crates" / name).is_dir():
-            ignored = shutil.ignore_patterns(*LEFT_OUT)
-            shutil.copytree(ROOT / "crates" / name, folder / "crates" / name, ignore=ignored)
-    (folder / "crates.txt").write_text(listed(taken, below), encoding="utf-8")
+    """Makes a repository of copies of these crates and those that they stand on, but for those that it has already."""
+    lacking = [it for it in with_those_below(names, below) if not (folder / "crates" / it).exists()]
+    add_crates(folder, lacking, below)
     shutil.copyfile(ROOT / "HANDLES", folder / "HANDLES")
+
+
+if __name__ == "__main__":
+    # For scripts of the shell: these crates and those that they stand on, a line each.
+    print("\n".join(with_those_below(sys.argv[1:], stands_on())))
