@@ -1,8 +1,8 @@
 -- Steps of the walk.
 use Rattle.std.proofs.Common.{◌≡◌, ◌∙◌, refl, sym, ap, ℕ, ◌+◌, Bool, true}
-use Rattle.std.proofs.Common.{false, ◌&&◌, ◌||◌, List, [], ◌∷◌, map, length}
+use Rattle.std.proofs.Common.{false, ◌&&◌, ◌||◌, List, [], ◌∷◌, length}
 use Rattle.std.proofs.Common.{Option, Some, None}
-use Rattle.std.proofs.Common.{Global, Box, box_value, rules, arith, ◌++◌, append_assoc}
+use Rattle.std.proofs.Common.{arith, ◌++◌, append_assoc}
 use Rattle.cargo_platform.specs.Trees.{CfgValue, Alone, KeyPair}
 use Rattle.partial_facts.specs.Partly.{names_of}
 use Rattle.known_targets.specs.Rows.{Values, Keys, with_fact, keys_of}
@@ -15,76 +15,17 @@ use Rattle.std.proofs.lemmas.Bool.{cases_eq}
 use Rattle.std.proofs.lemmas.List.{get_or-map, take_more, map-append}
 use Rattle.std.proofs.lemmas.Slice.Eq.{bytes_eq-Decides}
 use Rattle.known_targets.proofs.Bits.{eqb-false}
-use Rattle.cargo_platform.specs.declared.cfg.CfgExpr.{CfgExpr, the_lemmas}
-use Rattle.cargo_platform.specs.declared.cfg.CfgExpr.TheVariants as expr
-use Rattle.cargo_platform.specs.declared.cfg.Cfg.{Cfg}
-use Rattle.cargo_platform.specs.Trees.{All, Any, Trees, tree_of, trees_of, value_of}
-use Rattle.std.proofs.Common.{Vec}
-use Rattle.cargo_platform.specs.Facts.{Pair, pair_of}
+use Rattle.cargo_platform.specs.Trees.{Tree, All, Any, trees_of}
+use Rattle.cargo_platform.specs.Facts.{Pair}
+use Rattle.cargo_platform.specs.Walk.{list_tree}
 use Rattle.partial_facts.specs.Kleene.{kleene, kleene_not, kleene_and, kleene_or, kleene_all, kleene_any}
-use Rattle.cargo_platform.specs.ExpressionSizes.{node_count}
 use Rattle.known_targets.specs.Open.{taken_as}
-use Rattle.known_targets.specs.Groups.{both, taken, members_taken, with_members}
-use Rattle.partial_facts.specs.Inside.Groups.{grouped}
+use Rattle.known_targets.specs.Groups.{both, taken}
 
-not_taken : (u : Bool) (x : Option Bool) → not (taken_as (not u) x) ≡ taken_as u (kleene_not x)
+pub not_taken : (u : Bool) (x : Option Bool) → not (taken_as (not u) x) ≡ taken_as u (kleene_not x)
 not_taken u (Some b) = refl
 not_taken true None = refl
 not_taken false None = refl
-
--- a negation, in the program's form
-pub negated : (u : Bool) (told : Pair → Option Bool) (e inner : CfgExpr) (b : Box CfgExpr Global)
-    → inner ≡ box_value b → e ≡ expr.Not b
-    → not (taken (not u) told (tree_of inner)) ≡ taken u told (tree_of e)
-negated u told e inner b same is =
-    let view : kleene told (tree_of (expr.Not b)) ≡ kleene_not (kleene told (tree_of (box_value b))) = search
-    (rules, the_lemmas) in
-    ap (λ d. not (taken (not u) told (tree_of d))) same ∙ not_taken u (kleene told (tree_of (box_value b)))
-    ∙ sym (ap (taken_as u) view) ∙ sym (ap (λ d. taken u told (tree_of d)) is)
-
-pub one_less : (e inner : CfgExpr) (b : Box CfgExpr Global) → inner ≡ box_value b → e ≡ expr.Not b
-    → node_count e ≡ node_count inner + 1
-one_less e inner b same is =
-    let view : node_count (expr.Not b) ≡ node_count (box_value b) + 1 = search (rules, the_lemmas) in
-    ap node_count is ∙ view ∙ sym (ap (λ d. node_count d + 1) same)
-
--- the other kinds, in the program's form
-pub is_true : (u : Bool) (told : Pair → Option Bool) (e : CfgExpr) → e ≡ expr.True → true ≡ taken u told (tree_of e)
-is_true u told e is =
-    let view : kleene told (tree_of expr.True) ≡ Some true = search (rules, the_lemmas) in
-    sym (ap (λ d. taken u told (tree_of d)) is ∙ ap (taken_as u) view)
-
-pub is_false : (u : Bool) (told : Pair → Option Bool) (e : CfgExpr) → e ≡ expr.False
-    → false ≡ taken u told (tree_of e)
-is_false u told e is =
-    let view : kleene told (tree_of expr.False) ≡ Some false = search (rules, the_lemmas) in
-    sym (ap (λ d. taken u told (tree_of d)) is ∙ ap (taken_as u) view)
-
-pub is_value : (u : Bool) (told : Pair → Option Bool) (e : CfgExpr) (c : Cfg) → e ≡ expr.Value c
-    → taken_as u (told (pair_of (value_of c))) ≡ taken u told (tree_of e)
-is_value u told e c is =
-    let view : kleene told (tree_of (expr.Value c)) ≡ told (pair_of (value_of c)) = search (rules, the_lemmas) in
-    sym (ap (λ d. taken u told (tree_of d)) is ∙ ap (taken_as u) view)
-
-pub is_all : (u : Bool) (told : Pair → Option Bool) (e : CfgExpr) (ms : Vec CfgExpr Global) (xs : List CfgExpr)
-    → xs ≡ ms.items → e ≡ expr.All ms → taken u told (All (trees_of (map tree_of xs))) ≡ taken u told (tree_of e)
-is_all u told e ms xs same is =
-    let view : tree_of (expr.All ms) ≡ All (trees_of (map tree_of ms.items)) = search (rules, the_lemmas) in
-    ap (λ ys. taken u told (All (trees_of (map tree_of ys)))) same
-    ∙ sym (ap (λ d. taken u told (tree_of d)) is ∙ ap (taken u told) view)
-
-pub is_any : (u : Bool) (told : Pair → Option Bool) (e : CfgExpr) (ms : Vec CfgExpr Global) (xs : List CfgExpr)
-    → xs ≡ ms.items → e ≡ expr.Any ms → taken u told (Any (trees_of (map tree_of xs))) ≡ taken u told (tree_of e)
-is_any u told e ms xs same is =
-    let view : tree_of (expr.Any ms) ≡ Any (trees_of (map tree_of ms.items)) = search (rules, the_lemmas) in
-    ap (λ ys. taken u told (Any (trees_of (map tree_of ys)))) same
-    ∙ sym (ap (λ d. taken u told (tree_of d)) is ∙ ap (taken u told) view)
-
--- a group that is opened with its neutral truth
-pub opened : (n u : Bool) (told : Pair → Option Bool) (es : Trees)
-    → with_members n u told (both n n n) es ≡ taken u told (grouped n es)
-opened true u told es = refl
-opened false u told es = refl
 
 and_assoc : (a b c : Bool) → ((a && b) && c) ≡ (a && (b && c))
 and_assoc true b c = refl
@@ -120,26 +61,26 @@ taken_or false None (Some true) = refl
 taken_or true None None = refl
 taken_or false None None = refl
 
--- the next member, in the program's form
-pub gone_on : (n u : Bool) (told : Pair → Option Bool) (a : Bool) (ms rest : List CfgExpr) (m : CfgExpr)
-    → ms ≡ m ∷ rest
-    → with_members n u told (both n a (taken u told (tree_of m))) (trees_of (map tree_of rest))
-    ≡ with_members n u told a (trees_of (map tree_of ms))
-gone_on true u told a ms rest m is =
-    and_assoc a (taken u told (tree_of m)) (members_taken true u told (trees_of (map tree_of rest)))
-    ∙ ap (λ b. a && b) (taken_and u (kleene told (tree_of m)) (kleene_all told (trees_of (map tree_of rest))))
-    ∙ sym (ap (λ ds. a && members_taken true u told (trees_of (map tree_of ds))) is)
-gone_on false u told a ms rest m is =
-    or_assoc a (taken u told (tree_of m)) (members_taken false u told (trees_of (map tree_of rest)))
-    ∙ ap (λ b. a || b) (taken_or u (kleene told (tree_of m)) (kleene_any told (trees_of (map tree_of rest))))
-    ∙ sym (ap (λ ds. a || members_taken false u told (trees_of (map tree_of ds))) is)
+-- no member
+pub no_member : (n u : Bool) (told : Pair → Option Bool) → n ≡ taken u told (list_tree n [])
+no_member true u told = refl
+no_member false u told = refl
 
--- the end, in the program's form
-pub at_end : (n u : Bool) (told : Pair → Option Bool) (a : Bool) (ms : List CfgExpr) → length ms ≡ 0
-    → a ≡ with_members n u told a (trees_of (map tree_of ms))
-at_end true u told a [] h = sym (and_true a)
-at_end false u told a [] h = sym (or_false a)
-at_end n u told a (m ∷ ms) h = absurd (omega arith)
+-- one more member
+pub one_more : (n u : Bool) (told : Pair → Option Bool) (es : List Tree) (e : Tree)
+    → both n (taken u told (list_tree n es)) (taken u told e) ≡ taken u told (list_tree n (es ++ e ∷ []))
+one_more true u told [] e = sym (and_true (taken u told e)) ∙ taken_and u (kleene told e) (Some true)
+one_more false u told [] e = sym (or_false (taken u told e)) ∙ taken_or u (kleene told e) (Some false)
+one_more true u told (m ∷ es) e =
+    ap (λ b. b && taken u told e) (sym (taken_and u (kleene told m) (kleene_all told (trees_of es))))
+    ∙ and_assoc (taken u told m) (taken u told (All (trees_of es))) (taken u told e)
+    ∙ ap (λ b. taken u told m && b) (one_more true u told es e)
+    ∙ taken_and u (kleene told m) (kleene_all told (trees_of (es ++ e ∷ [])))
+one_more false u told (m ∷ es) e =
+    ap (λ b. b || taken u told e) (sym (taken_or u (kleene told m) (kleene_any told (trees_of es))))
+    ∙ or_assoc (taken u told m) (taken u told (Any (trees_of es))) (taken u told e)
+    ∙ ap (λ b. taken u told m || b) (one_more false u told es e)
+    ∙ taken_or u (kleene told m) (kleene_any told (trees_of (es ++ e ∷ [])))
 
 -- ---- names that are gone through
 

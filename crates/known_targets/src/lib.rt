@@ -10,7 +10,6 @@ mod known_facts;
 pub mod laws;
 mod listing;
 mod members;
-mod open_groups;
 mod open_target;
 mod rows;
 mod table;

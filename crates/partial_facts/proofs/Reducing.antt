@@ -1,18 +1,19 @@
 -- The steps by which what is left of a group is made, while its members are gone through.
-use Rattle.std.proofs.Common.{◌≡◌, ◌∙◌, refl, sym, ap, ℕ, ◌+◌, ◌<◌, Bool, true, false, Option, Some, None}
-use Rattle.std.proofs.Common.{List, [], ◌∷◌, ◌++◌, length, map, Vec, Global, vec_len, Box, box_value}
-use Rattle.std.proofs.Common.{rules, arith}
+use Rattle.std.proofs.Common.{◌≡◌, ◌∙◌, refl, sym, ap, subst, ℕ, ◌<◌, Bool, true, false, Option, Some, None}
+use Rattle.std.proofs.Common.{List, [], ◌∷◌, ◌++◌, append_assoc, append-nil, length, map, Vec, Global, vec_len}
+use Rattle.std.proofs.Common.{arith, true≢false}
+use Rattle.std.proofs.Math.Bool.{beq}
 use Rattle.std.proofs.lemmas.List.{length-map}
-use Rattle.cargo_platform.specs.declared.cfg.CfgExpr.{CfgExpr, the_lemmas}
-use Rattle.cargo_platform.specs.declared.cfg.CfgExpr.TheVariants as expr
+use Rattle.cargo_platform.specs.declared.cfg.CfgExpr.{CfgExpr}
 use Rattle.cargo_platform.specs.Trees.{Tree, Not, All, Any, Value, True, False, Trees, none, tree, tree_of, trees_of}
 use Rattle.cargo_platform.specs.Facts.{Pair}
-use Rattle.cargo_platform.specs.ExpressionSizes.{node_count}
+use Rattle.cargo_platform.specs.Walk.{list_tree}
 use Rattle.partial_facts.specs.Kleene.{kleene, kleene_not}
 use Rattle.partial_facts.specs.Residual.{literal, unless_known, with_unknown, group, unknown_part, unknown_members}
 use Rattle.partial_facts.specs.Residual.{residual_tree, literal_truth, negation}
 use Rattle.partial_facts.specs.Inside.Groups.{both, members_known, grouped}
-use Rattle.partial_facts.specs.Inside.Reducing.{left_so_far, in_front, left_by, left_behind, left_with}
+use Rattle.partial_facts.specs.Inside.Reducing.{left_so_far, in_front, left_by, left_behind, unless_settled, left_with}
+use Rattle.partial_facts.specs.Inside.Reducing.{IsLeftOf}
 use Rattle.partial_facts.proofs.Neutral.{known-tree, neutral_first, settled_second, twice_unknown}
 use Rattle.partial_facts.proofs.Leaving.{decided, part_literal}
 
@@ -81,7 +82,7 @@ negation_unless (Some true) d f = refl
 negation_unless (Some false) d f = refl
 negation_unless None d f = negation_open d (f refl)
 
-negation_residual : (told : Pair → Option Bool) (e : Tree)
+pub negation_residual : (told : Pair → Option Bool) (e : Tree)
     → negation (residual_tree told e) ≡ residual_tree told (Not e)
 negation_residual told e = negation_unless (kleene told e) (unknown_part told e) (part_literal told e)
 
@@ -101,33 +102,65 @@ closed n b e v count is h neutral view =
     view ∙ more_than_one (literal b) (grouped b) (map tree_of v.items) (omega arith)
     ∙ sym (ap (λ c. group (literal c) (grouped c) (trees_of (map tree_of v.items))) neutral)
 
--- a negation, in the program's form
-pub negated : (told : Pair → Option Bool) (e inner : CfgExpr) (b : Box CfgExpr Global) → inner ≡ box_value b
-    → e ≡ expr.Not b
-    → negation (residual_tree told (tree_of inner)) ≡ residual_tree told (tree_of e)
-negated told e inner b same is =
-    let view : tree_of (expr.Not b) ≡ Not (tree_of (box_value b)) = search (rules, the_lemmas) in
-    negation_residual told (tree_of inner)
-    ∙ ap (residual_tree told) (ap (λ d. Not (tree_of d)) same ∙ sym view ∙ sym (ap tree_of is))
+-- ---- a group, by the members that were gone through
 
-pub one_less : (e inner : CfgExpr) (b : Box CfgExpr Global) → inner ≡ box_value b → e ≡ expr.Not b
-    → node_count e ≡ node_count inner + 1
-one_less e inner b same is =
-    let view : node_count (expr.Not b) ≡ node_count (box_value b) + 1 = search (rules, the_lemmas) in
-    ap node_count is ∙ view ∙ sym (ap (λ d. node_count d + 1) same)
+-- no member yet
+pub none_left : (told : Pair → Option Bool) (n : Bool) → IsLeftOf told n [] []
+none_left told true others = refl
+none_left told false others = refl
 
--- the next member, in the program's form
-pub gone_on : (told : Pair → Option Bool) (n : Bool) (xs : List Tree) (ms rest : List CfgExpr) (m : CfgExpr)
-    → ms ≡ m ∷ rest
-    → left_with told n xs (literal_truth (residual_tree told (tree_of m))) (residual_tree told (tree_of m))
-    (trees_of (map tree_of rest))
-    ≡ left_behind told n xs (trees_of (map tree_of ms))
-gone_on told n xs ms rest m is =
-    stepped told n xs (tree_of m) (trees_of (map tree_of rest))
-    ∙ sym (ap (λ ds. left_behind told n xs (trees_of (map tree_of ds))) is)
+literal_is : (t : Tree) (b : Bool) → literal_truth t ≡ Some b → t ≡ literal b
+literal_is True true h = refl
+literal_is True false h = absurd cc
+literal_is False true h = absurd cc
+literal_is False false h = refl
+literal_is (Not e) b h = absurd cc
+literal_is (All es) b h = absurd cc
+literal_is (Any es) b h = absurd cc
+literal_is (Value c) b h = absurd cc
 
--- the end, in the program's form
-pub at_end : (told : Pair → Option Bool) (n : Bool) (xs : List Tree) (ms : List CfgExpr) → length ms ≡ 0
-    → group (literal n) (grouped n) (trees_of xs) ≡ left_behind told n xs (trees_of (map tree_of ms))
-at_end told n xs [] h = ended told n xs
-at_end told n xs (m ∷ ms) h = absurd (omega arith)
+passes : (n b : Bool) (t : Tree) → beq b n ≡ true → unless_settled n b t ≡ t
+passes true true t h = refl
+passes true false t h = absurd (true≢false (sym h))
+passes false true t h = absurd (true≢false (sym h))
+passes false false t h = refl
+
+settles : (n b : Bool) (t : Tree) → beq b n ≡ false → unless_settled n b t ≡ literal b
+settles true true t h = absurd (true≢false h)
+settles true false t h = refl
+settles false true t h = refl
+settles false false t h = absurd (true≢false h)
+
+module _ (told : Pair → Option Bool) (n : Bool) (es xs : List Tree) (e part : Tree) (so_far : IsLeftOf told n es xs)
+    (is : part ≡ residual_tree told e) where
+  -- with one more member, of which this is left
+  step : (b : Option Bool) → literal_truth part ≡ b → (others : List Tree)
+      → left_with told n xs b part (trees_of others) ≡ residual_tree told (list_tree n (es ++ e ∷ others))
+  step b truth others =
+      sym (ap (λ z. left_with told n xs z part (trees_of others)) truth)
+      ∙ subst (λ p. left_with told n xs (literal_truth p) p (trees_of others) ≡ left_behind told n xs
+      (tree e (trees_of others))) (sym is) (stepped told n xs e (trees_of others))
+      ∙ so_far (e ∷ others)
+
+  one_more : (others : List Tree) → residual_tree told (list_tree n (es ++ e ∷ others))
+      ≡ residual_tree told (list_tree n ((es ++ e ∷ []) ++ others))
+  one_more others = ap (λ z. residual_tree told (list_tree n z)) (sym (append_assoc es (e ∷ []) others))
+
+  pub left_more : literal_truth part ≡ None → IsLeftOf told n (es ++ e ∷ []) (xs ++ part ∷ [])
+  left_more truth others = step None truth others ∙ one_more others
+
+  pub left_over : (b : Bool) → literal_truth part ≡ Some b → beq b n ≡ true → IsLeftOf told n (es ++ e ∷ []) xs
+  left_over b truth same others =
+      sym (passes n b (left_behind told n xs (trees_of others)) same) ∙ step (Some b) truth others ∙ one_more others
+
+  pub left_settled : (b : Bool) → literal_truth part ≡ Some b → beq b n ≡ false → (others : List Tree)
+      → part ≡ residual_tree told (list_tree n (es ++ e ∷ others))
+  left_settled b truth differs others =
+      literal_is part b truth ∙ sym (settles n b (left_behind told n xs (trees_of others)) differs)
+      ∙ step (Some b) truth others
+
+-- all members
+pub left_whole : (told : Pair → Option Bool) (n : Bool) (es xs : List Tree) → IsLeftOf told n es xs
+    → group (literal n) (grouped n) (trees_of xs) ≡ residual_tree told (list_tree n es)
+left_whole told n es xs so_far =
+    ended told n xs ∙ so_far [] ∙ ap (λ z. residual_tree told (list_tree n z)) (append-nil es)

@@ -10,7 +10,6 @@ mod knowledge;
 pub mod laws;
 pub mod names;
 mod one_valued;
-mod open_groups;
 mod platforms;
 mod residuals;
 mod three_valued;

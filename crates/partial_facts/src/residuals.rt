@@ -1,21 +1,19 @@
 //! What is left of an expression to ask.
 
-ghost use Rattle.std.specs.Prelude.{◌≡◌, ◌≤◌, ◌+◌, ◌*◌, Bool, Option, map, IfOk, OnOk};
-ghost use Rattle.cargo_platform.specs.Trees.{Value, value_of, tree_of, trees_of};
-ghost use Rattle.cargo_platform.specs.Facts.{Pair, FactSet, truth};
+ghost use Rattle.std.specs.Prelude.{◌≡◌, ◌≤◌, ◌++◌, [], ◌∷◌, map, IfOk};
+ghost use Rattle.cargo_platform.specs.Trees.{tree_of, trees_of};
+ghost use Rattle.cargo_platform.specs.Facts.{FactSet, truth};
 ghost use Rattle.cargo_platform.specs.WellFormed.{IsWellFormed};
 ghost use Rattle.cargo_platform.specs.Warnings.{values};
 ghost use Rattle.cargo_platform.specs.Sizes.{size, depth};
-ghost use Rattle.cargo_platform.specs.ExpressionSizes.{node_count, node_counts};
 ghost use Rattle.partial_facts.specs.Kleene.{kleene};
 ghost use Rattle.partial_facts.specs.Residual.{literal, negation, group, residual_tree};
 ghost use Rattle.partial_facts.specs.Residual.{literal_truth, IsLiteralOrOpen, IsSubsequence};
 ghost use Rattle.partial_facts.specs.Inside.Groups.{grouped};
-ghost use Rattle.partial_facts.specs.Inside.Reducing.{whole, work, list_left};
 
 use crate::knowledge::Knowledge;
-use crate::open_groups::{OpenGroup, OpenGroups, OpenList};
 use cargo_platform::{Cfg, CfgExpr};
+use expression_folds::{Fold, fold_expression};
 use std::alloc::{AllocError, Global};
 
 /// What is left of the expression to ask: over each possible set of facts it is as true as `e`, and it holds no name or
@@ -35,111 +33,88 @@ pub fn residual<K: Knowledge>(alloc: Global, e: &CfgExpr, known: &K) -> Result<C
     ensures no_larger { IfOk result (λ r. size (tree_of r) ≤ size (tree_of e.now)) }
     ensures no_deeper { IfOk result (λ r. depth (tree_of r) ≤ depth (tree_of e.now)) }
 {
-    reduced(alloc, e, known)
+    fold_expression(alloc, e, &WhatIsLeft { alloc, known })
 }
 
-/// Goes through the members in a loop, with the groups around the part that was reduced last in a list.
-fn reduced<K: Knowledge>(alloc: Global, e: &CfgExpr, known: &K) -> Result<CfgExpr, AllocError>
-    ensures { IfOk result (λ r. tree_of r ≡ residual_tree (K.told known.now) (tree_of e.now)) }
-{
-    let mut groups = OpenGroups::new(alloc);
-    let mut part = begin(alloc, e, known, &mut groups)?;
-    'groups: loop {
-        part = match groups.pop() {
-            None => return Ok(part),
-            Some(OpenGroup::Not) => negated(alloc, part)?,
-            Some(OpenGroup::List(list)) => match list.add(part)? {
-                Ok(list) => go_on(alloc, list, known, &mut groups)?,
-                Err(truth) => literal(truth),
-            },
-        };
-    }
-}
-
-/// Opens the groups that an expression begins with, and answers what is left of the part inside them: of a name, a pair
-/// or a literal, or of an `all` or `any` so far, none of whose members is gone through yet.
-fn begin<'a, K: Knowledge>(
+/// What is left of an expression, part by part.
+#[derive(Drop)]
+struct WhatIsLeft<'a, K> {
     alloc: Global,
-    e: &'a CfgExpr,
-    known: &K,
-    groups: &mut OpenGroups<'a>,
-) -> Result<CfgExpr, AllocError>
-    ensures whole { IfOk result (λ part. whole (K.told known.now) groups.new (tree_of part)
-        ≡ whole (K.told known.now) groups.old (residual_tree (K.told known.now) (tree_of e.now))) }
-    ensures work { OnOk result (work groups.new + 1 ≤ work groups.old + 2 * node_count e.now) }
-{
-    let mut e = e;
-    'negations: loop {
-        match e {
-            CfgExpr::Not(inner) => {
-                groups.push(OpenGroup::Not)?;
-                e = inner;
+    known: &'a K,
+}
+
+impl<'a, K: Knowledge> Fold for WhatIsLeft<'a, K> {
+    ghost use Rattle.partial_facts.specs.Inside.Reducing.{IsLeftOf};
+
+    type Part = CfgExpr;
+
+    /// What is left of the members, where that is no literal.
+    type Members = Vec<CfgExpr>;
+
+    ghost makes = { λ r e part. tree_of part ≡ residual_tree (K.told r.known.now) e };
+
+    ghost gathers = { λ r neutral es left. IsLeftOf (K.told r.known.now) neutral es (map tree_of left.items) };
+
+    fn value(&self, c: &Cfg) -> Result<CfgExpr, AllocError> {
+        match self.known.tells(c) {
+            Some(truth) => Ok(literal(truth)),
+            None => Ok(CfgExpr::Value(c.clone(self.alloc)?)),
+        }
+    }
+
+    fn literal(&self, truth: bool) -> CfgExpr {
+        literal(truth)
+    }
+
+    fn negation(&self, part: CfgExpr) -> Result<CfgExpr, AllocError> {
+        negated(self.alloc, part)
+    }
+
+    fn no_members(&self, _neutral: bool) -> Vec<CfgExpr> {
+        Vec::new(self.alloc)
+    }
+
+    /// A literal is passed over, or it settles the group.
+    fn add(
+        &self,
+        neutral: bool,
+        so_far: Vec<CfgExpr>,
+        part: CfgExpr,
+    ) -> Result<Result<Vec<CfgExpr>, CfgExpr>, AllocError> {
+        match literal_truth(&part) {
+            None => Ok(Ok(with_member(so_far, part)?)),
+            Some(truth) => {
+                if truth == neutral {
+                    Ok(Ok(so_far))
+                } else {
+                    Ok(Err(part))
+                }
             }
-            CfgExpr::All(members) => return open(alloc, true, members, groups),
-            CfgExpr::Any(members) => return open(alloc, false, members, groups),
-            CfgExpr::Value(c) => return unless_known(alloc, c, known),
-            CfgExpr::True => return Ok(CfgExpr::True),
-            CfgExpr::False => return Ok(CfgExpr::False),
         }
     }
-}
 
-/// Opens an `all` or `any`, and answers what is left of it so far: the literal of its neutral truth.
-fn open<'a>(
-    alloc: Global,
-    neutral: bool,
-    members: &'a [CfgExpr],
-    groups: &mut OpenGroups<'a>,
-) -> Result<CfgExpr, AllocError>
-    ensures whole { IfOk result (λ part. (told : Pair → Option Bool) → whole told groups.new (tree_of part)
-        ≡ whole told groups.old (residual_tree told (grouped neutral (trees_of (map tree_of members.now))))) }
-    ensures work { OnOk result (work groups.new ≡ work groups.old + 2 * node_counts members.now + 1) }
-{
-    groups.push(OpenGroup::List(OpenList {
-        neutral,
-        left: Vec::new(alloc),
-        members,
-    }))?;
-    Ok(literal(neutral))
-}
-
-/// Goes on with the next member of a group, or closes it.
-fn go_on<'a, K: Knowledge>(
-    alloc: Global,
-    list: OpenList<'a>,
-    known: &K,
-    groups: &mut OpenGroups<'a>,
-) -> Result<CfgExpr, AllocError>
-    ensures whole { IfOk result (λ part. whole (K.told known.now) groups.new (tree_of part)
-        ≡ whole (K.told known.now) groups.old (list_left (K.told known.now) list.entry)) }
-    ensures work { OnOk result (work groups.new ≤ work groups.old + 2 * node_counts list.entry.members.now) }
-{
-    let OpenList {
-        neutral,
-        left,
-        members,
-    } = list;
-    match members.split_first() {
-        Some((next, members)) => {
-            groups.push(OpenGroup::List(OpenList {
-                neutral,
-                left,
-                members,
-            }))?;
-            begin(alloc, next, known, groups)
-        }
-        None => Ok(group_of(neutral, left)),
+    fn group(&self, neutral: bool, members: Vec<CfgExpr>) -> CfgExpr {
+        group_of(neutral, members)
     }
 }
 
-/// The literal of a name or pair that is known, and else a copy.
-fn unless_known<K: Knowledge>(alloc: Global, c: &Cfg, known: &K) -> Result<CfgExpr, AllocError>
-    ensures { IfOk result (λ r. tree_of r ≡ residual_tree (K.told known.now) (Value (value_of c.now))) }
+/// The truth of a literal.
+fn literal_truth(e: &CfgExpr) -> Option<bool>
+    ensures { result ≡ literal_truth (tree_of e.now) }
 {
-    match known.tells(c) {
-        Some(truth) => Ok(literal(truth)),
-        None => Ok(CfgExpr::Value(c.clone(alloc)?)),
+    match e {
+        CfgExpr::True => Some(true),
+        CfgExpr::False => Some(false),
+        _ => None,
     }
+}
+
+/// Members with one more after them. Where memory is refused, all of them are dropped.
+fn with_member(mut members: Vec<CfgExpr>, member: CfgExpr) -> Result<Vec<CfgExpr>, AllocError>
+    ensures { IfOk result (λ more. map tree_of more.items ≡ map tree_of members.items ++ tree_of member ∷ []) }
+{
+    members.push(member)?;
+    Ok(members)
 }
 
 /// The literal of a truth.

@@ -1,0 +1,167 @@
+//! What a fold makes of each form, and the loop that goes over an expression.
+
+ghost use Rattle.std.specs.Prelude.{◌≡◌, ◌≤◌, ◌+◌, ◌*◌, [], ◌∷◌, ◌++◌, Bool, List, map, IfOk, MatchResult};
+ghost use Rattle.std.specs.Bool.{MatchBool};
+ghost use Rattle.cargo_platform.specs.Trees.{Tree, Not, Value, True, False, value_of, tree_of};
+ghost use Rattle.cargo_platform.specs.ExpressionSizes.{node_count, node_counts};
+ghost use Rattle.cargo_platform.specs.Walk.{list_tree};
+ghost use Rattle.expression_folds.specs.Folding.{stack, Within, Stands, work, left_in, left_of};
+
+use crate::open_groups::{OpenGroup, OpenGroups, OpenList};
+use cargo_platform::{Cfg, CfgExpr};
+use std::alloc::{AllocError, Global};
+
+/// What is made of an expression, by what is made of the parts inside it.
+pub trait Fold {
+    /// What is made of an expression.
+    type Part: Drop;
+
+    /// What is made of the first members of an `all` or `any`.
+    type Members: Drop;
+
+    // The part is rightly made of the tree.
+    ghost makes: { Self → Tree → Self.Part → Type 0 };
+
+    // It is rightly made of the first members of a group with this neutral truth.
+    ghost gathers: { Self → Bool → List Tree → Self.Members → Type 0 };
+
+    /// What is made of a name or a pair.
+    fn value(&self, c: &Cfg) -> Result<Self::Part, AllocError>
+        ensures { IfOk result (λ part. makes self.now (Value (value_of c.now)) part) };
+
+    /// What is made of a literal.
+    fn literal(&self, truth: bool) -> Self::Part
+        ensures { MatchBool truth (makes self.now True result) (makes self.now False result) };
+
+    /// What is made of a negation, by what was made of the expression inside.
+    fn negation(&self, part: Self::Part) -> Result<Self::Part, AllocError>
+        ensures { IfOk result (λ whole. (e : Tree) → makes self.now e part → makes self.now (Not e) whole) };
+
+    /// What is made of no members. `neutral` is the truth after which the group goes on: `all` goes on after members
+    /// that are true, and `any` after false ones.
+    fn no_members(&self, neutral: bool) -> Self::Members
+        ensures { gathers self.now neutral [] result };
+
+    /// What is made of some members and one more; or what is made of the whole group, where no further member matters.
+    fn add(
+        &self,
+        neutral: bool,
+        so_far: Self::Members,
+        part: Self::Part,
+    ) -> Result<Result<Self::Members, Self::Part>, AllocError>
+        ensures { IfOk result (λ r. (es : List Tree) (e : Tree) → gathers self.now neutral es so_far
+            → makes self.now e part → MatchResult r
+            (λ more. gathers self.now neutral (es ++ e ∷ []) more)
+            (λ whole. (others : List Tree) → makes self.now (list_tree neutral (es ++ e ∷ others)) whole)) };
+
+    /// What is made of a group, by what was made of its members.
+    fn group(&self, neutral: bool, members: Self::Members) -> Self::Part
+        ensures { (es : List Tree) → gathers self.now neutral es members
+            → makes self.now (list_tree neutral es) result };
+}
+
+/// What is next: an expression that is to be gone over, or what was made of one.
+#[derive(Drop)]
+pub enum Next<'a, P> {
+    Expression(&'a CfgExpr),
+    Part(P),
+}
+
+/// What the fold makes of the expression, in one walk over it, without recursion. It refuses where the fold does, and
+/// where memory for the groups around a part is refused.
+pub fn fold_expression<F: Fold>(alloc: Global, e: &CfgExpr, f: &F) -> Result<F::Part, AllocError>
+    ensures { IfOk result (λ part. F.makes f.now (tree_of e.now) part) }
+{
+    let mut groups = OpenGroups::new(alloc);
+    let mut next = Next::Expression(e);
+    'steps: loop {
+        next = match next {
+            Next::Expression(e) => enter(e, f, &mut groups)?,
+            Next::Part(part) => match groups.pop() {
+                None => return Ok(part),
+                Some(group) => close(group, part, f, &mut groups)?,
+            },
+        };
+    }
+}
+
+/// Opens the expression, or makes what is made of one without parts.
+fn enter<'a, F: Fold>(
+    e: &'a CfgExpr,
+    f: &F,
+    groups: &mut OpenGroups<'a, F::Members>,
+) -> Result<Next<'a, F::Part>, AllocError>
+    ensures stands { IfOk result (λ next. (whole : Tree)
+        → Within (F.gathers f.now) (stack groups.old) (tree_of e.now) whole
+        → Stands (F.makes f.now) (F.gathers f.now) (stack groups.new) next whole) }
+    ensures less { IfOk result (λ next.
+        work (stack groups.new) + left_of next + 1 ≤ work (stack groups.old) + 2 * node_count e.now) }
+{
+    match e {
+        CfgExpr::Not(inner) => {
+            groups.push(OpenGroup::Not)?;
+            Ok(Next::Expression(inner))
+        }
+        CfgExpr::All(members) => go_on(true, f.no_members(true), members, f, groups),
+        CfgExpr::Any(members) => go_on(false, f.no_members(false), members, f, groups),
+        CfgExpr::Value(c) => Ok(Next::Part(f.value(c)?)),
+        CfgExpr::True => Ok(Next::Part(f.literal(true))),
+        CfgExpr::False => Ok(Next::Part(f.literal(false))),
+    }
+}
+
+/// Adds what was made of a part to the group around it.
+fn close<'a, F: Fold>(
+    group: OpenGroup<'a, F::Members>,
+    part: F::Part,
+    f: &F,
+    groups: &mut OpenGroups<'a, F::Members>,
+) -> Result<Next<'a, F::Part>, AllocError>
+    ensures stands { IfOk result (λ next. (e whole : Tree) → F.makes f.now e part
+        → Within (F.gathers f.now) (group.entry ∷ stack groups.old) e whole
+        → Stands (F.makes f.now) (F.gathers f.now) (stack groups.new) next whole) }
+    ensures less { IfOk result (λ next.
+        work (stack groups.new) + left_of next ≤ work (stack groups.old) + left_in group.entry) }
+{
+    match group {
+        OpenGroup::Not => Ok(Next::Part(f.negation(part)?)),
+        OpenGroup::List(list) => {
+            let OpenList {
+                neutral,
+                so_far,
+                members,
+            } = list;
+            match f.add(neutral, so_far, part)? {
+                Ok(so_far) => go_on(neutral, so_far, members, f, groups),
+                Err(whole) => Ok(Next::Part(whole)),
+            }
+        }
+    }
+}
+
+/// Goes on with the next member of a group, or closes it.
+fn go_on<'a, F: Fold>(
+    neutral: bool,
+    so_far: F::Members,
+    members: &'a [CfgExpr],
+    f: &F,
+    groups: &mut OpenGroups<'a, F::Members>,
+) -> Result<Next<'a, F::Part>, AllocError>
+    ensures stands { IfOk result (λ next. (es : List Tree) (whole : Tree) → F.gathers f.now neutral es so_far
+        → Within (F.gathers f.now) (stack groups.old) (list_tree neutral (es ++ map tree_of members.now)) whole
+        → Stands (F.makes f.now) (F.gathers f.now) (stack groups.new) next whole) }
+    ensures less { IfOk result (λ next. work (stack groups.new) + left_of next
+        ≤ work (stack groups.old) + 2 * node_counts members.now + 1) }
+{
+    match members.split_first() {
+        Some((first, members)) => {
+            groups.push(OpenGroup::List(OpenList {
+                neutral,
+                so_far,
+                members,
+            }))?;
+            Ok(Next::Expression(first))
+        }
+        None => Ok(Next::Part(f.group(neutral, so_far))),
+    }
+}
