@@ -5,16 +5,15 @@
 //! with no escapes. Where such conditions stand: "Platform specific dependencies" in Cargo's reference, and
 //! "Conditional compilation" in the Rust reference.
 
-ghost use Rattle.std.specs.Prelude.{◌≡◌, ◌≢◌, ◌+◌, ◌*◌, ◌≤◌, length, drop, slice_index, IfOk, IfErr, OnErr, OnOk};
+ghost use Rattle.std.specs.Prelude.{◌≡◌, ◌≢◌, ◌+◌, ◌*◌, ◌≤◌, length, drop, slice_index, IfOk, IfErr, OnOk};
 ghost use Rattle.std.specs.Prelude.{MatchOption, true, false};
 ghost use Rattle.std.specs.Str.{IsCharBoundary};
 ghost use Rattle.cargo_platform.specs.Chars.{is_identifier_start};
 ghost use Rattle.cargo_platform.specs.Tokens.{lexeme, called};
-ghost use Rattle.cargo_platform.specs.Cut.{AreSpaces, BeginsFault};
+ghost use Rattle.cargo_platform.specs.Cut.{AreSpaces};
 ghost use Rattle.cargo_platform.specs.Reading.{IsRestFrom, characters_from};
 ghost use Rattle.cargo_platform.specs.Inside.Looking.{IsCharAt, Shows, Costs, ShowedBefore, unseen};
-ghost use Rattle.cargo_platform.specs.Inside.Looking.{FindsFault};
-ghost use Rattle.cargo_platform.specs.Inside.Scanning.{IsTokenAt, IsCutAt};
+ghost use Rattle.cargo_platform.specs.Inside.Scanning.{IsTokenAt, IsCutAt, BeginsNone};
 
 use crate::classes::begins_identifier;
 pub use crate::source::Looks;
@@ -215,13 +214,10 @@ pub(crate) fn token_at<'a>(
     requires past { first ≢ 0x20 }
     ensures same { source.new.text ≡ source.old.text }
     ensures token { IfOk result (λ cut. IsCutAt source.old.text.now start cut) }
-    ensures fault { IfErr result (λ kind. BeginsFault (drop start source.old.text.now) kind) }
+    ensures fault { IfErr result
+        (λ kind. BeginsNone source.old.text.now start 1 0 kind source.old.looks source.new.looks) }
     ensures cost { IfOk result (λ cut.
         Costs source.old.text.now (start + 1) cut.end 9 1 source.old.looks source.new.looks) }
-    ensures cost_of_fault { OnErr result
-        (source.new.looks ≤ source.old.looks + 9 * characters_from source.old.text.now start) }
-    ensures finds { IfErr result
-        (λ kind. FindsFault source.old.text.now start kind 1 source.old.looks source.new.looks) }
     ensures one { OnOk result
         (characters_from source.old.text.now start ≡ characters_from source.old.text.now (start + 1) + 1) }
 {
@@ -267,13 +263,10 @@ fn string_at<'a>(source: &mut Source<'a>, start: usize) -> Result<Cut<'a>, Token
     requires there { IsCharAt source.old.text.now start 0x22 }
     ensures same { source.new.text ≡ source.old.text }
     ensures token { IfOk result (λ cut. IsCutAt source.old.text.now start cut) }
-    ensures fault { IfErr result (λ kind. BeginsFault (drop start source.old.text.now) kind) }
+    ensures fault { IfErr result
+        (λ kind. BeginsNone source.old.text.now start 1 0 kind source.old.looks source.new.looks) }
     ensures cost { IfOk result (λ cut.
         Costs source.old.text.now (start + 1) cut.end 9 1 source.old.looks source.new.looks) }
-    ensures cost_of_fault { OnErr result
-        (source.new.looks ≤ source.old.looks + 9 * characters_from source.old.text.now start) }
-    ensures finds { IfErr result
-        (λ kind. FindsFault source.old.text.now start kind 1 source.old.looks source.new.looks) }
 {
     match source.value(start + 1) {
         Some((value, quote)) => {
@@ -316,13 +309,10 @@ fn marked_at<'a>(source: &mut Source<'a>, start: usize) -> Result<Cut<'a>, Token
     requires number_sign { IsCharAt source.old.text.now (start + 1) 0x23 }
     ensures same { source.new.text ≡ source.old.text }
     ensures token { IfOk result (λ cut. IsCutAt source.old.text.now start cut) }
-    ensures fault { IfErr result (λ kind. BeginsFault (drop start source.old.text.now) kind) }
+    ensures fault { IfErr result
+        (λ kind. BeginsNone source.old.text.now start 2 1 kind source.old.looks source.new.looks) }
     ensures cost { IfOk result (λ cut.
         Costs source.old.text.now (start + 2) cut.end 10 1 source.old.looks source.new.looks) }
-    ensures cost_of_fault { OnErr result
-        (source.new.looks + 1 ≤ source.old.looks + 9 * characters_from source.old.text.now start) }
-    ensures finds { IfErr result
-        (λ kind. FindsFault source.old.text.now start kind 2 source.old.looks source.new.looks) }
 {
     let third = source.look(start + 2);
     match third {

@@ -17,4 +17,12 @@ returns-in-Some-clause-token c =
 
 pub returns-in-None-clause-fault : goal.returns-in-None-clause-fault
 returns-in-None-clause-fault c =
-    unterminated c.args.source.now.text.now c.args.start c.requires.there c.in-None.ensures.none
+    let ends = c.in-None.ensures in
+    record {
+      fault = unterminated c.args.source.now.text.now c.args.start c.requires.there ends.none;
+      cost = omega (arith, ends.cost_to_end.at_most, c.requires.there.fewer);
+      finds = record {
+        grows = ends.cost_to_end.grows;
+        at_least = λ small. omega (arith, ends.cost_to_end.at_least small, c.requires.there.fewer);
+      };
+    }

@@ -40,5 +40,5 @@ returns-in-Err-clause-taken c =
     let i = c.self.invariant in (
       rw (← ap (λ (z : Standing). z.ahead) c.self.view_is) (ap (λ z. ahead_at z.now r.place) c.in-Err.ensures.same),
       rw (← ap (λ (z : Standing). z.ahead) c.self.view_is)
-          (fault_ahead r.source.text.now r.place c.in-Err.kind i.reached.0 c.in-Err.ensures.fault),
+          (fault_ahead r.source.text.now r.place c.in-Err.kind i.reached.0 c.in-Err.ensures.fault.fault),
     )
