@@ -110,22 +110,16 @@ impl<'a> Fields<'a> {
             let Some(word) = self.item() else {
                 break;
             };
-            match word.strip_prefix('@').and_then(|name| self.set(name)) {
-                Some(mut of_name) => of_name.add_words(&mut words)?,
-                None => words.push(word).map_err(AllocError::from)?,
+            let set = word.strip_prefix('@').and_then(|name| self.set(name));
+            let mut meant = set.unwrap_or(Fields::new(word, self.settings));
+            for _ in 0..=meant.left.len() {
+                let Some(word) = meant.item() else {
+                    break;
+                };
+                words.push(word).map_err(AllocError::from)?;
             }
         }
         Ok(words)
-    }
-
-    fn add_words(&mut self, words: &mut Vec<&'a str>) -> Result<(), Fault> {
-        for _ in 0..=self.left.len() {
-            let Some(word) = self.item() else {
-                break;
-            };
-            words.push(word).map_err(AllocError::from)?;
-        }
-        Ok(())
     }
 
     /// What the row states, after `=>`, if it states anything.

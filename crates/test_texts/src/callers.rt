@@ -33,7 +33,10 @@ pub fn answer(alloc: Global, call: &str, fields: &mut Fields<'_>) -> Result<Stri
         "selects" => {
             let target = fields.text(alloc)?;
             let facts = facts::values(alloc, fields)?;
-            selected(alloc, is_selected(alloc, &text, &target, &facts))
+            match unless_refused(is_selected(alloc, &text, &target, &facts))? {
+                Some(holds) => Ok(yes(alloc, holds)?),
+                None => Ok(word(alloc, "refused")?),
+            }
         }
         "holds" => {
             let e = spelled(alloc, &text)?;
@@ -41,10 +44,9 @@ pub fn answer(alloc: Global, call: &str, fields: &mut Fields<'_>) -> Result<Stri
         }
         "plan" => planned(alloc, &text, fields),
         "lint" => Ok(barred(alloc, &lint(alloc, "Cargo.toml", &text)?)?),
-        "canonical" => match canonical(alloc, &text) {
-            Ok(text) => Ok(barred(alloc, &text)?),
-            Err(ReadError::Parse(_)) => Ok(word(alloc, "refused")?),
-            Err(ReadError::Memory(_)) => Err(Fault::Memory),
+        "canonical" => match unless_refused(canonical(alloc, &text))? {
+            Some(text) => Ok(barred(alloc, &text)?),
+            None => Ok(word(alloc, "refused")?),
         },
         "one" => one(alloc, &text, &fields.text(alloc)?),
         "key" => key(alloc, &text),
@@ -63,10 +65,11 @@ pub fn answer(alloc: Global, call: &str, fields: &mut Fields<'_>) -> Result<Stri
     }
 }
 
-fn selected(alloc: Global, answer: Result<bool, ReadError>) -> Result<String, Fault> {
+/// What is answered, or nothing where the text is refused.
+fn unless_refused<T: Drop>(answer: Result<T, ReadError>) -> Result<Option<T>, Fault> {
     match answer {
-        Ok(holds) => Ok(yes(alloc, holds)?),
-        Err(ReadError::Parse(_)) => Ok(word(alloc, "refused")?),
+        Ok(answer) => Ok(Some(answer)),
+        Err(ReadError::Parse(_)) => Ok(None),
         Err(ReadError::Memory(_)) => Err(Fault::Memory),
     }
 }
