@@ -1,9 +1,11 @@
 -- What stands at the fields of an object.
-use Rattle.std.specs.Prelude.{◌≡◌, ℕ, Bool, true, false, ◌||◌, ◌==◌, List, [], ◌∷◌, Option, Some, None, codes}
+use Rattle.std.specs.Prelude.{◌≡◌, ℕ, Bool, false, cond, ◌==◌, List, [], ◌∷◌, Option, Some, None, codes}
 use Rattle.std.specs.Prelude.{bytes_eq}
 use Rattle.std.specs.Prelude.{option_map, option_and_then, is_some}
 use Rattle.serde_json.specs.Data.{Data, null, boolean, number, string, array, object, Items, no_items, item}
 use Rattle.serde_json.specs.Find.{get, as_str, as_array, as_object, as_number, as_u64}
+use Rattle.cargo_metadata.specs.declared.nodes.Kind.{Kind}
+use Rattle.cargo_metadata.specs.declared.nodes.Kind.TheVariants.{Normal, Build, Dev}
 use Rattle.cargo_metadata.specs.declared.refusals.Wanted.{Wanted}
 use Rattle.cargo_metadata.specs.declared.refusals.Wanted.TheVariants as wanted
 use Rattle.cargo_metadata.specs.declared.refusals.Wrong.{Wrong}
@@ -21,24 +23,28 @@ elements (item d ds) = d ∷ elements ds
 abbrev pub list_at : List ℕ → Data → Option (List Data)
 list_at field d = option_map elements (option_and_then as_array (get field d))
 
--- null, or nothing, or a text
-abbrev pub is_condition : Option Data → Bool
-is_condition None = true
-is_condition (Some null) = true
-is_condition (Some (boolean b)) = false
-is_condition (Some (number n)) = false
-is_condition (Some (string s)) = true
-is_condition (Some (array ds)) = false
-is_condition (Some (object ms)) = false
+abbrev pub kind_named : List ℕ → Option Kind
+kind_named s = cond (bytes_eq s (codes "build")) (Some Build) (cond (bytes_eq s (codes "dev")) (Some Dev) None)
 
-abbrev pub is_kind : Option Data → Bool
-is_kind None = true
-is_kind (Some null) = true
-is_kind (Some (boolean b)) = false
-is_kind (Some (number n)) = false
-is_kind (Some (string s)) = bytes_eq s (codes "build") || bytes_eq s (codes "dev")
-is_kind (Some (array ds)) = false
-is_kind (Some (object ms)) = false
+-- nothing or null is the normal kind
+abbrev pub kind_in : Option Data → Option Kind
+kind_in None = Some Normal
+kind_in (Some null) = Some Normal
+kind_in (Some (boolean b)) = None
+kind_in (Some (number n)) = None
+kind_in (Some (string s)) = kind_named s
+kind_in (Some (array ds)) = None
+kind_in (Some (object ms)) = None
+
+-- nothing or null is no condition
+abbrev pub condition_in : Option Data → Option (Option (List ℕ))
+condition_in None = Some None
+condition_in (Some null) = Some None
+condition_in (Some (boolean b)) = None
+condition_in (Some (number n)) = None
+condition_in (Some (string s)) = Some (Some s)
+condition_in (Some (array ds)) = None
+condition_in (Some (object ms)) = None
 
 abbrev pub is_one : Option ℕ → Bool
 is_one None = false
@@ -50,8 +56,8 @@ fits wanted.Text found = is_some (option_and_then as_str found)
 fits wanted.List found = is_some (option_and_then as_array found)
 fits wanted.One found = is_one (option_and_then as_u64 (option_and_then as_number found))
 fits wanted.Resolve found = is_some (option_and_then as_object found)
-fits wanted.Kind found = is_kind found
-fits wanted.Condition found = is_condition found
+fits wanted.Kind found = is_some (kind_in found)
+fits wanted.Condition found = is_some (condition_in found)
 
 abbrev pub IsWrong : Data → Wrong → Type 0
 IsWrong d wrong = fits wrong.wanted (get wrong.field.now d) ≡ false
