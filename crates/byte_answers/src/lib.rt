@@ -8,20 +8,20 @@ mod depth;
 mod fact_lines;
 mod flat;
 mod keys;
+mod known;
 mod matching;
 mod outcome;
 mod reading;
 mod relations;
-mod known;
 mod trees;
 mod unflat;
 
 pub use depth::{MOST_FLAT_BYTES, MOST_OPEN};
 pub use keys::{canonical, fault, read_key};
+pub use known::{facts, target_name, targets};
 pub use matching::matches;
 pub use outcome::{
     DONE, NO_MEMORY, NOT_FLAT, NOT_UTF8, Outcome, REFUSED, TOO_DEEP, UNDECIDED, UNKNOWN_TARGET,
 };
 pub use relations::{Relation, can_hold, relates};
-pub use known::{facts, target_name, targets};
 pub use trees::{flat_matches, flat_print};

@@ -43,8 +43,15 @@ pub struct Outcome {
 impl Outcome {
     /// A call that ends with no answer, because of this text.
     pub(crate) fn ended(code: u32, argument: u32) -> Outcome
-        ensures { result ≡ record { code = code; argument = argument; holds = false; is_named = false;
-            needed = 0; start = 0; end = 0 } }
+        ensures { result ≡ record {
+          code = code;
+          argument = argument;
+          holds = false;
+          is_named = false;
+          needed = 0;
+          start = 0;
+          end = 0;
+        } }
     {
         Outcome {
             code,
@@ -59,8 +66,15 @@ impl Outcome {
 
     /// An answer of so many bytes.
     pub(crate) fn done(needed: usize) -> Outcome
-        ensures { result ≡ record { code = DONE; argument = 0; holds = false; is_named = false;
-            needed = needed; start = 0; end = 0 } }
+        ensures { result ≡ record {
+          code = DONE;
+          argument = 0;
+          holds = false;
+          is_named = false;
+          needed = needed;
+          start = 0;
+          end = 0;
+        } }
     {
         Outcome {
             code: DONE,
@@ -75,8 +89,15 @@ impl Outcome {
 
     /// A yes or a no.
     pub(crate) fn answered(holds: bool) -> Outcome
-        ensures { result ≡ record { code = DONE; argument = 0; holds = holds; is_named = false;
-            needed = 0; start = 0; end = 0 } }
+        ensures { result ≡ record {
+          code = DONE;
+          argument = 0;
+          holds = holds;
+          is_named = false;
+          needed = 0;
+          start = 0;
+          end = 0;
+        } }
     {
         Outcome {
             code: DONE,

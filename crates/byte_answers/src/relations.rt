@@ -14,9 +14,7 @@ ghost use Rattle.byte_answers.specs.Outcomes.{ends_comparison};
 ghost use Rattle.byte_answers.specs.Refusals.{IsRefusal};
 
 use crate::fact_lines::push_fact_lines;
-use crate::outcome::{
-    DONE, NO_MEMORY, NOT_UTF8, Outcome, REFUSED, TOO_DEEP, UNDECIDED, write,
-};
+use crate::outcome::{DONE, NO_MEMORY, NOT_UTF8, Outcome, REFUSED, TOO_DEEP, UNDECIDED, write};
 use crate::reading::read_condition;
 use cargo_platform::{CfgExpr, Platform};
 use exact_answers::{

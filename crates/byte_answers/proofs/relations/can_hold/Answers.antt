@@ -4,7 +4,11 @@ use Rattle.byte_answers.specs.Comparisons.{SaysPossible}
 use Rattle.byte_answers.proofs.relations.can_hold.Goals as goal
 
 pub returns-in-Ok-clause-done : goal.returns-in-Ok-clause-done
-returns-in-Ok-clause-done c = λ done.
-    (condition_of c.in-Ok.platform, (c.in-Ok.ensures.condition,
+returns-in-Ok-clause-done c = λ done. (
+  condition_of c.in-Ok.platform,
+  (
+    c.in-Ok.ensures.condition,
     subst (λ (z : List ℕ). SaysPossible (condition_of c.in-Ok.platform) c.possible.result z c.possible.new.out)
-    c.in-Ok.ensures.unwritten (c.possible.ensures.done done)))
+        c.in-Ok.ensures.unwritten (c.possible.ensures.done done),
+  ),
+)

@@ -6,7 +6,13 @@ use Rattle.byte_answers.proofs.relations.relates.Goals as goal
 pub returns-in-Ok-read_condition-clause-done : goal.returns-in-Ok-read_condition-clause-done
 returns-in-Ok-read_condition-clause-done c = λ done.
     let p = condition_of c.in-Ok.first in
-    let q = condition_of c.in-Ok-read_condition.second in
-    (p, q, (c.in-Ok.ensures.condition, c.in-Ok-read_condition.ensures.condition,
-    subst (λ (z : List ℕ). SaysRelated c.args.relation p q c.related.result z c.related.new.out)
-    (c.in-Ok-read_condition.ensures.unwritten ∙ c.in-Ok.ensures.unwritten) (c.related.ensures.done done)))
+    let q = condition_of c.in-Ok-read_condition.second in (
+      p,
+      q,
+      (
+        c.in-Ok.ensures.condition,
+        c.in-Ok-read_condition.ensures.condition,
+        subst (λ (z : List ℕ). SaysRelated c.args.relation p q c.related.result z c.related.new.out)
+            (c.in-Ok-read_condition.ensures.unwritten ∙ c.in-Ok.ensures.unwritten) (c.related.ensures.done done),
+      ),
+    )
