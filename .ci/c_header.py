@@ -35,7 +35,7 @@ FRONT = """\
      fine with the length 0. `out`, `words` and `outcome` overlap nothing else of the call.
    - `out` and `words` hold bytes that were written once, as zeros.
    - malloc, realloc and free are of one allocator. No call is made from a signal handler.
-   - Some stack: 2 MiB are enough for keys as deep as NEVGRASI_MOST_OPEN, 8 MiB for each call.
+   - Some stack: the tests make calls at NEVGRASI_MOST_OPEN and NEVGRASI_MOST_FLAT_BYTES with 8 MiB of it.
    Calls share nothing: they may be made from many threads at once.
 
    A call answers a code, which stands in `outcome` too. An answer in `out` has `needed` bytes: where `out` is as long,
@@ -69,8 +69,8 @@ def comment(lines, indent=""):
 
 def wrapped(text, first, others):
     """The text in lines that fit. A no-break space holds words together, and is written as a space."""
-    lines = textwrap.wrap(text.replace("\N{NO-BREAK SPACE}", "~"), 118, initial_indent=first, subsequent_indent=others, break_on_hyphens=False)
-    return "\n".join(lines).replace("~", " ")
+    lines = textwrap.wrap(text, 118, initial_indent=first, subsequent_indent=others, break_on_hyphens=False)
+    return "\n".join(lines).replace("\N{NO-BREAK SPACE}", " ")
 
 
 def documented(text, pattern):

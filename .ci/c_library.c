@@ -1,5 +1,5 @@
-/* Calls each export, and prints a line for each thing that is not as it should be. Runs under AddressSanitizer, so that a
-   byte written or read outside a buffer ends it.
+/* Calls each export, and prints a line for each thing that is not as it should be. Runs under AddressSanitizer, so that
+   a byte written or read outside a buffer ends it.
 
    Each call is made with a buffer as long as its answer, one byte shorter, and of no bytes; malloc refuses each of its
    allocations in turn; and eight threads ask at once. The last line is `N passed, M failed`. */
@@ -50,8 +50,8 @@ static uint32_t can_hold(const question *q, uint8_t *out, size_t size, nevgrasi_
     return nevgrasi_can_hold(q->texts[0], q->lengths[0], 1000, out, size, o);
 }
 static uint32_t matches(const question *q, uint8_t *out, size_t size, nevgrasi_outcome *o) {
-    return nevgrasi_matches(q->texts[0], q->lengths[0], q->texts[1], q->lengths[1], q->texts[2], q->lengths[2], out, size,
-                            o);
+    return nevgrasi_matches(q->texts[0], q->lengths[0], q->texts[1], q->lengths[1], q->texts[2], q->lengths[2], out,
+                            size, o);
 }
 static uint32_t targets(const question *q, uint8_t *out, size_t size, nevgrasi_outcome *o) {
     uint64_t words[NEVGRASI_WORDS] = {0};
@@ -193,8 +193,8 @@ static uint8_t *flat_of(const char *key, size_t *size) {
     return flat;
 }
 
-/* Flat bytes with each byte changed in turn: they are refused, or print a condition. Where the byte became a letter or a
-   digit, so that a name stays one that a key may spell, they are the flat form of what they print. */
+/* Flat bytes with each byte changed in turn: they are refused, or print a condition. Where the byte became a letter or
+   a digit, so that a name stays one that a key may spell, they are the flat form of what they print. */
 static void change_each(void) {
     size_t size, changed = 0;
     uint8_t *flat = flat_of(KEY, &size);
@@ -225,6 +225,21 @@ static void change_each(void) {
     free(flat);
 }
 
+/* Each kind of record: the flat form of a key is accepted, and prints as the key does. */
+static void try_flat_forms(void) {
+    const char *keys[] = {"cfg(a)", "cfg(r#a)", "cfg(a = \"\")", "cfg(r#a = \"b\")", "cfg(true)",
+                          "cfg(false)", "cfg(all())", "cfg(any())", "cfg(not(not(a)))",
+                          "cfg(any(a, not(b), all(c, any(d)), e))", "x86_64-x", ""};
+    for (size_t k = 0; k < sizeof keys / sizeof *keys; k++) {
+        size_t size;
+        uint8_t *flat = flat_of(keys[k], &size), text[512] = {0};
+        nevgrasi_outcome o;
+        uint32_t code = nevgrasi_flat_print(flat, size, text, sizeof text, &o);
+        expect(code == NEVGRASI_DONE && !strcmp((char *)text, keys[k]), "a flat form", keys[k]);
+        free(flat);
+    }
+}
+
 /* A key of so many levels: `not(`, or groups that a member follows. */
 static char *nested(size_t levels, const char *before, const char *after) {
     size_t size = levels * (strlen(before) + strlen(after)) + 8, at = 4;
@@ -253,7 +268,8 @@ static void try_depth(const char *before, const char *after) {
             size_t flat_size;
             uint8_t *flat = flat_of(key, &flat_size);
             code = nevgrasi_flat_print(flat, flat_size, NULL, 0, &o);
-            expect(code == (flat_size > NEVGRASI_MOST_FLAT_BYTES ? NEVGRASI_TOO_DEEP : NEVGRASI_DONE), "flat, deep", before);
+            int is_long = flat_size > NEVGRASI_MOST_FLAT_BYTES;
+            expect(code == (is_long ? NEVGRASI_TOO_DEEP : NEVGRASI_DONE), "flat, deep", before);
             free(flat);
         }
         free(key);
@@ -263,8 +279,26 @@ static void try_depth(const char *before, const char *after) {
 static void try_limit(void) {
     uint8_t *flat = calloc(NEVGRASI_MOST_FLAT_BYTES + 1, 1);
     nevgrasi_outcome o;
-    expect(nevgrasi_flat_print(flat, NEVGRASI_MOST_FLAT_BYTES + 1, NULL, 0, &o) == NEVGRASI_TOO_DEEP, "flat", "too long");
-    expect(nevgrasi_flat_print(flat, NEVGRASI_MOST_FLAT_BYTES, NULL, 0, &o) == NEVGRASI_NOT_FLAT, "flat", "at its limit");
+    uint32_t code = nevgrasi_flat_print(flat, NEVGRASI_MOST_FLAT_BYTES + 1, NULL, 0, &o);
+    expect(code == NEVGRASI_TOO_DEEP, "flat", "too long");
+    code = nevgrasi_flat_print(flat, NEVGRASI_MOST_FLAT_BYTES, NULL, 0, &o);
+    expect(code == NEVGRASI_NOT_FLAT, "flat", "at its limit");
+    free(flat);
+}
+
+/* The deepest flat condition that is as long as one may be: each level is `all` of the next and of `true`. */
+static void try_deep_flat(void) {
+    size_t record = 17, levels = (NEVGRASI_MOST_FLAT_BYTES / record - 1) / 2, size = (2 * levels + 1) * record;
+    uint8_t *flat = calloc(size, 1);
+    for (size_t k = 0; k < 2 * levels + 1; k++) {
+        flat[k * record] = k < levels ? 2 : 0;
+        flat[k * record + 16] = k < levels ? 7 : 4;
+    }
+    nevgrasi_outcome o;
+    expect(nevgrasi_flat_print(flat, size, NULL, 0, &o) == NEVGRASI_DONE, "the deepest flat condition", "no print");
+    expect(o.needed == 5 + 11 * levels + 4, "the deepest flat condition", "another length");
+    uint32_t code = nevgrasi_flat_matches(flat, size, NULL, 0, NULL, 0, &o);
+    expect(code == NEVGRASI_DONE && o.holds, "the deepest flat condition", "does not match");
     free(flat);
 }
 
@@ -292,10 +326,12 @@ int main(void) {
     try_sizes(flat_print, &flat, NEVGRASI_DONE, "cfg(all(unix, not(target_os = \"macos\")))");
     refuse_each(flat_print, &flat);
     let_go(&flat);
+    try_flat_forms();
     change_each();
     try_depth("not(", ")");
     try_depth("all(", ", a)");
     try_limit();
+    try_deep_flat();
     pthread_t threads[8];
     for (int k = 0; k < 8; k++) pthread_create(&threads[k], NULL, ask_often, NULL);
     for (int k = 0; k < 8; k++) pthread_join(threads[k], NULL);

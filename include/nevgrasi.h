@@ -7,7 +7,7 @@
      fine with the length 0. `out`, `words` and `outcome` overlap nothing else of the call.
    - `out` and `words` hold bytes that were written once, as zeros.
    - malloc, realloc and free are of one allocator. No call is made from a signal handler.
-   - Some stack: 2 MiB are enough for keys as deep as NEVGRASI_MOST_OPEN, 8 MiB for each call.
+   - Some stack: the tests make calls at NEVGRASI_MOST_OPEN and NEVGRASI_MOST_FLAT_BYTES with 8 MiB of it.
    Calls share nothing: they may be made from many threads at once.
 
    A call answers a code, which stands in `outcome` too. An answer in `out` has `needed` bytes: where `out` is as long,

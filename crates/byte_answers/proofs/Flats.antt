@@ -1,8 +1,10 @@
 -- Bytes grow record by record.
-use Rattle.std.proofs.Common.{◌≡◌, refl, sym, ap, ◌∙◌, ℕ, suc, List, [], ◌∷◌, ◌++◌, length, map, append_assoc, append-nil}
+use Rattle.std.proofs.Common.{◌≡◌, refl, sym, ap, ◌∙◌, ℕ, suc, List, [], ◌∷◌, ◌++◌, length, map, append_assoc}
+use Rattle.std.proofs.Common.{append-nil}
 use Rattle.std.proofs.Common.{Vec, Box, Global, box_value, vec_len, arith, reverse}
 use Rattle.std.proofs.Common.{◌+◌, ◌-◌, ◌<◌, ◌≤◌, take, drop, get_or, w8, w64, Fits}
-use Rattle.std.proofs.lemmas.List.{map-append, reverse-append, get_or-drop, length-drop, length-append, take-append-drop}
+use Rattle.std.proofs.lemmas.List.{map-append, reverse-append, get_or-drop, length-drop, length-append}
+use Rattle.std.proofs.lemmas.List.{take-append-drop}
 use Rattle.std.proofs.lemmas.Nat.{le_bytes_8}
 use Rattle.std.specs.Int.{to_le_bytes, from_le_bytes}
 use Rattle.cargo_platform.specs.declared.cfg.CfgExpr.{CfgExpr}
@@ -118,7 +120,8 @@ any_built before a b tag old kept new v e is tagged zeros size grown taken =
     (flat-Any e v a is (sym size ∙ sym v.ok.0)
     ∙ ap (λ z. z ++ flats_of v.items) (ap (λ z. numbers a z 8) (sym zeros) ∙ ap (λ z. numbers a b z) (sym tagged)))
 
-pub not_built : (before : List ℕ) (a b tag : ℕ) (old kept new : List CfgExpr) (x : Box CfgExpr Global) (e inner : CfgExpr)
+pub not_built : (before : List ℕ) (a b tag : ℕ) (old kept new : List CfgExpr) (x : Box CfgExpr Global)
+    → (e inner : CfgExpr)
     → e ≡ expr.Not x → box_value x ≡ inner → tag ≡ 6 → b ≡ 0 → a ≡ 1 → new ≡ kept ++ e ∷ [] → old ≡ kept ++ inner ∷ []
     → (before ++ numbers a b tag) ++ flats_of (reverse old) ≡ before ++ flats_of (reverse new)
 not_built before a b tag old kept new x e inner is same tagged zeros one grown popped =

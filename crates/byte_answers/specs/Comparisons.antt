@@ -56,6 +56,10 @@ IsWrittenExample t o old new =
 abbrev pub HasExample : Known → List Condition → (List ℕ → FactSet → Type 0) → Outcome → List ℕ → List ℕ → Type 0
 HasExample k cs P o old new = (t : PossibleTarget) × (IsExample t k cs P × IsWrittenExample t o old new)
 
+-- the budget is too small for a search on these conditions
+abbrev pub NeedsLarger : List Condition → ℕ → Type 0
+NeedsLarger cs budget = (k : Known) × (KnowsOnlyRules k × NeedsMore k (asked_trees cs) budget)
+
 -- of two conditions: a yes is so at each possible target, and of a no there is an example
 abbrev pub SaysRelated : Relation → Condition → Condition → Outcome → List ℕ → List ℕ → Type 0
 SaysRelated r p q o old new =
@@ -79,3 +83,11 @@ SaysPossible p o old new =
 -- the same of a key
 abbrev pub IsPossibleKey : List ℕ → Outcome → List ℕ → List ℕ → Type 0
 IsPossibleKey key o old new = (p : Condition) × (IsConditionText key p × SaysPossible p o old new)
+
+-- the budget is too small to compare two keys, and to ask about one
+abbrev pub AreUndecided : List ℕ → List ℕ → ℕ → Type 0
+AreUndecided a b budget =
+    (p q : Condition) × (IsConditionText a p × IsConditionText b q × NeedsLarger (p ∷ q ∷ []) budget)
+
+abbrev pub IsUndecided : List ℕ → ℕ → Type 0
+IsUndecided key budget = (p : Condition) × (IsConditionText key p × NeedsLarger (p ∷ []) budget)

@@ -70,6 +70,8 @@ fn match_lines(
 pub fn matches(alloc: Global, key: &[u8], name: &[u8], lines: &[u8], out: &mut [u8]) -> Outcome
     ensures done { result.code ≡ DONE → IsMatch key.now name.now lines.now result.holds }
     ensures refused { result.code ≡ REFUSED → result.argument ≡ 0 → IsRefusal key.now result out.old out.new }
+    ensures spelled { result.code ≡ REFUSED → result.argument ≡ 0
+        → (p : Condition) → IsConditionText key.now p → ⊥ }
     ensures not_utf8 { result.code ≡ NOT_UTF8 → IsUtf8 key.now → IsUtf8 name.now → IsUtf8 lines.now → ⊥ }
     ensures too_deep { result.code ≡ TOO_DEEP → is_too_deep key.now ≡ true }
     ensures codes { IsTrue (ends_key_call result.code) }

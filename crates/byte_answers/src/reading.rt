@@ -33,7 +33,8 @@ pub(crate) fn read_text(argument: u32, bytes: &[u8]) -> Result<&str, Outcome>
 
 /// Where the fault of an error lies in the key, and the empty span where it lies nowhere.
 pub(crate) fn span_of(error: &ParseError, key: &str) -> Range<usize>
-    ensures { (at : Option (Range ℕ)) × IsSpanInKey key.now (orig_of error.now) (fault_in error.now) (span_in error.now) at
+    ensures { (at : Option (Range ℕ))
+        × IsSpanInKey key.now (orig_of error.now) (fault_in error.now) (span_in error.now) at
         × AreEnds at result.start result.end }
 {
     match error.span_in(key) {

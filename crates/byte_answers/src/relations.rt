@@ -5,10 +5,12 @@ ghost use Rattle.std.specs.Str.{IsUtf8};
 ghost use Rattle.cargo_platform.specs.Trees.{Condition, value_of, condition_of};
 ghost use Rattle.cargo_platform.specs.Facts.{IsTrueCondition};
 ghost use Rattle.cargo_platform.specs.Platforms.{IsConditionText};
-ghost use Rattle.exact_answers.specs.Targets.{SaysMustSelect, SaysCanSelect, ForEach};
+ghost use Rattle.exact_answers.specs.Asking.{NeedsMore};
+ghost use Rattle.exact_answers.specs.Targets.{SaysMustSelect, SaysCanSelect, ForEach, asked_trees};
 ghost use Rattle.byte_answers.specs.Answers.{fact_lines};
-ghost use Rattle.byte_answers.specs.Comparisons.{Stands, Fails, name_line, IsWrittenExample, HasExample, KnowsOnlyRules};
+ghost use Rattle.byte_answers.specs.Comparisons.{Stands, Fails, name_line, IsWrittenExample, HasExample};
 ghost use Rattle.byte_answers.specs.Comparisons.{SaysRelated, AreRelated, SaysPossible, IsPossibleKey};
+ghost use Rattle.byte_answers.specs.Comparisons.{NeedsLarger, AreUndecided, IsUndecided};
 ghost use Rattle.byte_answers.specs.Depths.{is_too_deep};
 ghost use Rattle.byte_answers.specs.Outcomes.{ends_comparison};
 ghost use Rattle.byte_answers.specs.Refusals.{IsRefusal};
@@ -78,8 +80,10 @@ fn ask<'a>(
     budget: u64,
 ) -> Result<MustSelect, AllocError>
     ensures { IfOk result (λ r. SaysMustSelect r known.now (condition_of a.now ∷ condition_of b.now ∷ []) budget
-        (λ name s. Fails relation (IsTrueCondition name s (condition_of a.now)) (IsTrueCondition name s (condition_of b.now)))
-        (λ name s. Stands relation (IsTrueCondition name s (condition_of a.now)) (IsTrueCondition name s (condition_of b.now)))) }
+        (λ name s. Fails relation
+        (IsTrueCondition name s (condition_of a.now)) (IsTrueCondition name s (condition_of b.now)))
+        (λ name s. Stands relation
+        (IsTrueCondition name s (condition_of a.now)) (IsTrueCondition name s (condition_of b.now)))) }
 {
     match relation {
         Relation::Implies => implies_platform(alloc, a, b, known, budget),
@@ -105,6 +109,8 @@ fn related_by<'a>(
         → HasExample known.now (condition_of a.now ∷ condition_of b.now ∷ []) (λ name s. Fails relation
         (IsTrueCondition name s (condition_of a.now)) (IsTrueCondition name s (condition_of b.now)))
         result out.old out.new }
+    ensures undecided { result.code ≡ UNDECIDED
+        → NeedsMore known.now (asked_trees (condition_of a.now ∷ condition_of b.now ∷ [])) budget }
     ensures codes { IsTrue (result.code == DONE || result.code == UNDECIDED || result.code == NO_MEMORY) }
 {
     match ask(alloc, relation, a, b, known, budget) {
@@ -126,6 +132,7 @@ fn related(
 ) -> Outcome
     ensures done { result.code ≡ DONE
         → SaysRelated relation (condition_of a.now) (condition_of b.now) result out.old out.new }
+    ensures undecided { result.code ≡ UNDECIDED → NeedsLarger (condition_of a.now ∷ condition_of b.now ∷ []) budget }
     ensures codes { IsTrue (result.code == DONE || result.code == UNDECIDED || result.code == NO_MEMORY) }
 {
     let rule = match family_rule(alloc) {
@@ -167,6 +174,9 @@ pub fn relates(
     ensures done { result.code ≡ DONE → AreRelated relation a.now b.now result out.old out.new }
     ensures first { result.code ≡ REFUSED → result.argument ≡ 0 → IsRefusal a.now result out.old out.new }
     ensures second { result.code ≡ REFUSED → result.argument ≡ 1 → IsRefusal b.now result out.old out.new }
+    ensures undecided { result.code ≡ UNDECIDED → AreUndecided a.now b.now budget }
+    ensures spelled { result.code ≡ REFUSED
+        → (p q : Condition) → IsConditionText a.now p → IsConditionText b.now q → ⊥ }
     ensures not_utf8 { result.code ≡ NOT_UTF8 → IsUtf8 a.now → IsUtf8 b.now → ⊥ }
     ensures too_deep { result.code ≡ TOO_DEEP → is_too_deep a.now ≡ false → is_too_deep b.now ≡ true }
     ensures codes { IsTrue (ends_comparison result.code) }
@@ -194,6 +204,8 @@ fn possible_by<'a>(
         (λ name s. IsTrueCondition name s (condition_of platform.now)) result out.old out.new }
     ensures no { result.code ≡ DONE → result.holds ≡ false
         → ForEach known.now (λ name s. IsTrueCondition name s (condition_of platform.now) → ⊥) }
+    ensures undecided { result.code ≡ UNDECIDED
+        → NeedsMore known.now (asked_trees (condition_of platform.now ∷ [])) budget }
     ensures codes { IsTrue (result.code == DONE || result.code == UNDECIDED || result.code == NO_MEMORY) }
 {
     match can_hold_platform(alloc, platform, known, budget) {
@@ -207,6 +219,7 @@ fn possible_by<'a>(
 /// Whether a condition can hold.
 fn possible(alloc: Global, platform: &Platform, budget: u64, out: &mut [u8]) -> Outcome
     ensures done { result.code ≡ DONE → SaysPossible (condition_of platform.now) result out.old out.new }
+    ensures undecided { result.code ≡ UNDECIDED → NeedsLarger (condition_of platform.now ∷ []) budget }
     ensures codes { IsTrue (result.code == DONE || result.code == UNDECIDED || result.code == NO_MEMORY) }
 {
     let rule = match family_rule(alloc) {
@@ -224,6 +237,7 @@ fn possible(alloc: Global, platform: &Platform, budget: u64, out: &mut [u8]) -> 
 /// does.
 pub fn can_hold(alloc: Global, key: &[u8], budget: u64, out: &mut [u8]) -> Outcome
     ensures done { result.code ≡ DONE → IsPossibleKey key.now result out.old out.new }
+    ensures undecided { result.code ≡ UNDECIDED → IsUndecided key.now budget }
     ensures refused { result.code ≡ REFUSED → IsRefusal key.now result out.old out.new }
     ensures spelled { result.code ≡ REFUSED → (p : Condition) → IsConditionText key.now p → ⊥ }
     ensures not_utf8 { result.code ≡ NOT_UTF8 → IsUtf8 key.now → ⊥ }

@@ -1,7 +1,7 @@
 //! What C calls. Each function is a call of `byte_answers`, with its clauses.
 //!
-//! A slice is a pointer and a length for C; the allocator is none of its arguments. `include/nevgrasi.h` is made of these
-//! signatures and comments by `.ci/c-header`.
+//! A slice is a pointer and a length for C; the allocator is none of its arguments. `include/nevgrasi.h` is made of
+//! these signatures and comments by `.ci/c-library --header`.
 #![tactic(auto)]
 
 ghost use Rattle.std.specs.Prelude.{◌≡◌, ◌≢◌, ◌≤◌, ◌<◌, ℕ, length, IsTrue, true, false};
@@ -9,14 +9,17 @@ ghost use Rattle.std.specs.Str.{IsUtf8};
 ghost use Rattle.cargo_platform.specs.Trees.{Condition};
 ghost use Rattle.cargo_platform.specs.Platforms.{IsConditionText};
 ghost use Rattle.known_targets.specs.Table.{target_name};
-ghost use Rattle.byte_answers.specs.Answers.{AreFactsOf, AreTargets, IsCanonical, IsFlatMatch, IsFlatOf, IsMatch, IsPrint};
-ghost use Rattle.byte_answers.specs.Comparisons.{AreRelated, IsPossibleKey};
+ghost use Rattle.byte_answers.specs.Answers.{AreFactsOf, AreTargets, IsCanonical, IsFlatMatch, IsFlatOf, IsMatch};
+ghost use Rattle.byte_answers.specs.Answers.{IsPrint};
+ghost use Rattle.byte_answers.specs.Comparisons.{AreRelated, AreUndecided, IsPossibleKey, IsUndecided};
 ghost use Rattle.byte_answers.specs.Depths.{is_too_deep};
-ghost use Rattle.byte_answers.specs.Outcomes.{IsWritten, ends_comparison, ends_flat_call, ends_key_call, ends_target_call};
+ghost use Rattle.byte_answers.specs.Outcomes.{IsWritten, ends_comparison, ends_flat_call, ends_key_call};
+ghost use Rattle.byte_answers.specs.Outcomes.{ends_target_call};
 ghost use Rattle.byte_answers.specs.Refusals.{IsRefusal, IsShownRefusal};
 
 use byte_answers::{
-    DONE, MOST_FLAT_BYTES, NOT_UTF8, Outcome, REFUSED, Relation, TOO_DEEP, UNKNOWN_TARGET,
+    DONE, MOST_FLAT_BYTES, NOT_UTF8, Outcome, REFUSED, Relation, TOO_DEEP, UNDECIDED,
+    UNKNOWN_TARGET,
 };
 use known_targets::{COUNT, WORDS};
 use std::alloc::Global;
@@ -84,6 +87,8 @@ pub extern "C" fn nevgrasi_matches(
 ) -> u32
     ensures done { result ≡ DONE → IsMatch key.now name.now lines.now outcome.new.holds }
     ensures refused { result ≡ REFUSED → outcome.new.argument ≡ 0 → IsRefusal key.now outcome.new out.old out.new }
+    ensures spelled { result ≡ REFUSED → outcome.new.argument ≡ 0
+        → (p : Condition) → IsConditionText key.now p → ⊥ }
     ensures not_utf8 { result ≡ NOT_UTF8 → IsUtf8 key.now → IsUtf8 name.now → IsUtf8 lines.now → ⊥ }
     ensures too_deep { result ≡ TOO_DEEP → is_too_deep key.now ≡ true }
     ensures codes { IsTrue (ends_key_call result) }
@@ -153,6 +158,9 @@ pub extern "C" fn nevgrasi_implies(
     outcome: &mut Outcome,
 ) -> u32
     ensures done { result ≡ DONE → AreRelated Relation.Implies first.now second.now outcome.new out.old out.new }
+    ensures undecided { result ≡ UNDECIDED → AreUndecided first.now second.now budget }
+    ensures spelled { result ≡ REFUSED
+        → (p q : Condition) → IsConditionText first.now p → IsConditionText second.now q → ⊥ }
     ensures first { result ≡ REFUSED → outcome.new.argument ≡ 0 → IsRefusal first.now outcome.new out.old out.new }
     ensures second { result ≡ REFUSED → outcome.new.argument ≡ 1 → IsRefusal second.now outcome.new out.old out.new }
     ensures not_utf8 { result ≡ NOT_UTF8 → IsUtf8 first.now → IsUtf8 second.now → ⊥ }
@@ -174,6 +182,9 @@ pub extern "C" fn nevgrasi_equivalent(
     outcome: &mut Outcome,
 ) -> u32
     ensures done { result ≡ DONE → AreRelated Relation.Equivalent first.now second.now outcome.new out.old out.new }
+    ensures undecided { result ≡ UNDECIDED → AreUndecided first.now second.now budget }
+    ensures spelled { result ≡ REFUSED
+        → (p q : Condition) → IsConditionText first.now p → IsConditionText second.now q → ⊥ }
     ensures first { result ≡ REFUSED → outcome.new.argument ≡ 0 → IsRefusal first.now outcome.new out.old out.new }
     ensures second { result ≡ REFUSED → outcome.new.argument ≡ 1 → IsRefusal second.now outcome.new out.old out.new }
     ensures not_utf8 { result ≡ NOT_UTF8 → IsUtf8 first.now → IsUtf8 second.now → ⊥ }
@@ -195,6 +206,9 @@ pub extern "C" fn nevgrasi_excludes(
     outcome: &mut Outcome,
 ) -> u32
     ensures done { result ≡ DONE → AreRelated Relation.Excludes first.now second.now outcome.new out.old out.new }
+    ensures undecided { result ≡ UNDECIDED → AreUndecided first.now second.now budget }
+    ensures spelled { result ≡ REFUSED
+        → (p q : Condition) → IsConditionText first.now p → IsConditionText second.now q → ⊥ }
     ensures first { result ≡ REFUSED → outcome.new.argument ≡ 0 → IsRefusal first.now outcome.new out.old out.new }
     ensures second { result ≡ REFUSED → outcome.new.argument ≡ 1 → IsRefusal second.now outcome.new out.old out.new }
     ensures not_utf8 { result ≡ NOT_UTF8 → IsUtf8 first.now → IsUtf8 second.now → ⊥ }
@@ -216,6 +230,7 @@ pub extern "C" fn nevgrasi_can_hold(
     outcome: &mut Outcome,
 ) -> u32
     ensures done { result ≡ DONE → IsPossibleKey key.now outcome.new out.old out.new }
+    ensures undecided { result ≡ UNDECIDED → IsUndecided key.now budget }
     ensures refused { result ≡ REFUSED → IsRefusal key.now outcome.new out.old out.new }
     ensures spelled { result ≡ REFUSED → (p : Condition) → IsConditionText key.now p → ⊥ }
     ensures not_utf8 { result ≡ NOT_UTF8 → IsUtf8 key.now → ⊥ }

@@ -12,3 +12,7 @@ returns-in-Ok-clause-done c = λ done. (
         c.in-Ok.ensures.unwritten (c.possible.ensures.done done),
   ),
 )
+
+pub returns-in-Ok-clause-undecided : goal.returns-in-Ok-clause-undecided
+returns-in-Ok-clause-undecided c = λ is.
+    (condition_of c.in-Ok.platform, (c.in-Ok.ensures.condition, c.possible.ensures.undecided is))

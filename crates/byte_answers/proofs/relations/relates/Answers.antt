@@ -16,3 +16,12 @@ returns-in-Ok-read_condition-clause-done c = λ done.
             (c.in-Ok-read_condition.ensures.unwritten ∙ c.in-Ok.ensures.unwritten) (c.related.ensures.done done),
       ),
     )
+
+pub returns-in-Ok-read_condition-clause-undecided : goal.returns-in-Ok-read_condition-clause-undecided
+returns-in-Ok-read_condition-clause-undecided c = λ is.
+    let p = condition_of c.in-Ok.first in
+    let q = condition_of c.in-Ok-read_condition.second in (
+      p,
+      q,
+      (c.in-Ok.ensures.condition, c.in-Ok-read_condition.ensures.condition, c.related.ensures.undecided is),
+    )
