@@ -22,7 +22,8 @@
 # make try-c      the library for C and Python, called from both; it needs a C compiler
 # make pages      what the pages say, beside what it is said of
 # make depths     the programs on the deepest conditions that their inputs hold
-.PHONY: lint run build install c-library install-c wheel try-c take test gate fits mutants refusals second-reader statuses manifests cargo-select \
+.PHONY: lint run build install c-library install-c wheel try-c take test gate fits mutants refusals second-reader \
+	statuses manifests cargo-select \
 	pages depths quick measure targets fmt rt
 
 PROGRAM := crates/platform_check
