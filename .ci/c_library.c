@@ -166,7 +166,8 @@ static void try_answers(void) {
              "cfg(all(a b))\n          ^ expected `)`, found an identifier");
     try_call(fault, asked("fault of none", "cfg(a)", "", ""), NEVGRASI_DONE, "");
     try_call(matches, asked("matches", KEY, "x", "unix\n"), NEVGRASI_DONE, "");
-    try_call(matches, asked("matches, a line refused", KEY, "x", "unix\n=\n"), NEVGRASI_REFUSED, NULL);
+    try_call(matches, asked("matches, a line refused", KEY, "x", "unix\n=\n"), NEVGRASI_REFUSED,
+             "line 2: failed to parse `=` as a cfg expression: expected identifier, found `=`");
     try_call(matches, asked("matches, no text", KEY, "\xFF", ""), NEVGRASI_NOT_UTF8, "");
     try_call(targets, asked("targets", KEY, "", ""), NEVGRASI_DONE, "");
     try_call(target_name, asked("target_name", "", "", ""), NEVGRASI_DONE, "aarch64-apple-darwin");
@@ -181,6 +182,27 @@ static void try_answers(void) {
     try_call(can_hold, asked("can_hold", "cfg(a)", "", ""), NEVGRASI_DONE, "a\n");
     try_call(read_key, asked("read_key", KEY, "", ""), NEVGRASI_DONE, NULL);
     try_call(flat_print, asked("flat_print of no tree", "x", "", ""), NEVGRASI_NOT_FLAT, "");
+}
+
+/* Where a call has several texts, it tells of which one is refused, and where in it. */
+static void try_place(call *made, question q, uint32_t code, uint32_t argument, size_t start, size_t end) {
+    nevgrasi_outcome o;
+    expect(made(&q, NULL, 0, &o) == code && o.argument == argument, "another argument", q.name);
+    expect(o.start == start && o.end == end, "another span", q.name);
+    let_go(&q);
+}
+
+static void try_places(void) {
+    try_place(canonical, asked("a key", "cfg(all(a b))", "", ""), NEVGRASI_REFUSED, 0, 10, 11);
+    try_place(fault, asked("a key, shown", "cfg(all(a b))", "", ""), NEVGRASI_REFUSED, 0, 10, 11);
+    try_place(matches, asked("a key of matches", "a b", "", ""), NEVGRASI_REFUSED, 0, 1, 2);
+    try_place(matches, asked("a name", "a", "\xFF", ""), NEVGRASI_NOT_UTF8, 1, 0, 0);
+    try_place(matches, asked("lines", "a", "", "\xFF"), NEVGRASI_NOT_UTF8, 2, 0, 0);
+    try_place(matches, asked("a line", "a", "", "unix\n=\n"), NEVGRASI_REFUSED, 2, 5, 6);
+    try_place(implies, asked("a first key", "a b", "a b", ""), NEVGRASI_REFUSED, 0, 1, 2);
+    try_place(implies, asked("a second key", "a", "cfg(a b)", ""), NEVGRASI_REFUSED, 1, 6, 7);
+    try_place(excludes, asked("a second key, no text", "a", "\xC3", ""), NEVGRASI_NOT_UTF8, 1, 0, 0);
+    try_place(flat_matches, asked("flat bytes", "x", "", ""), NEVGRASI_NOT_FLAT, 0, 0, 0);
 }
 
 /* The flat form of a key, in a block of its own length. */
@@ -316,6 +338,7 @@ static void *ask_often(void *ignored) {
 int main(void) {
     expect(nevgrasi_interface() == NEVGRASI_INTERFACE, "interface", "another number");
     try_answers();
+    try_places();
     question flat = asked("flat_matches", "", "x", "");
     size_t size;
     free((void *)flat.texts[0]);
