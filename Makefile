@@ -2,6 +2,9 @@
 # make lint MANIFEST=path  tells what is wrong or odd about the keys of `target` in a manifest, in the same way
 # make build  proves and builds both programs, and says where they are
 # make install PREFIX=..  puts both programs into PREFIX/bin, and manifest_check as cargo-manifest-check too
+# make c-library  proves and builds the library for C, and says where it is
+# make install-c PREFIX=..  puts the library for C, its header, a file for pkg-config and the Python package in place
+# make wheel  builds a wheel of the Python package, with the shared library in it, into out/wheel
 # make take INTO=FOLDER CRATES=".."  copies crates into another repository, with those that they stand on
 # make test   THE GATE: proves everything from nothing, tries wrong bodies, and runs all tests and programs
 # make quick  the proofs alone, over what earlier checks kept
@@ -16,9 +19,11 @@
 # make statuses   the program where reading or writing fails
 # make manifests  the program manifest_check over questions whose answers are known, and hostile input
 # make cargo-select  what `manifest_check select` selects, beside what Cargo does; it needs cargo and rustc 1.95.0
+# make try-c      the library for C and Python, called from both; it needs a C compiler
 # make pages      what the pages say, beside what it is said of
 # make depths     the programs on the deepest conditions that their inputs hold
-.PHONY: lint run build install take test gate fits mutants refusals second-reader statuses manifests cargo-select \
+.PHONY: lint run build install c-library install-c wheel try-c take test gate fits mutants refusals second-reader \
+	statuses manifests cargo-select \
 	pages depths quick measure targets fmt rt
 
 PROGRAM := crates/platform_check
@@ -46,6 +51,26 @@ install: build
 	install -d "$(DESTDIR)$(PREFIX)/bin"
 	install $(PROGRAM)/out/platform_check $(CHECK)/out/manifest_check "$(DESTDIR)$(PREFIX)/bin"
 	ln -sf manifest_check "$(DESTDIR)$(PREFIX)/bin/cargo-manifest-check"
+
+C_LIBRARY := crates/nevgrasi_c/out
+PYTHON_FOLDER ?= $(PREFIX)/lib/python3/dist-packages
+
+c-library: rt
+	@.ci/c-library --shared $(C_LIBRARY)
+	@echo "the library is $(C_LIBRARY)/libnevgrasi.so"
+
+install-c: c-library
+	install -d "$(DESTDIR)$(PREFIX)/lib/pkgconfig" "$(DESTDIR)$(PREFIX)/include" "$(DESTDIR)$(PYTHON_FOLDER)/nevgrasi"
+	install -m 644 include/nevgrasi.h "$(DESTDIR)$(PREFIX)/include"
+	install -m 644 $(C_LIBRARY)/libnevgrasi.so "$(DESTDIR)$(PREFIX)/lib"
+	sed "s|@PREFIX@|$(PREFIX)|" include/nevgrasi.pc > "$(DESTDIR)$(PREFIX)/lib/pkgconfig/nevgrasi.pc"
+	install -m 644 python/nevgrasi/__init__.py $(C_LIBRARY)/libnevgrasi.so "$(DESTDIR)$(PYTHON_FOLDER)/nevgrasi"
+
+wheel: rt
+	@.ci/c-library --wheel out/wheel
+
+try-c: rt
+	.ci/c-library
 
 # With CACHE=yes the proofs' cache goes along: 1.2 GB for the library, once it was proved here.
 take:

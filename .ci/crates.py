@@ -9,10 +9,16 @@ ROOT = pathlib.Path(__file__).resolve().parent.parent
 LEFT_OUT = ("mutants", "out")
 
 
+def lines_of_crates():
+    """The lines of crates.txt: the words before the colon, of which the first is the crate, and those behind it."""
+    lines = (ROOT / "crates.txt").read_text().splitlines()
+    parts = (line.partition(":") for line in lines if line[:1] not in "#")
+    return [(words.split(), below.split()) for words, _, below in parts]
+
+
 def stands_on():
     """The crates that each crate stands on, by the lines of crates.txt."""
-    lines = (ROOT / "crates.txt").read_text().splitlines()
-    return {name: below.split() for name, _, below in (line.partition(":") for line in lines if line[:1] not in "#")}
+    return {words[0]: below for words, below in lines_of_crates()}
 
 
 def with_those_below(names, below):
@@ -33,7 +39,8 @@ def add_crates(folder, names, below, left_out=LEFT_OUT):
     file = folder / "crates.txt"
     told = file.read_text(encoding="utf-8") if file.exists() else ""
     ended = "" if told.endswith("\n") or not told else "\n"
-    lines = "".join(f"{name}: {' '.join(below[name])}\n" for name in names)
+    before = {words[0]: " ".join(words) for words, _ in lines_of_crates()}
+    lines = "".join(f"{before.get(name, name)}: {' '.join(below[name])}\n" for name in names)
     file.write_text(told + ended + lines, encoding="utf-8")
 
 

@@ -22,6 +22,6 @@ pub use known::KnownTarget;
 pub use known_facts::{KnownFact, all_facts};
 pub use members::Targets;
 pub use open_target::OpenTarget;
-pub use table::{COUNT, RUSTC_VERSION};
+pub use table::{COUNT, RUSTC_VERSION, WORDS};
 pub use target_set::TargetSet;
 pub use views::names;

@@ -1,0 +1,113 @@
+"""The header of the library for C, made of the exports' signatures and comments, and of the constants.
+
+`include/nevgrasi.h` has to be this text: `.ci/c-library` compares them, and `.ci/c-library --header` writes it anew.
+"""
+import re
+import textwrap
+
+from crates import ROOT
+
+HEADER = ROOT / "include" / "nevgrasi.h"
+EXPORTS = ROOT / "crates" / "nevgrasi_c" / "src" / "lib.rt"
+OUTCOME = ROOT / "crates" / "byte_answers" / "src" / "outcome.rt"
+DEPTH = ROOT / "crates" / "byte_answers" / "src" / "depth.rt"
+TABLE = ROOT / "crates" / "known_targets" / "src" / "table.rt"
+
+# What each type of a parameter is for C, where NAME is the parameter's name.
+PARAMETERS = {
+    "&[u8]": ["const uint8_t *NAME", "size_t NAME_length"],
+    "&mut [u8]": ["uint8_t *NAME", "size_t NAME_length"],
+    "&mut [u64; WORDS]": ["uint64_t NAME[NEVGRASI_WORDS]"],
+    "&mut Outcome": ["nevgrasi_outcome *NAME"],
+    "usize": ["size_t NAME"],
+    "u64": ["uint64_t NAME"],
+    "Global": [],
+}
+FIELDS = {"u32": "uint32_t", "bool": "bool", "usize": "size_t"}
+
+FRONT = """\
+/* Target conditions of Cargo manifests: read, printed, matched and compared by proved code.
+
+   This file is made of crates/nevgrasi_c/src/lib.rt by .ci/c-library --header.
+
+   What a caller owes, and nothing checks:
+   - A pointer with a length names so many bytes that may be read, or for `out` be written, through the call. Null is
+     fine with the length 0. `out`, `words` and `outcome` overlap nothing else of the call.
+   - `out` and `words` hold bytes that were written once, as zeros.
+   - malloc, realloc and free are of one allocator. No call is made from a signal handler.
+   - Some stack: the tests make calls at NEVGRASI_MOST_OPEN and NEVGRASI_MOST_FLAT_BYTES with 8 MiB of it.
+   Calls share nothing: they may be made from many threads at once.
+
+   A call answers a code, which stands in `outcome` too. An answer in `out` has `needed` bytes: where `out` is as long,
+   it begins with them, and where it is shorter, none is written, and the call may be made again with more room.
+
+   With NEVGRASI_REFUSED, `out` has the message, and the bytes from `start` to `end` of the text are the fault. The text
+   is the one of the call's texts that `argument` counts from 0. An example is lines: with `is_named` the first is the
+   name of the target, and each other one is a fact. */
+#ifndef NEVGRASI_H
+#define NEVGRASI_H
+#include <stdbool.h>
+#include <stddef.h>
+#include <stdint.h>
+#ifdef __cplusplus
+extern "C" {
+#endif
+"""
+END = """
+#ifdef __cplusplus
+}
+#endif
+#endif
+"""
+
+
+def comment(lines, indent=""):
+    """A comment of C that says what a doc comment says. The calls and constants in it get their names of C."""
+    text = re.sub(r"`(?:NEVGRASI_)?([A-Z][A-Z_]+\d*)`", r"NEVGRASI_\1", " ".join(lines))
+    return wrapped(f"/* {text}\N{NO-BREAK SPACE}*/", indent, f"{indent}   ")
+
+
+def wrapped(text, first, others):
+    """The text in lines that fit. A no-break space holds words together, and is written as a space."""
+    lines = textwrap.wrap(text, 118, initial_indent=first, subsequent_indent=others, break_on_hyphens=False)
+    return "\n".join(lines).replace("\N{NO-BREAK SPACE}", " ")
+
+
+def documented(text, pattern):
+    """Each match of the pattern below a doc comment, with the comment's lines."""
+    found = re.finditer(rf"((?:^ *///.*\n)+)(?:^ *#\[.*\n)*^ *{pattern}", text, re.M)
+    return [([line.strip()[3:].strip() for line in it[1].splitlines()], it) for it in found]
+
+
+def constants():
+    """The codes and limits, with their comments, as lines."""
+    for file in (OUTCOME, DEPTH, EXPORTS, TABLE):
+        for lines, it in documented(file.read_text(), r"pub const (\w+): (?:u32|usize) = ([\d_]+);"):
+            yield comment(lines)
+            yield f"#define NEVGRASI_{ 'TARGETS' if it[2] == 'COUNT' else it[2]} {it[3].replace('_', '')}"
+
+
+def fields():
+    """The fields of an outcome."""
+    body = OUTCOME.read_text().partition("pub struct Outcome {")[2].partition("\n}")[0]
+    for lines, it in documented(body, r"pub (\w+): (\w+),"):
+        yield comment(lines, "    ")
+        yield f"    {FIELDS[it[3]]} {it[2]};"
+
+
+def exports():
+    """Each export: the lines of its comment, its name, and its parameters for C."""
+    pattern = r'pub extern "C" fn (\w+)\(([^)]*)\) -> u32'
+    for lines, it in documented(EXPORTS.read_text(), pattern):
+        words = [word.strip().partition(": ") for word in it[3].split(",") if word.strip()]
+        parameters = [part.replace("NAME", name) for name, _, kind in words for part in PARAMETERS[kind]]
+        yield lines, it[2], parameters
+
+
+def header():
+    """The text of the header."""
+    parts = [FRONT, *constants(), "\n/* How a call ended. */\ntypedef struct {", *fields(), "} nevgrasi_outcome;"]
+    for lines, name, parameters in exports():
+        listed = ", ".join(part.replace(" ", "\N{NO-BREAK SPACE}") for part in parameters) or "void"
+        parts.append(f"\n{comment(lines)}\n{wrapped(f'uint32_t {name}({listed});', '', '    ')}")
+    return "\n".join(parts) + "\n" + END

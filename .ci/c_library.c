@@ -1,0 +1,363 @@
+/* Calls each export, and prints a line for each thing that is not as it should be. Runs under AddressSanitizer, so that
+   a byte written or read outside a buffer ends it.
+
+   Each call is made with a buffer as long as its answer, one byte shorter, and of no bytes; malloc refuses each of its
+   allocations in turn; and eight threads ask at once. The last line is `N passed, M failed`. */
+#include <ctype.h>
+#include <nevgrasi.h>
+#include <pthread.h>
+#include <stdio.h>
+#include <stdlib.h>
+#include <string.h>
+
+static _Atomic int passed, failed;
+
+static void expect(int is_so, const char *what, const char *of) {
+    if (is_so) {
+        passed++;
+    } else {
+        failed++;
+        printf("FAILED: %s: %s\n", what, of);
+    }
+}
+
+/* What a call is asked: up to three texts. */
+typedef struct {
+    const char *name;
+    const uint8_t *texts[3];
+    size_t lengths[3];
+} question;
+
+typedef uint32_t call(const question *, uint8_t *, size_t, nevgrasi_outcome *);
+
+#define ONE(export) \
+    static uint32_t export(const question *q, uint8_t *out, size_t size, nevgrasi_outcome *o) { \
+        return nevgrasi_##export(q->texts[0], q->lengths[0], out, size, o); \
+    }
+#define TWO(export) \
+    static uint32_t export(const question *q, uint8_t *out, size_t size, nevgrasi_outcome *o) { \
+        return nevgrasi_##export(q->texts[0], q->lengths[0], q->texts[1], q->lengths[1], 1000, out, size, o); \
+    }
+ONE(canonical)
+ONE(fault)
+ONE(facts)
+ONE(read_key)
+ONE(flat_print)
+TWO(implies)
+TWO(equivalent)
+TWO(excludes)
+static uint32_t can_hold(const question *q, uint8_t *out, size_t size, nevgrasi_outcome *o) {
+    return nevgrasi_can_hold(q->texts[0], q->lengths[0], 1000, out, size, o);
+}
+static uint32_t matches(const question *q, uint8_t *out, size_t size, nevgrasi_outcome *o) {
+    return nevgrasi_matches(q->texts[0], q->lengths[0], q->texts[1], q->lengths[1], q->texts[2], q->lengths[2], out,
+                            size, o);
+}
+static uint32_t targets(const question *q, uint8_t *out, size_t size, nevgrasi_outcome *o) {
+    uint64_t words[NEVGRASI_WORDS] = {0};
+    return nevgrasi_targets(q->texts[0], q->lengths[0], words, out, size, o);
+}
+static uint32_t target_name(const question *q, uint8_t *out, size_t size, nevgrasi_outcome *o) {
+    return nevgrasi_target_name(q->lengths[1], out, size, o);
+}
+static uint32_t flat_matches(const question *q, uint8_t *out, size_t size, nevgrasi_outcome *o) {
+    (void)out, (void)size;
+    return nevgrasi_flat_matches(q->texts[0], q->lengths[0], q->texts[1], q->lengths[1], q->texts[2], q->lengths[2], o);
+}
+
+/* Bytes of their own block, so that AddressSanitizer sees a read past them. */
+static const uint8_t *copied(const void *bytes, size_t size) {
+    uint8_t *copy = malloc(size);
+    if (size) memcpy(copy, bytes, size);
+    return copy;
+}
+
+static question asked(const char *name, const char *first, const char *second, const char *third) {
+    const char *texts[3] = {first, second, third};
+    question q = {name, {0}, {0}};
+    for (int k = 0; k < 3; k++) {
+        q.lengths[k] = strlen(texts[k]);
+        q.texts[k] = copied(texts[k], q.lengths[k]);
+    }
+    return q;
+}
+
+static void let_go(question *q) {
+    for (int k = 0; k < 3; k++) free((void *)q->texts[k]);
+}
+
+/* malloc refuses the allocation of this number, and none where it is 0. Only this file's first thread counts. */
+static _Thread_local long refused, counted;
+void *__real_malloc(size_t);
+void *__real_realloc(void *, size_t);
+void __real_free(void *);
+static _Thread_local long held;
+void *__wrap_malloc(size_t size) {
+    if (refused && ++counted == refused) return NULL;
+    void *block = __real_malloc(size);
+    held += block != NULL;
+    return block;
+}
+void *__wrap_realloc(void *block, size_t size) {
+    if (refused && ++counted == refused) return NULL;
+    void *moved = __real_realloc(block, size);
+    held += block == NULL && moved != NULL;
+    return moved;
+}
+void __wrap_free(void *block) {
+    held -= block != NULL;
+    __real_free(block);
+}
+
+/* The call with a buffer of each size; the code is this one, and the answer has so many bytes, where it is told. */
+static void try_sizes(call *made, const question *q, uint32_t code, const char *answer) {
+    nevgrasi_outcome o, again;
+    uint32_t found = made(q, NULL, 0, &o);
+    expect(found == code && o.code == code, "another code", q->name);
+    uint8_t *exact = calloc(o.needed + 1, 1);
+    expect(made(q, exact, o.needed, &again) == code && again.needed == o.needed, "another length", q->name);
+    if (answer) {
+        expect(o.needed == strlen(answer) && !memcmp(exact, answer, o.needed), "another answer", q->name);
+        if (o.needed != strlen(answer) || memcmp(exact, answer, o.needed)) printf("    %s\n", (char *)exact);
+    }
+    free(exact);
+    if (o.needed) {
+        uint8_t *shorter = malloc(o.needed - 1);
+        if (o.needed > 1) memset(shorter, 0xAA, o.needed - 1);
+        expect(made(q, shorter, o.needed - 1, &again) == code && again.needed == o.needed, "a short buffer", q->name);
+        int is_kept = 1;
+        for (size_t k = 0; k + 1 < o.needed; k++) is_kept &= shorter[k] == 0xAA;
+        expect(is_kept, "a short buffer is written", q->name);
+        free(shorter);
+    }
+}
+
+/* Each allocation of the call refused in turn: the code is NO_MEMORY, and no block is kept. */
+static void refuse_each(call *made, const question *q) {
+    uint8_t out[4096] = {0};
+    for (long number = 1;; number++) {
+        nevgrasi_outcome o;
+        long before = held;
+        refused = number, counted = 0;
+        uint32_t code = made(q, out, sizeof out, &o);
+        int is_past = counted < number;
+        refused = 0;
+        expect(held == before, "a block is kept", q->name);
+        if (is_past) return;
+        expect(code == NEVGRASI_NO_MEMORY, "a refused allocation is passed over", q->name);
+    }
+}
+
+static void try_call(call *made, question q, uint32_t code, const char *answer) {
+    try_sizes(made, &q, code, answer);
+    refuse_each(made, &q);
+    let_go(&q);
+}
+
+static const char KEY[] = "cfg( all(unix,not(target_os=\"macos\"),) )";
+
+static void try_answers(void) {
+    try_call(canonical, asked("canonical", KEY, "", ""), NEVGRASI_DONE, "cfg(all(unix, not(target_os = \"macos\")))");
+    try_call(canonical, asked("canonical of nothing", "", "", ""), NEVGRASI_DONE, "");
+    try_call(canonical, asked("canonical, refused", "cfg(all(a b))", "", ""), NEVGRASI_REFUSED,
+             "failed to parse `all(a b)` as a cfg expression: expected `)`, found an identifier");
+    try_call(canonical, asked("canonical of no text", "cfg(\xFF)", "", ""), NEVGRASI_NOT_UTF8, "");
+    try_call(fault, asked("fault", "cfg(all(a b))", "", ""), NEVGRASI_REFUSED,
+             "cfg(all(a b))\n          ^ expected `)`, found an identifier");
+    try_call(fault, asked("fault of none", "cfg(a)", "", ""), NEVGRASI_DONE, "");
+    try_call(matches, asked("matches", KEY, "x", "unix\n"), NEVGRASI_DONE, "");
+    try_call(matches, asked("matches, a line refused", KEY, "x", "unix\n=\n"), NEVGRASI_REFUSED,
+             "line 2: failed to parse `=` as a cfg expression: expected identifier, found `=`");
+    try_call(matches, asked("matches, no text", KEY, "\xFF", ""), NEVGRASI_NOT_UTF8, "");
+    try_call(targets, asked("targets", KEY, "", ""), NEVGRASI_DONE, "");
+    try_call(target_name, asked("target_name", "", "", ""), NEVGRASI_DONE, "aarch64-apple-darwin");
+    try_call(facts, asked("facts", "x86_64-unknown-linux-gnu", "", ""), NEVGRASI_DONE, NULL);
+    try_call(facts, asked("facts of none", "x86", "", ""), NEVGRASI_UNKNOWN_TARGET, "");
+    try_call(implies, asked("implies", "cfg(all(a, b))", "cfg(a)", ""), NEVGRASI_DONE, "");
+    try_call(implies, asked("implies, an example", "cfg(a)", "cfg(b)", ""), NEVGRASI_DONE, "a\n");
+    try_call(implies, asked("implies, a name", "x", "y", ""), NEVGRASI_DONE, "x\n");
+    try_call(implies, asked("implies, the second refused", "cfg(a)", "cfg(", ""), NEVGRASI_REFUSED, NULL);
+    try_call(equivalent, asked("equivalent", "cfg(a)", "cfg(all(a))", ""), NEVGRASI_DONE, "");
+    try_call(excludes, asked("excludes", "cfg(a)", "cfg(not(a))", ""), NEVGRASI_DONE, "");
+    try_call(can_hold, asked("can_hold", "cfg(a)", "", ""), NEVGRASI_DONE, "a\n");
+    try_call(read_key, asked("read_key", KEY, "", ""), NEVGRASI_DONE, NULL);
+    try_call(flat_print, asked("flat_print of no tree", "x", "", ""), NEVGRASI_NOT_FLAT, "");
+}
+
+/* Where a call has several texts, it tells of which one is refused, and where in it. */
+static void try_place(call *made, question q, uint32_t code, uint32_t argument, size_t start, size_t end) {
+    nevgrasi_outcome o;
+    expect(made(&q, NULL, 0, &o) == code && o.argument == argument, "another argument", q.name);
+    expect(o.start == start && o.end == end, "another span", q.name);
+    let_go(&q);
+}
+
+static void try_places(void) {
+    try_place(canonical, asked("a key", "cfg(all(a b))", "", ""), NEVGRASI_REFUSED, 0, 10, 11);
+    try_place(fault, asked("a key, shown", "cfg(all(a b))", "", ""), NEVGRASI_REFUSED, 0, 10, 11);
+    try_place(matches, asked("a key of matches", "a b", "", ""), NEVGRASI_REFUSED, 0, 1, 2);
+    try_place(matches, asked("a name", "a", "\xFF", ""), NEVGRASI_NOT_UTF8, 1, 0, 0);
+    try_place(matches, asked("lines", "a", "", "\xFF"), NEVGRASI_NOT_UTF8, 2, 0, 0);
+    try_place(matches, asked("a line", "a", "", "unix\n=\n"), NEVGRASI_REFUSED, 2, 5, 6);
+    try_place(implies, asked("a first key", "a b", "a b", ""), NEVGRASI_REFUSED, 0, 1, 2);
+    try_place(implies, asked("a second key", "a", "cfg(a b)", ""), NEVGRASI_REFUSED, 1, 6, 7);
+    try_place(excludes, asked("a second key, no text", "a", "\xC3", ""), NEVGRASI_NOT_UTF8, 1, 0, 0);
+    try_place(flat_matches, asked("flat bytes", "x", "", ""), NEVGRASI_NOT_FLAT, 0, 0, 0);
+}
+
+/* The flat form of a key, in a block of its own length. */
+static uint8_t *flat_of(const char *key, size_t *size) {
+    nevgrasi_outcome o;
+    nevgrasi_read_key((const uint8_t *)key, strlen(key), NULL, 0, &o);
+    uint8_t *flat = calloc(o.needed, 1);
+    nevgrasi_read_key((const uint8_t *)key, strlen(key), flat, o.needed, &o);
+    *size = o.needed;
+    return flat;
+}
+
+/* Flat bytes with each byte changed in turn: they are refused, or print a condition. Where the byte became a letter or
+   a digit, so that a name stays one that a key may spell, they are the flat form of what they print. */
+static void change_each(void) {
+    size_t size, changed = 0;
+    uint8_t *flat = flat_of(KEY, &size);
+    for (size_t at = 0; at < size; at++) {
+        for (int by = 1; by < 256; by++) {
+            flat[at] ^= by;
+            uint8_t text[4096] = {0}, again[4096] = {0};
+            nevgrasi_outcome o, read;
+            uint32_t code = nevgrasi_flat_print(flat, size, text, sizeof text, &o);
+            expect(code == NEVGRASI_DONE || code == NEVGRASI_NOT_FLAT, "changed flat bytes", "another code");
+            if (code == NEVGRASI_DONE && isalnum(flat[at])
+                && nevgrasi_read_key(text, o.needed, again, sizeof again, &read) == NEVGRASI_DONE) {
+                changed++;
+                expect(read.needed == size && !memcmp(again, flat, size), "changed flat bytes", (char *)text);
+            }
+            flat[at] ^= by;
+        }
+    }
+    expect(changed > 0, "changed flat bytes", "none is read");
+    for (size_t shorter = 0; shorter < size; shorter++) {
+        nevgrasi_outcome o;
+        uint8_t *front = malloc(shorter);
+        memcpy(front, flat, shorter);
+        uint32_t code = nevgrasi_flat_print(front, shorter, NULL, 0, &o);
+        expect(code == NEVGRASI_NOT_FLAT || code == NEVGRASI_DONE, "the front of flat bytes", "another code");
+        free(front);
+    }
+    free(flat);
+}
+
+/* Each kind of record: the flat form of a key is accepted, and prints as the key does. */
+static void try_flat_forms(void) {
+    const char *keys[] = {"cfg(a)", "cfg(r#a)", "cfg(a = \"\")", "cfg(r#a = \"b\")", "cfg(true)",
+                          "cfg(false)", "cfg(all())", "cfg(any())", "cfg(not(not(a)))",
+                          "cfg(any(a, not(b), all(c, any(d)), e))", "x86_64-x", ""};
+    for (size_t k = 0; k < sizeof keys / sizeof *keys; k++) {
+        size_t size;
+        uint8_t *flat = flat_of(keys[k], &size), text[512] = {0};
+        nevgrasi_outcome o;
+        uint32_t code = nevgrasi_flat_print(flat, size, text, sizeof text, &o);
+        expect(code == NEVGRASI_DONE && !strcmp((char *)text, keys[k]), "a flat form", keys[k]);
+        free(flat);
+    }
+}
+
+/* A key of so many levels: `not(`, or groups that a member follows. */
+static char *nested(size_t levels, const char *before, const char *after) {
+    size_t size = levels * (strlen(before) + strlen(after)) + 8, at = 4;
+    char *key = malloc(size);
+    memcpy(key, "cfg(", 4);
+    for (size_t k = 0; k < levels; k++, at += strlen(before)) memcpy(key + at, before, strlen(before));
+    key[at++] = 'a';
+    for (size_t k = 0; k < levels; k++, at += strlen(after)) memcpy(key + at, after, strlen(after));
+    memcpy(key + at, ")", 2);
+    return key;
+}
+
+/* As many levels as a text may have, and one more. The `cfg(` is one of them. */
+static void try_depth(const char *before, const char *after) {
+    for (size_t more = 0; more < 2; more++) {
+        char *key = nested(NEVGRASI_MOST_OPEN - 1 + more, before, after);
+        size_t size = strlen(key);
+        nevgrasi_outcome o;
+        uint32_t code = nevgrasi_canonical((uint8_t *)key, size, NULL, 0, &o);
+        expect(code == (more ? NEVGRASI_TOO_DEEP : NEVGRASI_DONE), "canonical of a deep key", before);
+        code = nevgrasi_matches((uint8_t *)key, size, NULL, 0, (uint8_t *)"a\n", 2, NULL, 0, &o);
+        expect(code == (more ? NEVGRASI_TOO_DEEP : NEVGRASI_DONE), "matches of a deep key", before);
+        code = nevgrasi_can_hold((uint8_t *)key, size, 1000, NULL, 0, &o);
+        expect(code == (more ? NEVGRASI_TOO_DEEP : NEVGRASI_DONE), "can_hold of a deep key", before);
+        if (!more) {
+            size_t flat_size;
+            uint8_t *flat = flat_of(key, &flat_size);
+            code = nevgrasi_flat_print(flat, flat_size, NULL, 0, &o);
+            int is_long = flat_size > NEVGRASI_MOST_FLAT_BYTES;
+            expect(code == (is_long ? NEVGRASI_TOO_DEEP : NEVGRASI_DONE), "flat, deep", before);
+            free(flat);
+        }
+        free(key);
+    }
+}
+
+static void try_limit(void) {
+    uint8_t *flat = calloc(NEVGRASI_MOST_FLAT_BYTES + 1, 1);
+    nevgrasi_outcome o;
+    uint32_t code = nevgrasi_flat_print(flat, NEVGRASI_MOST_FLAT_BYTES + 1, NULL, 0, &o);
+    expect(code == NEVGRASI_TOO_DEEP, "flat", "too long");
+    code = nevgrasi_flat_print(flat, NEVGRASI_MOST_FLAT_BYTES, NULL, 0, &o);
+    expect(code == NEVGRASI_NOT_FLAT, "flat", "at its limit");
+    free(flat);
+}
+
+/* The deepest flat condition that is as long as one may be: each level is `all` of the next and of `true`. */
+static void try_deep_flat(void) {
+    size_t record = 17, levels = (NEVGRASI_MOST_FLAT_BYTES / record - 1) / 2, size = (2 * levels + 1) * record;
+    uint8_t *flat = calloc(size, 1);
+    for (size_t k = 0; k < 2 * levels + 1; k++) {
+        flat[k * record] = k < levels ? 2 : 0;
+        flat[k * record + 16] = k < levels ? 7 : 4;
+    }
+    nevgrasi_outcome o;
+    expect(nevgrasi_flat_print(flat, size, NULL, 0, &o) == NEVGRASI_DONE, "the deepest flat condition", "no print");
+    expect(o.needed == 5 + 11 * levels + 4, "the deepest flat condition", "another length");
+    uint32_t code = nevgrasi_flat_matches(flat, size, NULL, 0, NULL, 0, &o);
+    expect(code == NEVGRASI_DONE && o.holds, "the deepest flat condition", "does not match");
+    free(flat);
+}
+
+static void *ask_often(void *ignored) {
+    (void)ignored;
+    for (int k = 0; k < 200; k++) {
+        uint8_t out[512] = {0};
+        nevgrasi_outcome o;
+        nevgrasi_canonical((const uint8_t *)KEY, strlen(KEY), out, sizeof out, &o);
+        expect(!strcmp((char *)out, "cfg(all(unix, not(target_os = \"macos\")))"), "a thread", "another answer");
+    }
+    return NULL;
+}
+
+int main(void) {
+    expect(nevgrasi_interface() == NEVGRASI_INTERFACE, "interface", "another number");
+    try_answers();
+    try_places();
+    question flat = asked("flat_matches", "", "x", "");
+    size_t size;
+    free((void *)flat.texts[0]);
+    flat.texts[0] = flat_of(KEY, &size);
+    flat.lengths[0] = size;
+    try_sizes(flat_matches, &flat, NEVGRASI_DONE, "");
+    refuse_each(flat_matches, &flat);
+    try_sizes(flat_print, &flat, NEVGRASI_DONE, "cfg(all(unix, not(target_os = \"macos\")))");
+    refuse_each(flat_print, &flat);
+    let_go(&flat);
+    try_flat_forms();
+    change_each();
+    try_depth("not(", ")");
+    try_depth("all(", ", a)");
+    try_limit();
+    try_deep_flat();
+    pthread_t threads[8];
+    for (int k = 0; k < 8; k++) pthread_create(&threads[k], NULL, ask_often, NULL);
+    for (int k = 0; k < 8; k++) pthread_join(threads[k], NULL);
+    printf("%d passed, %d failed\n", passed, failed);
+    return failed != 0;
+}

@@ -1,0 +1,57 @@
+-- What is answered on texts, and on flat bytes.
+use Rattle.std.specs.Prelude.{◌≡◌, ℕ, Bool, true, false, IsTrue, ◌↔◌, ◌<◌, List, [], ◌∷◌, ◌++◌, Option, Some, None, map}
+use Rattle.std.specs.Prelude.{String, string_bytes, codes}
+use Rattle.std.specs.declared.alloc.Global.{Global}
+use Rattle.cargo_platform.specs.Trees.{Condition, CfgValue, value_of, tree_of}
+use Rattle.cargo_platform.specs.Platforms.{IsConditionText}
+use Rattle.cargo_platform.specs.Print.{print_condition, print_value}
+use Rattle.cargo_platform.specs.Facts.{fact_set, truth_of_condition, IsTrueCondition, FactSet, truth}
+use Rattle.cargo_platform.specs.Lines.{lines_of, line, ended}
+use Rattle.cargo_platform.specs.FactLines.{SpellFacts}
+use Rattle.known_targets.specs.Bits.{has}
+use Rattle.known_targets.specs.Rows.{facts_in}
+use Rattle.known_targets.specs.Table.{target_name, target_facts, table_keys}
+use Rattle.known_targets.specs.declared.table.TheConstants.{COUNT}
+use Rattle.byte_answers.specs.Outcomes.{IsWritten}
+use Rattle.byte_answers.specs.Flat.{flat_condition, flat_values}
+
+-- the buffer is given the canonical text of the condition that the key spells
+abbrev pub IsCanonical : List ℕ → ℕ → List ℕ → List ℕ → Type 0
+IsCanonical key needed old new =
+    (p : Condition) × IsConditionText key p × IsWritten (print_condition p) needed old new
+
+-- it is given the flat form of that condition
+abbrev pub IsFlatOf : List ℕ → ℕ → List ℕ → List ℕ → Type 0
+IsFlatOf key needed old new = (p : Condition) × IsConditionText key p × IsWritten (flat_condition p) needed old new
+
+-- whether the condition that the key spells holds for a target of this name, with the facts that the lines spell
+abbrev pub IsMatch : List ℕ → List ℕ → List ℕ → Bool → Type 0
+IsMatch key name lines holds =
+    (p : Condition) × ((facts : List CfgValue) × (IsConditionText key p × SpellFacts (lines_of lines) facts
+    × (holds ≡ truth_of_condition name (fact_set facts) p)))
+
+-- the same of flat bytes
+abbrev pub IsFlatMatch : List ℕ → List ℕ → List ℕ → Bool → Type 0
+IsFlatMatch flat name flat_facts holds =
+    (p : Condition) × ((facts : List CfgValue) × ((flat_condition p ≡ flat) × (flat_values facts ≡ flat_facts)
+    × (holds ≡ truth_of_condition name (fact_set facts) p)))
+
+-- the bits of the known targets at which the condition that the key spells holds
+abbrev pub AreTargets : List ℕ → List ℕ → Type 0
+AreTargets key words =
+    (p : Condition) × (IsConditionText key p × ((k : ℕ) → k < COUNT
+    → IsTrue (has words k) ↔ IsTrueCondition (target_name k) (target_facts k) p))
+
+-- the buffer is given the text of the condition of these bytes
+abbrev pub IsPrint : List ℕ → ℕ → List ℕ → List ℕ → Type 0
+IsPrint flat needed old new =
+    (p : Condition) × ((flat_condition p ≡ flat) × IsWritten (print_condition p) needed old new)
+
+-- facts as they are printed, one a line
+abbrev pub fact_lines : List CfgValue → List ℕ
+fact_lines facts = ended (map print_value facts)
+
+-- the buffer is given the facts of the known target of this name
+abbrev pub AreFactsOf : List ℕ → ℕ → List ℕ → List ℕ → Type 0
+AreFactsOf name needed old new =
+    (k : ℕ) × ((k < COUNT) × (target_name k ≡ name) × IsWritten (fact_lines (facts_in k table_keys)) needed old new)

@@ -1,0 +1,29 @@
+-- What stands in a caller's buffer, and with which codes calls end.
+use Rattle.std.specs.Prelude.{◌≡◌, ◌≤◌, ◌<◌, ℕ, Bool, ◌||◌, ◌==◌, List, ◌++◌, length, drop}
+use Rattle.byte_answers.specs.declared.outcome.TheConstants.{DONE, REFUSED, NOT_UTF8, NOT_FLAT, NO_MEMORY, UNDECIDED}
+use Rattle.byte_answers.specs.declared.outcome.TheConstants.{TOO_DEEP, UNKNOWN_TARGET}
+
+-- so many bytes are needed for the text, and where the buffer has them it begins with the text, and is else as it was
+abbrev pub IsWritten : List ℕ → ℕ → List ℕ → List ℕ → Type 0
+IsWritten text needed old new =
+    (needed ≡ length text)
+    × (length text ≤ length old → new ≡ text ++ drop (length text) old)
+    × (length old < length text → new ≡ old)
+
+-- a code of a call that has no answer since a text spells no condition, or memory was refused
+abbrev pub is_failure : ℕ → Bool
+is_failure code = code == REFUSED || code == NOT_UTF8 || code == NO_MEMORY || code == TOO_DEEP
+
+-- the codes of calls on a key, on two keys, on flat bytes, and on known targets
+abbrev pub ends_key_call : ℕ → Bool
+ends_key_call code = code == DONE || is_failure code
+
+abbrev pub ends_comparison : ℕ → Bool
+ends_comparison code = code == DONE || code == UNDECIDED || is_failure code
+
+abbrev pub ends_flat_call : ℕ → Bool
+ends_flat_call code =
+    code == DONE || code == NOT_UTF8 || code == NOT_FLAT || code == NO_MEMORY || code == TOO_DEEP
+
+abbrev pub ends_target_call : ℕ → Bool
+ends_target_call code = code == DONE || code == NOT_UTF8 || code == NO_MEMORY || code == UNKNOWN_TARGET

@@ -1,0 +1,48 @@
+-- What a refused text is answered.
+use Rattle.std.specs.Prelude.{◌≡◌, ℕ, List, [], ◌++◌, codes, Option, Some, None, String, string_bytes}
+use Rattle.std.specs.Fmt.{decimal}
+use Rattle.std.specs.declared.alloc.Global.{Global}
+use Rattle.std.specs.declared.ops.Range.{Range}
+use Rattle.cargo_platform.specs.Faults.{Fault, IsRefused}
+use Rattle.cargo_platform.specs.Spelling.{Values}
+use Rattle.cargo_platform.specs.Lines.{lines_of, line_at}
+use Rattle.cargo_platform.specs.FactLines.{IsFirstNoFact}
+use Rattle.cargo_platform.specs.Platforms.{IsRefusedConditionAt}
+use Rattle.cargo_platform.specs.KeySpans.{IsSpanInKey, IsSnippetOfKey}
+use Rattle.cargo_platform.specs.Print.{print_error}
+use Rattle.byte_answers.specs.declared.outcome.Outcome.{Outcome}
+use Rattle.byte_answers.specs.Outcomes.{IsWritten}
+
+-- these are the ends of a span that may be missing
+abbrev pub AreEnds : Option (Range ℕ) → ℕ → ℕ → Type 0
+AreEnds None start end = (start ≡ 0) × (end ≡ 0)
+AreEnds (Some span) start end = (start ≡ span.start) × (end ≡ span.end)
+
+-- the key is refused: the buffer is given the text of the error, and the outcome has the ends of its span in the key
+abbrev pub IsRefusal : List ℕ → Outcome → List ℕ → List ℕ → Type 0
+IsRefusal key o old new =
+    (orig : List ℕ) × ((fault : Fault) × ((span at : Option (Range ℕ)) × (IsRefusedConditionAt key orig fault span
+    × IsSpanInKey key orig fault span at × AreEnds at o.start o.end
+    × IsWritten (print_error orig fault) o.needed old new)))
+
+-- the text of a snippet, where there is one
+abbrev pub shown_lines : Option (String Global) → List ℕ
+shown_lines None = []
+shown_lines (Some snippet) = string_bytes snippet
+
+-- the key is refused: the buffer is given the snippet that shows it, and the outcome has the ends of the span
+abbrev pub IsShownRefusal : List ℕ → Outcome → List ℕ → List ℕ → Type 0
+IsShownRefusal key o old new =
+    (orig : List ℕ) × ((fault : Fault) × ((span at : Option (Range ℕ)) × ((snippet : Option (String Global))
+    × (IsRefusedConditionAt key orig fault span × IsSpanInKey key orig fault span at × AreEnds at o.start o.end
+    × IsSnippetOfKey key orig fault span snippet × IsWritten (shown_lines snippet) o.needed old new))))
+
+-- the message of a line of facts that is refused
+abbrev pub print_refused_line : ℕ → List ℕ → Fault → List ℕ
+print_refused_line n line fault = codes "line " ++ decimal n ++ codes ": " ++ print_error line fault
+
+-- a line spells no fact: the buffer is given the message on the first such line
+abbrev pub IsRefusedLine : List ℕ → Outcome → List ℕ → List ℕ → Type 0
+IsRefusedLine lines o old new =
+    (n : ℕ) × ((fault : Fault) × (IsFirstNoFact (lines_of lines) n × IsRefused Values (line_at (lines_of lines) n) fault
+    × IsWritten (print_refused_line n (line_at (lines_of lines) n) fault) o.needed old new))

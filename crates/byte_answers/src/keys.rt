@@ -1,0 +1,108 @@
+//! Questions on one key.
+
+ghost use Rattle.std.specs.Prelude.{◌≡◌, ℕ, IsTrue, true, ◌||◌, ◌==◌};
+ghost use Rattle.std.specs.Str.{IsUtf8};
+ghost use Rattle.cargo_platform.specs.Trees.{Condition};
+ghost use Rattle.cargo_platform.specs.Platforms.{IsConditionText, IsRefusedConditionAt};
+ghost use Rattle.cargo_platform.specs.Errors.{orig_of, fault_in, span_in};
+ghost use Rattle.byte_answers.specs.Answers.{IsCanonical, IsFlatOf};
+ghost use Rattle.byte_answers.specs.Depths.{is_too_deep};
+ghost use Rattle.byte_answers.specs.Outcomes.{ends_key_call};
+ghost use Rattle.byte_answers.specs.Refusals.{IsRefusal, IsShownRefusal};
+
+use crate::depth::is_too_deep;
+use crate::flat::flatten;
+use crate::outcome::{DONE, NO_MEMORY, NOT_UTF8, Outcome, REFUSED, TOO_DEEP, write};
+use crate::reading::{read_condition, read_text, span_of};
+use cargo_platform::{ParseError, Platform, ReadError};
+use std::alloc::Global;
+
+/// Writes the canonical text of the condition that a key spells: its print, which spells the same condition.
+///
+/// `REFUSED` where the key spells none, with the message in the buffer and the span of the fault in the key. `TOO_DEEP`
+/// where more than `MOST_OPEN` parentheses are open at once.
+pub fn canonical(alloc: Global, key: &[u8], out: &mut [u8]) -> Outcome
+    ensures done { result.code ≡ DONE → IsCanonical key.now result.needed out.old out.new }
+    ensures refused { result.code ≡ REFUSED → IsRefusal key.now result out.old out.new }
+    ensures spelled { result.code ≡ REFUSED → (p : Condition) → IsConditionText key.now p → ⊥ }
+    ensures not_utf8 { result.code ≡ NOT_UTF8 → IsUtf8 key.now → ⊥ }
+    ensures too_deep { result.code ≡ TOO_DEEP → is_too_deep key.now ≡ true }
+    ensures codes { IsTrue (ends_key_call result.code) }
+{
+    match read_condition(alloc, 0, key, out) {
+        Ok(platform) => match platform.to_string(alloc) {
+            Ok(text) => Outcome::done(write(text.as_bytes(), out)),
+            Err(_) => Outcome::ended(NO_MEMORY, 0),
+        },
+        Err(outcome) => outcome,
+    }
+}
+
+/// Writes the flat condition that a key spells: bytes that `flat_print` and `flat_matches` take in its place.
+///
+/// It refuses as `canonical` does.
+pub fn read_key(alloc: Global, key: &[u8], out: &mut [u8]) -> Outcome
+    ensures done { result.code ≡ DONE → IsFlatOf key.now result.needed out.old out.new }
+    ensures refused { result.code ≡ REFUSED → IsRefusal key.now result out.old out.new }
+    ensures spelled { result.code ≡ REFUSED → (p : Condition) → IsConditionText key.now p → ⊥ }
+    ensures not_utf8 { result.code ≡ NOT_UTF8 → IsUtf8 key.now → ⊥ }
+    ensures too_deep { result.code ≡ TOO_DEEP → is_too_deep key.now ≡ true }
+    ensures codes { IsTrue (ends_key_call result.code) }
+{
+    match read_condition(alloc, 0, key, out) {
+        Ok(platform) => match flatten(alloc, &platform) {
+            Ok(bytes) => Outcome::done(write(&bytes, out)),
+            Err(_) => Outcome::ended(NO_MEMORY, 0),
+        },
+        Err(outcome) => outcome,
+    }
+}
+
+/// The snippet of a refused key, and where its fault lies in the key.
+fn shown(alloc: Global, error: &ParseError, key: &str, out: &mut [u8]) -> Outcome
+    requires { IsRefusedConditionAt key.now (orig_of error.now) (fault_in error.now) (span_in error.now) }
+    ensures refused { result.code ≡ REFUSED → IsShownRefusal key.now result out.old out.new }
+    ensures codes { IsTrue (result.code == REFUSED || result.code == NO_MEMORY) }
+{
+    let span = span_of(error, key);
+    let needed = match error.snippet_in(alloc, key) {
+        Ok(Some(snippet)) => write(snippet.as_bytes(), out),
+        Ok(None) => write(&[], out),
+        Err(_) => return Outcome::ended(NO_MEMORY, 0),
+    };
+    Outcome {
+        code: REFUSED,
+        argument: 0,
+        holds: false,
+        is_named: false,
+        needed,
+        start: span.start,
+        end: span.end,
+    }
+}
+
+/// Shows where a key is refused: writes two lines, the key and carets under its fault with what is wrong there.
+///
+/// `REFUSED` where the key spells no condition; the span is that of the fault in the key. `DONE`, with no bytes, where
+/// it spells one. `canonical` writes the fault's message.
+pub fn fault(alloc: Global, key: &[u8], out: &mut [u8]) -> Outcome
+    ensures done { result.code ≡ DONE → (p : Condition) × IsConditionText key.now p }
+    ensures refused { result.code ≡ REFUSED → IsShownRefusal key.now result out.old out.new }
+    ensures spelled { result.code ≡ REFUSED → (p : Condition) → IsConditionText key.now p → ⊥ }
+    ensures not_utf8 { result.code ≡ NOT_UTF8 → IsUtf8 key.now → ⊥ }
+    ensures too_deep { result.code ≡ TOO_DEEP → is_too_deep key.now ≡ true }
+    ensures codes { IsTrue (ends_key_call result.code) }
+{
+    let key = match read_text(0, key) {
+        Ok(key) => key,
+        Err(outcome) => return outcome,
+    };
+    if is_too_deep(key.as_bytes()) {
+        return Outcome::ended(TOO_DEEP, 0);
+    }
+    match Platform::from_str(alloc, key) {
+        Ok(_) => Outcome::done(0),
+        Err(ReadError::Parse(error)) => shown(alloc, &error, key, out),
+        Err(ReadError::Memory(_)) => Outcome::ended(NO_MEMORY, 0),
+    }
+}

@@ -1,0 +1,92 @@
+//! Known targets.
+
+ghost use Rattle.std.specs.Prelude.{◌≡◌, ◌≢◌, ◌≤◌, ◌<◌, ℕ, IfOk, IsTrue, true, string_bytes};
+ghost use Rattle.std.specs.Str.{IsUtf8};
+ghost use Rattle.cargo_platform.specs.Trees.{Condition};
+ghost use Rattle.cargo_platform.specs.Platforms.{IsConditionText};
+ghost use Rattle.known_targets.specs.Rows.{facts_in};
+ghost use Rattle.known_targets.specs.Sets.{place};
+ghost use Rattle.known_targets.specs.Table.{target_name, table_keys};
+ghost use Rattle.byte_answers.specs.Answers.{AreFactsOf, AreTargets, fact_lines};
+ghost use Rattle.byte_answers.specs.Depths.{is_too_deep};
+ghost use Rattle.byte_answers.specs.Outcomes.{IsWritten, ends_key_call, ends_target_call};
+ghost use Rattle.byte_answers.specs.Refusals.{IsRefusal};
+
+use crate::fact_lines::push_fact_lines;
+use crate::outcome::{
+    DONE, NO_MEMORY, NOT_UTF8, Outcome, REFUSED, TOO_DEEP, UNKNOWN_TARGET, write,
+};
+use crate::reading::{read_condition, read_text};
+use known_targets::{COUNT, KnownTarget, WORDS, matching, names};
+use std::alloc::{AllocError, Global};
+
+/// Answers the known targets at which a key holds: the target at place `k` is bit `k % 64` of word `k / 64`.
+///
+/// It refuses as `canonical` does, and then leaves the words as they are.
+pub fn targets(alloc: Global, key: &[u8], words: &mut [u64; WORDS], out: &mut [u8]) -> Outcome
+    ensures done { result.code ≡ DONE → AreTargets key.now words.new }
+    ensures refused { result.code ≡ REFUSED → IsRefusal key.now result out.old out.new }
+    ensures spelled { result.code ≡ REFUSED → (p : Condition) → IsConditionText key.now p → ⊥ }
+    ensures not_utf8 { result.code ≡ NOT_UTF8 → IsUtf8 key.now → ⊥ }
+    ensures too_deep { result.code ≡ TOO_DEEP → is_too_deep key.now ≡ true }
+    ensures codes { IsTrue (ends_key_call result.code) }
+{
+    match read_condition(alloc, 0, key, out) {
+        Ok(platform) => match matching(alloc, &platform) {
+            Ok(set) => {
+                *words = set.words();
+                Outcome::done(0)
+            }
+            Err(_) => Outcome::ended(NO_MEMORY, 0),
+        },
+        Err(outcome) => outcome,
+    }
+}
+
+/// Writes the name of the known target at this place. The names are sorted, and `COUNT` of them.
+///
+/// `UNKNOWN_TARGET` where the place is no less than `COUNT`.
+pub fn target_name(place: usize, out: &mut [u8]) -> Outcome
+    ensures done { result.code ≡ DONE → IsWritten (target_name place) result.needed out.old out.new }
+    ensures known { place < COUNT → result.code ≡ DONE }
+    ensures unknown { COUNT ≤ place → result.code ≡ UNKNOWN_TARGET }
+{
+    let names = names();
+    if place < names.len() {
+        Outcome::done(write(names[place].as_bytes(), out))
+    } else {
+        Outcome::ended(UNKNOWN_TARGET, 0)
+    }
+}
+
+/// The lines of a target's facts.
+fn facts_text(alloc: Global, target: KnownTarget) -> Result<String, AllocError>
+    ensures { IfOk result (λ text. string_bytes text ≡ fact_lines (facts_in (place target) table_keys)) }
+{
+    let facts = target.facts(alloc)?;
+    let mut text = String::new(alloc);
+    push_fact_lines(alloc, &mut text, &facts)?;
+    Ok(text)
+}
+
+/// Writes the facts of the known target of this name, one a line, in a form that `matches` reads.
+///
+/// `UNKNOWN_TARGET` where no known target has the name.
+pub fn facts(alloc: Global, name: &[u8], out: &mut [u8]) -> Outcome
+    ensures done { result.code ≡ DONE → AreFactsOf name.now result.needed out.old out.new }
+    ensures unknown { result.code ≡ UNKNOWN_TARGET → (k : ℕ) → k < COUNT → target_name k ≢ name.now }
+    ensures not_utf8 { result.code ≡ NOT_UTF8 → IsUtf8 name.now → ⊥ }
+    ensures codes { IsTrue (ends_target_call result.code) }
+{
+    let name = match read_text(0, name) {
+        Ok(name) => name,
+        Err(outcome) => return outcome,
+    };
+    let Some(target) = KnownTarget::by_name(name) else {
+        return Outcome::ended(UNKNOWN_TARGET, 0);
+    };
+    match facts_text(alloc, target) {
+        Ok(text) => Outcome::done(write(text.as_bytes(), out)),
+        Err(_) => Outcome::ended(NO_MEMORY, 0),
+    }
+}

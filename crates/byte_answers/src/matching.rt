@@ -1,0 +1,91 @@
+//! Whether a key applies to a target.
+
+ghost use Rattle.std.specs.Prelude.{◌≡◌, ◌≢◌, ℕ, List, IsTrue, true, map, ◌||◌, ◌==◌};
+ghost use Rattle.std.specs.Str.{IsUtf8};
+ghost use Rattle.cargo_platform.specs.Trees.{CfgValue, Condition, condition_of};
+ghost use Rattle.cargo_platform.specs.Facts.{fact_set, truth_of_condition};
+ghost use Rattle.cargo_platform.specs.Lines.{lines_of};
+ghost use Rattle.cargo_platform.specs.FactLines.{SpellFacts};
+ghost use Rattle.cargo_platform.specs.Platforms.{IsConditionText};
+ghost use Rattle.byte_answers.specs.Answers.{IsMatch};
+ghost use Rattle.byte_answers.specs.Depths.{is_too_deep};
+ghost use Rattle.byte_answers.specs.Outcomes.{ends_key_call, is_failure};
+ghost use Rattle.byte_answers.specs.Refusals.{IsRefusal, IsRefusedLine};
+
+use crate::outcome::{DONE, NO_MEMORY, NOT_UTF8, Outcome, REFUSED, TOO_DEEP, write};
+use crate::reading::{read_condition, read_text};
+use cargo_platform::{FactsError, Platform, read_facts};
+use std::alloc::Global;
+
+/// The place of the lines of facts among the texts of `matches`.
+const LINES: u32 = 2;
+
+/// The message of refused facts, and where the fault lies in their text.
+fn refused_facts(alloc: Global, error: &FactsError, lines: &str, out: &mut [u8]) -> Outcome
+    ensures argument { result.argument ≡ LINES }
+    ensures codes { IsTrue (result.code == REFUSED || result.code == NO_MEMORY) }
+{
+    if let FactsError::Memory(_) = error {
+        return Outcome::ended(NO_MEMORY, LINES);
+    }
+    let span = error.span_in(lines).unwrap_or(0..0);
+    match error.to_string(alloc) {
+        Ok(message) => Outcome {
+            code: REFUSED,
+            argument: LINES,
+            holds: false,
+            is_named: false,
+            needed: write(message.as_bytes(), out),
+            start: span.start,
+            end: span.end,
+        },
+        Err(_) => Outcome::ended(NO_MEMORY, LINES),
+    }
+}
+
+/// Whether a condition applies to a target of this name, with the facts of these lines.
+fn match_lines(
+    alloc: Global,
+    platform: &Platform,
+    name: &str,
+    lines: &str,
+    out: &mut [u8],
+) -> Outcome
+    ensures done { result.code ≡ DONE → (facts : List CfgValue) × (SpellFacts (lines_of lines.now) facts
+        × (result.holds ≡ truth_of_condition name.now (fact_set facts) (condition_of platform.now))) }
+    ensures codes { IsTrue (result.code == DONE || result.code == REFUSED || result.code == NO_MEMORY) }
+    ensures argument { result.code ≡ REFUSED → result.argument ≡ LINES }
+{
+    match read_facts(alloc, lines) {
+        Ok(facts) => Outcome::answered(platform.matches(name, &facts)),
+        Err(error) => refused_facts(alloc, &error, lines, out),
+    }
+}
+
+/// Answers whether a key applies to the target of this name, with the facts of these lines.
+///
+/// The lines are as `rustc --print cfg` prints them, one fact a line. The outcome's `holds` is the answer. `REFUSED`,
+/// with the message in the buffer, where the key spells no condition (`argument` 0), or a line spells no fact
+/// (`argument` 2). `NOT_UTF8` tells by `argument` which text is none.
+pub fn matches(alloc: Global, key: &[u8], name: &[u8], lines: &[u8], out: &mut [u8]) -> Outcome
+    ensures done { result.code ≡ DONE → IsMatch key.now name.now lines.now result.holds }
+    ensures refused { result.code ≡ REFUSED → result.argument ≡ 0 → IsRefusal key.now result out.old out.new }
+    ensures spelled { result.code ≡ REFUSED → result.argument ≡ 0
+        → (p : Condition) → IsConditionText key.now p → ⊥ }
+    ensures not_utf8 { result.code ≡ NOT_UTF8 → IsUtf8 key.now → IsUtf8 name.now → IsUtf8 lines.now → ⊥ }
+    ensures too_deep { result.code ≡ TOO_DEEP → is_too_deep key.now ≡ true }
+    ensures codes { IsTrue (ends_key_call result.code) }
+{
+    let platform = match read_condition(alloc, 0, key, out) {
+        Ok(platform) => platform,
+        Err(outcome) => return outcome,
+    };
+    let name = match read_text(1, name) {
+        Ok(name) => name,
+        Err(outcome) => return outcome,
+    };
+    match read_text(LINES, lines) {
+        Ok(lines) => match_lines(alloc, &platform, name, lines, out),
+        Err(outcome) => outcome,
+    }
+}

@@ -1,0 +1,251 @@
+//! What a key says of another, and whether it can hold, over every set of facts that rustc's rules allow.
+
+ghost use Rattle.std.specs.Prelude.{◌≡◌, ◌++◌, [], ◌∷◌, ℕ, IfOk, IsTrue, true, false, map, string_bytes, ◌||◌, ◌==◌};
+ghost use Rattle.std.specs.Str.{IsUtf8};
+ghost use Rattle.cargo_platform.specs.Trees.{Condition, value_of, condition_of};
+ghost use Rattle.cargo_platform.specs.Facts.{IsTrueCondition};
+ghost use Rattle.cargo_platform.specs.Platforms.{IsConditionText};
+ghost use Rattle.exact_answers.specs.Asking.{NeedsMore};
+ghost use Rattle.exact_answers.specs.Targets.{SaysMustSelect, SaysCanSelect, ForEach, asked_trees};
+ghost use Rattle.byte_answers.specs.Answers.{fact_lines};
+ghost use Rattle.byte_answers.specs.Comparisons.{Stands, Fails, name_line, IsWrittenExample, HasExample};
+ghost use Rattle.byte_answers.specs.Comparisons.{SaysRelated, AreRelated, SaysPossible, IsPossibleKey};
+ghost use Rattle.byte_answers.specs.Comparisons.{NeedsLarger, AreUndecided, IsUndecided};
+ghost use Rattle.byte_answers.specs.Depths.{is_too_deep};
+ghost use Rattle.byte_answers.specs.Outcomes.{ends_comparison};
+ghost use Rattle.byte_answers.specs.Refusals.{IsRefusal};
+
+use crate::fact_lines::push_fact_lines;
+use crate::outcome::{DONE, NO_MEMORY, NOT_UTF8, Outcome, REFUSED, TOO_DEEP, UNDECIDED, write};
+use crate::reading::read_condition;
+use cargo_platform::{CfgExpr, Platform};
+use exact_answers::{
+    CanSelect, Known, MustSelect, ONE_VALUED, PossibleTarget, can_hold_platform,
+    equivalent_platform, exclude_platform, family_rule, implies_platform,
+};
+use std::alloc::{AllocError, Global};
+
+/// How one condition may stand to another.
+#[derive(Clone, Copy)]
+pub enum Relation {
+    /// The second holds wherever the first does.
+    Implies,
+    /// Both hold at the same targets.
+    Equivalent,
+    /// They hold together nowhere.
+    Excludes,
+}
+
+/// The text of an example: the line of its name, where it has one, and a line for each of its facts.
+fn example_text(alloc: Global, target: &PossibleTarget) -> Result<String, AllocError>
+    ensures { IfOk result (λ text. string_bytes text
+        ≡ name_line target.now.name ++ fact_lines (map value_of target.now.facts.items)) }
+{
+    let mut text = String::new(alloc);
+    if let Some(name) = &target.name {
+        text.push_str(name.as_str())?;
+        text.push_str("\n")?;
+    }
+    push_fact_lines(alloc, &mut text, &target.facts)?;
+    Ok(text)
+}
+
+/// An answer with an example.
+fn with_example(alloc: Global, holds: bool, target: &PossibleTarget, out: &mut [u8]) -> Outcome
+    ensures example { result.code ≡ DONE → IsWrittenExample target.now result out.old out.new }
+    ensures holds { result.code ≡ DONE → result.holds ≡ holds }
+    ensures codes { IsTrue (result.code == DONE || result.code == NO_MEMORY) }
+{
+    match example_text(alloc, target) {
+        Ok(text) => Outcome {
+            code: DONE,
+            argument: 0,
+            holds,
+            is_named: target.name.is_some(),
+            needed: write(text.as_bytes(), out),
+            start: 0,
+            end: 0,
+        },
+        Err(_) => Outcome::ended(NO_MEMORY, 0),
+    }
+}
+
+/// Asks whether the relation holds at each possible target.
+fn ask<'a>(
+    alloc: Global,
+    relation: Relation,
+    a: &'a Platform,
+    b: &'a Platform,
+    known: &'a Known<'a>,
+    budget: u64,
+) -> Result<MustSelect, AllocError>
+    ensures { IfOk result (λ r. SaysMustSelect r known.now (condition_of a.now ∷ condition_of b.now ∷ []) budget
+        (λ name s. Fails relation
+        (IsTrueCondition name s (condition_of a.now)) (IsTrueCondition name s (condition_of b.now)))
+        (λ name s. Stands relation
+        (IsTrueCondition name s (condition_of a.now)) (IsTrueCondition name s (condition_of b.now)))) }
+{
+    match relation {
+        Relation::Implies => implies_platform(alloc, a, b, known, budget),
+        Relation::Equivalent => equivalent_platform(alloc, a, b, known, budget),
+        Relation::Excludes => exclude_platform(alloc, a, b, known, budget),
+    }
+}
+
+/// Whether the relation holds at each target that is possible by what is known.
+fn related_by<'a>(
+    alloc: Global,
+    relation: Relation,
+    a: &'a Platform,
+    b: &'a Platform,
+    known: &'a Known<'a>,
+    budget: u64,
+    out: &mut [u8],
+) -> Outcome
+    ensures yes { result.code ≡ DONE → result.holds ≡ true
+        → ForEach known.now (λ name s. Stands relation
+        (IsTrueCondition name s (condition_of a.now)) (IsTrueCondition name s (condition_of b.now))) }
+    ensures no { result.code ≡ DONE → result.holds ≡ false
+        → HasExample known.now (condition_of a.now ∷ condition_of b.now ∷ []) (λ name s. Fails relation
+        (IsTrueCondition name s (condition_of a.now)) (IsTrueCondition name s (condition_of b.now)))
+        result out.old out.new }
+    ensures undecided { result.code ≡ UNDECIDED
+        → NeedsMore known.now (asked_trees (condition_of a.now ∷ condition_of b.now ∷ [])) budget }
+    ensures codes { IsTrue (result.code == DONE || result.code == UNDECIDED || result.code == NO_MEMORY) }
+{
+    match ask(alloc, relation, a, b, known, budget) {
+        Ok(MustSelect::Yes) => Outcome::answered(true),
+        Ok(MustSelect::No(target)) => with_example(alloc, false, &target, out),
+        Ok(MustSelect::Undecided) => Outcome::ended(UNDECIDED, 0),
+        Err(_) => Outcome::ended(NO_MEMORY, 0),
+    }
+}
+
+/// Whether the relation holds between two conditions.
+fn related(
+    alloc: Global,
+    relation: Relation,
+    a: &Platform,
+    b: &Platform,
+    budget: u64,
+    out: &mut [u8],
+) -> Outcome
+    ensures done { result.code ≡ DONE
+        → SaysRelated relation (condition_of a.now) (condition_of b.now) result out.old out.new }
+    ensures undecided { result.code ≡ UNDECIDED → NeedsLarger (condition_of a.now ∷ condition_of b.now ∷ []) budget }
+    ensures codes { IsTrue (result.code == DONE || result.code == UNDECIDED || result.code == NO_MEMORY) }
+{
+    let rule = match family_rule(alloc) {
+        Ok(rule) => rule,
+        Err(_) => return Outcome::ended(NO_MEMORY, 0),
+    };
+    let known = rules_alone(&rule);
+    related_by(alloc, relation, a, b, &known, budget, out)
+}
+
+/// What is known where only rustc's rules are.
+fn rules_alone(rule: &CfgExpr) -> Known<'_>
+    ensures facts { result.facts.now ≡ [] }
+    ensures complete { result.complete.now ≡ [] }
+    ensures single { map (λ t. t.now) result.single.now ≡ map (λ t. t.now) ONE_VALUED.now }
+    ensures assumed { result.assumed.now ≡ rule.now }
+{
+    Known {
+        facts: &[],
+        complete: &[],
+        single: ONE_VALUED,
+        assumed: rule,
+    }
+}
+
+/// Answers whether two keys stand so to each other, over every set of facts that rustc's rules allow.
+///
+/// `holds` is the answer. Of a no the buffer is given an example, as lines: with `is_named` the first is its name, and
+/// each other one a fact. `UNDECIDED` where the search took more splits than the budget. `REFUSED`, `NOT_UTF8` and
+/// `TOO_DEEP` tell by `argument` of which key.
+pub fn relates(
+    alloc: Global,
+    relation: Relation,
+    a: &[u8],
+    b: &[u8],
+    budget: u64,
+    out: &mut [u8],
+) -> Outcome
+    ensures done { result.code ≡ DONE → AreRelated relation a.now b.now result out.old out.new }
+    ensures first { result.code ≡ REFUSED → result.argument ≡ 0 → IsRefusal a.now result out.old out.new }
+    ensures second { result.code ≡ REFUSED → result.argument ≡ 1 → IsRefusal b.now result out.old out.new }
+    ensures undecided { result.code ≡ UNDECIDED → AreUndecided a.now b.now budget }
+    ensures spelled { result.code ≡ REFUSED
+        → (p q : Condition) → IsConditionText a.now p → IsConditionText b.now q → ⊥ }
+    ensures not_utf8 { result.code ≡ NOT_UTF8 → IsUtf8 a.now → IsUtf8 b.now → ⊥ }
+    ensures too_deep { result.code ≡ TOO_DEEP → is_too_deep a.now ≡ false → is_too_deep b.now ≡ true }
+    ensures codes { IsTrue (ends_comparison result.code) }
+{
+    let first = match read_condition(alloc, 0, a, out) {
+        Ok(first) => first,
+        Err(outcome) => return outcome,
+    };
+    match read_condition(alloc, 1, b, out) {
+        Ok(second) => related(alloc, relation, &first, &second, budget, out),
+        Err(outcome) => outcome,
+    }
+}
+
+/// Whether a condition holds at some target that is possible by what is known.
+fn possible_by<'a>(
+    alloc: Global,
+    platform: &'a Platform,
+    known: &'a Known<'a>,
+    budget: u64,
+    out: &mut [u8],
+) -> Outcome
+    ensures yes { result.code ≡ DONE → result.holds ≡ true
+        → HasExample known.now (condition_of platform.now ∷ [])
+        (λ name s. IsTrueCondition name s (condition_of platform.now)) result out.old out.new }
+    ensures no { result.code ≡ DONE → result.holds ≡ false
+        → ForEach known.now (λ name s. IsTrueCondition name s (condition_of platform.now) → ⊥) }
+    ensures undecided { result.code ≡ UNDECIDED
+        → NeedsMore known.now (asked_trees (condition_of platform.now ∷ [])) budget }
+    ensures codes { IsTrue (result.code == DONE || result.code == UNDECIDED || result.code == NO_MEMORY) }
+{
+    match can_hold_platform(alloc, platform, known, budget) {
+        Ok(CanSelect::Yes(target)) => with_example(alloc, true, &target, out),
+        Ok(CanSelect::No) => Outcome::answered(false),
+        Ok(CanSelect::Undecided) => Outcome::ended(UNDECIDED, 0),
+        Err(_) => Outcome::ended(NO_MEMORY, 0),
+    }
+}
+
+/// Whether a condition can hold.
+fn possible(alloc: Global, platform: &Platform, budget: u64, out: &mut [u8]) -> Outcome
+    ensures done { result.code ≡ DONE → SaysPossible (condition_of platform.now) result out.old out.new }
+    ensures undecided { result.code ≡ UNDECIDED → NeedsLarger (condition_of platform.now ∷ []) budget }
+    ensures codes { IsTrue (result.code == DONE || result.code == UNDECIDED || result.code == NO_MEMORY) }
+{
+    let rule = match family_rule(alloc) {
+        Ok(rule) => rule,
+        Err(_) => return Outcome::ended(NO_MEMORY, 0),
+    };
+    let known = rules_alone(&rule);
+    possible_by(alloc, platform, &known, budget, out)
+}
+
+/// Answers whether a key can hold, over some set of facts that rustc's rules allow.
+///
+/// `holds` is the answer. Of a yes the buffer is given an example, as lines: with `is_named` the first is its name, and
+/// each other one a fact. `UNDECIDED` where the search took more splits than the budget. It refuses as `canonical`
+/// does.
+pub fn can_hold(alloc: Global, key: &[u8], budget: u64, out: &mut [u8]) -> Outcome
+    ensures done { result.code ≡ DONE → IsPossibleKey key.now result out.old out.new }
+    ensures undecided { result.code ≡ UNDECIDED → IsUndecided key.now budget }
+    ensures refused { result.code ≡ REFUSED → IsRefusal key.now result out.old out.new }
+    ensures spelled { result.code ≡ REFUSED → (p : Condition) → IsConditionText key.now p → ⊥ }
+    ensures not_utf8 { result.code ≡ NOT_UTF8 → IsUtf8 key.now → ⊥ }
+    ensures too_deep { result.code ≡ TOO_DEEP → is_too_deep key.now ≡ true }
+    ensures codes { IsTrue (ends_comparison result.code) }
+{
+    match read_condition(alloc, 0, key, out) {
+        Ok(platform) => possible(alloc, &platform, budget, out),
+        Err(outcome) => outcome,
+    }
+}

@@ -1,0 +1,74 @@
+//! Questions on flat conditions.
+
+ghost use Rattle.std.specs.Prelude.{◌≡◌, ◌<◌, length, IfOk, IfErr, IsTrue, ◌||◌, ◌==◌};
+ghost use Rattle.std.specs.Str.{IsUtf8};
+ghost use Rattle.cargo_platform.specs.Trees.{condition_of};
+ghost use Rattle.byte_answers.specs.Flat.{flat_condition};
+ghost use Rattle.byte_answers.specs.Answers.{IsFlatMatch, IsPrint};
+ghost use Rattle.byte_answers.specs.Outcomes.{ends_flat_call};
+
+use crate::depth::MOST_FLAT_BYTES;
+use crate::outcome::{DONE, NO_MEMORY, NOT_FLAT, NOT_UTF8, Outcome, TOO_DEEP, write};
+use crate::reading::read_text;
+use crate::unflat::{unflat, unflat_facts};
+use cargo_platform::Platform;
+use std::alloc::Global;
+
+/// The condition of flat bytes, or how a call ends that is given others.
+fn read_flat(alloc: Global, flat: &[u8]) -> Result<Platform, Outcome>
+    ensures condition { IfOk result (λ p. flat_condition (condition_of p) ≡ flat.now) }
+    ensures too_deep { IfErr result (λ o. o.code ≡ TOO_DEEP → MOST_FLAT_BYTES < length flat.now) }
+    ensures codes { IfErr result
+        (λ o. IsTrue (o.code == TOO_DEEP || o.code == NOT_FLAT || o.code == NO_MEMORY)) }
+{
+    if MOST_FLAT_BYTES < flat.len() {
+        return Err(Outcome::ended(TOO_DEEP, 0));
+    }
+    match unflat(alloc, flat) {
+        Ok(Some(platform)) => Ok(platform),
+        Ok(None) => Err(Outcome::ended(NOT_FLAT, 0)),
+        Err(_) => Err(Outcome::ended(NO_MEMORY, 0)),
+    }
+}
+
+/// Writes the canonical text of a flat condition.
+///
+/// `NOT_FLAT` where the bytes are the flat form of no condition. `TOO_DEEP` where they are more than `MOST_FLAT_BYTES`.
+pub fn flat_print(alloc: Global, flat: &[u8], out: &mut [u8]) -> Outcome
+    ensures done { result.code ≡ DONE → IsPrint flat.now result.needed out.old out.new }
+    ensures too_deep { result.code ≡ TOO_DEEP → MOST_FLAT_BYTES < length flat.now }
+    ensures codes { IsTrue (ends_flat_call result.code) }
+{
+    match read_flat(alloc, flat) {
+        Ok(platform) => match platform.to_string(alloc) {
+            Ok(text) => Outcome::done(write(text.as_bytes(), out)),
+            Err(_) => Outcome::ended(NO_MEMORY, 0),
+        },
+        Err(outcome) => outcome,
+    }
+}
+
+/// Answers whether a flat condition holds for a target of this name, with these flat facts.
+///
+/// `holds` is the answer. `NOT_FLAT` where the bytes are the flat form of no condition (`argument` 0) or of no facts
+/// (`argument` 2). `TOO_DEEP` where the condition has more bytes than `MOST_FLAT_BYTES`.
+pub fn flat_matches(alloc: Global, flat: &[u8], name: &[u8], flat_facts: &[u8]) -> Outcome
+    ensures done { result.code ≡ DONE → IsFlatMatch flat.now name.now flat_facts.now result.holds }
+    ensures not_utf8 { result.code ≡ NOT_UTF8 → IsUtf8 name.now → ⊥ }
+    ensures too_deep { result.code ≡ TOO_DEEP → MOST_FLAT_BYTES < length flat.now }
+    ensures codes { IsTrue (ends_flat_call result.code) }
+{
+    let platform = match read_flat(alloc, flat) {
+        Ok(platform) => platform,
+        Err(outcome) => return outcome,
+    };
+    let name = match read_text(1, name) {
+        Ok(name) => name,
+        Err(outcome) => return outcome,
+    };
+    match unflat_facts(alloc, flat_facts) {
+        Ok(Some(facts)) => Outcome::answered(platform.matches(name, &facts)),
+        Ok(None) => Outcome::ended(NOT_FLAT, 2),
+        Err(_) => Outcome::ended(NO_MEMORY, 0),
+    }
+}

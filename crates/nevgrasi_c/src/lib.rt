@@ -1,0 +1,295 @@
+//! What C calls. Each function is a call of `byte_answers`, with its clauses.
+//!
+//! A slice is a pointer and a length for C; the allocator is none of its arguments. `include/nevgrasi.h` is made of
+//! these signatures and comments by `.ci/c-library --header`.
+#![tactic(auto)]
+
+ghost use Rattle.std.specs.Prelude.{◌≡◌, ◌≢◌, ◌≤◌, ◌<◌, ℕ, length, IsTrue, true, false};
+ghost use Rattle.std.specs.Str.{IsUtf8};
+ghost use Rattle.cargo_platform.specs.Trees.{Condition};
+ghost use Rattle.cargo_platform.specs.Platforms.{IsConditionText};
+ghost use Rattle.known_targets.specs.Table.{target_name};
+ghost use Rattle.byte_answers.specs.Answers.{AreFactsOf, AreTargets, IsCanonical, IsFlatMatch, IsFlatOf, IsMatch};
+ghost use Rattle.byte_answers.specs.Answers.{IsPrint};
+ghost use Rattle.byte_answers.specs.Comparisons.{AreRelated, AreUndecided, IsPossibleKey, IsUndecided};
+ghost use Rattle.byte_answers.specs.Depths.{is_too_deep};
+ghost use Rattle.byte_answers.specs.Outcomes.{IsWritten, ends_comparison, ends_flat_call, ends_key_call};
+ghost use Rattle.byte_answers.specs.Outcomes.{ends_target_call};
+ghost use Rattle.byte_answers.specs.Refusals.{IsRefusal, IsShownRefusal};
+
+use byte_answers::{
+    DONE, MOST_FLAT_BYTES, NOT_UTF8, Outcome, REFUSED, Relation, TOO_DEEP, UNDECIDED,
+    UNKNOWN_TARGET,
+};
+use known_targets::{COUNT, WORDS};
+use std::alloc::Global;
+
+/// The version of the interface: it rises whenever a caller of an earlier one may break.
+pub const INTERFACE: u32 = 1;
+
+/// The version of the interface. A caller that was compiled with another `NEVGRASI_INTERFACE` should not go on.
+#[unsafe(no_mangle)]
+pub extern "C" fn nevgrasi_interface() -> u32
+    ensures { result ≡ INTERFACE }
+{
+    INTERFACE
+}
+
+/// Writes the canonical text of the condition that a key spells: its print, which spells the same condition.
+#[unsafe(no_mangle)]
+pub extern "C" fn nevgrasi_canonical(
+    alloc: Global,
+    key: &[u8],
+    out: &mut [u8],
+    outcome: &mut Outcome,
+) -> u32
+    ensures done { result ≡ DONE → IsCanonical key.now outcome.new.needed out.old out.new }
+    ensures refused { result ≡ REFUSED → IsRefusal key.now outcome.new out.old out.new }
+    ensures spelled { result ≡ REFUSED → (p : Condition) → IsConditionText key.now p → ⊥ }
+    ensures not_utf8 { result ≡ NOT_UTF8 → IsUtf8 key.now → ⊥ }
+    ensures too_deep { result ≡ TOO_DEEP → is_too_deep key.now ≡ true }
+    ensures codes { IsTrue (ends_key_call result) }
+{
+    *outcome = byte_answers::canonical(alloc, key, out);
+    outcome.code
+}
+
+/// Shows where a key is refused: with `REFUSED` it writes two lines, the key and carets under its fault. `DONE`, with
+/// no bytes, where the key spells a condition.
+#[unsafe(no_mangle)]
+pub extern "C" fn nevgrasi_fault(
+    alloc: Global,
+    key: &[u8],
+    out: &mut [u8],
+    outcome: &mut Outcome,
+) -> u32
+    ensures done { result ≡ DONE → (p : Condition) × IsConditionText key.now p }
+    ensures refused { result ≡ REFUSED → IsShownRefusal key.now outcome.new out.old out.new }
+    ensures spelled { result ≡ REFUSED → (p : Condition) → IsConditionText key.now p → ⊥ }
+    ensures not_utf8 { result ≡ NOT_UTF8 → IsUtf8 key.now → ⊥ }
+    ensures too_deep { result ≡ TOO_DEEP → is_too_deep key.now ≡ true }
+    ensures codes { IsTrue (ends_key_call result) }
+{
+    *outcome = byte_answers::fault(alloc, key, out);
+    outcome.code
+}
+
+/// Answers by `holds` whether a key applies to the target of this name, with the facts of these lines, as
+/// `rustc --print cfg` prints them. `argument` 2 tells that a line is refused.
+#[unsafe(no_mangle)]
+pub extern "C" fn nevgrasi_matches(
+    alloc: Global,
+    key: &[u8],
+    name: &[u8],
+    lines: &[u8],
+    out: &mut [u8],
+    outcome: &mut Outcome,
+) -> u32
+    ensures done { result ≡ DONE → IsMatch key.now name.now lines.now outcome.new.holds }
+    ensures refused { result ≡ REFUSED → outcome.new.argument ≡ 0 → IsRefusal key.now outcome.new out.old out.new }
+    ensures spelled { result ≡ REFUSED → outcome.new.argument ≡ 0
+        → (p : Condition) → IsConditionText key.now p → ⊥ }
+    ensures not_utf8 { result ≡ NOT_UTF8 → IsUtf8 key.now → IsUtf8 name.now → IsUtf8 lines.now → ⊥ }
+    ensures too_deep { result ≡ TOO_DEEP → is_too_deep key.now ≡ true }
+    ensures codes { IsTrue (ends_key_call result) }
+{
+    *outcome = byte_answers::matches(alloc, key, name, lines, out);
+    outcome.code
+}
+
+/// Answers the known targets at which a key holds: the target at place `k` is bit `k % 64` of word `k / 64`.
+#[unsafe(no_mangle)]
+pub extern "C" fn nevgrasi_targets(
+    alloc: Global,
+    key: &[u8],
+    words: &mut [u64; WORDS],
+    out: &mut [u8],
+    outcome: &mut Outcome,
+) -> u32
+    ensures done { result ≡ DONE → AreTargets key.now words.new }
+    ensures refused { result ≡ REFUSED → IsRefusal key.now outcome.new out.old out.new }
+    ensures spelled { result ≡ REFUSED → (p : Condition) → IsConditionText key.now p → ⊥ }
+    ensures not_utf8 { result ≡ NOT_UTF8 → IsUtf8 key.now → ⊥ }
+    ensures too_deep { result ≡ TOO_DEEP → is_too_deep key.now ≡ true }
+    ensures codes { IsTrue (ends_key_call result) }
+{
+    *outcome = byte_answers::targets(alloc, key, words, out);
+    outcome.code
+}
+
+/// Writes the name of the known target at this place, or answers `UNKNOWN_TARGET`. The names are sorted.
+#[unsafe(no_mangle)]
+pub extern "C" fn nevgrasi_target_name(place: usize, out: &mut [u8], outcome: &mut Outcome) -> u32
+    ensures done { result ≡ DONE → IsWritten (target_name place) outcome.new.needed out.old out.new }
+    ensures known { place < COUNT → result ≡ DONE }
+    ensures unknown { COUNT ≤ place → result ≡ UNKNOWN_TARGET }
+{
+    *outcome = byte_answers::target_name(place, out);
+    outcome.code
+}
+
+/// Writes the facts of the known target of this name, one a line, as `nevgrasi_matches` reads them; or answers
+/// `UNKNOWN_TARGET`.
+#[unsafe(no_mangle)]
+pub extern "C" fn nevgrasi_facts(
+    alloc: Global,
+    name: &[u8],
+    out: &mut [u8],
+    outcome: &mut Outcome,
+) -> u32
+    ensures done { result ≡ DONE → AreFactsOf name.now outcome.new.needed out.old out.new }
+    ensures unknown { result ≡ UNKNOWN_TARGET → (k : ℕ) → k < COUNT → target_name k ≢ name.now }
+    ensures not_utf8 { result ≡ NOT_UTF8 → IsUtf8 name.now → ⊥ }
+    ensures codes { IsTrue (ends_target_call result) }
+{
+    *outcome = byte_answers::facts(alloc, name, out);
+    outcome.code
+}
+
+/// Answers by `holds` whether the second key holds wherever the first does, over every set of facts that rustc's rules
+/// allow. Of a no it writes an example.
+#[unsafe(no_mangle)]
+pub extern "C" fn nevgrasi_implies(
+    alloc: Global,
+    first: &[u8],
+    second: &[u8],
+    budget: u64,
+    out: &mut [u8],
+    outcome: &mut Outcome,
+) -> u32
+    ensures done { result ≡ DONE → AreRelated Relation.Implies first.now second.now outcome.new out.old out.new }
+    ensures undecided { result ≡ UNDECIDED → AreUndecided first.now second.now budget }
+    ensures spelled { result ≡ REFUSED
+        → (p q : Condition) → IsConditionText first.now p → IsConditionText second.now q → ⊥ }
+    ensures first { result ≡ REFUSED → outcome.new.argument ≡ 0 → IsRefusal first.now outcome.new out.old out.new }
+    ensures second { result ≡ REFUSED → outcome.new.argument ≡ 1 → IsRefusal second.now outcome.new out.old out.new }
+    ensures not_utf8 { result ≡ NOT_UTF8 → IsUtf8 first.now → IsUtf8 second.now → ⊥ }
+    ensures too_deep { result ≡ TOO_DEEP → is_too_deep first.now ≡ false → is_too_deep second.now ≡ true }
+    ensures codes { IsTrue (ends_comparison result) }
+{
+    *outcome = byte_answers::relates(alloc, Relation::Implies, first, second, budget, out);
+    outcome.code
+}
+
+/// The same of whether both keys hold at the same targets.
+#[unsafe(no_mangle)]
+pub extern "C" fn nevgrasi_equivalent(
+    alloc: Global,
+    first: &[u8],
+    second: &[u8],
+    budget: u64,
+    out: &mut [u8],
+    outcome: &mut Outcome,
+) -> u32
+    ensures done { result ≡ DONE → AreRelated Relation.Equivalent first.now second.now outcome.new out.old out.new }
+    ensures undecided { result ≡ UNDECIDED → AreUndecided first.now second.now budget }
+    ensures spelled { result ≡ REFUSED
+        → (p q : Condition) → IsConditionText first.now p → IsConditionText second.now q → ⊥ }
+    ensures first { result ≡ REFUSED → outcome.new.argument ≡ 0 → IsRefusal first.now outcome.new out.old out.new }
+    ensures second { result ≡ REFUSED → outcome.new.argument ≡ 1 → IsRefusal second.now outcome.new out.old out.new }
+    ensures not_utf8 { result ≡ NOT_UTF8 → IsUtf8 first.now → IsUtf8 second.now → ⊥ }
+    ensures too_deep { result ≡ TOO_DEEP → is_too_deep first.now ≡ false → is_too_deep second.now ≡ true }
+    ensures codes { IsTrue (ends_comparison result) }
+{
+    *outcome = byte_answers::relates(alloc, Relation::Equivalent, first, second, budget, out);
+    outcome.code
+}
+
+/// The same of whether the keys hold together nowhere.
+#[unsafe(no_mangle)]
+pub extern "C" fn nevgrasi_excludes(
+    alloc: Global,
+    first: &[u8],
+    second: &[u8],
+    budget: u64,
+    out: &mut [u8],
+    outcome: &mut Outcome,
+) -> u32
+    ensures done { result ≡ DONE → AreRelated Relation.Excludes first.now second.now outcome.new out.old out.new }
+    ensures undecided { result ≡ UNDECIDED → AreUndecided first.now second.now budget }
+    ensures spelled { result ≡ REFUSED
+        → (p q : Condition) → IsConditionText first.now p → IsConditionText second.now q → ⊥ }
+    ensures first { result ≡ REFUSED → outcome.new.argument ≡ 0 → IsRefusal first.now outcome.new out.old out.new }
+    ensures second { result ≡ REFUSED → outcome.new.argument ≡ 1 → IsRefusal second.now outcome.new out.old out.new }
+    ensures not_utf8 { result ≡ NOT_UTF8 → IsUtf8 first.now → IsUtf8 second.now → ⊥ }
+    ensures too_deep { result ≡ TOO_DEEP → is_too_deep first.now ≡ false → is_too_deep second.now ≡ true }
+    ensures codes { IsTrue (ends_comparison result) }
+{
+    *outcome = byte_answers::relates(alloc, Relation::Excludes, first, second, budget, out);
+    outcome.code
+}
+
+/// Answers by `holds` whether a key can hold, over some set of facts that rustc's rules allow. Of a yes it writes an
+/// example.
+#[unsafe(no_mangle)]
+pub extern "C" fn nevgrasi_can_hold(
+    alloc: Global,
+    key: &[u8],
+    budget: u64,
+    out: &mut [u8],
+    outcome: &mut Outcome,
+) -> u32
+    ensures done { result ≡ DONE → IsPossibleKey key.now outcome.new out.old out.new }
+    ensures undecided { result ≡ UNDECIDED → IsUndecided key.now budget }
+    ensures refused { result ≡ REFUSED → IsRefusal key.now outcome.new out.old out.new }
+    ensures spelled { result ≡ REFUSED → (p : Condition) → IsConditionText key.now p → ⊥ }
+    ensures not_utf8 { result ≡ NOT_UTF8 → IsUtf8 key.now → ⊥ }
+    ensures too_deep { result ≡ TOO_DEEP → is_too_deep key.now ≡ true }
+    ensures codes { IsTrue (ends_comparison result) }
+{
+    *outcome = byte_answers::can_hold(alloc, key, budget, out);
+    outcome.code
+}
+
+/// Writes the flat condition that a key spells: bytes that the caller keeps in its place.
+#[unsafe(no_mangle)]
+pub extern "C" fn nevgrasi_read_key(
+    alloc: Global,
+    key: &[u8],
+    out: &mut [u8],
+    outcome: &mut Outcome,
+) -> u32
+    ensures done { result ≡ DONE → IsFlatOf key.now outcome.new.needed out.old out.new }
+    ensures refused { result ≡ REFUSED → IsRefusal key.now outcome.new out.old out.new }
+    ensures spelled { result ≡ REFUSED → (p : Condition) → IsConditionText key.now p → ⊥ }
+    ensures not_utf8 { result ≡ NOT_UTF8 → IsUtf8 key.now → ⊥ }
+    ensures too_deep { result ≡ TOO_DEEP → is_too_deep key.now ≡ true }
+    ensures codes { IsTrue (ends_key_call result) }
+{
+    *outcome = byte_answers::read_key(alloc, key, out);
+    outcome.code
+}
+
+/// Writes the canonical text of a flat condition.
+#[unsafe(no_mangle)]
+pub extern "C" fn nevgrasi_flat_print(
+    alloc: Global,
+    flat: &[u8],
+    out: &mut [u8],
+    outcome: &mut Outcome,
+) -> u32
+    ensures done { result ≡ DONE → IsPrint flat.now outcome.new.needed out.old out.new }
+    ensures too_deep { result ≡ TOO_DEEP → MOST_FLAT_BYTES < length flat.now }
+    ensures codes { IsTrue (ends_flat_call result) }
+{
+    *outcome = byte_answers::flat_print(alloc, flat, out);
+    outcome.code
+}
+
+/// Answers by `holds` whether a flat condition holds for the target of this name, with these flat facts.
+#[unsafe(no_mangle)]
+pub extern "C" fn nevgrasi_flat_matches(
+    alloc: Global,
+    flat: &[u8],
+    name: &[u8],
+    flat_facts: &[u8],
+    outcome: &mut Outcome,
+) -> u32
+    ensures done { result ≡ DONE → IsFlatMatch flat.now name.now flat_facts.now outcome.new.holds }
+    ensures not_utf8 { result ≡ NOT_UTF8 → IsUtf8 name.now → ⊥ }
+    ensures too_deep { result ≡ TOO_DEEP → MOST_FLAT_BYTES < length flat.now }
+    ensures codes { IsTrue (ends_flat_call result) }
+{
+    *outcome = byte_answers::flat_matches(alloc, flat, name, flat_facts);
+    outcome.code
+}

@@ -1,0 +1,14 @@
+"""Says of a key what it spells, where it holds, and whether it implies cfg(unix)."""
+import sys
+
+from nevgrasi import Fault, Key, known_targets
+
+text = sys.argv[1] if len(sys.argv) > 1 else 'cfg( all(unix,not(target_os = "macos"),) )'
+try:
+    key = Key(text)
+except Fault as fault:
+    print(fault.snippet)
+    sys.exit(2)
+print(key.canonical)
+print(f"holds at {len(key.targets())} of {len(known_targets())} known targets")
+print(f"implies cfg(unix): {'yes' if key.implies('cfg(unix)') else 'no'}")
