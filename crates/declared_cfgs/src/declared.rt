@@ -41,6 +41,15 @@ pub struct Declared<'a> {
 }
 
 impl<'a> Declared<'a> {
+    /// Nothing, as where there is no manifest.
+    pub fn none(alloc: Global) -> Declared<'a>
+        ensures { declarations_of result ≡ [] }
+    {
+        Declared {
+            entries: Vec::new(alloc),
+        }
+    }
+
     /// What the manifest declares: texts of the forms `cfg(NAME, ..)` and `cfg(NAME, .., values(..))` with texts,
     /// `any()` and `none()` between the parentheses. Texts of other forms declare nothing.
     pub fn of(alloc: Global, manifest: &'a Table) -> Result<Declared<'a>, AllocError>

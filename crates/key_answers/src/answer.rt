@@ -90,3 +90,26 @@ impl Answer {
         }
     }
 }
+
+/// Why a question gets no answer of its own.
+#[derive(Drop)]
+pub enum Refusal {
+    /// A key, a name or a fact can't be used, as this text says.
+    Unusable(String),
+    Memory(AllocError),
+}
+
+impl From<AllocError> for Refusal {
+    fn from(refused: AllocError) -> Refusal {
+        Refusal::Memory(refused)
+    }
+}
+
+/// The answer, or the one that says why there is none.
+pub fn answered(alloc: Global, answer: Result<Answer, Refusal>) -> Result<Answer, AllocError> {
+    match answer {
+        Ok(answer) => Ok(answer),
+        Err(Refusal::Unusable(text)) => Ok(Answer::unusable(alloc, text)),
+        Err(Refusal::Memory(refused)) => Err(refused),
+    }
+}

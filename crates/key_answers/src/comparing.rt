@@ -1,6 +1,6 @@
 //! `compare`: how two keys stand to each other.
 
-use crate::answer::{Answer, Status};
+use crate::answer::{Answer, Refusal, Status};
 use crate::conditions::read_key;
 use crate::printing::{push_json, put, put_text, shown_example, text_value};
 use cargo_platform::{Cfg, CfgExpr, Platform};
@@ -284,15 +284,9 @@ pub fn compare(
     second: &str,
     budget: u64,
     json: bool,
-) -> Result<Answer, AllocError> {
-    let a = match read_key(alloc, first)? {
-        Ok(condition) => condition,
-        Err(answer) => return Ok(answer),
-    };
-    let b = match read_key(alloc, second)? {
-        Ok(condition) => condition,
-        Err(answer) => return Ok(answer),
-    };
+) -> Result<Answer, Refusal> {
+    let a = read_key(alloc, first)?;
+    let b = read_key(alloc, second)?;
     let rule = family_rule(alloc)?;
-    compared(alloc, &a, &b, &rule, budget, json)
+    Ok(compared(alloc, &a, &b, &rule, budget, json)?)
 }

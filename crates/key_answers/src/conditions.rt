@@ -1,18 +1,15 @@
 //! Keys that are read.
 
-use crate::answer::Answer;
+use crate::answer::Refusal;
 use crate::printing::refused_key;
 use cargo_platform::{Platform, ReadError};
-use std::alloc::{AllocError, Global};
+use std::alloc::Global;
 
-/// The condition that a key spells. An inner `Err` is what is to be said of a key that is refused.
-pub fn read_key(alloc: Global, key: &str) -> Result<Result<Platform, Answer>, AllocError> {
+/// The condition that a key spells.
+pub fn read_key(alloc: Global, key: &str) -> Result<Platform, Refusal> {
     match Platform::from_str(alloc, key) {
-        Ok(platform) => Ok(Ok(platform)),
-        Err(ReadError::Parse(error)) => {
-            let text = refused_key(alloc, key, &error)?;
-            Ok(Err(Answer::unusable(alloc, text)))
-        }
-        Err(ReadError::Memory(refused)) => Err(refused),
+        Ok(platform) => Ok(platform),
+        Err(ReadError::Parse(error)) => Err(Refusal::Unusable(refused_key(alloc, key, &error)?)),
+        Err(ReadError::Memory(refused)) => Err(Refusal::Memory(refused)),
     }
 }

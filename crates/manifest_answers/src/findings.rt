@@ -3,9 +3,8 @@
 use cargo_platform::shown_start;
 use key_answers::answer::Status;
 use key_answers::printing::{push_indented, push_json, put, put_text, text_value};
-use manifest_files::lines::{Appearance, Lines};
+use manifest_files::reading::Manifest;
 use manifest_lints_findings::{Finding, Level, Report};
-use manifest_tables::TargetKey;
 use serde_json::{Map, Value, json};
 use std::alloc::{AllocError, Global};
 use std::ops::Range;
@@ -19,26 +18,6 @@ pub struct Style {
     pub colours: bool,
     /// Notes count for the status too.
     pub deny_notes: bool,
-}
-
-/// A key, and where it first appears.
-pub type Placed<'a> = (TargetKey<'a>, Option<Appearance>);
-
-/// The keys in the order in which they first appear; those whose line is not certain stand after the others.
-pub fn in_order<'a>(
-    alloc: Global,
-    keys: &[TargetKey<'a>],
-    lines: &Lines,
-) -> Result<Vec<Placed<'a>>, AllocError> {
-    let mut placed = Vec::new(alloc);
-    for key in keys {
-        placed.push((*key, lines.of_key(key.key)))?;
-    }
-    placed.sort_by_key(|key| match key.1 {
-        Some(appearance) => appearance.place,
-        None => usize::MAX,
-    })?;
-    Ok(placed)
 }
 
 /// The word for a level, in colours where these are wanted.
@@ -65,18 +44,15 @@ pub struct Place<'a> {
     line: Option<usize>,
 }
 
-/// The place of a finding among the keys.
-pub fn place_of<'a>(
-    path: &'a str,
-    keys: &[Placed<'a>],
-    lines: &Lines,
-    finding: &Finding,
-) -> Place<'a> {
-    match key_of(keys, finding) {
-        Some((key, appearance)) => Place {
+/// The place of a finding of a report on a manifest.
+pub fn place_of<'a>(manifest: &'a Manifest, report: &Report<'a>, finding: &Finding) -> Place<'a> {
+    let path = manifest.path.as_str();
+    let lines = &manifest.document.lines;
+    match finding.key.and_then(|place: usize| report.keys.get(place)) {
+        Some(key) => Place {
             path,
             key: Some(key.key),
-            line: appearance.map(|appearance| appearance.line),
+            line: lines.of_key(key.key).map(|appearance| appearance.line),
         },
         None => Place {
             path,
@@ -258,11 +234,10 @@ pub fn push_undecided(
     errors: &mut String,
     alloc: Global,
     path: &str,
-    keys: &[Placed<'_>],
-    report: &Report,
+    report: &Report<'_>,
 ) -> Result<(), AllocError> {
-    for index in &report.undecided {
-        if let Some((key, _)) = keys.get(*index) {
+    for place in &report.undecided {
+        if let Some(key) = report.keys.get(*place) {
             let key = shown_start(alloc, key.key)?;
             let note = format!(in alloc;
                 "{path}: note: target.'{key}': whether it is always, never or equivalent takes too many splits\n"
@@ -271,11 +246,6 @@ pub fn push_undecided(
         }
     }
     Ok(())
-}
-
-/// The key that the finding is on, if it is on one.
-fn key_of<'k, 'a>(keys: &'k [Placed<'a>], finding: &Finding) -> Option<&'k Placed<'a>> {
-    keys.get(finding.key?)
 }
 
 /// Appends what is printed of a finding.

@@ -5,14 +5,11 @@ ghost use Rattle.cargo_platform.specs.Trees.{value_of, condition_of};
 ghost use Rattle.cargo_platform.specs.Facts.{fact_set, IsTrueCondition};
 
 use cargo_platform::{Cfg, FactIndex, FactsError, Platform, ReadError, read_facts};
-use declared_cfgs::Declared;
-use key_answers::answer::{Answer, Status};
+use key_answers::answer::{Answer, Refusal, Status};
 use key_answers::conditions::read_key;
 use key_answers::printing::{fact_lines, refused_cfg, refused_fact, shown_name};
 use known_targets::{COUNT, KnownTarget, RUSTC_VERSION, TargetSet, matching};
-use manifest_lints_findings::{Code, Finding};
-use manifest_lints_hints::{Words, nearest_target, unknown_in};
-use manifest_tables::TargetKey;
+use manifest_lints_findings::{Code, Finding, Words, nearest_target, unknown_in};
 use serde_json::Value;
 use std::alloc::{AllocError, Global};
 
@@ -45,26 +42,16 @@ fn push_finding(text: &mut String, alloc: Global, finding: &Finding) -> Result<(
     text.push_str(line.as_str())
 }
 
-/// The findings on what a key that stands alone asks for and no known target has.
-fn findings_on(alloc: Global, key: &str, condition: &Platform) -> Result<Vec<Finding>, AllocError> {
-    let none = toml::Table::new(alloc);
-    let value = toml::Value::Table(toml::Table::new(alloc));
-    let words = Words::new(alloc)?;
-    let declared = Declared::of(alloc, &none)?;
-    let key = TargetKey { key, value: &value };
-    unknown_in(alloc, &words, &declared, key, condition)
-}
-
 /// What there is to tell of the names and facts of a key that no known target has.
 fn unknown_lines(
     alloc: Global,
     key: &str,
-    condition: &Platform,
+    condition: Platform,
     has_facts: bool,
 ) -> Result<String, AllocError> {
-    let findings = findings_on(alloc, key, condition)?;
+    let words = Words::new(alloc)?;
     let mut text = String::new(alloc);
-    for finding in &findings {
+    for finding in &unknown_in(alloc, &words, key, condition)? {
         if is_told(finding.code, has_facts) {
             push_finding(&mut text, alloc, finding)?;
         }
@@ -122,11 +109,8 @@ fn counted(alloc: Global, condition: &Platform, targets: TargetSet) -> Result<St
 }
 
 /// The known targets at which the key holds.
-pub fn targets(alloc: Global, key: &str, json: bool) -> Result<Answer, AllocError> {
-    let condition = match read_key(alloc, key)? {
-        Ok(condition) => condition,
-        Err(answer) => return Ok(answer),
-    };
+pub fn targets(alloc: Global, key: &str, json: bool) -> Result<Answer, Refusal> {
+    let condition = read_key(alloc, key)?;
     let targets = matching(alloc, &condition)?;
     if json {
         let text = name_array(alloc, targets)?;
@@ -140,43 +124,40 @@ pub fn targets(alloc: Global, key: &str, json: bool) -> Result<Answer, AllocErro
     })
 }
 
-/// The facts of a target: those of the lines where there are some, else those of the table. An `Err` is what is to be
-/// said.
+/// The facts of a target: those of the lines where there are some, else those of the table.
 pub fn table_or_lines(
     alloc: Global,
     name: &str,
     lines: Option<&str>,
-) -> Result<Result<Vec<Cfg>, Answer>, AllocError> {
+) -> Result<Vec<Cfg>, Refusal> {
     match lines {
         Some(lines) => match read_facts(alloc, lines) {
-            Ok(facts) => Ok(Ok(facts)),
-            Err(FactsError::Memory(refused)) => Err(refused),
+            Ok(facts) => Ok(facts),
+            Err(FactsError::Memory(refused)) => Err(Refusal::Memory(refused)),
             Err(FactsError::Line { number, error }) => {
-                let text = refused_fact(alloc, number, &error)?;
-                Ok(Err(Answer::unusable(alloc, text)))
+                Err(Refusal::Unusable(refused_fact(alloc, number, &error)?))
             }
         },
         None => match KnownTarget::by_name(name) {
-            Some(target) => Ok(Ok(target.facts(alloc)?)),
-            None => Ok(Err(Answer::unusable(alloc, unknown_name(alloc, name)?))),
+            Some(target) => Ok(target.facts(alloc)?),
+            None => Err(Refusal::Unusable(unknown_name(alloc, name)?)),
         },
     }
 }
 
-/// The facts that arguments spell. An `Err` is what is to be said.
-pub fn added_facts(alloc: Global, texts: &[&str]) -> Result<Result<Vec<Cfg>, Answer>, AllocError> {
+/// The facts that arguments spell.
+pub fn added_facts(alloc: Global, texts: &[&str]) -> Result<Vec<Cfg>, Refusal> {
     let mut facts = Vec::new(alloc);
     for text in texts {
         match Cfg::from_str(alloc, text) {
-            Ok(fact) => facts.push(fact)?,
-            Err(ReadError::Memory(refused)) => return Err(refused),
+            Ok(fact) => facts.push(fact).map_err(AllocError::from)?,
+            Err(ReadError::Memory(refused)) => return Err(Refusal::Memory(refused)),
             Err(ReadError::Parse(error)) => {
-                let text = refused_cfg(alloc, &error)?;
-                return Ok(Err(Answer::unusable(alloc, text)));
+                return Err(Refusal::Unusable(refused_cfg(alloc, &error)?));
             }
         }
     }
-    Ok(Ok(facts))
+    Ok(facts)
 }
 
 /// Whether the condition holds for a target with this name and these facts.
@@ -193,26 +174,18 @@ fn holds(alloc: Global, platform: &Platform, name: &str, facts: &[Cfg]) -> Resul
     }
 }
 
-/// The facts of a target with those that are added. An `Err` is what is to be said.
+/// The facts of a target with those that are added.
 fn all_facts(
     alloc: Global,
     name: &str,
     lines: Option<&str>,
     added: &[&str],
-) -> Result<Result<Vec<Cfg>, Answer>, AllocError> {
-    let mut facts = match table_or_lines(alloc, name, lines)? {
-        Ok(facts) => facts,
-        Err(answer) => return Ok(Err(answer)),
-    };
-    match added_facts(alloc, added)? {
-        Ok(added) => {
-            for fact in added {
-                facts.push(fact)?;
-            }
-            Ok(Ok(facts))
-        }
-        Err(answer) => Ok(Err(answer)),
+) -> Result<Vec<Cfg>, Refusal> {
+    let mut facts = table_or_lines(alloc, name, lines)?;
+    for fact in added_facts(alloc, added)? {
+        facts.push(fact).map_err(AllocError::from)?;
     }
+    Ok(facts)
 }
 
 /// What is printed of whether a key applies.
@@ -236,17 +209,11 @@ pub fn applies(
     name: &str,
     lines: Option<&str>,
     added: &[&str],
-) -> Result<Answer, AllocError> {
-    let condition = match read_key(alloc, key)? {
-        Ok(condition) => condition,
-        Err(answer) => return Ok(answer),
-    };
-    let facts = match all_facts(alloc, name, lines, added)? {
-        Ok(facts) => facts,
-        Err(answer) => return Ok(answer),
-    };
+) -> Result<Answer, Refusal> {
+    let condition = read_key(alloc, key)?;
+    let facts = all_facts(alloc, name, lines, added)?;
     let applies = holds(alloc, &condition, name, &facts)?;
     let has_facts = lines.is_some() || !added.is_empty();
-    let errors = unknown_lines(alloc, key, &condition, has_facts)?;
-    verdict(alloc, applies, errors)
+    let errors = unknown_lines(alloc, key, condition, has_facts)?;
+    Ok(verdict(alloc, applies, errors)?)
 }

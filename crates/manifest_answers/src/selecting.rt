@@ -3,7 +3,7 @@
 use crate::in_turn::{Question, answer_each};
 use crate::questions::{added_facts, table_or_lines, unknown_name};
 use cargo_platform::shown_start;
-use key_answers::answer::{Answer, Status};
+use key_answers::answer::{Answer, Refusal, Status};
 use key_answers::printing::{push_json, put, put_text, refused_key, text_value};
 use known_targets::KnownTarget;
 use manifest_files::reading::Manifest;
@@ -162,7 +162,7 @@ struct Selecting<'a> {
 impl<'a> Question for Selecting<'a> {
     fn answer(&mut self, alloc: Global, manifest: &Manifest) -> Result<Answer, AllocError> {
         let path = manifest.path.as_str();
-        match select(alloc, &manifest.table, self.target, self.known, self.host) {
+        match select(alloc, &manifest.document.table, self.target, self.known, self.host) {
             Ok(rows) => {
                 let mut text = String::new(alloc);
                 push_rows(&mut text, alloc, path, &rows, self.json)?;
@@ -183,17 +183,14 @@ pub struct Target<'a> {
     pub open: &'a [&'a str],
 }
 
-/// The host of this name. An inner `Err` is what is to be said of a name that no known target has.
-fn known_host(
-    alloc: Global,
-    name: Option<&str>,
-) -> Result<Result<Option<KnownTarget>, Answer>, AllocError> {
-    match name {
-        Some(name) => match KnownTarget::by_name(name) {
-            Some(host) => Ok(Ok(Some(host))),
-            None => Ok(Err(Answer::unusable(alloc, unknown_name(alloc, name)?))),
-        },
-        None => Ok(Ok(None)),
+/// The host of this name.
+fn known_host(alloc: Global, name: Option<&str>) -> Result<Option<KnownTarget>, Refusal> {
+    let Some(name) = name else {
+        return Ok(None);
+    };
+    match KnownTarget::by_name(name) {
+        Some(host) => Ok(Some(host)),
+        None => Err(Refusal::Unusable(unknown_name(alloc, name)?)),
     }
 }
 
@@ -206,41 +203,20 @@ pub fn select_each<R: Files + Input + AllocGlobal>(
     lines: Option<&str>,
     host: Option<&str>,
     json: bool,
-) -> Result<Answer, AllocError> {
+) -> Result<Answer, Refusal> {
     let alloc = rt.alloc();
-    let facts = match table_or_lines(alloc, target.name, lines)? {
-        Ok(facts) => facts,
-        Err(answer) => return Ok(answer),
-    };
-    let added = match added_facts(alloc, target.added)? {
-        Ok(added) => added,
-        Err(answer) => return Ok(answer),
-    };
+    let facts = table_or_lines(alloc, target.name, lines)?;
+    let added = added_facts(alloc, target.added)?;
     let known = Asked {
         facts: &facts,
         added: &added,
         open: target.open,
     };
-    match known_host(alloc, host)? {
-        Ok(host) => select_known(rt, paths, target.name, &known, host, json),
-        Err(answer) => Ok(answer),
-    }
-}
-
-/// What is selected of the manifests that are named, by what is known of the target.
-fn select_known<R: Files + Input + AllocGlobal>(
-    rt: &R,
-    paths: &[&str],
-    target: &str,
-    known: &Asked<'_>,
-    host: Option<KnownTarget>,
-    json: bool,
-) -> Result<Answer, AllocError> {
     let mut selecting = Selecting {
-        target,
-        known,
-        host,
+        target: target.name,
+        known: &known,
+        host: known_host(alloc, host)?,
         json,
     };
-    answer_each(rt, paths, &mut selecting)
+    Ok(answer_each(rt, paths, &mut selecting)?)
 }

@@ -3,7 +3,7 @@
 use crate::linting::lint_each;
 use anyhow::{Context, Result};
 use clap::ArgMatches;
-use key_answers::answer::Answer;
+use key_answers::answer::{Answer, answered};
 use key_answers::comparing::compare;
 use manifest_answers::findings::Style;
 use manifest_answers::questions;
@@ -40,13 +40,14 @@ fn facts_file<R: Files + AllocGlobal>(rt: &R, matches: &ArgMatches<'_>) -> Resul
 /// Answers `match`.
 fn match_answer<R: Files + AllocGlobal>(rt: &R, matches: &ArgMatches<'_>) -> Result<Answer> {
     let lines = facts_file(rt, matches)?;
-    Ok(questions::applies(
+    let answer = questions::applies(
         rt.alloc(),
         word(matches, "key"),
         word(matches, "target"),
         lines.as_ref().map(|text| text.as_str()),
         matches.get_strs("cfg").unwrap_or(&[]),
-    )?)
+    );
+    Ok(answered(rt.alloc(), answer)?)
 }
 
 /// Answers `select`.
@@ -60,14 +61,15 @@ fn select_answer<R: Files + Input + AllocGlobal>(
         added: matches.get_strs("cfg").unwrap_or(&[]),
         open: matches.get_strs("open").unwrap_or(&[]),
     };
-    Ok(select_each(
+    let answer = select_each(
         rt,
         matches.get_strs("manifest").unwrap_or(&[]),
         &target,
         lines.as_ref().map(|text| text.as_str()),
         matches.get_str("host"),
         matches.get_flag("json"),
-    )?)
+    );
+    Ok(answered(rt.alloc(), answer)?)
 }
 
 /// Whether `NO_COLOR` is set to anything.
@@ -101,19 +103,21 @@ fn lint_answer<R: Files + Input + Env + AllocGlobal>(
 
 /// Answers `compare`.
 fn compare_answer(alloc: Global, matches: &ArgMatches<'_>) -> Result<Answer> {
-    Ok(compare(
+    let answer = compare(
         alloc,
         word(matches, "first"),
         word(matches, "second"),
         matches.get_one::<u64>("budget").unwrap_or(0),
         matches.get_flag("json"),
-    )?)
+    );
+    Ok(answered(alloc, answer)?)
 }
 
 /// Answers a question on keys and targets.
 fn question_answer(alloc: Global, matches: &ArgMatches<'_>) -> Result<Answer> {
     if let Some(m) = matches.subcommand_matches("targets") {
-        return Ok(questions::targets(alloc, word(m, "key"), m.get_flag("json"))?);
+        let answer = questions::targets(alloc, word(m, "key"), m.get_flag("json"));
+        return Ok(answered(alloc, answer)?);
     }
     if let Some(m) = matches.subcommand_matches("facts") {
         return Ok(questions::facts(alloc, word(m, "name"))?);

@@ -2,45 +2,13 @@
 
 use key_answers::answer::{Answer, Status};
 use manifest_answers::findings::{
-    Counts, Placed, Style, in_order, place_of, push_finding, push_undecided, status_of,
+    Counts, Style, place_of, push_finding, push_undecided, status_of,
 };
 use manifest_answers::in_turn::{Question, answer_each};
-use manifest_files::lines::Lines;
-use manifest_files::reading::{Manifest, without_mark};
-use manifest_lints::findings::target_is_no_table;
-use manifest_lints::{Report, Words, lint};
-use manifest_tables::{Targets, target_keys};
+use manifest_files::reading::Manifest;
+use manifest_lints::{Words, lint};
 use std::alloc::{AllocError, Global};
 use std::rt::Files;
-use toml::Table;
-
-/// The keys of the manifest in the order in which they first appear, and what there is to tell of them.
-fn report_on<'a>(
-    alloc: Global,
-    table: &'a Table,
-    lines: &Lines,
-    words: &Words,
-) -> Result<(Vec<Placed<'a>>, Report), AllocError> {
-    let targets = target_keys(alloc, table)?;
-    if let Targets::Keys(found) = &targets {
-        let keys = in_order(alloc, found, lines)?;
-        let mut ordered = Vec::new(alloc);
-        for (key, _) in &keys {
-            ordered.push(*key)?;
-        }
-        let report = lint(alloc, table, &ordered, words)?;
-        return Ok((keys, report));
-    }
-    let mut findings = Vec::new(alloc);
-    if let Targets::NoTable = &targets {
-        findings.push(target_is_no_table(alloc)?)?;
-    }
-    let report = Report {
-        findings,
-        undecided: Vec::new(alloc),
-    };
-    Ok((Vec::new(alloc), report))
-}
 
 /// `lint`, with what it found so far.
 #[derive(Drop)]
@@ -52,17 +20,15 @@ struct Linting<'a> {
 
 impl<'a> Question for Linting<'a> {
     fn answer(&mut self, alloc: Global, manifest: &Manifest) -> Result<Answer, AllocError> {
-        let lines = Lines::of(alloc, without_mark(manifest.text.as_str()))?;
-        let (keys, report) = report_on(alloc, &manifest.table, &lines, self.words)?;
+        let report = lint(alloc, &manifest.document, self.words)?;
         let mut answer = Answer::of(alloc, String::new(alloc), Status::Fine);
-        let path = manifest.path.as_str();
         for finding in &report.findings {
-            let place = place_of(path, &keys, &lines, finding);
+            let place = place_of(manifest, &report, finding);
             push_finding(&mut answer.output, alloc, &place, finding, self.style)?;
             self.counts.add(finding.level);
             answer.raise(status_of(finding.level, self.style));
         }
-        push_undecided(&mut answer.errors, alloc, path, &keys, &report)?;
+        push_undecided(&mut answer.errors, alloc, manifest.path.as_str(), &report)?;
         Ok(answer)
     }
 }

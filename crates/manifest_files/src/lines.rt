@@ -6,6 +6,7 @@
 
 use std::alloc::{AllocError, AllocFailed, Global};
 use std::collections::BTreeMap;
+use std::ops::ControlFlow;
 use toml_parser::text::{first, skip, skip_blank, skip_ws};
 use toml_parser::{Key, ParseError, dotted_key, quoted, starts_string, unquoted};
 
@@ -36,7 +37,7 @@ enum Table {
 
 /// An array or an inline table that is open.
 #[derive(Clone, Copy, Debug, PartialEq, Eq, Drop)]
-enum Open {
+enum OpenValue {
     Array,
     Inline(Table),
 }
@@ -48,7 +49,7 @@ struct Walk<'a> {
     rest: &'a str,
     line: usize,
     lines: Lines,
-    open: Vec<Open>,
+    open: Vec<OpenValue>,
     table: Table,
 }
 
@@ -65,8 +66,8 @@ impl From<AllocError> for Stop {
     }
 }
 
-impl From<AllocFailed<Open>> for Stop {
-    fn from(_: AllocFailed<Open>) -> Stop {
+impl From<AllocFailed<OpenValue>> for Stop {
+    fn from(_: AllocFailed<OpenValue>) -> Stop {
         Stop::Memory
     }
 }
@@ -87,26 +88,39 @@ impl Lines {
             alloc,
             rest: text,
             line: 1,
-            lines: Lines {
-                target: None,
-                keys: BTreeMap::new(alloc),
-            },
+            lines: Lines::none(alloc),
             open: Vec::new(alloc),
             table: Table::Top,
         };
         'steps: for _ in 0..text.len() {
             match walk.step() {
-                Ok(true) => {}
-                Ok(false) | Err(Stop::Unexpected) => break,
+                Ok(ControlFlow::Continue(())) => {}
+                Ok(ControlFlow::Break(())) | Err(Stop::Unexpected) => break,
                 Err(Stop::Memory) => return Err(AllocError),
             }
         }
         Ok(walk.lines)
     }
 
+    /// No line is known.
+    pub fn none(alloc: Global) -> Lines {
+        Lines {
+            target: None,
+            keys: BTreeMap::new(alloc),
+        }
+    }
+
     /// Where the key first appears.
     pub fn of_key(&self, key: &str) -> Option<Appearance> {
         self.keys.get(key).copied()
+    }
+
+    /// How many keys appear before this one; of one that has no line the greatest number.
+    pub fn place_of(&self, key: &str) -> usize {
+        match self.of_key(key) {
+            Some(appearance) => appearance.place,
+            None => usize::MAX,
+        }
     }
 
     /// Notes where a key appears, unless it has before.
@@ -186,23 +200,21 @@ impl<'a> Walk<'a> {
         Ok(())
     }
 
-    /// One header, one key with the beginning of its value, or one value. `false`: the text has ended.
-    fn step(&mut self) -> Result<bool, Stop> {
+    /// One header, one key with the beginning of its value, or one value. A `Break` is the end of the text.
+    fn step(&mut self) -> Result<ControlFlow<()>, Stop> {
         self.go_to(skip_blank(self.rest, true));
         match self.open.pop() {
-            None => self.line_of_top(),
-            Some(open) => self.part(open),
+            None if self.rest.is_empty() => return Ok(ControlFlow::Break(())),
+            None => self.line_of_top()?,
+            Some(open) => self.part(open)?,
         }
+        Ok(ControlFlow::Continue(()))
     }
 
     /// A header or a key outside of arrays and inline tables.
-    fn line_of_top(&mut self) -> Result<bool, Stop> {
-        if self.rest.is_empty() {
-            return Ok(false);
-        }
+    fn line_of_top(&mut self) -> Result<(), Stop> {
         if first(self.rest) != b'[' {
-            self.key(self.table)?;
-            return Ok(true);
+            return self.key(self.table);
         }
         self.take(b'[')?;
         let is_array = first(self.rest) == b'[';
@@ -220,7 +232,7 @@ impl<'a> Walk<'a> {
             self.take(b']')?;
         }
         self.table = if is_array { Table::Other } else { table };
-        Ok(true)
+        Ok(())
     }
 
     /// A key, `=` and what its value begins with.
@@ -237,10 +249,10 @@ impl<'a> Walk<'a> {
     fn value(&mut self, inside: Table) -> Result<(), Stop> {
         if first(self.rest) == b'[' {
             self.take(b'[')?;
-            self.open.push(Open::Array)?;
+            self.open.push(OpenValue::Array)?;
         } else if first(self.rest) == b'{' {
             self.take(b'{')?;
-            self.open.push(Open::Inline(inside))?;
+            self.open.push(OpenValue::Inline(inside))?;
         } else if starts_string(self.rest) {
             let (_text, rest) = quoted(self.alloc, self.rest)?;
             self.go_to(rest);
@@ -252,24 +264,21 @@ impl<'a> Walk<'a> {
     }
 
     /// What comes next in an array or an inline table: its end, a comma, or a member.
-    fn part(&mut self, open: Open) -> Result<bool, Stop> {
+    fn part(&mut self, open: OpenValue) -> Result<(), Stop> {
         let end = match open {
-            Open::Array => b']',
-            Open::Inline(_) => b'}',
+            OpenValue::Array => b']',
+            OpenValue::Inline(_) => b'}',
         };
         if first(self.rest) == end {
-            self.take(end)?;
-            return Ok(true);
+            return self.take(end);
         }
         self.open.push(open)?;
         if first(self.rest) == b',' {
-            self.take(b',')?;
-            return Ok(true);
+            return self.take(b',');
         }
         match open {
-            Open::Array => self.value(Table::Other)?,
-            Open::Inline(table) => self.key(table)?,
+            OpenValue::Array => self.value(Table::Other),
+            OpenValue::Inline(table) => self.key(table),
         }
-        Ok(true)
     }
 }

@@ -1,10 +1,11 @@
 //! Manifests, read from files, folders and standard input.
 
+use crate::document::Document;
 use cargo_platform::shown_text;
 use std::alloc::{AllocError, Global};
 use std::rt::Files;
 use std::{fs, io};
-use toml::{Table, table_from_str};
+use toml::table_from_str;
 
 /// What stands for standard input.
 const INPUT: &str = "-";
@@ -14,8 +15,7 @@ const INPUT: &str = "-";
 pub struct Manifest {
     /// The path as it is shown: of a folder that of its `Cargo.toml`.
     pub path: String,
-    pub text: String,
-    pub table: Table,
+    pub document: Document,
 }
 
 /// Why a manifest gives nothing.
@@ -56,7 +56,7 @@ fn text_at<R: Files + Input + AllocGlobal>(rt: &R, file: &str) -> io::Result<Str
 }
 
 /// The text without a mark of the byte order, as Cargo reads it.
-pub fn without_mark(text: &str) -> &str {
+fn without_mark(text: &str) -> &str {
     text.strip_prefix("\u{FEFF}").unwrap_or(text)
 }
 
@@ -106,11 +106,11 @@ pub fn read_manifest<R: Files + Input + AllocGlobal>(
             return Err(unusable(alloc, shown.as_str(), reason.as_str()));
         }
     };
-    match table_from_str(alloc, without_mark(text.as_str())) {
+    let text = without_mark(text.as_str());
+    match table_from_str(alloc, text) {
         Ok(table) => Ok(Manifest {
             path: shown,
-            text,
-            table,
+            document: Document::of(alloc, table, text)?,
         }),
         Err(error) => Err(no_toml(alloc, shown.as_str(), &error)),
     }

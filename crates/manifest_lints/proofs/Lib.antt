@@ -1,5 +1,5 @@
 pub mod Reports
 pub mod Rustcs
-pub mod Found
+pub mod Founds
 pub mod MoreSames
 pub mod MoreEquivalents

@@ -1,20 +1,17 @@
 -- One more key among those that later ones are compared with.
-use Rattle.std.proofs.Common.{◌≡◌, refl, sym, subst, ℕ, List, [], ◌∷◌, ◌++◌, inl, inr}
+use Rattle.std.proofs.Common.{◌≡◌, refl, sym, subst, ℕ, Bool, List, [], ◌∷◌, ◌++◌, inl, inr}
 use Rattle.std.specs.Prelude.{IsTrue}
 use Rattle.std.specs.Borrow.{Bor}
 use Rattle.std.proofs.lemmas.List.Elements.{All-nil, All-same, All-push, All-weaker}
 use Rattle.cargo_platform.specs.declared.Platform.{Platform}
 use Rattle.cargo_platform.specs.Trees.{Condition, condition_of}
 use Rattle.cargo_platform.specs.Platforms.{IsConditionText}
-use Rattle.cargo_platform.proofs.Conditions.{one_condition}
 use Rattle.exact_answers.specs.declared.known.Known.{Known}
 use Rattle.manifest_lints_questions.specs.declared.earlier.Keys.{Keys}
-use Rattle.manifest_lints_findings.specs.declared.hiding.Holding.{Holding}
 use Rattle.manifest_tables.specs.Entries.{Entry}
 use Rattle.manifest_lints.proofs.MoreSames.{has_more, has_so}
 use Rattle.manifest_lints.specs.Sames.{HasSpelled, AreMembers, HasEquivalent}
 use Rattle.manifest_lints_questions.specs.Earlier.{AddsMember, AreEquivalent, HasEquivalentMember}
-use Rattle.manifest_lints.specs.Sames.{TellsEquivalent}
 
 abbrev IsSpelledBy : List Entry → ℕ × Bor Platform → Type 0
 IsSpelledBy es m = HasSpelled es (condition_of m.1.now)
@@ -36,11 +33,9 @@ one_member es e old new n p (inr more) before text =
     (All-push (IsSpelledBy (es ++ e ∷ [])) old.members.items (n, p) (more_members es e old before)
     (has_more (λ d. d ≡ condition_of p.now) es e (inl (condition_of p.now, text, refl))))
 
-pub tells_equivalent : (k : Known) (es : List Entry) (e : Entry) (old : Keys) (c : Condition) → AreMembers es old
-    → IsConditionText e.0 c → (h : Holding) → (IsTrue h.equivalent → HasEquivalentMember k old c)
-    → TellsEquivalent k es e h
-tells_equivalent k es e old c before text h told = λ d t holds.
+pub tells_equivalent : (k : Known) (es : List Entry) (old : Keys) (c : Condition) (b : Bool) → AreMembers es old
+    → (IsTrue b → HasEquivalentMember k old c) → IsTrue b → HasEquivalent k es c
+tells_equivalent k es old c b before told holds =
     let m = told holds in
-    subst (HasEquivalent k es) (one_condition e.0 c d text t)
-    (has_so (λ x. x ≡ condition_of m.1.1.now) (λ x. AreEquivalent k x c) es
-    (λ x is. subst (λ y. AreEquivalent k y c) (sym is) m.4) (subst (IsSpelledBy es) m.3 (before m.0 m.1 m.2)))
+    has_so (λ x. x ≡ condition_of m.1.1.now) (λ x. AreEquivalent k x c) es
+    (λ x is. subst (λ y. AreEquivalent k y c) (sym is) m.4) (subst (IsSpelledBy es) m.3 (before m.0 m.1 m.2))

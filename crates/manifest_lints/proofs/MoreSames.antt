@@ -1,5 +1,5 @@
 -- One more key among those that were noted.
-use Rattle.std.proofs.Common.{◌≡◌, ◌∙◌, refl, sym, ap, subst, ℕ, true≢false, List, [], ◌∷◌}
+use Rattle.std.proofs.Common.{◌≡◌, ◌∙◌, refl, sym, ap, subst, ℕ, Bool, true≢false, List, [], ◌∷◌}
 use Rattle.std.proofs.Common.{◌++◌, ◌↔◌, ◌⊎◌, inl, inr, Option, Some, None, IsTrue, IsSome}
 use Rattle.std.specs.Borrow.{Bor}
 use Rattle.cargo_platform.specs.declared.Platform.{Platform}
@@ -8,12 +8,10 @@ use Rattle.cargo_platform.specs.Key.{condition_key}
 use Rattle.cargo_platform.specs.Platforms.{IsConditionText}
 use Rattle.cargo_platform.proofs.Conditions.{one_condition}
 use Rattle.manifest_lints_questions.specs.declared.earlier.Keys.{Keys}
-use Rattle.manifest_lints_findings.specs.declared.hiding.Holding.{Holding}
 use Rattle.manifest_tables.specs.Entries.{Entry}
 use Rattle.manifest_lints_findings.specs.Spells.{SpellsNothing}
 use Rattle.manifest_lints_questions.specs.Earlier.{noted, NotesBy, Notes}
 use Rattle.manifest_lints.specs.Sames.{SpellsOne, HasOne, IsSameAs, HasSame, AreNoted}
-use Rattle.manifest_lints.specs.Sames.{TellsSame}
 
 module _ (P : Condition → Type 0) where
   pub has_more : (es : List Entry) (e : Entry) → SpellsOne P e.0 ⊎ HasOne P es → HasOne P (es ++ e ∷ [])
@@ -71,12 +69,8 @@ module _ (es : List Entry) (e : Entry) (old new : Keys) (p : Bor Platform) (befo
   pub one_noted : Notes old new p → AreNoted (es ++ e ∷ []) new
   one_noted notes = noted_by (noted old p) refl notes
 
-  pub tells_same : (h : Holding) → (IsTrue h.same ↔ IsSome (noted old p)) → TellsSame es e h
-  tells_same h same = λ c t.
-      let is : condition_of p.now ≡ c = one_condition e.0 (condition_of p.now) c text t in (
-        λ s. subst (HasSame es) is ((before p).0 (same.0 s)),
-        λ s. same.1 ((before p).1 (subst (HasSame es) (sym is) s)),
-      )
+  pub tells_same : (b : Bool) → (IsTrue b ↔ IsSome (noted old p)) → (IsTrue b ↔ HasSame es (condition_of p.now))
+  tells_same b same = (λ s. (before p).0 (same.0 s), λ s. same.1 ((before p).1 s))
 
 -- a key that spells nothing is the same as none
 pub none_more : (es : List Entry) (e : Entry) (keys : Keys) → AreNoted es keys → SpellsNothing e.0
@@ -88,6 +82,3 @@ none_more es e keys before nothing = λ q. (
     | inr k ↦ k
   ]),
 )
-
-pub tells_none : (es : List Entry) (e : Entry) (h : Holding) → SpellsNothing e.0 → TellsSame es e h
-tells_none es e h nothing = λ c t. absurd (nothing c t)

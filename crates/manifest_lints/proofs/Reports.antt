@@ -1,53 +1,46 @@
 -- One more key, and one more code, of a report.
-use Rattle.std.proofs.Common.{◌≡◌, ◌∙◌, refl, sym, ap, subst, ℕ, ◌+◌, ◌<◌, Bool, true, false, arith}
+use Rattle.std.proofs.Common.{◌≡◌, ◌∙◌, refl, sym, ap, subst, ℕ, ◌+◌, ◌<◌, ◌≤◌, Bool, true, false, arith}
 use Rattle.std.proofs.Common.{List, [], ◌∷◌, ◌++◌, append_assoc, map, take, length, get_or, Some}
 use Rattle.std.specs.List.{All, filter}
-use Rattle.std.proofs.lemmas.List.{take_more, map-append, append-nil, length-map, length-take-le}
+use Rattle.std.proofs.lemmas.List.{take_all, take_more, map-append, append-nil, length-map, length-take-le}
 use Rattle.std.proofs.lemmas.List.Elements.{filter-append}
 use Rattle.std.proofs.Math.Bool.{cond}
 use Rattle.exact_answers.specs.declared.known.Known.{Known}
-use Rattle.manifest_lints_findings.specs.declared.findings.Code.{Code}
+use Rattle.manifest_lints_findings.specs.declared.codes.Code.{Code}
 use Rattle.manifest_lints_findings.specs.declared.findings.Finding.{Finding}
-use Rattle.manifest_lints_findings.specs.declared.hiding.Holding.{Holding}
-use Rattle.manifest_lints.specs.declared.subjects.Read.{Read}
+use Rattle.manifest_lints_findings.specs.declared.readings.ReadKey.{ReadKey}
+use Rattle.manifest_lints_findings.specs.Codes.{CodeSet}
+use Rattle.manifest_lints_findings.specs.Spells.{IsRead, entry_read}
 use Rattle.declared_cfgs.specs.Declarations.{DeclaredEntry}
-use Rattle.manifest_lints.specs.Reports.{Entry, AreFindingsOn, on_more, IsFoundOf, IsRead, entry_of}
+use Rattle.manifest_lints.specs.Reports.{Entry, AreFindingsOn, on_more, IsFound}
 use Rattle.manifest_lints_findings.specs.Marks.{Mark, mark, marks}
 use Rattle.manifest_lints.specs.Reports.{told_marks, left_open}
-use Rattle.manifest_lints.specs.Sames.{TellsSame, TellsEquivalent}
-
-abbrev pub read_entry : Read → Entry
-read_entry r = entry_of r.key
 
 -- the keys before a place, and the one at it
-pub next_entries : (reads : List Read) (i : ℕ) (d : Read) → i < length reads
-    → map read_entry (take i reads) ++ read_entry (get_or reads i d) ∷ [] ≡ map read_entry (take (i + 1) reads)
+pub next_entries : (reads : List ReadKey) (i : ℕ) (d : ReadKey) → i < length reads
+    → map entry_read (take i reads) ++ entry_read (get_or reads i d) ∷ [] ≡ map entry_read (take (i + 1) reads)
 next_entries reads i d within =
-    sym (map-append read_entry (take i reads) (get_or reads i d ∷ []))
-    ∙ ap (map read_entry) (sym (take_more reads i d within))
+    sym (map-append entry_read (take i reads) (get_or reads i d ∷ []))
+    ∙ ap (map entry_read) (sym (take_more reads i d within))
 
-pub one_more : (k : Known) (ds : List DeclaredEntry) (reads : List Read) (i : ℕ) (d : Read) (h : Holding)
-    (old new : List Mark) (before_open now_open : List ℕ) → i < length reads → All IsRead reads
-    → (All IsRead reads → AreFindingsOn k ds (map read_entry (take i reads)) old before_open)
-    → (IsRead (get_or reads i d) → IsFoundOf k ds (read_entry (get_or reads i d)) h)
-    → (IsRead (get_or reads i d) → TellsSame (map read_entry (take i reads)) (read_entry (get_or reads i d)) h)
-    → (IsRead (get_or reads i d)
-    → TellsEquivalent k (map read_entry (take i reads)) (read_entry (get_or reads i d)) h)
-    → new ≡ old ++ told_marks i h → now_open ≡ before_open ++ left_open i h
-    → AreFindingsOn k ds (map read_entry (take (i + 1) reads)) new now_open
-one_more k ds reads i d h old new before_open now_open within all before found same alike now opened =
+pub one_more : (k : Known) (ds : List DeclaredEntry) (reads : List ReadKey) (i : ℕ) (d : ReadKey) (codes : CodeSet)
+    (is_open : Bool) (old new : List Mark) (before_open now_open : List ℕ) → i < length reads
+    → AreFindingsOn k ds (map entry_read (take i reads)) old before_open
+    → IsFound k ds (map entry_read (take i reads)) (entry_read (get_or reads i d)) codes is_open
+    → new ≡ old ++ told_marks i codes → now_open ≡ before_open ++ left_open i is_open
+    → AreFindingsOn k ds (map entry_read (take (i + 1) reads)) new now_open
+one_more k ds reads i d codes is_open old new before_open now_open within before found now opened =
     let x = get_or reads i d in
-    let es = map read_entry (take i reads) in
-    let long : length es ≡ i = length-map (take i reads) read_entry ∙ length-take-le i reads (omega arith) in
-    let more : AreFindingsOn k ds (es ++ read_entry x ∷ []) (old ++ told_marks (length es) h)
-    (before_open ++ left_open (length es) h) =
-    on_more es (read_entry x) h old before_open (before all) (found (all i d within)) (same (all i d within))
-    (alike (all i d within)) in
+    let es = map entry_read (take i reads) in
+    let long : length es ≡ i = length-map (take i reads) entry_read ∙ length-take-le i reads (omega arith) in
+    let more : AreFindingsOn k ds (es ++ entry_read x ∷ []) (old ++ told_marks (length es) codes)
+    (before_open ++ left_open (length es) is_open) =
+    on_more es (entry_read x) codes is_open old before_open before found in
     subst (λ fs. AreFindingsOn k ds fs new now_open) (next_entries reads i d within)
-    (subst (λ ms. AreFindingsOn k ds (es ++ read_entry x ∷ []) ms now_open)
-    (ap (λ n. old ++ told_marks n h) long ∙ sym now)
-    (subst (λ ns. AreFindingsOn k ds (es ++ read_entry x ∷ []) (old ++ told_marks (length es) h) ns)
-    (ap (λ n. before_open ++ left_open n h) long ∙ sym opened) more))
+    (subst (λ ms. AreFindingsOn k ds (es ++ entry_read x ∷ []) ms now_open)
+    (ap (λ n. old ++ told_marks n codes) long ∙ sym now)
+    (subst (λ ns. AreFindingsOn k ds (es ++ entry_read x ∷ []) (old ++ told_marks (length es) codes) ns)
+    (ap (λ n. before_open ++ left_open n is_open) long ∙ sym opened) more))
 
 abbrev marked : ℕ → List Code → List Mark
 marked n cs = map (λ c. (Some n, c)) cs
@@ -74,6 +67,11 @@ module _ (p : Code → Bool) (n : ℕ) (cs : List Code) (i : ℕ) (d : Code) (in
         | true ↦ λ e h. at_next (x ∷ []) (ap (λ b. cond b (x ∷ []) []) e) h
         | false ↦ λ e h. at_next [] (ap (λ b. cond b (x ∷ []) []) e) h
       ] refl now
+
+-- all codes were gone through
+pub all_codes : (p : Code → Bool) (n i : ℕ) (cs : List Code) (init new : List Mark) → length cs ≤ i
+    → new ≡ init ++ marked n (filter p (take i cs)) → new ≡ init ++ marked n (filter p cs)
+all_codes p n i cs init new done now = now ∙ ap (λ xs. init ++ marked n (filter p xs)) (take_all i cs done)
 
 pub one_told : (fs gs : List Finding) (f : Finding) (b : Bool) (m : Mark) → gs ≡ fs ++ f ∷ [] → mark f ≡ m
     → b ≡ true → marks gs ≡ marks fs ++ cond b (m ∷ []) []

@@ -1,2 +1,3 @@
 pub mod Sames
 pub mod Reports
+pub mod Founds

@@ -1,37 +1,33 @@
--- What is found of the keys of a manifest, and which findings are told of them.
-use Rattle.std.specs.Prelude.{◌≡◌, ◌≤◌, ◌⊎◌, ◌↔◌, ℕ, false, IsTrue, List}
-use Rattle.std.specs.Prelude.{[], ◌∷◌, ◌++◌, map, length, cond, Some}
-use Rattle.std.specs.List.{list_any}
+-- What is found of the keys of a manifest, code by code, and which findings are told of them.
+use Rattle.std.specs.Prelude.{◌≡◌, ◌≤◌, ◌⊎◌, ◌↔◌, ℕ, Bool, false, not, IsTrue, List}
+use Rattle.std.specs.Prelude.{[], ◌∷◌, ◌++◌, map, length, cond, bytes_eq, Option, Some, None}
+use Rattle.std.specs.List.Sorted.{IsPermutation}
 use Rattle.cargo_platform.specs.Trees.{Condition}
-use Rattle.cargo_platform.specs.Warnings.{condition_values}
 use Rattle.cargo_platform.specs.Facts.{FactSet, fact_set}
 use Rattle.cargo_platform.specs.Platforms.{IsConditionText}
 use Rattle.cargo_platform.specs.Print.{print_condition}
+use Rattle.toml.specs.Data.{Members}
 use Rattle.exact_answers.specs.declared.known.Known.{Known}
 use Rattle.partial_facts.specs.declared.one_valued.TheConstants.{ONE_VALUED}
 use Rattle.exact_answers.specs.Possible.{HasOneValue, IsAllowed}
 use Rattle.exact_answers.specs.Families.{KeepsFamilyRule}
-use Rattle.manifest_lints_findings.specs.declared.findings.Code.{Code}
-use Rattle.manifest_lints_findings.specs.declared.hiding.Holding.{Holding}
-use Rattle.manifest_lints_findings.specs.Marks.{Mark}
-use Rattle.manifest_lints_findings.specs.Spells.{SpellsNothing, IsSpelledAs}
-use Rattle.manifest_lints.specs.declared.subjects.Read.{Read}
-use Rattle.manifest_lints_questions.specs.declared.deciding.TheConstants.{MANY}
-use Rattle.declared_cfgs.specs.Declarations.{DeclaredEntry}
-use Rattle.manifest_lints_standings.specs.Standings.{is_unsupported, is_mistaken, is_undeclared_custom, AreOpen}
-use Rattle.manifest_lints_standings.specs.Standings.{IsUnknownTarget}
+use Rattle.declared_cfgs.specs.Declarations.{DeclaredEntry, IsDeclaredBy}
 pub use Rattle.manifest_tables.specs.Entries.{Entry, entry_of}
-use Rattle.manifest_lints.specs.Sames.{TellsSame, TellsEquivalent}
-use Rattle.manifest_lints_findings.specs.Hiding.{is_told, told_codes, IsUnspelled}
+use Rattle.manifest_lints_standings.specs.declared.standing.Sort.TheVariants as sort
+use Rattle.manifest_lints_standings.specs.Standings.{has_sort, sorted_in, open_in, IsUnknownTarget}
+use Rattle.manifest_lints_findings.specs.declared.codes.Code.{Code}
+use Rattle.manifest_lints_findings.specs.declared.codes.Code.TheVariants as code
+use Rattle.manifest_lints_findings.specs.declared.findings.Report.{Report}
+use Rattle.manifest_lints_findings.specs.Codes.{CodeSet, is_told, told_codes}
+use Rattle.manifest_lints_findings.specs.Known.{has_marked_literal}
+use Rattle.manifest_lints_findings.specs.Marks.{Mark, marks}
 use Rattle.manifest_lints_findings.specs.NoTables.{is_no_table}
+use Rattle.manifest_lints_findings.specs.Spells.{SpellsNothing}
+use Rattle.manifest_lints_questions.specs.declared.deciding.TheConstants.{MANY}
 use Rattle.manifest_lints_questions.specs.Truths.{IsNever, IsAlways, CanHold, CanFail, IsNowhere, IsEverywhere}
+use Rattle.manifest_lints.specs.Sames.{HasSame, HasEquivalent}
 
--- ---- what a key spells
-
-abbrev pub IsRead : Read → Type 0
-IsRead r = IsSpelledAs r.key.key.now r.spelled
-
--- ---- what is found of a key
+-- ---- the sets of facts that are asked about
 
 -- a set of facts that rustc may set: a key with one value has one at most, and names of families go with the pairs of
 -- `target_family`
@@ -42,62 +38,101 @@ IsRustcs s = HasOneValue (fact_set []) (map (λ t. t.now) ONE_VALUED.now) s × K
 abbrev pub AllowsRustcs : Known → Type 0
 AllowsRustcs k = (s : FactSet) → IsAllowed k s ↔ IsRustcs s
 
--- by what is known of each target and what the manifest declares
-pub record IsFoundOfCondition (k : Known) (ds : List DeclaredEntry) (text : List ℕ) (c : Condition)
-    (h : Holding) : Type 0 where
-  pub refused : h.refused ≡ false
-  pub unsupported : h.unsupported ≡ list_any is_unsupported (condition_values c)
-  pub unknown_fact : h.unknown_fact ≡ list_any is_mistaken (condition_values c)
-  pub custom : h.custom ≡ list_any (is_undeclared_custom ds) (condition_values c)
-  pub never : IsTrue h.never → IsNever k c
-  pub always : IsTrue h.always → IsAlways k c
-  pub can_hold : h.never ≡ false → h.undecided ≡ false → CanHold k c
-  pub can_fail : h.always ≡ false → h.undecided ≡ false → CanFail k c
-  pub open_keys : List (List ℕ)
-  pub are_open : AreOpen open_keys (condition_values c)
-  pub nowhere : IsTrue h.nowhere → IsNowhere open_keys c
-  pub everywhere : IsTrue h.everywhere → IsEverywhere open_keys c
-  pub all_told : length open_keys ≤ MANY
-      → (IsNowhere open_keys c → IsTrue h.nowhere) × (IsEverywhere open_keys c → IsTrue h.everywhere)
-  pub unknown_target : IsTrue h.unknown_target ↔ IsUnknownTarget c
-  pub not_canonical : IsTrue h.not_canonical ↔ (print_condition c ≡ text → ⊥)
+-- ---- the table: when a code holds of a key
 
--- of a key that spells a condition, and of one that spells none
-pub record IsFoundSpelled (k : Known) (ds : List DeclaredEntry) (e : Entry) (h : Holding) : Type 0 where
+-- it holds only where it is right; and where it does not hold, and nothing is open, this is so
+abbrev pub Settles : Bool → Bool → Type 0 → Type 0 → Type 0
+Settles is_open b Is IsNot = (IsTrue b → Is) × (b ≡ false → is_open ≡ false → IsNot)
+
+-- it holds where it is right, and only there, unless too many names are open
+abbrev pub SettlesFew : List (List ℕ) → Bool → Type 0 → Type 0
+SettlesFew open_keys b Is = (IsTrue b → Is) × (length open_keys ≤ MANY → Is → IsTrue b)
+
+-- by what is known of each target and what is declared, of a key after others that spells a condition, of which
+-- something is left open or not: whether a code holds
+abbrev pub Holds : Known → List DeclaredEntry → List Entry → Entry → Condition → Bool → Code → Bool → Type 0
+Holds k ds es e c is_open code.Refused b = b ≡ false
+Holds k ds es e c is_open code.NoTable b = b ≡ is_no_table e.1
+Holds k ds es e c is_open code.ReadOtherwise b = b ≡ has_marked_literal (sorted_in ds c)
+Holds k ds es e c is_open code.Unsupported b = b ≡ has_sort sort.Unsupported (sorted_in ds c)
+Holds k ds es e c is_open code.Never b = Settles is_open b (IsNever k c) (CanHold k c)
+Holds k ds es e c is_open code.UnknownTarget b = IsTrue b ↔ IsUnknownTarget c
+Holds k ds es e c is_open code.UnknownFact b = b ≡ has_sort sort.Mistaken (sorted_in ds c)
+Holds k ds es e c is_open code.Nowhere b =
+    SettlesFew (open_in (sorted_in ds c)) b (IsNowhere (open_in (sorted_in ds c)) c)
+Holds k ds es e c is_open code.Same b = IsTrue b ↔ HasSame es c
+Holds k ds es e c is_open code.Equivalent b = IsTrue b → HasEquivalent k es c
+Holds k ds es e c is_open code.Always b = Settles is_open b (IsAlways k c) (CanFail k c)
+Holds k ds es e c is_open code.Everywhere b =
+    SettlesFew (open_in (sorted_in ds c)) b (IsEverywhere (open_in (sorted_in ds c)) c)
+Holds k ds es e c is_open code.Custom b = b ≡ has_sort sort.Custom (sorted_in ds c)
+Holds k ds es e c is_open code.NotCanonical b = b ≡ not (bytes_eq (print_condition c) e.0)
+
+-- the same of a key that spells none, and that Cargo refuses or reads
+abbrev pub HoldsUnspelled : Bool → Entry → Code → Bool → Type 0
+HoldsUnspelled is_refused e code.Refused b = b ≡ is_refused
+HoldsUnspelled is_refused e code.NoTable b = b ≡ is_no_table e.1
+HoldsUnspelled is_refused e code.ReadOtherwise b = b ≡ not is_refused
+HoldsUnspelled is_refused e _ b = b ≡ false
+
+-- the codes that hold of a key that spells a condition, and of one that spells none
+pub record IsFoundSpelled (k : Known) (ds : List DeclaredEntry) (es : List Entry) (e : Entry) (codes : CodeSet)
+    (is_open : Bool) : Type 0 where
   pub condition : Condition
   pub spelled : IsConditionText e.0 condition
-  pub no_table : h.no_table ≡ is_no_table e.1
-  pub found : IsFoundOfCondition k ds e.0 condition h
+  pub holds : (c : Code) → Holds k ds es e condition is_open c (codes c)
 
-pub record IsFoundUnspelled (e : Entry) (h : Holding) : Type 0 where
+pub record IsFoundUnspelled (e : Entry) (codes : CodeSet) (is_open : Bool) : Type 0 where
   pub nothing : SpellsNothing e.0
-  pub found : IsUnspelled (is_no_table e.1) h
+  pub is_refused : Bool
+  pub holds : (c : Code) → HoldsUnspelled is_refused e c (codes c)
+  pub settled : is_open ≡ false
 
-abbrev pub IsFoundOf : Known → List DeclaredEntry → Entry → Holding → Type 0
-IsFoundOf k ds e h = IsFoundSpelled k ds e h ⊎ IsFoundUnspelled e h
+abbrev pub IsFound : Known → List DeclaredEntry → List Entry → Entry → CodeSet → Bool → Type 0
+IsFound k ds es e codes is_open = IsFoundSpelled k ds es e codes is_open ⊎ IsFoundUnspelled e codes is_open
 
 -- ---- the findings
 
 -- the finding of a code on the key at a place, where it is told
-abbrev pub told_mark : ℕ → Holding → Code → List Mark
-told_mark n h c = cond (is_told h c) ((Some n, c) ∷ []) []
+abbrev pub told_mark : ℕ → CodeSet → Code → List Mark
+told_mark n codes c = cond (is_told codes c) ((Some n, c) ∷ []) []
 
 -- what is told of the key at a place
-abbrev pub told_marks : ℕ → Holding → List Mark
-told_marks n h = map (λ c. (Some n, c)) (told_codes h)
+abbrev pub told_marks : ℕ → CodeSet → List Mark
+told_marks n codes = map (λ c. (Some n, c)) (told_codes codes)
 
 -- the place of a key, where it is left open
-abbrev pub left_open : ℕ → Holding → List ℕ
-left_open n h = cond h.undecided (n ∷ []) []
+abbrev pub left_open : ℕ → Bool → List ℕ
+left_open n is_open = cond is_open (n ∷ []) []
 
 -- the findings on some keys are those that are told of each, in the order of the keys; and the places are those of the
 -- keys that are left open
 pub data AreFindingsOn (k : Known) (ds : List DeclaredEntry) : List Entry → List Mark → List ℕ → Type 0 where
   on_none : AreFindingsOn k ds [] [] []
-  on_more : (es : List Entry) (e : Entry) (h : Holding) (ms : List Mark) (ns : List ℕ) → AreFindingsOn k ds es ms ns
-      → IsFoundOf k ds e h → TellsSame es e h → TellsEquivalent k es e h
-      → AreFindingsOn k ds (es ++ e ∷ []) (ms ++ told_marks (length es) h) (ns ++ left_open (length es) h)
+  on_more : (es : List Entry) (e : Entry) (codes : CodeSet) (is_open : Bool) (ms : List Mark) (ns : List ℕ)
+      → AreFindingsOn k ds es ms ns → IsFound k ds es e codes is_open
+      → AreFindingsOn k ds (es ++ e ∷ []) (ms ++ told_marks (length es) codes) (ns ++ left_open (length es) is_open)
 
 -- the same, by what is known of each target
 abbrev pub AreFindings : List DeclaredEntry → List Entry → List Mark → List ℕ → Type 0
 AreFindings ds es ms ns = (k : Known) × (AllowsRustcs k × AreFindingsOn k ds es ms ns)
+
+-- ---- the report
+
+-- of a table at `target`: its keys in some order, and the findings on them
+abbrev pub IsReportOn : Members → List Entry → Report → Type 0
+IsReportOn ms es r =
+    IsPermutation es (map entry_of r.keys.items)
+    × ((ds : List DeclaredEntry)
+    × IsDeclaredBy ms ds
+    × AreFindings ds (map entry_of r.keys.items) (marks r.findings.items) r.undecided.items)
+
+-- of no table: no keys, and these findings
+abbrev pub IsReportOf : List Mark → Report → Type 0
+IsReportOf ms r = (r.keys.items ≡ []) × (marks r.findings.items ≡ ms) × (r.undecided.items ≡ [])
+
+-- of a manifest, by what stands at its `target`: a table, nothing, or what is no table
+abbrev pub IsReport : Members → Option (Option (List Entry)) → Report → Type 0
+IsReport ms (Some (Some es)) r = IsReportOn ms es r
+IsReport ms (Some None) r = IsReportOf ((None, code.NoTable) ∷ []) r
+IsReport ms None r = IsReportOf [] r

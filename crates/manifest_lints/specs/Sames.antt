@@ -1,5 +1,5 @@
 -- The same conditions at earlier keys, raw marks aside, and those that are as true.
-use Rattle.std.specs.Prelude.{◌≡◌, ◌⊎◌, ◌↔◌, ℕ, List, [], ◌∷◌, IsSome, IsTrue}
+use Rattle.std.specs.Prelude.{◌≡◌, ◌⊎◌, ◌↔◌, ℕ, List, [], ◌∷◌, IsSome}
 use Rattle.std.specs.List.{All}
 use Rattle.std.specs.Borrow.{Bor}
 use Rattle.cargo_platform.specs.declared.Platform.{Platform}
@@ -7,7 +7,6 @@ use Rattle.cargo_platform.specs.Trees.{Condition, condition_of}
 use Rattle.cargo_platform.specs.Key.{condition_key}
 use Rattle.cargo_platform.specs.Platforms.{IsConditionText}
 use Rattle.exact_answers.specs.declared.known.Known.{Known}
-use Rattle.manifest_lints_findings.specs.declared.hiding.Holding.{Holding}
 use Rattle.manifest_lints_questions.specs.declared.earlier.Keys.{Keys}
 use Rattle.manifest_lints_questions.specs.Earlier.{noted, AreEquivalent}
 use Rattle.manifest_tables.specs.Entries.{Entry}
@@ -31,19 +30,11 @@ HasSame es c = HasOne (IsSameAs c) es
 abbrev pub AreNoted : List Entry → Keys → Type 0
 AreNoted es keys = (q : Bor Platform) → IsSome (noted keys q) ↔ HasSame es (condition_of q.now)
 
--- `same` holds of a key exactly where an earlier one spells the same condition
-abbrev pub TellsSame : List Entry → Entry → Holding → Type 0
-TellsSame es e h = (c : Condition) → IsConditionText e.0 c → (IsTrue h.same ↔ HasSame es c)
-
 -- ---- conditions that are as true
 
 -- one of the keys spells a condition that is as true as this one for each possible target
 abbrev pub HasEquivalent : Known → List Entry → Condition → Type 0
 HasEquivalent k es c = HasOne (λ d. AreEquivalent k d c) es
-
--- `equivalent` holds of a key only where an earlier one spells a condition that is as true
-abbrev pub TellsEquivalent : Known → List Entry → Entry → Holding → Type 0
-TellsEquivalent k es e h = (c : Condition) → IsConditionText e.0 c → IsTrue h.equivalent → HasEquivalent k es c
 
 abbrev pub HasSpelled : List Entry → Condition → Type 0
 HasSpelled es c = HasOne (λ d. d ≡ c) es

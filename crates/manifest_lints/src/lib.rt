@@ -1,10 +1,10 @@
 //! What there is to tell of the keys of `target` in a manifest.
 #![tactic(auto)]
 
+mod found;
 mod linting;
-mod subjects;
 
 pub use linting::lint;
-pub use manifest_lints_findings::{Code, Finding, Level, Report, findings};
-pub use manifest_lints_hints::{Words, nearest_target};
-pub use manifest_lints_names::values_of;
+pub use manifest_files::document::Document;
+pub use manifest_lints_findings::{Code, Finding, Level, Report, Words, nearest_target, unknown_in};
+pub use manifest_lints_standings::values_of;

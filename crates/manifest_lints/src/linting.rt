@@ -1,53 +1,36 @@
 //! What there is to tell of the keys of a manifest.
 
-ghost use Rattle.std.specs.Prelude.{◌≡◌, ◌++◌, IfOk, OnOk, Some, List, map};
+ghost use Rattle.std.specs.Prelude.{◌≡◌, ◌++◌, IfOk, OnOk, Some, List, [], map};
 ghost use Rattle.std.specs.List.{All};
 ghost use Rattle.declared_cfgs.specs.Declarations.{DeclaredEntry, IsDeclaredBy, declarations_of};
 ghost use Rattle.manifest_lints_findings.specs.Marks.{mark, marks};
+ghost use Rattle.manifest_lints_findings.specs.Spells.{IsRead, entry_read};
+ghost use Rattle.manifest_lints.specs.Founds.{found_codes};
 ghost use Rattle.manifest_lints.specs.Reports.{told_mark, told_marks, left_open};
 ghost use Rattle.toml.specs.View.{table_view};
-ghost use Rattle.manifest_lints.specs.Reports.{entry_of, AreFindingsOn, IsRead, AreFindings};
+ghost use Rattle.manifest_lints.specs.Reports.{entry_of, AreFindingsOn, AreFindings, IsReport};
+ghost use Rattle.manifest_tables.specs.Tables.{target_of};
 
-use crate::subjects::{Asking, Matter, Read, Subject, subject_of};
+use crate::found::{Asking, Found, found_of};
 use declared_cfgs::Declared;
 use exact_answers::{Known, ONE_VALUED, family_rule};
-use manifest_lints_findings::findings::CODES;
-use manifest_lints_findings::hiding::is_told;
-use manifest_lints_findings::spelled::{Spelled, read_key};
-use manifest_lints_findings::{Code, Finding, Report};
-use manifest_lints_hints::Words;
-use manifest_lints_hints::making::{no_table, on_condition, read_otherwise, refused};
-use manifest_lints_questions::earlier::Keys;
-use manifest_tables::TargetKey;
+use manifest_files::document::Document;
+use manifest_lints_findings::findings::target_is_no_table;
+use manifest_lints_findings::making::finding_on;
+use manifest_lints_findings::readings::ReadKey;
+use manifest_lints_findings::{CODES, Code, Finding, Report, Words};
+use manifest_lints_questions::earlier::{Earlier, Keys};
+use manifest_tables::{TargetKey, Targets};
 use std::alloc::{AllocError, Global};
 
-/// The finding of this code on a key.
-fn told(
-    alloc: Global,
-    words: &Words,
-    subject: &Subject<'_>,
-    code: Code,
-) -> Result<Finding, AllocError>
-    ensures { IfOk result (λ f. mark f ≡ (Some subject.now.index, code)) }
-{
-    let index = subject.index;
-    if code == Code::NoTable {
-        return no_table(alloc, index, &subject.no_tables, code);
-    }
-    match &subject.matter {
-        Matter::Condition(spelling) => {
-            on_condition(alloc, words, index, subject.key, spelling, code)
-        }
-        Matter::Unspelled(Spelled::Refused(error)) => {
-            refused(alloc, index, subject.key.key, error, code)
-        }
-        Matter::Unspelled(Spelled::ByCargo(marked)) => read_otherwise(alloc, index, marked, code),
-        Matter::Unspelled(Spelled::Condition(_)) => no_table(
-            alloc,
-            index,
-            &subject.no_tables,
-            code,
-        ),
+/// The earlier key that is the same or as true.
+fn earlier_key<'a>(read: &'a [ReadKey<'a>], earlier: Earlier) -> &'a str {
+    match earlier {
+        Earlier::Same(first) | Earlier::Equivalent(first) => match read.get(first) {
+            Some(read) => read.text,
+            None => "",
+        },
+        Earlier::Unlike | Earlier::Undecided => "",
     }
 }
 
@@ -56,17 +39,18 @@ fn told(
 fn add_finding(
     alloc: Global,
     words: &Words,
-    subject: &Subject<'_>,
+    found: &Found<'_>,
+    other: &str,
     code: Code,
     findings: &mut Vec<Finding>,
 ) -> Result<(), AllocError>
     ensures { OnOk result (marks findings.new.items
-        ≡ marks findings.old.items ++ told_mark subject.now.index subject.now.holding code) }
+        ≡ marks findings.old.items ++ told_mark found.now.key.place (found_codes found.now) code) }
 {
-    if !is_told(&subject.holding, code) {
+    if !found.is_told(code) {
         return Ok(());
     }
-    let finding = told(alloc, words, subject, code)?;
+    let finding = finding_on(alloc, words, &found.key, other, code)?;
     findings.push(finding)?;
     Ok(())
 }
@@ -75,84 +59,76 @@ fn add_finding(
 fn add_findings(
     alloc: Global,
     words: &Words,
-    subject: &Subject<'_>,
+    found: &Found<'_>,
+    other: &str,
     findings: &mut Vec<Finding>,
 ) -> Result<(), AllocError>
     ensures { OnOk result (marks findings.new.items
-        ≡ marks findings.old.items ++ told_marks subject.now.index subject.now.holding) }
+        ≡ marks findings.old.items ++ told_marks found.now.key.place (found_codes found.now)) }
 {
     'codes: for code in CODES {
-        add_finding(alloc, words, subject, code, findings)?;
+        add_finding(alloc, words, found, other, code, findings)?;
     }
     Ok(())
 }
 
 /// Appends the place of a key of which something is not known.
-fn note_undecided(subject: &Subject<'_>, undecided: &mut Vec<usize>) -> Result<(), AllocError>
+fn note_undecided(found: &Found<'_>, undecided: &mut Vec<usize>) -> Result<(), AllocError>
     ensures { OnOk result
-        (undecided.new.items ≡ undecided.old.items ++ left_open subject.now.index subject.now.holding) }
+        (undecided.new.items ≡ undecided.old.items ++ left_open found.now.key.place found.now.answers.is_open) }
 {
-    if subject.holding.undecided {
-        undecided.push(subject.index)?;
+    if found.answers.is_open {
+        undecided.push(found.key.place)?;
     }
     Ok(())
 }
 
 /// The keys, each with what it spells.
-fn read_keys<'a>(alloc: Global, keys: &[TargetKey<'a>]) -> Result<Vec<Read<'a>>, AllocError>
-    ensures keys { IfOk result (λ read. map (λ r. entry_of r.key) read.items ≡ map entry_of keys.now) }
+fn read_keys<'a>(alloc: Global, keys: &[TargetKey<'a>]) -> Result<Vec<ReadKey<'a>>, AllocError>
+    ensures keys { IfOk result (λ read. map entry_read read.items ≡ map entry_of keys.now) }
     ensures read { IfOk result (λ read. All IsRead read.items) }
 {
     let mut read = Vec::new(alloc);
     'keys: for key in keys {
-        let spelled = read_key(alloc, key.key)?;
-        read.push(Read { key: *key, spelled })?;
+        read.push(ReadKey::of(alloc, key)?)?;
     }
     Ok(read)
 }
 
-/// The findings on the keys that are read.
-fn report_on<'a>(
+/// The findings on keys that are read, and the places of those of which something is not known.
+fn findings_on<'a>(
     alloc: Global,
     words: &Words,
-    declared: &'a Declared<'a>,
-    known: &'a Known<'a>,
-    read: &'a [Read<'a>],
-) -> Result<Report, AllocError>
+    asking: &Asking<'a>,
+    read: &'a [ReadKey<'a>],
+) -> Result<(Vec<Finding>, Vec<usize>), AllocError>
     ensures { All IsRead read.now
-        → IfOk result (λ r. AreFindingsOn known.now (declarations_of declared.now) (map (λ k. entry_of k.key) read.now)
-        (marks r.findings.items) r.undecided.items) }
+        → IfOk result (λ r. AreFindingsOn asking.now.known.now (declarations_of asking.now.declared.now)
+        (map entry_read read.now) (marks r.0.items) r.1.items) }
 {
     let mut findings = Vec::new(alloc);
     let mut undecided = Vec::new(alloc);
     let mut before = Keys::new(alloc);
-    let asking = Asking {
-        declared,
-        known,
-        read,
-    };
-    'keys: for (index, key) in read.iter().enumerate() {
-        let subject = subject_of(alloc, &asking, index, key, &mut before)?;
-        note_undecided(&subject, &mut undecided)?;
-        add_findings(alloc, words, &subject, &mut findings)?;
+    'keys: for (place, key) in read.iter().enumerate() {
+        let found = found_of(alloc, asking, place, key, &mut before)?;
+        let other = earlier_key(read, found.answers.earlier);
+        note_undecided(&found, &mut undecided)?;
+        add_findings(alloc, words, &found, other, &mut findings)?;
     }
-    Ok(Report {
-        findings,
-        undecided,
-    })
+    Ok((findings, undecided))
 }
 
-/// The findings on the keys, in the order in which these are given. What the manifest declares as expected is no custom
-/// fact.
-pub fn lint(
+/// The findings on the keys of a manifest's table.
+fn report_on<'a>(
     alloc: Global,
     manifest: &toml::Table,
-    keys: &[TargetKey<'_>],
+    keys: Vec<TargetKey<'a>>,
     words: &Words,
-) -> Result<Report, AllocError>
-    ensures { IfOk result (λ r. (ds : List DeclaredEntry)
+) -> Result<Report<'a>, AllocError>
+    ensures keys { IfOk result (λ r. r.keys.items ≡ keys.entry.items) }
+    ensures findings { IfOk result (λ r. (ds : List DeclaredEntry)
         × IsDeclaredBy (table_view manifest.now) ds
-        × AreFindings ds (map entry_of keys.now) (marks r.findings.items) r.undecided.items) }
+        × AreFindings ds (map entry_of keys.entry.items) (marks r.findings.items) r.undecided.items) }
 {
     let rule = family_rule(alloc)?;
     let known = Known {
@@ -162,6 +138,48 @@ pub fn lint(
         assumed: &rule,
     };
     let declared = Declared::of(alloc, manifest)?;
-    let read = read_keys(alloc, keys)?;
-    report_on(alloc, words, &declared, &known, &read)
+    let asking = Asking {
+        declared: &declared,
+        known: &known,
+    };
+    let read = read_keys(alloc, &keys)?;
+    let (findings, undecided) = findings_on(alloc, words, &asking, &read)?;
+    Ok(Report {
+        keys,
+        findings,
+        undecided,
+    })
+}
+
+/// The report on a manifest without a table `target`, with these findings.
+fn report_of<'a>(alloc: Global, findings: Vec<Finding>) -> Report<'a>
+    ensures keys { result.keys.items ≡ [] }
+    ensures findings { result.findings.items ≡ findings.items }
+    ensures undecided { result.undecided.items ≡ [] }
+{
+    Report {
+        keys: Vec::new(alloc),
+        findings,
+        undecided: Vec::new(alloc),
+    }
+}
+
+/// The findings on a manifest: on the keys of `target`, in the order in which they first appear where the document knows
+/// that, or on a `target` that is no table. What the manifest declares as expected is no custom fact.
+pub fn lint<'a>(
+    alloc: Global,
+    document: &'a Document,
+    words: &Words,
+) -> Result<Report<'a>, AllocError>
+    ensures { IfOk result (λ r. IsReport (table_view document.now.table) (target_of (table_view document.now.table)) r) }
+{
+    match document.target_keys(alloc)? {
+        Targets::Keys(keys) => report_on(alloc, &document.table, keys, words),
+        Targets::Absent => Ok(report_of(alloc, Vec::new(alloc))),
+        Targets::NoTable => {
+            let mut findings = Vec::new(alloc);
+            findings.push(target_is_no_table(alloc)?)?;
+            Ok(report_of(alloc, findings))
+        }
+    }
 }

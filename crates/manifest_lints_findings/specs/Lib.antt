@@ -1,4 +1,6 @@
 pub mod NoTables
 pub mod Spells
-pub mod Hiding
+pub mod Codes
 pub mod Marks
+pub mod Known
+pub mod Unknown

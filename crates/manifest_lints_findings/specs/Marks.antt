@@ -1,6 +1,6 @@
 -- Where findings are told, and which.
 use Rattle.std.specs.Prelude.{ℕ, List, map, Option}
-use Rattle.manifest_lints_findings.specs.declared.findings.Code.{Code}
+use Rattle.manifest_lints_findings.specs.declared.codes.Code.{Code}
 use Rattle.manifest_lints_findings.specs.declared.findings.Finding.{Finding}
 
 -- the place of the key that a finding is on, and its code

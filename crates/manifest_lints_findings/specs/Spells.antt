@@ -1,9 +1,15 @@
 -- What a key spells.
-use Rattle.std.specs.Prelude.{ℕ, List}
+use Rattle.std.specs.Prelude.{ℕ, List, Option, Some, None}
+use Rattle.std.specs.Borrow.{Bor}
 use Rattle.cargo_platform.specs.Trees.{Condition, condition_of}
 use Rattle.cargo_platform.specs.Platforms.{IsConditionText}
-use Rattle.manifest_lints_findings.specs.declared.spelled.Spelled.{Spelled}
-use Rattle.manifest_lints_findings.specs.declared.spelled.Spelled.TheVariants as spelled
+use Rattle.toml.specs.declared.value.Value.{Value}
+use Rattle.toml.specs.Data.{Data, table, no_members}
+use Rattle.toml.specs.View.{view}
+use Rattle.manifest_tables.specs.Entries.{Entry}
+use Rattle.manifest_lints_findings.specs.declared.readings.ReadKey.{ReadKey}
+use Rattle.manifest_lints_findings.specs.declared.readings.Spelled.{Spelled}
+use Rattle.manifest_lints_findings.specs.declared.readings.Spelled.TheVariants as spelled
 
 abbrev pub SpellsNothing : List ℕ → Type 0
 SpellsNothing text = (c : Condition) → IsConditionText text c → ⊥
@@ -12,3 +18,14 @@ abbrev pub IsSpelledAs : List ℕ → Spelled → Type 0
 IsSpelledAs text (spelled.Condition p) = IsConditionText text (condition_of p)
 IsSpelledAs text (spelled.ByCargo read) = SpellsNothing text
 IsSpelledAs text (spelled.Refused e) = SpellsNothing text
+
+abbrev pub IsRead : ReadKey → Type 0
+IsRead r = IsSpelledAs r.text.now r.spelled
+
+-- what stands at a key; where it stands in no manifest, a table without members
+abbrev pub data_at : Option (Bor Value) → Data
+data_at (Some v) = view v.now
+data_at None = table no_members
+
+abbrev pub entry_read : ReadKey → Entry
+entry_read r = (r.text.now, data_at r.value)

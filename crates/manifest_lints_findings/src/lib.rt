@@ -1,10 +1,18 @@
-//! Findings on the keys of a manifest, what they are made of, and which hide which.
+//! What is known of a key of `target` by itself, the codes of findings as one table, and what findings tell.
 #![tactic(auto)]
 
+pub mod codes;
 pub mod findings;
-pub mod hiding;
-pub mod no_tables;
-pub mod spelled;
-pub mod telling;
+pub mod known_keys;
+pub mod making;
+mod messages;
+mod no_tables;
+pub mod readings;
+mod suggestions;
+mod unknown;
+mod wording;
 
-pub use findings::{Code, Finding, Level, Report};
+pub use codes::{CODES, Code, Level};
+pub use findings::{Finding, Report};
+pub use suggestions::{Words, nearest_target};
+pub use unknown::unknown_in;

@@ -4,9 +4,9 @@ ghost use Rattle.std.specs.Prelude.{◌≡◌, IfOk, not};
 ghost use Rattle.toml.specs.View.{view};
 ghost use Rattle.manifest_lints_findings.specs.NoTables.{is_table_name, is_no_table, is_empty_list};
 
-use crate::telling::quoted;
-use manifest_tables::TargetKey;
+use crate::wording::quoted;
 use std::alloc::{AllocError, Global};
+use toml::Value;
 
 /// Whether Cargo reads a member of this name in the table of a key.
 fn is_table_name(name: &str) -> bool
@@ -22,21 +22,21 @@ fn is_table_name(name: &str) -> bool
     )
 }
 
-/// What under a key is no table of dependencies, by words for each.
-pub fn no_tables(alloc: Global, key: &TargetKey<'_>) -> Result<Vec<String>, AllocError>
-    ensures { IfOk result (λ found. is_empty_list found.items ≡ not (is_no_table (view key.now.value.now))) }
+/// What of what stands at a key is no table of dependencies, by words for each.
+pub fn no_tables(alloc: Global, value: &Value) -> Result<Vec<String>, AllocError>
+    ensures { IfOk result (λ found. is_empty_list found.items ≡ not (is_no_table (view value.now))) }
 {
     let mut found = Vec::new(alloc);
-    let Some(table) = key.value.as_table() else {
+    let Some(table) = value.as_table() else {
         found.push(String::from_str(alloc, "the key is no table")?)?;
         return Ok(found);
     };
-    'members: for (name, value) in table.iter() {
+    'members: for (name, member) in table.iter() {
         let name = name.as_str();
         if !is_table_name(name) {
             let name = quoted(alloc, name)?;
             found.push(format!(in alloc; "{name} is no table of dependencies")?)?;
-        } else if value.as_table().is_none() {
+        } else if member.as_table().is_none() {
             let name = quoted(alloc, name)?;
             found.push(format!(in alloc; "{name} is no table")?)?;
         }

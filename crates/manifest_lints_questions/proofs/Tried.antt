@@ -18,7 +18,7 @@ use Rattle.partial_facts.specs.Partly.{is_named}
 use Rattle.exact_answers.specs.declared.known.Known.{Known}
 use Rattle.exact_answers.specs.Possible.{HasOneValue, is_single, IsAllowed}
 use Rattle.manifest_lints_questions.specs.Doubled.{are_two, are_two_values, is_doubled_in, has_doubled, pairs_at}
-use Rattle.manifest_lints_questions.specs.Truths.{CanHold, CanFail}
+use Rattle.manifest_lints_questions.specs.Truths.{CanBe}
 
 pub none_listed : (cs : List Cfg) (p : Pair) → cs ≡ [] → contains (fact_set (map value_of cs)) p ≡ false
 none_listed cs p is =
@@ -87,16 +87,8 @@ are_possible k cs facts complete none assumed = record {
   assumed_true = assumed;
 }
 
-pub shown_to_hold : (k : Known) (c : Condition) (s : FactSet) (b : Bool) → IsAllowed k s
-    → b ≡ truth_of_condition [] s c → b ≡ true → CanHold k c
-shown_to_hold k c s b possible is h = ([], s, possible, (condition_truth [] s c).0 (sym is ∙ h))
-
-pub shown_to_fail : (k : Known) (c : Condition) (s : FactSet) (b : Bool) → IsAllowed k s
-    → b ≡ truth_of_condition [] s c → not b ≡ true → CanFail k c
-shown_to_fail k c s true possible is h = absurd (true≢false (sym h))
-shown_to_fail k c s false possible is h =
-    ([], s, possible, λ t. absurd (true≢false (sym ((condition_truth [] s c).1 t) ∙ sym is)))
-
-pub if_ok : {A E : Type 0} (P Q : A → Type 0) (r : Result A E) → ((a : A) → P a → Q a) → IfOk r P → IfOk r Q
-if_ok P Q (Ok a) f h = f a h
-if_ok P Q (Err e) f h = tt
+pub shown_to_be : (k : Known) (c : Condition) (s : FactSet) (b truth : Bool) → IsAllowed k s
+    → b ≡ truth_of_condition [] s c → b ≡ truth → CanBe truth k c
+shown_to_be k c s b true possible is h = ([], s, possible, (condition_truth [] s c).0 (sym is ∙ h))
+shown_to_be k c s b false possible is h =
+    ([], s, possible, λ t. absurd (true≢false (sym ((condition_truth [] s c).1 t) ∙ sym is ∙ h)))

@@ -28,6 +28,11 @@ CanHold k c = (name : List ℕ) × (s : FactSet) × IsAllowed k s × IsTrueCondi
 abbrev pub CanFail : Known → Condition → Type 0
 CanFail k c = (name : List ℕ) × (s : FactSet) × IsAllowed k s × (IsTrueCondition name s c → ⊥)
 
+-- it can be as true as this
+abbrev pub CanBe : Bool → Known → Condition → Type 0
+CanBe true k c = CanHold k c
+CanBe false k c = CanFail k c
+
 -- what is said of whether it never holds, and of whether it always does
 abbrev pub SaysNever : Decided → Known → Condition → Type 0
 SaysNever decided.Yes k c = IsNever k c
@@ -38,6 +43,11 @@ abbrev pub SaysAlways : Decided → Known → Condition → Type 0
 SaysAlways decided.Yes k c = IsAlways k c
 SaysAlways decided.No k c = CanFail k c
 SaysAlways decided.Unknown k c = Unit {0}
+
+-- the same of whether it is never as true as this
+abbrev pub SaysNeverIs : Bool → Decided → Known → Condition → Type 0
+SaysNeverIs true d k c = SaysNever d k c
+SaysNeverIs false d k c = SaysAlways d k c
 
 abbrev pub is_yes : Decided → Bool
 is_yes decided.Yes = true

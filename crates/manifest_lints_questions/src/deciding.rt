@@ -3,10 +3,10 @@
 ghost use Rattle.std.specs.Prelude.{◌≡◌, ◌≤◌, ◌↔◌, ◌||◌, false, length, IsTrue, IfOk};
 ghost use Rattle.cargo_platform.specs.Trees.{condition_of};
 ghost use Rattle.partial_facts.specs.Partly.{names_of};
-ghost use Rattle.manifest_lints_questions.specs.Truths.{SaysNever, SaysAlways, is_yes, is_unknown};
+ghost use Rattle.manifest_lints_questions.specs.Truths.{SaysNever, SaysAlways, SaysNeverIs, is_yes, is_unknown};
 ghost use Rattle.manifest_lints_questions.specs.Truths.{IsNever, IsAlways, CanHold, CanFail, IsNowhere, IsEverywhere};
 
-use crate::trying::{fails_tried, holds_tried};
+use crate::shown_by_samples::is_shown;
 use cargo_platform::Platform;
 use exact_answers::{CanSelect, Known, MustSelect, always_platform, can_hold_platform};
 use known_targets::{certainly_matching, possibly_matching};
@@ -16,6 +16,9 @@ use std::alloc::{AllocError, Global};
 const SPLITS: u64 = 1024;
 
 const FEW: usize = 64;
+
+/// Of a condition with more members that others follow in one another nothing is asked: the stack has no room for them.
+const LEVELS: usize = 20_000;
 
 /// Of a condition with more open names and keys it is not asked whether it holds nowhere or everywhere.
 pub const MANY: usize = 4096;
@@ -48,6 +51,11 @@ fn is_unknown(decided: Decided) -> bool
     }
 }
 
+/// Whether it may be asked what holds of a condition over every set of facts: it has no more such levels than these.
+pub fn may_ask(levels: usize) -> bool {
+    levels <= LEVELS
+}
+
 /// How many splits a search of a condition with so many facts may make.
 pub fn budget_for(facts: usize) -> u64 {
     if facts <= FEW {
@@ -68,7 +76,7 @@ fn is_never<'a>(
     match can_hold_platform(alloc, platform, known, budget)? {
         CanSelect::No => Ok(Decided::Yes),
         CanSelect::Yes(_) => Ok(Decided::No),
-        CanSelect::Undecided => never_tried(alloc, platform, known),
+        CanSelect::Undecided => unless_shown(alloc, platform, known, true),
     }
 }
 
@@ -84,29 +92,20 @@ fn is_always<'a>(
     match always_platform(alloc, platform, known, budget)? {
         MustSelect::Yes => Ok(Decided::Yes),
         MustSelect::No(_) => Ok(Decided::No),
-        MustSelect::Undecided => always_tried(alloc, platform, known),
+        MustSelect::Undecided => unless_shown(alloc, platform, known, false),
     }
 }
 
-/// What some sets of facts show of whether a condition holds for no possible target.
-fn never_tried(alloc: Global, platform: &Platform, known: &Known<'_>) -> Result<Decided, AllocError>
-    ensures { IfOk result (λ d. SaysNever d known.now (condition_of platform.now)) }
-{
-    if holds_tried(alloc, platform, known)? {
-        return Ok(Decided::No);
-    }
-    Ok(Decided::Unknown)
-}
-
-/// What some sets of facts show of whether a condition holds for each possible target.
-fn always_tried(
+/// What some sets of facts show of whether a condition is as true as this for no possible target.
+fn unless_shown(
     alloc: Global,
     platform: &Platform,
     known: &Known<'_>,
+    truth: bool,
 ) -> Result<Decided, AllocError>
-    ensures { IfOk result (λ d. SaysAlways d known.now (condition_of platform.now)) }
+    ensures { IfOk result (λ d. SaysNeverIs truth d known.now (condition_of platform.now)) }
 {
-    if fails_tried(alloc, platform, known)? {
+    if is_shown(alloc, platform, known, truth)? {
         return Ok(Decided::No);
     }
     Ok(Decided::Unknown)

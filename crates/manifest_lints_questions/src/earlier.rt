@@ -7,10 +7,10 @@ ghost use Rattle.cargo_platform.specs.Trees.{condition_of};
 ghost use Rattle.manifest_lints_questions.specs.Earlier.{is_same, is_equivalent, noted, Notes, AddsMember};
 ghost use Rattle.manifest_lints_questions.specs.Earlier.{HasEquivalentMember};
 
+use crate::sample_sets::truths;
 use cargo_platform::{CfgExpr, Platform};
 use exact_answers::{Known, MustSelect, equivalent_platform};
-use known_targets::matching;
-use manifest_lints_samples::truths;
+use known_targets::TargetSet;
 use std::alloc::{AllocError, Global};
 use std::collections::BTreeMap;
 
@@ -72,16 +72,16 @@ impl<'a> Keys<'a> {
         }
     }
 
-    /// Adds a key at a place after those that were added, and tells how it stands to them. Where `may_ask` is false
-    /// it is not asked what is as true.
+    /// Adds a key at a place after those that were added, and tells how it stands to them. It holds at these known
+    /// targets. With no budget it is not asked what is as true.
     pub fn add(
         &mut self,
         alloc: Global,
         index: usize,
         platform: &'a Platform,
+        targets: TargetSet,
         known: &'a Known<'a>,
-        budget: u64,
-        may_ask: bool,
+        budget: Option<u64>,
     ) -> Result<Earlier, AllocError>
         ensures same { IfOk result (λ r. IsTrue (is_same r) ↔ IsSome (noted self.old platform.entry)) }
         ensures equivalent { IfOk result (λ r. IsTrue (is_equivalent r)
@@ -91,7 +91,7 @@ impl<'a> Keys<'a> {
     {
         match self.note(index, platform)? {
             Some(first) => Ok(Earlier::Same(first)),
-            None => self.compare(alloc, index, platform, known, budget, may_ask),
+            None => self.compare(alloc, index, platform, targets, known, budget),
         }
     }
 
@@ -108,15 +108,15 @@ impl<'a> Keys<'a> {
         Ok(None)
     }
 
-    /// Compares a condition with those of its class.
+    /// Compares a condition with those of its class, and puts it among them unless it is as true as one or unknown.
     fn compare(
         &mut self,
         alloc: Global,
         index: usize,
         platform: &'a Platform,
+        targets: TargetSet,
         known: &'a Known<'a>,
-        budget: u64,
-        may_ask: bool,
+        budget: Option<u64>,
     ) -> Result<Earlier, AllocError>
         ensures other { IfOk result (λ r. is_same r ≡ false) }
         ensures equivalent { IfOk result (λ r. IsTrue (is_equivalent r)
@@ -127,19 +127,44 @@ impl<'a> Keys<'a> {
         let Platform::Cfg(e) = platform else {
             return Ok(Earlier::Unlike);
         };
-        let class = class_of(alloc, platform, e)?;
-        let Some(others) = self.classes.get(&class) else {
-            let mut places = Vec::new(alloc);
-            places.push(self.members.len())?;
-            let _none = self.classes.insert(class, places)?;
-            self.members.push((index, platform))?;
+        let class = class_of(alloc, targets, e)?;
+        let found = self.as_true(alloc, &class, platform, known, budget)?;
+        if found != Earlier::Unlike {
+            return Ok(found);
+        }
+        let place = self.members.len();
+        self.members.push((index, platform))?;
+        if let Some(others) = self.classes.get_mut(&class) {
+            others.push(place)?;
+            return Ok(Earlier::Unlike);
+        }
+        let mut places = Vec::new(alloc);
+        places.push(place)?;
+        let _none = self.classes.insert(class, places)?;
+        Ok(Earlier::Unlike)
+    }
+
+    /// Which member of a class is as true as a condition.
+    fn as_true(
+        &self,
+        alloc: Global,
+        class: &Class,
+        platform: &'a Platform,
+        known: &'a Known<'a>,
+        budget: Option<u64>,
+    ) -> Result<Earlier, AllocError>
+        ensures other { IfOk result (λ r. is_same r ≡ false) }
+        ensures equivalent { IfOk result (λ r. IsTrue (is_equivalent r)
+            → HasEquivalentMember known.now self.now (condition_of platform.entry.now)) }
+    {
+        let Some(places) = self.classes.get(class) else {
             return Ok(Earlier::Unlike);
         };
-        if !may_ask {
+        let Some(splits) = budget else {
             return Ok(Earlier::Undecided);
-        }
+        };
         let mut asked: usize = 0;
-        for place in others {
+        for place in places {
             if asked == MOST {
                 return Ok(Earlier::Undecided);
             }
@@ -147,24 +172,20 @@ impl<'a> Keys<'a> {
             let Some((first, other)) = self.members.get(*place) else {
                 continue;
             };
-            match equivalent_platform(alloc, *other, platform, known, budget)? {
+            match equivalent_platform(alloc, *other, platform, known, splits)? {
                 MustSelect::Yes => return Ok(Earlier::Equivalent(*first)),
                 MustSelect::No(_) => {}
                 MustSelect::Undecided => return Ok(Earlier::Undecided),
             }
         }
-        if let Some(others) = self.classes.get_mut(&class) {
-            others.push(self.members.len())?;
-        }
-        self.members.push((index, platform))?;
         Ok(Earlier::Unlike)
     }
 }
 
-/// The class of a condition that is no target's name.
-fn class_of(alloc: Global, platform: &Platform, e: &CfgExpr) -> Result<Class, AllocError> {
+/// The class of an expression that holds at these known targets.
+fn class_of(alloc: Global, targets: TargetSet, e: &CfgExpr) -> Result<Class, AllocError> {
     let mut class = [0; 6];
-    for target in matching(alloc, platform)?.iter() {
+    for target in targets.iter() {
         let index = target.index();
         if let Some(word) = class.get_mut(index / 64) {
             *word |= 1u64 << (index % 64);

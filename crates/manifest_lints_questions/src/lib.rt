@@ -2,8 +2,6 @@
 #![tactic(auto)]
 
 pub mod deciding;
-mod depth;
 pub mod earlier;
-mod trying;
-
-pub use depth::may_ask;
+mod sample_sets;
+mod shown_by_samples;

@@ -9,13 +9,12 @@ ghost use Rattle.partial_facts.specs.Partly.{names_of};
 ghost use Rattle.known_targets.specs.Rows.{plain};
 ghost use Rattle.known_targets.specs.Table.{table_keys};
 ghost use Rattle.manifest_lints_standings.specs.Standings.{has_as_value, is_near_one, is_one_edit_from, sort_of, sort_in};
-ghost use Rattle.manifest_lints_standings.specs.Standings.{sort_of_key};
-ghost use Rattle.manifest_lints_standings.specs.Standings.{sort_of_other, is_unsupported_sort, is_mistaken_sort, is_custom_sort};
-ghost use Rattle.manifest_lints_standings.specs.Standings.{is_open_sort, IsUnknownTarget};
+ghost use Rattle.manifest_lints_standings.specs.Standings.{sort_of_key, sort_of_other, is_sort, is_open_sort, beside};
+ghost use Rattle.manifest_lints_standings.specs.Standings.{IsUnknownTarget};
 
+use crate::rustc_names::{FLAGGED, PLAIN, VALUED, pair};
 use cargo_platform::{Cfg, Platform};
 use known_targets::{KnownTarget, having};
-use manifest_lints_names::names::{FLAGGED, PLAIN, VALUED, pair};
 use partial_facts::names::is_among;
 use std::alloc::{AllocError, Global};
 use strsim::osa_distance;
@@ -57,43 +56,75 @@ pub enum Standing {
     Near(&'static str),
     /// Only `--cfg` sets it.
     Custom,
+    /// Only `--cfg` sets it, and the manifest declares it.
+    Declared,
+}
+
+/// The sorts of what a name or pair is.
+#[derive(Clone, Copy, Debug, PartialEq, Eq, Drop)]
+pub enum Sort {
+    /// rustc sets it at a known target, or may by its flags.
+    Rustcs,
+    /// Cargo warns of it.
+    Unsupported,
+    /// It is taken for a fact of rustc's, and none.
+    Mistaken,
+    /// Only `--cfg` sets it, and the manifest does not declare it.
+    Custom,
+    /// Only `--cfg` sets it, and the manifest declares it.
+    Declared,
 }
 
 impl Standing {
-    /// Whether Cargo warns of it.
-    pub fn is_unsupported(self) -> bool
-        ensures { result ≡ is_unsupported_sort (sort_in self) }
-    {
-        matches!(self, Standing::Unsupported)
-    }
-
-    /// Whether it is taken for one of rustc's, and none.
-    pub fn is_mistake(self) -> bool
-        ensures { result ≡ is_mistaken_sort (sort_in self) }
+    /// Of which sort it is.
+    pub fn sort(self) -> Sort
+        ensures { result ≡ sort_in self }
     {
         match self {
+            Standing::Rustc => Sort::Rustcs,
+            Standing::Unsupported => Sort::Unsupported,
             Standing::ValueAsName(_)
             | Standing::NoValue
             | Standing::WithValue
             | Standing::OtherValue
             | Standing::TargetKey
-            | Standing::Near(_) => true,
-            Standing::Rustc | Standing::Unsupported | Standing::Custom => false,
+            | Standing::Near(_) => Sort::Mistaken,
+            Standing::Custom => Sort::Custom,
+            Standing::Declared => Sort::Declared,
         }
     }
 
-    /// Whether only `--cfg` sets it.
-    pub fn is_custom(self) -> bool
-        ensures { result ≡ is_custom_sort (sort_in self) }
+    /// The same of a name or pair that the manifest declares, or does not.
+    pub fn beside(self, is_declared: bool) -> Standing
+        ensures { sort_in result ≡ beside is_declared (sort_in self) }
     {
-        matches!(self, Standing::Custom)
+        match self {
+            Standing::Custom if is_declared => Standing::Declared,
+            _ => self,
+        }
+    }
+}
+
+impl Sort {
+    /// Whether it is the other one.
+    pub fn is(self, other: Sort) -> bool
+        ensures { result ≡ is_sort self other }
+    {
+        matches!(
+            (self, other),
+            (Sort::Rustcs, Sort::Rustcs)
+                | (Sort::Unsupported, Sort::Unsupported)
+                | (Sort::Mistaken, Sort::Mistaken)
+                | (Sort::Custom, Sort::Custom)
+                | (Sort::Declared, Sort::Declared)
+        )
     }
 
-    /// Whether it is open what is said of it.
+    /// Whether it is open if a target has facts of it.
     pub fn is_open(self) -> bool
-        ensures { result ≡ is_open_sort (sort_in self) }
+        ensures { result ≡ is_open_sort self }
     {
-        matches!(self, Standing::Unsupported | Standing::Custom)
+        matches!(self, Sort::Unsupported | Sort::Custom | Sort::Declared)
     }
 }
 

@@ -4,6 +4,7 @@ use crate::reporting::report_on;
 use crate::selecting::{may_leave_out, selected_names};
 use cargo_platform::Platform;
 use known_targets::KnownTarget;
+use manifest_lints::Document;
 use partial_facts::Complete;
 use std::alloc::Global;
 use std::process::Abort;
@@ -54,7 +55,8 @@ fn names_are_selected(rt: HostRuntime) {
 
 #[test]
 fn a_mistake_is_found(rt: HostRuntime) {
-    let manifest = manifest(&rt, rt.alloc());
+    let table = manifest(&rt, rt.alloc());
+    let manifest = Document::of(rt.alloc(), table, MANIFEST).expect(&rt, "a document");
     let report = report_on(rt.alloc(), &manifest).expect(&rt, "a report");
     assert!(rt; report.findings.len() == 1);
     assert!(rt; report.findings[0].code.word() == "unknown-fact");
@@ -63,7 +65,8 @@ fn a_mistake_is_found(rt: HostRuntime) {
 
 #[test]
 fn a_target_that_is_no_table_is_told(rt: HostRuntime) {
-    let manifest = toml::table_from_str(rt.alloc(), "target = 1").expect(&rt, "the manifest");
+    let table = toml::table_from_str(rt.alloc(), "target = 1").expect(&rt, "the manifest");
+    let manifest = Document::of_table(rt.alloc(), table);
     let report = report_on(rt.alloc(), &manifest).expect(&rt, "a report");
     assert!(rt; report.findings.len() == 1);
     assert!(rt; report.findings[0].code.word() == "no-table");

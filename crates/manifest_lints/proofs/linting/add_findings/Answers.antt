@@ -1,9 +1,16 @@
-use Rattle.manifest_lints_findings.specs.Hiding.{is_told}
-use Rattle.manifest_lints_findings.specs.declared.findings.TheConstants.{CODES}
-use Rattle.manifest_lints.proofs.Reports.{one_code}
+use Rattle.manifest_lints_findings.specs.Codes.{is_told}
+use Rattle.manifest_lints_findings.specs.Marks.{marks}
+use Rattle.manifest_lints_findings.specs.declared.codes.TheConstants.{CODES}
+use Rattle.manifest_lints.specs.Founds.{found_codes}
+use Rattle.manifest_lints.proofs.Reports.{one_code, all_codes}
 use Rattle.manifest_lints.proofs.linting.add_findings.Goals as goal
 
 pub codes-preserved : goal.codes-preserved
 codes-preserved c =
-    one_code (is_told c.args.subject.now.holding) c.args.subject.now.index CODES c.codes.code-index _ _ _ _
+    one_code (is_told (found_codes c.args.found.now)) c.args.found.now.key.place CODES c.codes.code-index _ _ _ _
     c.codes-test.true c.codes.invariant c.in_ok-add_finding.ensures
+
+pub returns : goal.returns
+returns c =
+    all_codes (is_told (found_codes c.args.found.now)) c.args.found.now.key.place c.codes.code-index CODES
+    (marks c.args.findings.now.items) _ c.codes-test.false c.codes.invariant

@@ -1,36 +1,35 @@
--- What is known of each target allows the sets of facts that rustc may set, and no others.
-use Rattle.std.proofs.Common.{◌≡◌, ◌↔◌, ◌∙◌, true, refl, sym, ap, subst, List, [], Result, Ok, Err, IfOk, map}
-use Rattle.std.specs.List.{All}
-use Rattle.cargo_platform.specs.Facts.{FactSet, truth}
-use Rattle.cargo_platform.specs.Trees.{tree_of}
-use Rattle.exact_answers.specs.declared.known.Known.{Known}
-use Rattle.exact_answers.specs.Families.{KeepsFamilyRule}
-use Rattle.partial_facts.specs.declared.one_valued.TheConstants.{ONE_VALUED}
-use Rattle.manifest_lints_findings.specs.declared.findings.Report.{Report}
+use Rattle.std.proofs.Common.{◌≡◌, sym, ap, subst, List, Option, Some, None, Result, Ok, Err, IfOk, map}
+use Rattle.std.specs.List.Sorted.{IsPermutation}
 use Rattle.toml.specs.Data.{Members}
 use Rattle.toml.specs.View.{table_view}
 use Rattle.declared_cfgs.specs.Declarations.{DeclaredEntry, IsDeclaredBy}
-use Rattle.manifest_lints.specs.Reports.{Entry, IsRead, entry_of, AreFindings, AreFindingsOn}
+use Rattle.manifest_files.specs.Documents.{AreInSomeOrder}
+use Rattle.manifest_tables.specs.declared.tables.TargetKey.{TargetKey}
+use Rattle.manifest_tables.specs.declared.tables.Targets.{Targets}
+use Rattle.manifest_tables.specs.Tables.{target_of, target_told}
+use Rattle.manifest_lints_findings.specs.declared.findings.Report.{Report}
 use Rattle.manifest_lints_findings.specs.Marks.{marks}
-use Rattle.manifest_lints.proofs.Rustcs.{allows_rustcs}
+use Rattle.manifest_lints.specs.Reports.{Entry, entry_of, AreFindings, IsReport}
 use Rattle.manifest_lints.proofs.linting.lint.Goals as goal
 
-of_keys : {E : Type 0} (k : Known) (ms : Members) (ds : List DeclaredEntry) (es fs : List Entry)
-    (result : Result Report E)
-    → IfOk result (λ r. AreFindingsOn k ds es (marks r.findings.items) r.undecided.items) → IsDeclaredBy ms ds
-    → es ≡ fs → k.facts.now ≡ [] → k.complete.now ≡ [] → map (λ t. t.now) k.single.now ≡ map (λ t. t.now) ONE_VALUED.now
-    → ((s : FactSet) → (truth s (tree_of k.assumed.now) ≡ true) ↔ KeepsFamilyRule s)
-    → IfOk result (λ r. (ds : List DeclaredEntry) × IsDeclaredBy ms ds
-    × AreFindings ds fs (marks r.findings.items) r.undecided.items)
-of_keys k ms ds es fs (Ok r) found declared same facts complete single rule =
-    let allows = allows_rustcs k facts complete single rule in
-    let all = subst (λ xs. AreFindingsOn k ds xs (marks r.findings.items) r.undecided.items) same found in
-    (ds, declared, (k, (allows, all)))
-of_keys k ms ds es fs (Err e) found declared same facts complete single rule = tt
+-- the report on some keys is one on a table with these keys in some order
+reported : {E : Type 0} (ms : Members) (t : Option (Option (List Entry))) (keys : List TargetKey) (r : Result Report E)
+    → AreInSomeOrder t (Some (Some (map entry_of keys))) → IfOk r (λ r. r.keys.items ≡ keys)
+    → IfOk r (λ r. (ds : List DeclaredEntry) × IsDeclaredBy ms ds
+    × AreFindings ds (map entry_of keys) (marks r.findings.items) r.undecided.items)
+    → IfOk r (λ r. IsReport ms t r)
+reported ms (Some (Some es)) keys (Ok r) order same found =
+    let is = sym (ap (map entry_of) same) in (
+      subst (IsPermutation es) is order,
+      (found.0, found.1, subst (λ fs. AreFindings found.0 fs (marks r.findings.items) r.undecided.items) is found.2),
+    )
+reported ms (Some None) keys r order same found = absurd order
+reported ms None keys r order same found = absurd order
+reported ms (Some (Some es)) keys (Err e) order same found = tt
 
-pub returns : goal.returns
-returns c =
-    let read = c.deref.ensures.value in
-    of_keys _ (table_view c.args.manifest.now) _ _ _ c.report_on.result
-    (c.report_on.ensures (subst (All IsRead) (sym read) c.in_ok-read.ensures.read)) c.in_ok-declared.ensures
-    (ap (map (λ r. entry_of r.key)) read ∙ c.in_ok-read.ensures.keys) refl refl refl c.in_ok-rule.ensures.sets
+pub returns-in-Keys : goal.returns-in-Keys
+returns-in-Keys c =
+    let ms = table_view c.args.document.now.table in
+    let O : Targets → Type 0 = λ t. AreInSomeOrder (target_of ms) (target_told t) in
+    reported ms (target_of ms) c.in-Keys.keys.items c.report_on.result (subst O c.in-Keys.is c.in_ok-keys.ensures)
+    c.report_on.ensures.keys c.report_on.ensures.findings

@@ -6,5 +6,5 @@ use Rattle.manifest_lints_findings.proofs.no_tables.no_tables.Given as goal
 -- something was found, or is still to come
 abbrev pub invariant-members : goal.invariant-members
 invariant-members l =
-    is_no_table (view l.fn.key.value.now)
+    is_no_table (view l.value)
     ≡ (not (is_empty_list l.found.items) || has_no_table (members_view l.name-iterator))

@@ -20,5 +20,5 @@ returns c =
       | in-No w ↦
           as_ok (λ d. SaysAlways d k p) _ _ w.result-is
           (can_fail k p w.in-No.field-0 (subst says w.in-No.is c.in_ok-always_platform.ensures))
-      | in-Undecided w ↦ as_ok (λ d. SaysAlways d k p) _ _ w.result-is w.always_tried.ensures
+      | in-Undecided w ↦ as_ok (λ d. SaysAlways d k p) _ _ w.result-is w.unless_shown.ensures
     ]

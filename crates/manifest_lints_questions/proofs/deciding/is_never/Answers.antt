@@ -19,5 +19,5 @@ returns c =
       | in-Yes w ↦
           as_ok (λ d. SaysNever d k p) _ _ w.result-is
           (can_hold k p w.in-Yes.field-0 (subst says w.in-Yes.is c.in_ok-can_hold_platform.ensures))
-      | in-Undecided w ↦ as_ok (λ d. SaysNever d k p) _ _ w.result-is w.never_tried.ensures
+      | in-Undecided w ↦ as_ok (λ d. SaysNever d k p) _ _ w.result-is w.unless_shown.ensures
     ]

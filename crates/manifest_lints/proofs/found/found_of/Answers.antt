@@ -1,0 +1,54 @@
+use Rattle.std.proofs.Common.{◌≡◌, ◌∙◌, ◌+◌, refl, sym, ap, subst, false, inl, inr}
+use Rattle.std.specs.Borrow.{Bor}
+use Rattle.cargo_platform.specs.declared.Platform.{Platform}
+use Rattle.cargo_platform.specs.Trees.{condition_of}
+use Rattle.cargo_platform.specs.Platforms.{IsConditionText}
+use Rattle.declared_cfgs.specs.Declarations.{declarations_of}
+use Rattle.manifest_lints_findings.specs.Known.{IsKnown, is_condition}
+use Rattle.manifest_lints_findings.specs.Spells.{IsSpelledAs, entry_read}
+use Rattle.manifest_lints_questions.specs.Earlier.{is_same, is_equivalent}
+use Rattle.manifest_lints.proofs.Founds.{found_spelled, found_unspelled, spells_nothing}
+use Rattle.manifest_lints.proofs.MoreSames.{one_noted, tells_same, none_more}
+use Rattle.manifest_lints.proofs.MoreEquivalents.{one_member, tells_equivalent, more_members}
+use Rattle.manifest_lints.proofs.found.found_of.Goals as goal
+
+pub returns-in_ok-answers-in-Condition-clause-found : goal.returns-in_ok-answers-in-Condition-clause-found
+returns-in_ok-answers-in-Condition-clause-found c = λ read es noted members.
+    let k = c.args.asking.now.known.now in
+    let ds = declarations_of c.args.asking.now.declared.now in
+    let r = c.args.read.now in
+    let e = entry_read r in
+    let at = c.args.read.ref_ptr in
+    let p : Bor Platform = record { ref_ptr = (at.0, at.1 + 32 + 8); now = c.in-Condition.condition } in
+    let text : IsConditionText e.0 (condition_of p.now) = subst (IsSpelledAs e.0) c.in-Condition.is read in
+    let key = c.in_ok-key.key in
+    let known = c.in_ok-key.ensures.known in
+    let a = c.in_ok-answers-in-Condition.answers in
+    let says = c.in_ok-answers-in-Condition.ensures in
+    let old = c.args.before.now in
+    let new = c.answers_of.new.before in
+    let alone = says.alone (subst (λ z. IsKnown ds z key) (sym known.read) known)
+    (ap (λ z. z.spelled) known.read ∙ c.in-Condition.is) in
+    (
+      found_spelled k ds r key known es a p.now c.in-Condition.is alone
+          (tells_same es e old new p noted text (is_same a.earlier) says.same)
+          (tells_equivalent k es old (condition_of p.now) (is_equivalent a.earlier) members says.equivalent) read,
+      one_noted es e old new p noted text says.notes,
+      one_member es e old new _ p says.members members text,
+    )
+
+pub returns-in-ByCargo-clause-found : goal.returns-in-ByCargo-clause-found
+returns-in-ByCargo-clause-found c = λ read es noted members.
+    let k = c.args.asking.now.known.now in
+    let ds = declarations_of c.args.asking.now.declared.now in
+    let r = c.args.read.now in
+    let e = entry_read r in
+    let none : is_condition r.spelled ≡ false = elim c.in-ByCargo.is [
+      | inl marked ↦ ap is_condition marked.1
+      | inr refused ↦ ap is_condition refused.1
+    ] in
+    (
+      found_unspelled k ds r c.in_ok-key.key c.in_ok-key.ensures.known es r.spelled refl none read,
+      none_more es e c.args.before.now noted (spells_nothing e.0 r.spelled none read),
+      more_members es e c.args.before.now members,
+    )

@@ -1,0 +1,38 @@
+-- What is answered of a key, and the codes that hold of it. What is promised of a report hangs on none of these words.
+use Rattle.std.specs.Prelude.{List, Bool}
+use Rattle.cargo_platform.specs.Trees.{Condition}
+use Rattle.exact_answers.specs.declared.known.Known.{Known}
+use Rattle.declared_cfgs.specs.Declarations.{DeclaredEntry}
+use Rattle.manifest_lints_standings.specs.Standings.{sorted_in, open_in}
+use Rattle.manifest_lints_findings.specs.declared.codes.Code.TheVariants as code
+use Rattle.manifest_lints_findings.specs.Codes.{CodeSet}
+use Rattle.manifest_lints_findings.specs.Known.{holds_alone}
+use Rattle.manifest_lints_questions.specs.Truths.{IsNever, IsAlways, CanHold, CanFail, IsNowhere, IsEverywhere}
+use Rattle.manifest_lints_questions.specs.Earlier.{is_same, is_equivalent}
+use Rattle.manifest_lints.specs.declared.found.Answers.{Answers}
+use Rattle.manifest_lints.specs.declared.found.Found.{Found}
+use Rattle.manifest_lints.specs.Reports.{Settles, SettlesFew}
+
+-- the answers on a condition by itself are right
+pub record AnswersFor (k : Known) (ds : List DeclaredEntry) (c : Condition) (a : Answers) : Type 0 where
+  pub never : Settles a.is_open a.never (IsNever k c) (CanHold k c)
+  pub always : Settles a.is_open a.always (IsAlways k c) (CanFail k c)
+  pub nowhere : SettlesFew (open_in (sorted_in ds c)) a.nowhere (IsNowhere (open_in (sorted_in ds c)) c)
+  pub everywhere : SettlesFew (open_in (sorted_in ds c)) a.everywhere (IsEverywhere (open_in (sorted_in ds c)) c)
+
+-- the codes that hold of a key: those of its answers, and those that hold of it by itself
+abbrev pub found_codes : Found → CodeSet
+found_codes f code.Never = f.answers.never
+found_codes f code.Nowhere = f.answers.nowhere
+found_codes f code.Same = is_same f.answers.earlier
+found_codes f code.Equivalent = is_equivalent f.answers.earlier
+found_codes f code.Always = f.answers.always
+found_codes f code.Everywhere = f.answers.everywhere
+found_codes f code.Refused = holds_alone f.key code.Refused
+found_codes f code.NoTable = holds_alone f.key code.NoTable
+found_codes f code.ReadOtherwise = holds_alone f.key code.ReadOtherwise
+found_codes f code.Unsupported = holds_alone f.key code.Unsupported
+found_codes f code.UnknownTarget = holds_alone f.key code.UnknownTarget
+found_codes f code.UnknownFact = holds_alone f.key code.UnknownFact
+found_codes f code.Custom = holds_alone f.key code.Custom
+found_codes f code.NotCanonical = holds_alone f.key code.NotCanonical

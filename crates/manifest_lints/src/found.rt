@@ -1,0 +1,192 @@
+//! A key with what is found of it: by itself, over sets of facts, and beside the keys before it.
+
+ghost use Rattle.std.specs.Prelude.{◌≡◌, ◌↔◌, ◌++◌, ◌∷◌, [], List, IsTrue, IsSome, IfOk, OnOk};
+ghost use Rattle.cargo_platform.specs.Trees.{condition_of};
+ghost use Rattle.declared_cfgs.specs.Declarations.{declarations_of};
+ghost use Rattle.manifest_tables.specs.Entries.{Entry};
+ghost use Rattle.manifest_lints_findings.specs.Codes.{is_told};
+ghost use Rattle.manifest_lints_findings.specs.Known.{IsKnown};
+ghost use Rattle.manifest_lints_findings.specs.Spells.{IsRead, entry_read};
+ghost use Rattle.manifest_lints_questions.specs.Earlier.{noted, Notes, AddsMember, HasEquivalentMember, is_same, is_equivalent};
+ghost use Rattle.manifest_lints.specs.Founds.{found_codes, AnswersFor};
+ghost use Rattle.manifest_lints.specs.Reports.{IsFound};
+ghost use Rattle.manifest_lints.specs.Sames.{AreNoted, AreMembers};
+
+use cargo_platform::Platform;
+use declared_cfgs::Declared;
+use exact_answers::Known;
+use manifest_lints_findings::Code;
+use manifest_lints_findings::known_keys::KnownKey;
+use manifest_lints_findings::readings::{ReadKey, Spelled};
+use manifest_lints_questions::deciding::{MANY, asked, budget_for, either, may_ask, places};
+use manifest_lints_questions::earlier::{Earlier, Keys};
+use manifest_lints_standings::asked_facts::open_names;
+use std::alloc::{AllocError, Global};
+
+/// What all keys of a manifest are asked by.
+#[derive(Drop)]
+pub struct Asking<'a> {
+    /// What the manifest declares.
+    pub declared: &'a Declared<'a>,
+    /// What is known of each target.
+    pub known: &'a Known<'a>,
+}
+
+/// What is answered of a key over sets of facts, and beside the keys before it.
+#[derive(Clone, Copy, Drop)]
+pub struct Answers {
+    /// No set of facts makes it true.
+    pub never: bool,
+    /// Every set of facts does.
+    pub always: bool,
+    /// It holds at no known target.
+    pub nowhere: bool,
+    /// It holds at each.
+    pub everywhere: bool,
+    /// How it stands to the keys before it.
+    pub earlier: Earlier,
+    /// Something of that is not known.
+    pub is_open: bool,
+}
+
+/// A key, with what is found of it.
+#[derive(Drop)]
+pub struct Found<'a> {
+    /// What is known of it by itself.
+    pub key: KnownKey<'a>,
+    /// What is answered of it.
+    pub answers: Answers,
+}
+
+impl<'a> Found<'a> {
+    /// Whether a code holds of the key.
+    pub fn holds(&self, code: Code) -> bool
+        ensures { result ≡ found_codes self.now code }
+    {
+        match code {
+            Code::Never => self.answers.never,
+            Code::Nowhere => self.answers.nowhere,
+            Code::Same => self.answers.earlier.is_same(),
+            Code::Equivalent => self.answers.earlier.is_equivalent(),
+            Code::Always => self.answers.always,
+            Code::Everywhere => self.answers.everywhere,
+            Code::Refused
+            | Code::NoTable
+            | Code::ReadOtherwise
+            | Code::Unsupported
+            | Code::UnknownTarget
+            | Code::UnknownFact
+            | Code::Custom
+            | Code::NotCanonical => self.key.holds(code),
+        }
+    }
+
+    /// Whether a finding of this code is told: it holds, and none that holds hides it. What is hidden of one name alone
+    /// is told of the others, and so is not hidden here.
+    pub fn is_told(&self, code: Code) -> bool
+        ensures { result ≡ is_told (found_codes self.now) code }
+    {
+        if !self.holds(code) {
+            return false;
+        }
+        'hiders: for hider in code.row().hidden_by {
+            if self.holds(*hider) {
+                return false;
+            }
+        }
+        true
+    }
+}
+
+/// What is answered of a condition by itself.
+fn answers_alone<'a>(
+    alloc: Global,
+    asking: &Asking<'a>,
+    key: &KnownKey<'a>,
+    condition: &'a Platform,
+) -> Result<Answers, AllocError>
+    ensures { (IsKnown (declarations_of asking.now.declared.now) key.now.read.now key.now)
+        → key.now.read.now.spelled ≡ Spelled.Condition condition.now
+        → IfOk result (λ a. AnswersFor asking.now.known.now (declarations_of asking.now.declared.now)
+        (condition_of condition.now) a) }
+{
+    let open = open_names(alloc, &key.asked)?;
+    let (nowhere, everywhere) = places(alloc, condition, &open)?;
+    let budget = budget_for(key.asked.len());
+    let may_ask = may_ask(key.levels);
+    let (never, always, unknown) = asked(alloc, condition, asking.known, budget, may_ask)?;
+    Ok(Answers {
+        never,
+        always,
+        nowhere,
+        everywhere,
+        earlier: Earlier::Unlike,
+        is_open: either(unknown, open.len() > MANY),
+    })
+}
+
+/// What is answered of a condition, by itself and beside those before it.
+fn answers_of<'a>(
+    alloc: Global,
+    asking: &Asking<'a>,
+    key: &KnownKey<'a>,
+    condition: &'a Platform,
+    before: &mut Keys<'a>,
+) -> Result<Answers, AllocError>
+    ensures alone { (IsKnown (declarations_of asking.now.declared.now) key.now.read.now key.now)
+        → key.now.read.now.spelled ≡ Spelled.Condition condition.now
+        → IfOk result (λ a. AnswersFor asking.now.known.now (declarations_of asking.now.declared.now)
+        (condition_of condition.now) a) }
+    ensures same { IfOk result (λ a. IsTrue (is_same a.earlier) ↔ IsSome (noted before.old condition.entry)) }
+    ensures equivalent { IfOk result (λ a. IsTrue (is_equivalent a.earlier)
+        → HasEquivalentMember asking.now.known.now before.old (condition_of condition.entry.now)) }
+    ensures notes { OnOk result (Notes before.old before.new condition.entry) }
+    ensures members { OnOk result (AddsMember before.old before.new key.now.place condition.entry) }
+{
+    let mut answers = answers_alone(alloc, asking, key, condition)?;
+    let decides = answers.never || answers.always;
+    let budget = if may_ask(key.levels) && !decides {
+        Some(budget_for(key.asked.len()))
+    } else {
+        None
+    };
+    let known = asking.known;
+    answers.earlier = before.add(alloc, key.place, condition, key.targets, known, budget)?;
+    let is_open = answers.earlier == Earlier::Undecided && !decides;
+    answers.is_open = either(answers.is_open, is_open);
+    Ok(answers)
+}
+
+/// What is answered of a key that spells no condition.
+const NONE: Answers = Answers {
+    never: false,
+    always: false,
+    nowhere: false,
+    everywhere: false,
+    earlier: Earlier::Unlike,
+    is_open: false,
+};
+
+/// A key with what is found of it, after those before it.
+pub fn found_of<'a>(
+    alloc: Global,
+    asking: &Asking<'a>,
+    place: usize,
+    read: &'a ReadKey<'a>,
+    before: &mut Keys<'a>,
+) -> Result<Found<'a>, AllocError>
+    ensures place { IfOk result (λ f. f.key.place ≡ place) }
+    ensures found { IsRead read.now → (es : List Entry) → AreNoted es before.old → AreMembers es before.old
+        → IfOk result (λ f. IsFound asking.now.known.now (declarations_of asking.now.declared.now) es (entry_read read.now)
+        (found_codes f) f.answers.is_open × AreNoted (es ++ entry_read read.now ∷ []) before.new
+        × AreMembers (es ++ entry_read read.now ∷ []) before.new) }
+{
+    let key = KnownKey::of(alloc, read, place, asking.declared)?;
+    match &read.spelled {
+        Spelled::Condition(condition) => {
+            let answers = answers_of(alloc, asking, &key, condition, before)?;
+            Ok(Found { key, answers })
+        }
+        Spelled::ByCargo(_) | Spelled::Refused(_) => Ok(Found { key, answers: NONE }),
+    }
+}

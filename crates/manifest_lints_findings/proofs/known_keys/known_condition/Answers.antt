@@ -1,0 +1,23 @@
+use Rattle.std.proofs.Common.{◌≡◌, ◌∙◌, ◌↔◌, refl, sym, ap, subst, map, IsTrue}
+use Rattle.std.proofs.lemmas.Simd.{map-map}
+use Rattle.cargo_platform.specs.Trees.{value_of}
+use Rattle.declared_cfgs.specs.Declarations.{declarations_of}
+use Rattle.manifest_lints_standings.specs.Standings.{sorted_beside}
+use Rattle.manifest_lints_findings.specs.Known.{sorted_of_spelled, print_spelled, IsUnknownSpelled}
+use Rattle.manifest_lints_findings.proofs.known_keys.known_condition.Goals as goal
+
+pub returns-clause-known : goal.returns-clause-known
+returns-clause-known c = λ is tables.
+    let ds = declarations_of c.args.declared.now in
+    record {
+      read = refl;
+      tables = tables;
+      asked =
+          c.in_ok-asked_facts.ensures
+          ∙ ap (map (λ v. sorted_beside ds (value_of v.now))) c.deref.ensures.value
+          ∙ sym (map-map (sorted_beside ds) (λ v. value_of v.now) c.in_ok-met.met.values.items)
+          ∙ ap (map (sorted_beside ds)) c.in_ok-met.ensures ∙ sym (ap (sorted_of_spelled ds) is);
+      canonical = c.in_ok-canonical.ensures ∙ sym (ap print_spelled is);
+      unknown_target =
+          subst (λ s. IsTrue c.is_unknown_target.result ↔ IsUnknownSpelled s) (sym is) c.is_unknown_target.ensures;
+    }

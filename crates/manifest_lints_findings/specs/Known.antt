@@ -1,0 +1,82 @@
+-- What is known of a key by itself, and which codes hold of it.
+use Rattle.std.specs.Prelude.{◌≡◌, ◌↔◌, ℕ, Bool, true, false, not, ◌||◌, ◌&&◌, List, [], IsTrue, codes, bytes_eq}
+use Rattle.std.specs.Prelude.{string_bytes}
+use Rattle.std.specs.List.{list_any}
+use Rattle.cargo_platform.specs.Trees.{CfgValue, Alone, KeyPair, condition_of}
+use Rattle.cargo_platform.specs.Print.{print_condition}
+use Rattle.declared_cfgs.specs.Declarations.{DeclaredEntry}
+use Rattle.manifest_lints_standings.specs.declared.standing.Sort.TheVariants as sort
+use Rattle.manifest_lints_standings.specs.Standings.{Sorted, sorted_by, sorted_in, has_sort, IsUnknownTarget}
+use Rattle.manifest_lints_findings.specs.NoTables.{is_no_table, is_empty_list}
+use Rattle.manifest_lints_findings.specs.Codes.{CodeSet}
+use Rattle.manifest_lints_findings.specs.Spells.{entry_read}
+use Rattle.manifest_lints_findings.specs.declared.codes.Code.{Code}
+use Rattle.manifest_lints_findings.specs.declared.codes.Code.TheVariants as code
+use Rattle.manifest_lints_findings.specs.declared.known_keys.KnownKey.{KnownKey}
+use Rattle.manifest_lints_findings.specs.declared.readings.ReadKey.{ReadKey}
+use Rattle.manifest_lints_findings.specs.declared.readings.Spelled.{Spelled}
+use Rattle.manifest_lints_findings.specs.declared.readings.Spelled.TheVariants as spelled
+
+-- a raw `true` or `false` alone, which Cargo reads as a literal
+abbrev pub is_marked_literal : CfgValue → Bool
+is_marked_literal (Alone n) = n.raw && (bytes_eq n.name (codes "true") || bytes_eq n.name (codes "false"))
+is_marked_literal (KeyPair k v) = false
+
+abbrev pub has_marked_literal : List Sorted → Bool
+has_marked_literal fs = list_any (λ f. is_marked_literal f.0) fs
+
+abbrev pub is_refused : Spelled → Bool
+is_refused (spelled.Condition p) = false
+is_refused (spelled.ByCargo m) = false
+is_refused (spelled.Refused e) = true
+
+abbrev pub is_by_cargo : Spelled → Bool
+is_by_cargo (spelled.Condition p) = false
+is_by_cargo (spelled.ByCargo m) = true
+is_by_cargo (spelled.Refused e) = false
+
+abbrev pub is_condition : Spelled → Bool
+is_condition (spelled.Condition p) = true
+is_condition (spelled.ByCargo m) = false
+is_condition (spelled.Refused e) = false
+
+-- what a key asks for, its canonical form, and whether it is the name of a target that is not known
+abbrev pub sorted_of_spelled : List DeclaredEntry → Spelled → List Sorted
+sorted_of_spelled ds (spelled.Condition p) = sorted_in ds (condition_of p)
+sorted_of_spelled ds (spelled.ByCargo m) = []
+sorted_of_spelled ds (spelled.Refused e) = []
+
+abbrev pub print_spelled : Spelled → List ℕ
+print_spelled (spelled.Condition p) = print_condition (condition_of p)
+print_spelled (spelled.ByCargo m) = []
+print_spelled (spelled.Refused e) = []
+
+abbrev pub IsUnknownSpelled : Spelled → Type 0
+IsUnknownSpelled (spelled.Condition p) = IsUnknownTarget (condition_of p)
+IsUnknownSpelled (spelled.ByCargo m) = ⊥
+IsUnknownSpelled (spelled.Refused e) = ⊥
+
+pub record IsKnown (ds : List DeclaredEntry) (r : ReadKey) (k : KnownKey) : Type 0 where
+  pub read : k.read.now ≡ r
+  pub tables : is_empty_list k.no_tables.items ≡ not (is_no_table (entry_read r).1)
+  pub asked : sorted_by k.asked.items ≡ sorted_of_spelled ds r.spelled
+  pub canonical : string_bytes k.canonical ≡ print_spelled r.spelled
+  pub unknown_target : IsTrue k.is_unknown_target ↔ IsUnknownSpelled r.spelled
+
+-- the codes that hold of a key by itself
+abbrev pub holds_alone : KnownKey → CodeSet
+holds_alone k code.Refused = is_refused k.read.now.spelled
+holds_alone k code.NoTable = not (is_empty_list k.no_tables.items)
+holds_alone k code.ReadOtherwise = is_by_cargo k.read.now.spelled || has_marked_literal (sorted_by k.asked.items)
+holds_alone k code.Unsupported = has_sort sort.Unsupported (sorted_by k.asked.items)
+holds_alone k code.Never = false
+holds_alone k code.UnknownTarget = k.is_unknown_target
+holds_alone k code.UnknownFact = has_sort sort.Mistaken (sorted_by k.asked.items)
+holds_alone k code.Nowhere = false
+holds_alone k code.Same = false
+holds_alone k code.Equivalent = false
+holds_alone k code.Always = false
+holds_alone k code.Everywhere = false
+holds_alone k code.Custom = has_sort sort.Custom (sorted_by k.asked.items)
+holds_alone k code.NotCanonical =
+    is_condition k.read.now.spelled && not (bytes_eq (string_bytes k.canonical) k.read.now.text.now)

@@ -1,0 +1,21 @@
+-- What is told of a key that stands in no manifest, without a question over every set of facts.
+use Rattle.std.specs.Prelude.{◌≡◌, ◌↔◌, ℕ, Bool, IsTrue, List, [], ◌∷◌, ◌++◌, cond, Some}
+use Rattle.cargo_platform.specs.Trees.{Condition}
+use Rattle.manifest_lints_standings.specs.declared.standing.Sort.TheVariants as sort
+use Rattle.manifest_lints_standings.specs.Standings.{has_sort, sorted_in, IsUnknownTarget}
+use Rattle.manifest_lints_findings.specs.Marks.{Mark}
+use Rattle.manifest_lints_findings.specs.declared.codes.Code.{Code}
+use Rattle.manifest_lints_findings.specs.declared.codes.Code.TheVariants as code
+
+-- the finding of a code on the key at a place, where it is told
+abbrev pub mark_where : ℕ → Bool → Code → List Mark
+mark_where n is_told c = cond is_told ((Some n, c) ∷ []) []
+
+-- told are the name of a target that is not known, what is taken for a fact of rustc's, and what only `--cfg` sets
+pub record AreUnknown (c : Condition) (ms : List Mark) : Type 0 where
+  pub is_unknown : Bool
+  pub exactly : IsTrue is_unknown ↔ IsUnknownTarget c
+  pub marks : ms
+      ≡ mark_where 0 is_unknown code.UnknownTarget
+      ++ (mark_where 0 (has_sort sort.Mistaken (sorted_in [] c)) code.UnknownFact
+      ++ mark_where 0 (has_sort sort.Custom (sorted_in [] c)) code.Custom)

@@ -1,0 +1,189 @@
+//! What is known of a key by itself, from its text, one walk of its tree, and what the manifest declares.
+
+ghost use Rattle.std.specs.Prelude.{◌≡◌, IfOk, not, string_bytes};
+ghost use Rattle.cargo_platform.specs.Trees.{value_of, condition_of};
+ghost use Rattle.cargo_platform.specs.Print.{print_condition};
+ghost use Rattle.declared_cfgs.specs.Declarations.{declarations_of};
+ghost use Rattle.manifest_lints_standings.specs.Standings.{sorted_by};
+ghost use Rattle.manifest_lints_findings.specs.NoTables.{is_empty_list, is_no_table};
+ghost use Rattle.manifest_lints_findings.specs.Spells.{entry_read};
+ghost use Rattle.manifest_lints_findings.specs.Known.{IsKnown, holds_alone, is_marked_literal, has_marked_literal};
+
+use crate::codes::Code;
+use crate::no_tables::no_tables;
+use crate::readings::{ReadKey, Spelled};
+use cargo_platform::{Cfg, Platform};
+use declared_cfgs::Declared;
+use known_targets::{TargetSet, matching};
+use manifest_lints_standings::asked_facts::{AskedFact, asked_facts, has_sort};
+use manifest_lints_standings::key_spans::spans_of;
+use manifest_lints_standings::standing::{Sort, is_unknown_target};
+use manifest_lints_standings::walk;
+use std::alloc::{AllocError, Global};
+
+/// What is known of a key. A key that spells no condition asks for nothing.
+#[derive(Drop)]
+pub struct KnownKey<'a> {
+    /// Its text, what stands at it, and what it spells.
+    pub read: &'a ReadKey<'a>,
+    /// Its place among the keys of the manifest.
+    pub place: usize,
+    /// What stands at it and is no table of dependencies, by words for each.
+    pub no_tables: Vec<String>,
+    /// The names and pairs that it asks for, from left to right.
+    pub asked: Vec<AskedFact<'a>>,
+    /// How many members, each with others after it in its group, stand in one another at most.
+    pub levels: usize,
+    /// The canonical form of its condition.
+    pub canonical: String,
+    /// The known targets at which it holds.
+    pub targets: TargetSet,
+    /// Whether it is the name of a target that is not known.
+    pub is_unknown_target: bool,
+}
+
+impl<'a> KnownKey<'a> {
+    /// What is known of a key that is read, at this place.
+    pub fn of(
+        alloc: Global,
+        read: &'a ReadKey<'a>,
+        place: usize,
+        declared: &Declared<'_>,
+    ) -> Result<KnownKey<'a>, AllocError>
+        ensures place { IfOk result (λ k. k.place ≡ place) }
+        ensures known { IfOk result (λ k. IsKnown (declarations_of declared.now) read.now k) }
+    {
+        let no_tables = no_tables_under(alloc, read)?;
+        match &read.spelled {
+            Spelled::Condition(condition) => {
+                known_condition(alloc, read, place, no_tables, condition, declared)
+            }
+            Spelled::ByCargo(_) | Spelled::Refused(_) => Ok(KnownKey {
+                read,
+                place,
+                no_tables,
+                asked: Vec::new(alloc),
+                levels: 0,
+                canonical: String::new(alloc),
+                targets: TargetSet::none(),
+                is_unknown_target: false,
+            }),
+        }
+    }
+
+    /// Whether a code holds of the key. What is asked over sets of facts, and beside other keys, does not.
+    pub fn holds(&self, code: Code) -> bool
+        ensures { result ≡ holds_alone self.now code }
+    {
+        match code {
+            Code::Refused => matches!(self.read.spelled, Spelled::Refused(_)),
+            Code::NoTable => !self.no_tables.is_empty(),
+            Code::ReadOtherwise => {
+                matches!(self.read.spelled, Spelled::ByCargo(_)) || has_marked_literal(&self.asked)
+            }
+            Code::Unsupported => has_sort(&self.asked, Sort::Unsupported),
+            Code::UnknownTarget => self.is_unknown_target,
+            Code::UnknownFact => has_sort(&self.asked, Sort::Mistaken),
+            Code::Custom => has_sort(&self.asked, Sort::Custom),
+            Code::NotCanonical => {
+                matches!(self.read.spelled, Spelled::Condition(_))
+                    && self.canonical.as_str() != self.read.text
+            }
+            Code::Never
+            | Code::Nowhere
+            | Code::Same
+            | Code::Equivalent
+            | Code::Always
+            | Code::Everywhere => false,
+        }
+    }
+
+    /// The names and pairs of this sort, each once.
+    pub fn of_sort(&self, alloc: Global, sort: Sort) -> Result<Vec<AskedFact<'a>>, AllocError> {
+        let mut found = Vec::new(alloc);
+        for asked in &self.asked {
+            if asked.is_first && asked.standing.sort().is(sort) {
+                found.push(*asked)?;
+            }
+        }
+        Ok(found)
+    }
+
+    /// The raw `true` and `false` alone, each once.
+    pub fn marked_literals(&self, alloc: Global) -> Result<Vec<AskedFact<'a>>, AllocError> {
+        let mut found = Vec::new(alloc);
+        for asked in &self.asked {
+            if asked.is_first && is_marked_literal(asked.fact) {
+                found.push(*asked)?;
+            }
+        }
+        Ok(found)
+    }
+}
+
+/// What stands at a key and is no table of dependencies, by words for each.
+fn no_tables_under(alloc: Global, read: &ReadKey<'_>) -> Result<Vec<String>, AllocError>
+    ensures { IfOk result (λ found. is_empty_list found.items ≡ not (is_no_table (entry_read read.now).1)) }
+{
+    match read.value {
+        Some(value) => no_tables(alloc, value),
+        None => Ok(Vec::new(alloc)),
+    }
+}
+
+/// What is known of a key that spells this condition.
+fn known_condition<'a>(
+    alloc: Global,
+    read: &'a ReadKey<'a>,
+    place: usize,
+    no_tables: Vec<String>,
+    condition: &'a Platform,
+    declared: &Declared<'_>,
+) -> Result<KnownKey<'a>, AllocError>
+    ensures place { IfOk result (λ k. k.place ≡ place) }
+    ensures known { read.now.spelled ≡ Spelled.Condition condition.now
+        → is_empty_list no_tables.items ≡ not (is_no_table (entry_read read.now).1)
+        → IfOk result (λ k. IsKnown (declarations_of declared.now) read.now k) }
+{
+    let met = walk(alloc, condition)?;
+    let spans = spans_of(alloc, read.text)?;
+    Ok(KnownKey {
+        read,
+        place,
+        no_tables,
+        asked: asked_facts(alloc, &met.values, &spans, declared)?,
+        levels: met.levels,
+        canonical: canonical(alloc, condition)?,
+        targets: matching(alloc, condition)?,
+        is_unknown_target: is_unknown_target(condition),
+    })
+}
+
+/// The canonical form of a condition.
+fn canonical(alloc: Global, condition: &Platform) -> Result<String, AllocError>
+    ensures { IfOk result (λ s. string_bytes s ≡ print_condition (condition_of condition.now)) }
+{
+    format!(in alloc; "{condition}")
+}
+
+/// Whether it is a raw `true` or `false` alone, which Cargo reads as a literal.
+fn is_marked_literal(fact: &Cfg) -> bool
+    ensures { result ≡ is_marked_literal (value_of fact.now) }
+{
+    match fact {
+        Cfg::Name(name) => name.raw && (name.as_str() == "true" || name.as_str() == "false"),
+        Cfg::KeyPair(_, _) => false,
+    }
+}
+
+/// Whether one of them is.
+fn has_marked_literal(asked: &[AskedFact<'_>]) -> bool
+    ensures { result ≡ has_marked_literal (sorted_by asked.now) }
+{
+    'asked: for each in asked {
+        if is_marked_literal(each.fact) {
+            return true;
+        }
+    }
+    false
+}

@@ -1,0 +1,149 @@
+//! What the findings tell, code by code.
+
+use crate::codes::Code;
+use crate::known_keys::KnownKey;
+use crate::readings::Spelled;
+use crate::suggestions::{Words, instead_of};
+use crate::wording::{OWN, TOLD, joined, quoted, quoted_fact, with_meant};
+use cargo_platform::{Cfg, CfgExpr, Platform, shown_start, shown_text};
+use known_targets::RUSTC_VERSION;
+use manifest_lints_standings::asked_facts::AskedFact;
+use manifest_lints_standings::standing::Sort;
+use std::alloc::{AllocError, Global};
+
+/// What is told by the finding of this code. `other` is the earlier key that is the same or as true, and `meant` may
+/// stand in the key's place.
+pub fn message_of(
+    alloc: Global,
+    words: &Words,
+    key: &KnownKey<'_>,
+    other: &str,
+    meant: &Option<String>,
+    code: Code,
+) -> Result<String, AllocError> {
+    match code {
+        Code::Refused => refused_message(alloc, key),
+        Code::NoTable => joined(alloc, &key.no_tables, key.no_tables.len(), ", "),
+        Code::ReadOtherwise => read_otherwise_message(alloc, key),
+        Code::Unsupported => unsupported_message(alloc, key),
+        Code::Never => String::from_str(alloc, "no set of facts makes the condition true"),
+        Code::UnknownTarget => unknown_target_message(alloc, meant),
+        Code::UnknownFact => unknown_fact_message(alloc, words, key),
+        Code::Nowhere => nowhere_message(alloc),
+        Code::Same => {
+            let other = quoted(alloc, other)?;
+            format!(in alloc; "the same condition as the earlier key {other}")
+        }
+        Code::Equivalent => {
+            let other = quoted(alloc, other)?;
+            format!(in alloc; "true over the same sets of facts as the earlier key {other}")
+        }
+        Code::Always => String::from_str(alloc, "every set of facts makes the condition true"),
+        Code::Everywhere => format!(in alloc;
+            "the condition holds at every target that rustc {RUSTC_VERSION} knows"
+        ),
+        Code::Custom => custom_message(alloc, key),
+        Code::NotCanonical => {
+            let form = quoted(alloc, key.canonical.as_str())?;
+            format!(in alloc; "the canonical form is {form}")
+        }
+    }
+}
+
+/// `no target that rustc .. knows`
+fn no_target(alloc: Global) -> Result<String, AllocError> {
+    format!(in alloc; "no target that rustc {RUSTC_VERSION} knows")
+}
+
+/// The first facts, and how many more there are.
+fn listed(alloc: Global, facts: &[AskedFact<'_>]) -> Result<String, AllocError> {
+    let mut texts = Vec::new(alloc);
+    for asked in facts.iter().take(TOLD) {
+        texts.push(quoted_fact(alloc, asked.fact)?)?;
+    }
+    joined(alloc, &texts, facts.len(), ", ")
+}
+
+/// What is told of a key that is refused.
+fn refused_message(alloc: Global, key: &KnownKey<'_>) -> Result<String, AllocError> {
+    let mut fault = String::new(alloc);
+    if let Spelled::Refused(error) = &key.read.spelled {
+        let kind = error.kind();
+        fault = format!(in alloc; "{kind}")?;
+    }
+    let fault = shown_start(alloc, fault.as_str())?;
+    format!(in alloc; "the key spells no condition: {fault}")
+}
+
+/// What is told of a key that Cargo reads otherwise: it alone reads the key, or reads names without their raw marks.
+fn read_otherwise_message(alloc: Global, key: &KnownKey<'_>) -> Result<String, AllocError> {
+    if let Spelled::ByCargo(marked) = &key.read.spelled {
+        let text = joined(alloc, &marked.warnings, marked.count, " ")?;
+        let text = shown_text(alloc, text.as_str())?;
+        return format!(in alloc; "Cargo of today reads the key, and warns: {text}");
+    }
+    let names = listed(alloc, &key.marked_literals(alloc)?)?;
+    format!(in alloc; "Cargo of today reads {names} as if it had no raw mark")
+}
+
+/// What Cargo says of facts that do not select dependencies, on one line. Of `feature` it says so once.
+fn unsupported_message(alloc: Global, key: &KnownKey<'_>) -> Result<String, AllocError> {
+    let mut texts = Vec::new(alloc);
+    let mut said_of_features = false;
+    for asked in &key.of_sort(alloc, Sort::Unsupported)? {
+        let is_feature = matches!(asked.fact, Cfg::KeyPair(_, _));
+        if is_feature && said_of_features {
+            continue;
+        }
+        said_of_features = said_of_features || is_feature;
+        let fact = asked.fact.clone(alloc)?;
+        Platform::Cfg(CfgExpr::Value(fact)).check_cfg_attributes(alloc, &mut texts)?;
+    }
+    let text = joined(alloc, &texts, texts.len(), " ")?;
+    shown_text(alloc, text.as_str())
+}
+
+/// What is told of a name that no known target has.
+fn unknown_target_message(alloc: Global, meant: &Option<String>) -> Result<String, AllocError> {
+    let unknown = no_target(alloc)?;
+    let message = format!(in alloc; "{unknown} has this name{OWN}")?;
+    with_meant(alloc, message.as_str(), meant)
+}
+
+/// What is told of mistaken facts, each with what may be meant.
+fn unknown_fact_message(
+    alloc: Global,
+    words: &Words,
+    key: &KnownKey<'_>,
+) -> Result<String, AllocError> {
+    let mistakes = key.of_sort(alloc, Sort::Mistaken)?;
+    let mut texts = Vec::new(alloc);
+    for asked in mistakes.iter().take(TOLD) {
+        let mut text = quoted_fact(alloc, asked.fact)?;
+        if let Some(other) = instead_of(alloc, words, asked)? {
+            let other = quoted(alloc, other.as_str())?;
+            text = format!(in alloc; "{text} (perhaps {other} is meant)")?;
+        }
+        texts.push(text)?;
+    }
+    let texts = joined(alloc, &texts, mistakes.len(), ", ")?;
+    let unknown = no_target(alloc)?;
+    format!(in alloc; "{unknown} has {texts}{OWN}")
+}
+
+/// What is told of a condition that holds at no known target.
+fn nowhere_message(alloc: Global) -> Result<String, AllocError> {
+    let unknown = no_target(alloc)?;
+    format!(in alloc;
+        "{unknown} has facts that make the condition true; a target specification of one's own may have them"
+    )
+}
+
+/// What is told of facts that only flags set.
+fn custom_message(alloc: Global, key: &KnownKey<'_>) -> Result<String, AllocError> {
+    let names = listed(alloc, &key.of_sort(alloc, Sort::Custom)?)?;
+    let unknown = no_target(alloc)?;
+    format!(in alloc;
+        "{unknown} has {names}: only `--cfg` in RUSTFLAGS can set it, and no build script"
+    )
+}

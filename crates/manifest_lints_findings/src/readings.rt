@@ -1,0 +1,220 @@
+//! Keys as they are read, here and by Cargo of today.
+
+ghost use Rattle.std.specs.Prelude.{◌≡◌, IfOk};
+ghost use Rattle.manifest_tables.specs.Entries.{entry_of};
+ghost use Rattle.manifest_lints_findings.specs.Spells.{IsSpelledAs, IsRead, entry_read};
+
+use crate::wording::TOLD;
+use cargo_platform::{Cfg, CfgExpr, ParseError, Platform, ReadError, Token, Tokenizer};
+use manifest_lints_standings::key_spans::inner;
+use manifest_lints_standings::rustc_names::pair;
+use manifest_tables::TargetKey;
+use std::alloc::{AllocError, Global};
+use std::collections::BTreeSet;
+use toml::Value;
+
+/// What Cargo of today makes of a key that is refused here.
+#[derive(Drop)]
+pub struct Marked {
+    /// Cargo's first warnings, each on one line.
+    pub warnings: Vec<String>,
+    /// How many different ones there are.
+    pub count: usize,
+    /// The key with raw marks, which means the same here and to Cargo.
+    pub key: String,
+}
+
+/// What a key spells.
+#[derive(Drop)]
+pub enum Spelled {
+    /// This condition.
+    Condition(Platform),
+    /// None here. Cargo of today reads it.
+    ByCargo(Marked),
+    /// None, for this fault.
+    Refused(ParseError),
+}
+
+/// A key that is read.
+#[derive(Drop)]
+pub struct ReadKey<'a> {
+    /// The key, as it reads after escapes.
+    pub text: &'a str,
+    /// What stands at it, if it stands in a manifest.
+    pub value: Option<&'a Value>,
+    /// What it spells.
+    pub spelled: Spelled,
+}
+
+impl<'a> ReadKey<'a> {
+    /// Reads a key of a manifest.
+    pub fn of(alloc: Global, key: &TargetKey<'a>) -> Result<ReadKey<'a>, AllocError>
+        ensures entry { IfOk result (λ read. entry_read read ≡ entry_of key.now) }
+        ensures read { IfOk result IsRead }
+    {
+        Ok(ReadKey {
+            text: key.key,
+            value: Some(key.value),
+            spelled: read_key(alloc, key.key)?,
+        })
+    }
+
+    /// A key that stands in no manifest, and spells this condition.
+    pub fn alone(text: &'a str, condition: Platform) -> ReadKey<'a>
+        ensures { result.spelled ≡ Spelled.Condition condition }
+    {
+        ReadKey {
+            text,
+            value: None,
+            spelled: Spelled::Condition(condition),
+        }
+    }
+}
+
+/// Reads a key.
+fn read_key(alloc: Global, key: &str) -> Result<Spelled, AllocError>
+    ensures { IfOk result (IsSpelledAs key.now) }
+{
+    let error = match Platform::from_str(alloc, key) {
+        Ok(platform) => return Ok(Spelled::Condition(platform)),
+        Err(ReadError::Memory(refused)) => return Err(refused),
+        Err(ReadError::Parse(error)) => error,
+    };
+    match read_by_cargo(alloc, key)? {
+        Some(marked) => Ok(Spelled::ByCargo(marked)),
+        None => Ok(Spelled::Refused(error)),
+    }
+}
+
+/// What stood last in a text that is gone through.
+#[derive(Clone, Copy, Drop)]
+enum Last<'a> {
+    /// `true` or `false`, from this byte on, which is a key if `=` comes next.
+    Word(&'a str, usize),
+    /// `=` after such a key.
+    Key(&'a str),
+    Other,
+}
+
+/// An expression that is copied, with a raw mark before each `true` and `false` that is the key of a pair.
+#[derive(Drop)]
+struct Marking<'a> {
+    text: &'a str,
+    copied: usize,
+    marked: String,
+    /// Such pairs.
+    pairs: BTreeSet<Cfg>,
+    warnings: Vec<String>,
+}
+
+impl<'a> Marking<'a> {
+    /// Copies what stands before this byte, and a raw mark.
+    fn mark(&mut self, start: usize) -> Result<(), AllocError> {
+        let before = self.text.get(self.copied..start).unwrap_or("");
+        self.marked.push_str(before)?;
+        self.marked.push_str("r#")?;
+        self.copied = start;
+        Ok(())
+    }
+
+    /// Notes a pair, with Cargo's warning on it where it is one of the first.
+    fn note(&mut self, alloc: Global, key: &str, value: &str) -> Result<(), AllocError> {
+        let is_new = self.pairs.insert(pair(alloc, key, value)?)?;
+        if is_new && self.pairs.len() <= TOLD {
+            self.warnings.push(warning_on(alloc, key, value)?)?;
+        }
+        Ok(())
+    }
+
+    /// Goes on by one token, which begins at this byte.
+    fn step(
+        &mut self,
+        alloc: Global,
+        last: Last<'a>,
+        token: Token<'a>,
+        start: usize,
+    ) -> Result<Last<'a>, AllocError> {
+        match (last, token) {
+            (_, Token::Ident(false, word)) if word == "true" || word == "false" => {
+                Ok(Last::Word(word, start))
+            }
+            (Last::Word(word, start), Token::Equals) => {
+                self.mark(start)?;
+                Ok(Last::Key(word))
+            }
+            (Last::Key(key), Token::String(value)) => {
+                self.note(alloc, key, value)?;
+                Ok(Last::Other)
+            }
+            _ => Ok(Last::Other),
+        }
+    }
+}
+
+/// What Cargo makes of a key that is refused here: it takes unmarked `true` and `false` as the keys of pairs.
+fn read_by_cargo(alloc: Global, key: &str) -> Result<Option<Marked>, AllocError> {
+    let Some(text) = inner(key) else {
+        return Ok(None);
+    };
+    let mut marking = Marking {
+        text,
+        copied: 0,
+        marked: String::from_str(alloc, "cfg(")?,
+        pairs: BTreeSet::new(alloc),
+        warnings: Vec::new(alloc),
+    };
+    let mut last = Last::Other;
+    let mut tokens = Tokenizer::new(text);
+    'tokens: for _ in 0..text.len() {
+        let Some(Ok(spanned)) = tokens.next() else {
+            break;
+        };
+        last = marking.step(alloc, last, spanned.token, spanned.start)?;
+    }
+    if marking.warnings.is_empty() {
+        return Ok(None);
+    }
+    accepted(alloc, marking)
+}
+
+/// The key with raw marks, if it spells a condition.
+fn accepted(alloc: Global, marking: Marking<'_>) -> Result<Option<Marked>, AllocError> {
+    let Marking {
+        text,
+        copied,
+        marked: mut key,
+        pairs,
+        warnings,
+    } = marking;
+    key.push_str(text.get(copied..).unwrap_or(""))?;
+    key.push_str(")")?;
+    match Platform::from_str(alloc, key.as_str()) {
+        Ok(_platform) => Ok(Some(Marked {
+            warnings,
+            count: pairs.len(),
+            key,
+        })),
+        Err(ReadError::Parse(_error)) => Ok(None),
+        Err(ReadError::Memory(refused)) => Err(refused),
+    }
+}
+
+/// Cargo's warning on a pair, on one line.
+fn warning_on(alloc: Global, key: &str, value: &str) -> Result<String, AllocError> {
+    let condition = Platform::Cfg(CfgExpr::Value(pair(alloc, key, value)?));
+    let mut warnings = Vec::new(alloc);
+    condition.check_cfg_keywords(alloc, &mut warnings, "")?;
+    let mut line = String::new(alloc);
+    for warning in &warnings {
+        push_lines(&mut line, warning.as_str())?;
+    }
+    Ok(line)
+}
+
+/// Adds the lines of a warning that stands after its path, without what ends them.
+fn push_lines(line: &mut String, warning: &str) -> Result<(), AllocError> {
+    for part in warning.strip_prefix("[] ").unwrap_or(warning).lines() {
+        line.push_str(part)?;
+    }
+    Ok(())
+}

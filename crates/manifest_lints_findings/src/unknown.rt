@@ -1,0 +1,54 @@
+//! What a key that stands alone asks for and no known target has.
+
+ghost use Rattle.std.specs.Prelude.{◌≡◌, ◌++◌, IfOk, OnOk, []};
+ghost use Rattle.cargo_platform.specs.Trees.{condition_of};
+ghost use Rattle.manifest_lints_findings.specs.Known.{holds_alone};
+ghost use Rattle.manifest_lints_findings.specs.Marks.{marks};
+ghost use Rattle.manifest_lints_findings.specs.Unknown.{mark_where, AreUnknown};
+
+use crate::codes::Code;
+use crate::findings::Finding;
+use crate::known_keys::KnownKey;
+use crate::making::finding_on;
+use crate::readings::ReadKey;
+use crate::suggestions::Words;
+use cargo_platform::Platform;
+use declared_cfgs::Declared;
+use std::alloc::{AllocError, Global};
+
+/// The findings on a key that stands in no manifest, and spells this condition, that ask nothing over every set of
+/// facts, in the order of their codes: a name that no known target has, what is taken for a fact of rustc's, and what
+/// only `--cfg` sets.
+pub fn unknown_in(
+    alloc: Global,
+    words: &Words,
+    key: &str,
+    condition: Platform,
+) -> Result<Vec<Finding>, AllocError>
+    ensures { IfOk result (λ fs. AreUnknown (condition_of condition) (marks fs.items)) }
+{
+    let read = ReadKey::alone(key, condition);
+    let known = KnownKey::of(alloc, &read, 0, &Declared::none(alloc))?;
+    let mut findings = Vec::new(alloc);
+    add_where(alloc, words, &known, Code::UnknownTarget, &mut findings)?;
+    add_where(alloc, words, &known, Code::UnknownFact, &mut findings)?;
+    add_where(alloc, words, &known, Code::Custom, &mut findings)?;
+    Ok(findings)
+}
+
+/// Appends the finding of this code, where it holds of the key.
+fn add_where(
+    alloc: Global,
+    words: &Words,
+    key: &KnownKey<'_>,
+    code: Code,
+    findings: &mut Vec<Finding>,
+) -> Result<(), AllocError>
+    ensures { OnOk result (marks findings.new.items
+        ≡ marks findings.old.items ++ mark_where key.now.place (holds_alone key.now code) code) }
+{
+    if key.holds(code) {
+        findings.push(finding_on(alloc, words, key, "", code)?)?;
+    }
+    Ok(())
+}

@@ -1,0 +1,200 @@
+//! Sets of facts that are tried. Each has the facts of a known target, and some that are no fact of rustc's.
+
+ghost use Rattle.std.specs.Prelude.{◌≡◌, [], map, IfOk};
+ghost use Rattle.cargo_platform.specs.Trees.{value_of, condition_of};
+ghost use Rattle.cargo_platform.specs.Facts.{fact_set, truth_of_condition};
+
+use cargo_platform::{Cfg, CfgExpr, FactIndex, Platform};
+use known_targets::{KnownTarget, TargetSet, having, names};
+use manifest_lints_standings::rustc_names::{FLAGGED, PLAIN, VALUED, name_in};
+use manifest_lints_standings::values_of;
+use partial_facts::ONE_VALUED;
+use partial_facts::names::is_among;
+use std::alloc::{AllocError, Global};
+
+/// Each fifth known target stands in a set of facts that is tried.
+const STRIDE: usize = 5;
+
+/// A group that is gone through: its truths so far, and its members that are left.
+#[derive(Drop)]
+enum OpenTruths<'a> {
+    Not,
+    All(u64, &'a [CfgExpr]),
+    Any(u64, &'a [CfgExpr]),
+}
+
+/// Whether the condition holds over the facts, for a target whose name is empty.
+pub fn holds_over(alloc: Global, platform: &Platform, facts: &[Cfg]) -> Result<bool, AllocError>
+    ensures { IfOk result
+        (λ b. b ≡ truth_of_condition [] (fact_set (map value_of facts.now)) (condition_of platform.now)) }
+{
+    match platform {
+        Platform::Name(name) => Ok(name.as_str() == ""),
+        Platform::Cfg(e) => {
+            let index = FactIndex::new(alloc, facts)?;
+            Ok(e.matches_in(&index))
+        }
+    }
+}
+
+/// The facts of a set that is tried, over which the condition is as true as wanted where it is so over one.
+pub fn tried(alloc: Global, platform: &Platform, wanted: bool) -> Result<Vec<Cfg>, AllocError> {
+    let Platform::Cfg(e) = platform else {
+        return Ok(Vec::new(alloc));
+    };
+    let truths = truths(alloc, e)?;
+    let place = if wanted {
+        truths.trailing_zeros()
+    } else {
+        truths.trailing_ones()
+    };
+    facts_at(alloc, platform, place)
+}
+
+/// The facts of the set at this place: those of its target, and those of the condition that stand in the set besides.
+fn facts_at(alloc: Global, platform: &Platform, place: u32) -> Result<Vec<Cfg>, AllocError> {
+    let index = (place as usize).saturating_mul(STRIDE);
+    let target = match names().get(index) {
+        Some(name) => KnownTarget::by_name(name),
+        None => None,
+    };
+    let mut facts = match target {
+        Some(target) => target.facts(alloc)?,
+        None => Vec::new(alloc),
+    };
+    for each in &values_of(alloc, platform)? {
+        let c: &Cfg = *each;
+        if place < 64 && targets_of(c).is_none() && (mixed_truths(c) >> place) & 1 == 1 {
+            facts.push(c.clone(alloc)?)?;
+        }
+    }
+    Ok(facts)
+}
+
+/// The truths of an expression over 64 sets of facts that are possible, one a bit. Each has the facts of a known target
+/// and some that are no fact of rustc's.
+pub fn truths(alloc: Global, e: &CfgExpr) -> Result<u64, AllocError> {
+    let mut open = Vec::new(alloc);
+    let mut e = e;
+    'parts: for _ in 0..u64::MAX {
+        let truth = match e {
+            CfgExpr::Not(inner) => {
+                open.push(OpenTruths::Not)?;
+                e = inner;
+                continue;
+            }
+            CfgExpr::All(members) => match members.split_first() {
+                Some((first, others)) => {
+                    open.push(OpenTruths::All(u64::MAX, others))?;
+                    e = first;
+                    continue;
+                }
+                None => u64::MAX,
+            },
+            CfgExpr::Any(members) => match members.split_first() {
+                Some((first, others)) => {
+                    open.push(OpenTruths::Any(0, others))?;
+                    e = first;
+                    continue;
+                }
+                None => 0,
+            },
+            CfgExpr::Value(c) => truths_of(c),
+            CfgExpr::True => u64::MAX,
+            CfgExpr::False => 0,
+        };
+        match rise(&mut open, truth)? {
+            Next::Part(part) => e = part,
+            Next::Whole(truth) => return Ok(truth),
+        }
+    }
+    Ok(0)
+}
+
+/// What follows a part.
+enum Next<'a> {
+    Part(&'a CfgExpr),
+    Whole(u64),
+}
+
+/// Adds the truths of a part to the group around it, and closes the groups that it is the last part of.
+fn rise<'a>(open: &mut Vec<OpenTruths<'a>>, truth: u64) -> Result<Next<'a>, AllocError> {
+    let mut truth = truth;
+    'groups: for _ in 0..u64::MAX {
+        match open.pop() {
+            None => return Ok(Next::Whole(truth)),
+            Some(OpenTruths::Not) => truth = !truth,
+            Some(OpenTruths::All(so_far, members)) => {
+                truth &= so_far;
+                if let Some((first, others)) = members.split_first() {
+                    open.push(OpenTruths::All(truth, others))?;
+                    return Ok(Next::Part(first));
+                }
+            }
+            Some(OpenTruths::Any(so_far, members)) => {
+                truth |= so_far;
+                if let Some((first, others)) = members.split_first() {
+                    open.push(OpenTruths::Any(truth, others))?;
+                    return Ok(Next::Part(first));
+                }
+            }
+        }
+    }
+    Ok(Next::Whole(truth))
+}
+
+/// The truths of a name or pair.
+fn truths_of(c: &Cfg) -> u64 {
+    let Some(targets) = targets_of(c) else {
+        return mixed_truths(c);
+    };
+    let mut truths = 0;
+    for target in targets.iter() {
+        let index = target.index();
+        if index % STRIDE == 0 {
+            truths |= 1u64 << (index / STRIDE % 64);
+        }
+    }
+    truths
+}
+
+/// The known targets that have a name or pair, if it is one of rustc's: one that some target has, or a value of a key
+/// that has one value.
+fn targets_of(c: &Cfg) -> Option<TargetSet> {
+    let name = name_in(c);
+    if !is_among(name, &PLAIN) && !is_among(name, &VALUED) && !is_among(name, &FLAGGED) {
+        return None;
+    }
+    let targets = having(c);
+    let is_single = matches!(c, Cfg::KeyPair(_, _)) && is_among(name, ONE_VALUED);
+    if is_single || !targets.is_empty() {
+        Some(targets)
+    } else {
+        None
+    }
+}
+
+/// The truths of a name or pair that is none of rustc's.
+fn mixed_truths(c: &Cfg) -> u64 {
+    let mut truths = mixed(0xcbf2_9ce4_8422_2325, name_in(c));
+    if let Cfg::KeyPair(_, value) = c {
+        truths = mixed(truths.wrapping_add(1), value.as_str());
+    }
+    spread(truths)
+}
+
+/// A number that hangs on each byte of the text.
+fn mixed(start: u64, text: &str) -> u64 {
+    let mut mixed = start;
+    for byte in text.as_bytes() {
+        mixed = (mixed ^ u64::from(*byte)).wrapping_mul(0x0100_0000_01b3);
+    }
+    mixed
+}
+
+/// The number, each of whose bits hangs on each bit of this one.
+fn spread(number: u64) -> u64 {
+    let number = (number ^ (number >> 33)).wrapping_mul(0xff51_afd7_ed55_8ccd);
+    let number = (number ^ (number >> 33)).wrapping_mul(0xc4ce_b9fe_1a85_ec53);
+    number ^ (number >> 33)
+}

@@ -1,0 +1,121 @@
+//! The names and pairs that a key asks for, each with where it stands and what it is.
+
+ghost use Rattle.std.specs.Prelude.{◌≡◌, ◌++◌, IfOk, OnOk, map, flat_map};
+ghost use Rattle.std.specs.List.{list_any};
+ghost use Rattle.cargo_platform.specs.Trees.{value_of};
+ghost use Rattle.partial_facts.specs.Partly.{names_of};
+ghost use Rattle.declared_cfgs.specs.Declarations.{declarations_of};
+ghost use Rattle.manifest_lints_standings.specs.Standings.{Sorted, sorted_of, sorted_by, sorted_beside, has_sort};
+ghost use Rattle.manifest_lints_standings.specs.Standings.{flag_names, opened_by, is_sort, sort_in};
+
+use crate::key_spans::Span;
+use crate::rustc_names::name_in;
+use crate::standing::{Sort, Standing, standing_of};
+use cargo_platform::Cfg;
+use declared_cfgs::Declared;
+use std::alloc::{AllocError, Global};
+use std::collections::BTreeSet;
+
+/// The names and keys that flags, profiles and Cargo change.
+const OPEN: [&str; 3] = ["debug_assertions", "panic", "target_feature"];
+
+/// A name or pair that a key asks for.
+#[derive(Clone, Copy, Drop)]
+pub struct AskedFact<'a> {
+    pub fact: &'a Cfg,
+    /// Where it stands in the key.
+    pub span: Option<Span>,
+    /// What it is, beside what the manifest declares.
+    pub standing: Standing,
+    /// Whether none before it in the key is the same.
+    pub is_first: bool,
+}
+
+/// The names and pairs of a condition, which stand at these places of its key, by what they are.
+pub fn asked_facts<'a>(
+    alloc: Global,
+    values: &[&'a Cfg],
+    spans: &[Span],
+    declared: &Declared<'_>,
+) -> Result<Vec<AskedFact<'a>>, AllocError>
+    ensures { IfOk result (λ asked. sorted_by asked.items
+        ≡ map (λ c. sorted_beside (declarations_of declared.now) (value_of c.now)) values.now) }
+{
+    let mut asked = Vec::new(alloc);
+    let mut seen: BTreeSet<&'a Cfg> = BTreeSet::new(alloc);
+    'values: for (index, each) in values.iter().enumerate() {
+        let fact: &'a Cfg = *each;
+        let is_first = seen.insert(fact)?;
+        let span = spans.get(index).copied();
+        let fact = asked_fact(alloc, fact, span, is_first, declared)?;
+        asked.push(fact)?;
+    }
+    Ok(asked)
+}
+
+/// A name or pair of a key, by what it is.
+fn asked_fact<'a>(
+    alloc: Global,
+    fact: &'a Cfg,
+    span: Option<Span>,
+    is_first: bool,
+    declared: &Declared<'_>,
+) -> Result<AskedFact<'a>, AllocError>
+    ensures { IfOk result (λ f. sorted_of f ≡ sorted_beside (declarations_of declared.now) (value_of fact.now)) }
+{
+    let standing = standing_of(alloc, fact)?.beside(declared.declares(fact));
+    Ok(AskedFact {
+        fact,
+        span,
+        standing,
+        is_first,
+    })
+}
+
+/// Whether one of them is of this sort.
+pub fn has_sort(asked: &[AskedFact<'_>], sort: Sort) -> bool
+    ensures { result ≡ has_sort sort (sorted_by asked.now) }
+{
+    'asked: for each in asked {
+        if each.standing.sort().is(sort) {
+            return true;
+        }
+    }
+    false
+}
+
+/// The names and keys of which each fact is open, each as often as it stands there: those of flags, and those of facts
+/// that only Cargo or `--cfg` set.
+pub fn open_names<'a>(
+    alloc: Global,
+    asked: &[AskedFact<'a>],
+) -> Result<Vec<&'a str>, AllocError>
+    ensures { IfOk result (λ names. names_of names.items ≡ flag_names ++ flat_map opened_by (sorted_by asked.now)) }
+{
+    let mut open = open_flags(alloc)?;
+    'asked: for each in asked {
+        push_open(&mut open, each)?;
+    }
+    Ok(open)
+}
+
+/// The names and keys that flags, profiles and Cargo change.
+fn open_flags<'a>(alloc: Global) -> Result<Vec<&'a str>, AllocError>
+    ensures { IfOk result (λ names. names_of names.items ≡ flag_names) }
+{
+    let mut open = Vec::new(alloc);
+    'names: for name in &OPEN {
+        open.push(*name)?;
+    }
+    Ok(open)
+}
+
+/// Adds the name or key of a fact that is open.
+fn push_open<'a>(names: &mut Vec<&'a str>, asked: &AskedFact<'a>) -> Result<(), AllocError>
+    ensures { OnOk result (names_of names.new.items ≡ names_of names.old.items ++ opened_by (sorted_of asked.now)) }
+{
+    if asked.standing.sort().is_open() {
+        names.push(name_in(asked.fact))?;
+    }
+    Ok(())
+}

@@ -1,0 +1,48 @@
+//! rustc's names and keys, and those of a fact.
+
+ghost use Rattle.std.specs.Prelude.{◌≡◌, IfOk};
+ghost use Rattle.cargo_platform.specs.Trees.{KeyPair, value_of};
+ghost use Rattle.cargo_platform.specs.Spelling.{name_in};
+ghost use Rattle.known_targets.specs.Rows.{plain};
+
+use cargo_platform::{Cfg, Ident};
+use std::alloc::{AllocError, Global};
+
+/// The keys that rustc sets with a value, whatever the flags are.
+pub const VALUED: [&str; 9] = [
+    "target_abi",
+    "target_arch",
+    "target_endian",
+    "target_env",
+    "target_family",
+    "target_has_atomic",
+    "target_os",
+    "target_pointer_width",
+    "target_vendor",
+];
+
+/// The keys of which flags and profiles change the values.
+pub const FLAGGED: [&str; 2] = ["panic", "target_feature"];
+
+/// The names that rustc sets without a value.
+pub const PLAIN: [&str; 3] = ["debug_assertions", "unix", "windows"];
+
+/// The pair of this key and value.
+pub fn pair(alloc: Global, key: &str, value: &str) -> Result<Cfg, AllocError>
+    ensures { IfOk result (λ c. value_of c ≡ KeyPair (plain key.now) value.now) }
+{
+    let key = Ident {
+        name: String::from_str(alloc, key)?,
+        raw: false,
+    };
+    Ok(Cfg::KeyPair(key, String::from_str(alloc, value)?))
+}
+
+/// The name, or the key of a pair.
+pub fn name_in(c: &Cfg) -> &str
+    ensures { result.now ≡ (name_in (value_of c.now)).name }
+{
+    match c {
+        Cfg::Name(name) | Cfg::KeyPair(name, _) => name.as_str(),
+    }
+}
