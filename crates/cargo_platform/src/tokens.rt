@@ -173,7 +173,8 @@ fn first_after_spaces(source: &mut Source<'_>, from: usize, seen: Option<Look>) 
     ensures spaces { AreSpaces source.old.text.now from result.0 }
     ensures sees { Shows source.old.text.now result.0 result.1 }
     ensures past { slice_index source.old.text.now result.0 ≢ 0x20 }
-    ensures cost { Costs source.old.text.now from result.0 (unseen seen) (unseen seen) source.old.looks source.new.looks }
+    ensures cost { Costs source.old.text.now from result.0 (unseen seen) (unseen seen)
+        source.old.looks source.new.looks }
 {
     let first = seen_or_look(source, from, seen);
     source.past_spaces(from, first)

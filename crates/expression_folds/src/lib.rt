@@ -1,7 +1,7 @@
 //! Folds over expressions: what is made of an expression, from its names, pairs and literals up.
 //!
-//! A `Fold` says what is made of each form, by what was made of the parts inside. `fold` goes over an expression once, in
-//! a loop, with the groups around the part at hand in a list.
+//! A `Fold` says what is made of each form, by what was made of the parts inside. `fold` goes over an expression once,
+//! in a loop, with the groups around the part at hand in a list.
 #![tactic(auto)]
 
 mod folding;

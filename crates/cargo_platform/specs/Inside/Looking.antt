@@ -1,5 +1,6 @@
 -- What a look at a place of a text gives, and what looks cost.
-use Rattle.std.specs.Prelude.{◌≡◌, ◌≢◌, ◌⊎◌, ℕ, ◌+◌, ◌-◌, ◌*◌, ◌<◌, ◌≤◌, ◌^◌, Bool, true, false, List, ◌∷◌, ◌++◌, length}
+use Rattle.std.specs.Prelude.{◌≡◌, ◌≢◌, ◌⊎◌, ℕ, ◌+◌, ◌-◌, ◌*◌, ◌<◌, ◌≤◌, ◌^◌, Bool, true, false, List, ◌∷◌, ◌++◌}
+use Rattle.std.specs.Prelude.{length}
 use Rattle.std.specs.Prelude.{drop, min, slice_index, not}
 use Rattle.std.specs.Prelude.{encode_utf8, Option, Some, None}
 use Rattle.std.specs.Char.{IsScalar, len_utf8}
