@@ -62,41 +62,7 @@ pub fn place_of<'a>(manifest: &'a Manifest, report: &Report<'a>, finding: &Findi
     }
 }
 
-/// Appends the path, and the line where it is certain.
-fn push_place(text: &mut String, alloc: Global, place: &Place<'_>) -> Result<(), AllocError> {
-    text.push_str(place.path)?;
-    match place.line {
-        Some(line) => {
-            let line = format!(in alloc; ":{line}")?;
-            text.push_str(line.as_str())
-        }
-        None => Ok(()),
-    }
-}
-
-/// Appends the level, the code, and `target` with the key.
-fn push_code(
-    text: &mut String,
-    alloc: Global,
-    key: Option<&str>,
-    finding: &Finding,
-    style: Style,
-) -> Result<(), AllocError> {
-    let level = level_word(alloc, finding.level, style)?;
-    let code = finding.code.word();
-    let head = format!(in alloc; ": {level}[{code}]: target")?;
-    text.push_str(head.as_str())?;
-    match key {
-        Some(key) => {
-            let key = shown_start(alloc, key)?;
-            let key = format!(in alloc; ".'{key}'")?;
-            text.push_str(key.as_str())
-        }
-        None => Ok(()),
-    }
-}
-
-/// Appends the lines of a finding.
+/// Appends the lines of a finding: where it is, its level and code, the key and what is told, and the snippet.
 fn push_lines(
     text: &mut String,
     alloc: Global,
@@ -104,11 +70,23 @@ fn push_lines(
     finding: &Finding,
     style: Style,
 ) -> Result<(), AllocError> {
-    push_place(text, alloc, place)?;
-    push_code(text, alloc, place.key, finding, style)?;
-    text.push_str(": ")?;
-    text.push_str(finding.message.as_str())?;
-    text.push_str("\n")?;
+    let path = place.path;
+    let line = match place.line {
+        Some(line) => format!(in alloc; ":{line}")?,
+        None => String::new(alloc),
+    };
+    let level = level_word(alloc, finding.level, style)?;
+    let code = finding.code.word();
+    let key = match place.key {
+        Some(key) => {
+            let key = shown_start(alloc, key)?;
+            format!(in alloc; ".'{key}'")?
+        }
+        None => String::new(alloc),
+    };
+    let message = finding.message.as_str();
+    let head = format!(in alloc; "{path}{line}: {level}[{code}]: target{key}: {message}\n")?;
+    text.push_str(head.as_str())?;
     match &finding.snippet {
         Some(snippet) => push_indented(text, snippet.as_str()),
         None => Ok(()),
@@ -135,35 +113,6 @@ fn span_value(alloc: Global, span: &Option<Range<usize>>) -> Result<Value, Alloc
     }
 }
 
-/// Adds the words of a finding.
-fn put_words(
-    object: &mut Map<String, Value>,
-    alloc: Global,
-    finding: &Finding,
-) -> Result<(), AllocError> {
-    put_text(object, alloc, "level", finding.level.word())?;
-    put_text(object, alloc, "code", finding.code.word())?;
-    put_text(object, alloc, "message", finding.message.as_str())
-}
-
-/// Adds where a finding is, and what may stand in the key's place.
-fn put_place(
-    object: &mut Map<String, Value>,
-    alloc: Global,
-    place: &Place<'_>,
-    finding: &Finding,
-) -> Result<(), AllocError> {
-    put_text(object, alloc, "manifest", place.path)?;
-    put(object, alloc, "line", number_value(alloc, place.line)?)?;
-    put(object, alloc, "key", text_value(alloc, place.key)?)?;
-    put(object, alloc, "span", span_value(alloc, &finding.span)?)?;
-    let suggestion = finding
-        .suggestion
-        .as_ref()
-        .map(|text: &String| text.as_str());
-    put(object, alloc, "suggestion", text_value(alloc, suggestion)?)
-}
-
 /// Appends the object of a finding, on a line of its own.
 fn push_object(
     text: &mut String,
@@ -171,9 +120,29 @@ fn push_object(
     place: &Place<'_>,
     finding: &Finding,
 ) -> Result<(), AllocError> {
+    let suggestion = finding
+        .suggestion
+        .as_ref()
+        .map(|text: &String| text.as_str());
     let mut object = Map::new(alloc);
-    put_place(&mut object, alloc, place, finding)?;
-    put_words(&mut object, alloc, finding)?;
+    put_text(&mut object, alloc, "manifest", place.path)?;
+    put(&mut object, alloc, "line", number_value(alloc, place.line)?)?;
+    put(&mut object, alloc, "key", text_value(alloc, place.key)?)?;
+    put(
+        &mut object,
+        alloc,
+        "span",
+        span_value(alloc, &finding.span)?,
+    )?;
+    put(
+        &mut object,
+        alloc,
+        "suggestion",
+        text_value(alloc, suggestion)?,
+    )?;
+    put_text(&mut object, alloc, "level", finding.level.word())?;
+    put_text(&mut object, alloc, "code", finding.code.word())?;
+    put_text(&mut object, alloc, "message", finding.message.as_str())?;
     push_json(text, alloc, &Value::Object(object))
 }
 

@@ -125,11 +125,7 @@ pub fn targets(alloc: Global, key: &str, json: bool) -> Result<Answer, Refusal> 
 }
 
 /// The facts of a target: those of the lines where there are some, else those of the table.
-pub fn table_or_lines(
-    alloc: Global,
-    name: &str,
-    lines: Option<&str>,
-) -> Result<Vec<Cfg>, Refusal> {
+pub fn table_or_lines(alloc: Global, name: &str, lines: Option<&str>) -> Result<Vec<Cfg>, Refusal> {
     match lines {
         Some(lines) => match read_facts(alloc, lines) {
             Ok(facts) => Ok(facts),

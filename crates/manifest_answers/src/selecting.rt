@@ -162,7 +162,13 @@ struct Selecting<'a> {
 impl<'a> Question for Selecting<'a> {
     fn answer(&mut self, alloc: Global, manifest: &Manifest) -> Result<Answer, AllocError> {
         let path = manifest.path.as_str();
-        match select(alloc, &manifest.document.table, self.target, self.known, self.host) {
+        match select(
+            alloc,
+            &manifest.document.table,
+            self.target,
+            self.known,
+            self.host,
+        ) {
             Ok(rows) => {
                 let mut text = String::new(alloc);
                 push_rows(&mut text, alloc, path, &rows, self.json)?;

@@ -103,7 +103,8 @@ module _ (k : Known) (ds : List DeclaredEntry) (r : ReadKey) (key : KnownKey) (k
         (λ i. is_by_cargo ((spelled_is ∙ is) i) || has_marked_literal (asked_is i))
     of_spelled code.Unsupported = ap (has_sort sort.Unsupported) asked_is
     of_spelled code.Never = answers.never
-    of_spelled code.UnknownTarget = subst (λ s. IsTrue key.is_unknown_target ↔ IsUnknownSpelled s) is known.unknown_target
+    of_spelled code.UnknownTarget =
+        subst (λ s. IsTrue key.is_unknown_target ↔ IsUnknownSpelled s) is known.unknown_target
     of_spelled code.UnknownFact = ap (has_sort sort.Mistaken) asked_is
     of_spelled code.Nowhere = answers.nowhere
     of_spelled code.Same = same

@@ -7,7 +7,8 @@ ghost use Rattle.manifest_tables.specs.Entries.{Entry};
 ghost use Rattle.manifest_lints_findings.specs.Codes.{is_told};
 ghost use Rattle.manifest_lints_findings.specs.Known.{IsKnown};
 ghost use Rattle.manifest_lints_findings.specs.Spells.{IsRead, entry_read};
-ghost use Rattle.manifest_lints_questions.specs.Earlier.{noted, Notes, AddsMember, HasEquivalentMember, is_same, is_equivalent};
+ghost use Rattle.manifest_lints_questions.specs.Earlier.{noted, Notes, AddsMember, HasEquivalentMember};
+ghost use Rattle.manifest_lints_questions.specs.Earlier.{is_same, is_equivalent};
 ghost use Rattle.manifest_lints.specs.Founds.{found_codes, AnswersFor};
 ghost use Rattle.manifest_lints.specs.Reports.{IsFound};
 ghost use Rattle.manifest_lints.specs.Sames.{AreNoted, AreMembers};
@@ -70,14 +71,7 @@ impl<'a> Found<'a> {
             Code::Equivalent => self.answers.earlier.is_equivalent(),
             Code::Always => self.answers.always,
             Code::Everywhere => self.answers.everywhere,
-            Code::Refused
-            | Code::NoTable
-            | Code::ReadOtherwise
-            | Code::Unsupported
-            | Code::UnknownTarget
-            | Code::UnknownFact
-            | Code::Custom
-            | Code::NotCanonical => self.key.holds(code),
+            _ => self.key.holds(code),
         }
     }
 
@@ -177,8 +171,8 @@ pub fn found_of<'a>(
 ) -> Result<Found<'a>, AllocError>
     ensures place { IfOk result (λ f. f.key.place ≡ place) }
     ensures found { IsRead read.now → (es : List Entry) → AreNoted es before.old → AreMembers es before.old
-        → IfOk result (λ f. IsFound asking.now.known.now (declarations_of asking.now.declared.now) es (entry_read read.now)
-        (found_codes f) f.answers.is_open × AreNoted (es ++ entry_read read.now ∷ []) before.new
+        → IfOk result (λ f. IsFound asking.now.known.now (declarations_of asking.now.declared.now) es
+        (entry_read read.now) (found_codes f) f.answers.is_open × AreNoted (es ++ entry_read read.now ∷ []) before.new
         × AreMembers (es ++ entry_read read.now ∷ []) before.new) }
 {
     let key = KnownKey::of(alloc, read, place, asking.declared)?;

@@ -164,14 +164,15 @@ fn report_of<'a>(alloc: Global, findings: Vec<Finding>) -> Report<'a>
     }
 }
 
-/// The findings on a manifest: on the keys of `target`, in the order in which they first appear where the document knows
-/// that, or on a `target` that is no table. What the manifest declares as expected is no custom fact.
+/// The findings on a manifest: on the keys of `target`, in the order in which they first appear where the document
+/// knows that, or on a `target` that is no table. What the manifest declares as expected is no custom fact.
 pub fn lint<'a>(
     alloc: Global,
     document: &'a Document,
     words: &Words,
 ) -> Result<Report<'a>, AllocError>
-    ensures { IfOk result (λ r. IsReport (table_view document.now.table) (target_of (table_view document.now.table)) r) }
+    ensures { IfOk result
+        (λ r. IsReport (table_view document.now.table) (target_of (table_view document.now.table)) r) }
 {
     match document.target_keys(alloc)? {
         Targets::Keys(keys) => report_on(alloc, &document.table, keys, words),

@@ -69,14 +69,9 @@ holds_alone k code.Refused = is_refused k.read.now.spelled
 holds_alone k code.NoTable = not (is_empty_list k.no_tables.items)
 holds_alone k code.ReadOtherwise = is_by_cargo k.read.now.spelled || has_marked_literal (sorted_by k.asked.items)
 holds_alone k code.Unsupported = has_sort sort.Unsupported (sorted_by k.asked.items)
-holds_alone k code.Never = false
 holds_alone k code.UnknownTarget = k.is_unknown_target
 holds_alone k code.UnknownFact = has_sort sort.Mistaken (sorted_by k.asked.items)
-holds_alone k code.Nowhere = false
-holds_alone k code.Same = false
-holds_alone k code.Equivalent = false
-holds_alone k code.Always = false
-holds_alone k code.Everywhere = false
 holds_alone k code.Custom = has_sort sort.Custom (sorted_by k.asked.items)
 holds_alone k code.NotCanonical =
     is_condition k.read.now.spelled && not (bytes_eq (string_bytes k.canonical) k.read.now.text.now)
+holds_alone k _ = false

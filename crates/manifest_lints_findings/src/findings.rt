@@ -30,7 +30,8 @@ pub struct Finding {
 /// The keys of a manifest, the findings on them, and those of which something was left open for want of splits.
 #[derive(Drop)]
 pub struct Report<'a> {
-    /// The keys, in the order in which they first appear where the document knows that, and else in that of their bytes.
+    /// The keys, in the order in which they first appear where the document knows that, and else in that of their
+    /// bytes.
     pub keys: Vec<TargetKey<'a>>,
     /// The findings, by the keys in their order, and of one key by their codes.
     pub findings: Vec<Finding>,

@@ -89,12 +89,7 @@ impl<'a> KnownKey<'a> {
                 matches!(self.read.spelled, Spelled::Condition(_))
                     && self.canonical.as_str() != self.read.text
             }
-            Code::Never
-            | Code::Nowhere
-            | Code::Same
-            | Code::Equivalent
-            | Code::Always
-            | Code::Everywhere => false,
+            _ => false,
         }
     }
 

@@ -172,10 +172,7 @@ fn dotted_target(alloc: Global, key: &KnownKey<'_>) -> Result<Option<String>, Al
 fn asked_target<'a>(key: &KnownKey<'a>) -> Option<&'a str> {
     match &key.read.spelled {
         Spelled::Condition(Platform::Cfg(CfgExpr::Value(Cfg::KeyPair(name, value))))
-            if name.as_str() == "target" =>
-        {
-            Some(value.as_str())
-        }
+            if name.as_str() == "target" => { Some(value.as_str()) }
         _ => None,
     }
 }

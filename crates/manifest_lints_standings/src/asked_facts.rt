@@ -86,10 +86,7 @@ pub fn has_sort(asked: &[AskedFact<'_>], sort: Sort) -> bool
 
 /// The names and keys of which each fact is open, each as often as it stands there: those of flags, and those of facts
 /// that only Cargo or `--cfg` set.
-pub fn open_names<'a>(
-    alloc: Global,
-    asked: &[AskedFact<'a>],
-) -> Result<Vec<&'a str>, AllocError>
+pub fn open_names<'a>(alloc: Global, asked: &[AskedFact<'a>]) -> Result<Vec<&'a str>, AllocError>
     ensures { IfOk result (λ names. names_of names.items ≡ flag_names ++ flat_map opened_by (sorted_by asked.now)) }
 {
     let mut open = open_flags(alloc)?;

@@ -8,8 +8,9 @@ ghost use Rattle.known_targets.specs.Listed.{is_had};
 ghost use Rattle.partial_facts.specs.Partly.{names_of};
 ghost use Rattle.known_targets.specs.Rows.{plain};
 ghost use Rattle.known_targets.specs.Table.{table_keys};
-ghost use Rattle.manifest_lints_standings.specs.Standings.{has_as_value, is_near_one, is_one_edit_from, sort_of, sort_in};
-ghost use Rattle.manifest_lints_standings.specs.Standings.{sort_of_key, sort_of_other, is_sort, is_open_sort, beside};
+ghost use Rattle.manifest_lints_standings.specs.Standings.{has_as_value, is_near_one, is_one_edit_from, sort_of};
+ghost use Rattle.manifest_lints_standings.specs.Standings.{sort_in, sort_of_key, sort_of_other, is_sort, is_open_sort};
+ghost use Rattle.manifest_lints_standings.specs.Standings.{beside};
 ghost use Rattle.manifest_lints_standings.specs.Standings.{IsUnknownTarget};
 
 use crate::rustc_names::{FLAGGED, PLAIN, VALUED, pair};

@@ -28,8 +28,7 @@ returns-in_ok-answers-in-Condition-clause-found c = λ read es noted members.
     let old = c.args.before.now in
     let new = c.answers_of.new.before in
     let alone = says.alone (subst (λ z. IsKnown ds z key) (sym known.read) known)
-    (ap (λ z. z.spelled) known.read ∙ c.in-Condition.is) in
-    (
+    (ap (λ z. z.spelled) known.read ∙ c.in-Condition.is) in (
       found_spelled k ds r key known es a p.now c.in-Condition.is alone
           (tells_same es e old new p noted text (is_same a.earlier) says.same)
           (tells_equivalent k es old (condition_of p.now) (is_equivalent a.earlier) members says.equivalent) read,
@@ -46,8 +45,7 @@ returns-in-ByCargo-clause-found c = λ read es noted members.
     let none : is_condition r.spelled ≡ false = elim c.in-ByCargo.is [
       | inl marked ↦ ap is_condition marked.1
       | inr refused ↦ ap is_condition refused.1
-    ] in
-    (
+    ] in (
       found_unspelled k ds r c.in_ok-key.key c.in_ok-key.ensures.known es r.spelled refl none read,
       none_more es e c.args.before.now noted (spells_nothing e.0 r.spelled none read),
       more_members es e c.args.before.now members,

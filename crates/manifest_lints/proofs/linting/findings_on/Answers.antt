@@ -42,7 +42,8 @@ keys-preserved c =
     × AreMembers (es ++ entry_read r ∷ []) new in
     let next = subst F c.index-read-place.is (λ r. c.in_ok-found.ensures.found r es) in
     let entries = next_entries c.args.read.now i c.index-read-place.result c.keys-test.true in
-    let now = λ (all : All IsRead c.args.read.now). next (all i c.index-read-place.result c.keys-test.true) (c.keys.invariant.noted_keys all)
+    let now = λ (all : All IsRead c.args.read.now).
+    next (all i c.index-read-place.result c.keys-test.true) (c.keys.invariant.noted_keys all)
     (c.keys.invariant.members all) in
     record {
       findings = λ all.
