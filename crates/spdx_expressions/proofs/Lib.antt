@@ -1,0 +1,2 @@
+-- Cutting: from the bytes at a place to the next token
+pub mod Cutting

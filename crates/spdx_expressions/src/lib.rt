@@ -1,0 +1,4 @@
+//! SPDX licence expressions.
+#![tactic(auto)]
+
+mod tokens;
