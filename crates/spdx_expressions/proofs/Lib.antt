@@ -1,2 +1,4 @@
 -- Cutting: from the bytes at a place to the next token
 pub mod Cutting
+-- Names: words that are names of licences
+pub mod Names

@@ -1,2 +1,12 @@
+-- The definitions, each module over those before it.
 -- Tokens: the tokens of a text, and where each stands
 pub mod Tokens
+-- Words: which words are operators, identifiers and names of licences
+pub mod Words
+-- Trees: licences, parts and trees, apart from memory
+pub mod Trees
+-- Grammar: which tokens spell which tree
+pub mod Grammar
+-- ---- for private functions
+-- Inside: what their contracts cite, and no promise rests on
+pub mod Inside

@@ -2,3 +2,31 @@
 #![tactic(auto)]
 
 mod tokens;
+mod words;
+
+/// One licence, as it stands in an expression.
+#[derive(Debug, Drop)]
+pub struct Licence {
+    /// The identifier of the licence, as it was written, without `+`: one of the SPDX list, or any other, or
+    /// `LicenseRef-..` or `DocumentRef-..:LicenseRef-..`.
+    pub id: String,
+    /// Whether `+` stands behind it: this version or any later one.
+    pub or_later: bool,
+    /// The identifier of the exception behind `WITH`.
+    pub exception: Option<String>,
+}
+
+/// A part of an expression.
+#[derive(Debug, Drop)]
+pub enum Part {
+    /// A licence.
+    Licence(Licence),
+    /// `AND`.
+    And,
+    /// `OR`.
+    Or,
+    /// `(`.
+    Open,
+    /// `)`.
+    Close,
+}
