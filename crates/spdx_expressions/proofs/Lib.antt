@@ -2,3 +2,5 @@
 pub mod Cutting
 -- Names: words that are names of licences
 pub mod Names
+-- Steps: the reader, token by token
+pub mod Steps

@@ -7,6 +7,8 @@ pub mod Words
 pub mod Trees
 -- Grammar: which tokens spell which tree
 pub mod Grammar
+-- Faults: what is found where a text goes wrong
+pub mod Faults
 -- ---- for private functions
 -- Inside: what their contracts cite, and no promise rests on
 pub mod Inside

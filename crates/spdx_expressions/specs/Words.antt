@@ -1,8 +1,9 @@
 -- Which words are what: operators, identifiers and the names of licences. The sources are the annexes "SPDX license
 -- expressions" of the SPDX specification, version 2.3, and Cargo's reference on `license`.
-use Rattle.std.specs.Prelude.{ℕ, Bool, true, false, not, ◌&&◌, ◌||◌, ◌==◌, List, length, codes, bytes_eq, nat_eq, nat_lt}
+use Rattle.std.specs.Prelude.{ℕ, Bool, true, false, not, ◌&&◌, ◌||◌, ◌==◌, List, length, take, codes, bytes_eq}
+use Rattle.std.specs.Prelude.{nat_eq, nat_lt, ◌-◌, if◌then◌else◌}
 use Rattle.std.specs.Char.{is_ascii_alphanumeric}
-use Rattle.std.specs.List.{list_all, starts_with, before_first, after_first}
+use Rattle.std.specs.List.{list_all, starts_with, ends_with, before_first, after_first}
 
 -- an ASCII letter, an ASCII digit, `-` or `.`
 abbrev pub is_id_byte : ℕ → Bool
@@ -45,3 +46,15 @@ is_listed bs =
 abbrev pub is_name : Bool → List ℕ → Bool
 is_name true bs = is_listed bs
 is_name false bs = is_listed bs || is_own_reference bs || is_foreign_reference bs
+
+-- ---- a word as a licence
+
+abbrev pub ends_with_plus : List ℕ → Bool
+ends_with_plus w = ends_with nat_eq w (codes "+")
+
+abbrev pub without_plus : List ℕ → List ℕ
+without_plus w = if ends_with_plus w then take (length w - 1) w else w
+
+-- the word is the name of a licence, with or without `+`
+abbrev pub names_licence : List ℕ → Bool
+names_licence w = is_name (ends_with_plus w) (without_plus w)

@@ -1,6 +1,8 @@
 //! SPDX licence expressions.
 #![tactic(auto)]
 
+pub mod error;
+mod reader;
 mod tokens;
 mod words;
 

@@ -1,23 +1,25 @@
 -- The reader, token by token.
-use Rattle.std.specs.Prelude.{ℕ, suc, zero, ◌+◌, ◌-◌, Bool, true, false, if◌then◌else◌, List, [], ◌∷◌, ◌++◌, length, take}
+use Rattle.std.specs.Prelude.{ℕ, suc, zero, ◌+◌, ◌-◌, Bool, true, false, ◌≡◌, if◌then◌else◌, List, [], ◌∷◌, ◌++◌, length, take}
 use Rattle.std.specs.Prelude.{Option, Some, None, codes, nat_eq, bytes_eq}
-use Rattle.std.specs.List.{ends_with}
-use Rattle.spdx_expressions.specs.Tokens.{Lexeme, LeftBracket, RightBracket, Slash, Word}
-use Rattle.spdx_expressions.specs.Words.{is_name, is_identifier}
-use Rattle.spdx_expressions.specs.Trees.{Term, Piece, Named, And, Or, Open, Close}
+use Rattle.std.specs.Prelude.{map, drop, MatchBool, ◌≤◌}
+use Rattle.std.specs.Str.{IsCharBoundary}
+use Rattle.spdx_expressions.specs.declared.error.Expected.{Expected}
+use Rattle.spdx_expressions.specs.declared.error.Expected.TheVariants as expected
+use Rattle.spdx_expressions.specs.declared.error.Refusal.{Refusal}
+use Rattle.spdx_expressions.specs.declared.error.Refusal.TheVariants as refusal
+use Rattle.spdx_expressions.specs.declared.reader.Reader.{Reader}
+use Rattle.spdx_expressions.specs.Tokens.{Lexeme, LeftBracket, RightBracket, Slash, Word, Placed, tokens_from, tokens, lexemes, placed}
+use Rattle.spdx_expressions.specs.declared.tokens.Spanned.{Spanned}
+use Rattle.spdx_expressions.specs.Faults.{found_next, span_next}
+use Rattle.spdx_expressions.specs.Words.{is_identifier, ends_with_plus, without_plus, names_licence}
+use Rattle.spdx_expressions.specs.Trees.{Term, Piece, Named, And, Or, Open, Close, pieces}
 
 -- ---- a word as a licence
-
-abbrev pub ends_with_plus : List ℕ → Bool
-ends_with_plus w = ends_with nat_eq w (codes "+")
-
-abbrev pub without_plus : List ℕ → List ℕ
-without_plus w = if ends_with_plus w then take (length w - 1) w else w
 
 -- the licence that a word names, with no exception
 abbrev pub named : List ℕ → Option Term
 named w =
-    if is_name (ends_with_plus w) (without_plus w)
+    if names_licence w
     then Some (record { name = without_plus w; or_later = ends_with_plus w; exception = None })
     else None
 
@@ -109,3 +111,101 @@ finished Behind (suc n) ps = None
 -- the parts of the whole, if it may end here
 abbrev pub whole : State → Option (List Piece)
 whole s = finished s.mode s.depth s.parts
+
+-- ---- what is expected
+
+abbrev pub expected_behind : ℕ → Expected
+expected_behind zero = expected.Operator
+expected_behind (suc n) = expected.OperatorOrClose
+
+abbrev pub expected_in : Mode → ℕ → Expected
+expected_in Wants n = expected.Licence
+expected_in (Licensed t) n = expected_behind n
+expected_in (Excepts t) n = expected.Exception
+expected_in Behind n = expected_behind n
+
+-- ---- the way through a text
+
+abbrev pub left : List ℕ → ℕ → List Placed
+left text place = tokens_from place (drop place text)
+
+-- the tokens before a place lead to the state
+pub record IsReached (text : List ℕ) (after : List Placed) (s : State) : Type 0 where
+  pub before : List Placed
+  pub cut : tokens_from 0 text ≡ before ++ after
+  pub leads : run (Some start) (lexemes before) ≡ Some s
+
+-- the tokens that are left do not fit: the next one, or the end
+abbrev pub DoNotFit : State → List Placed → Type 0
+DoNotFit s [] = whole s ≡ None
+DoNotFit s (t ∷ ts) = step s t.token ≡ None
+
+-- a refusal names what is found before the tokens that are left; memory says nothing
+abbrev pub IsOf : List ℕ → List Placed → Expected → Refusal → Type 0
+IsOf text after wanted (refusal.Unexpected expected found span) =
+    (expected ≡ wanted) × (found ≡ found_next after) × (span ≡ span_next text after)
+IsOf text after wanted (refusal.Memory e) = Unit {0}
+
+-- the refusal is that of the first token that does not fit; memory says nothing
+abbrev pub IsStopped : List ℕ → Refusal → Type 0
+IsStopped text (refusal.Unexpected expected found span) =
+    (s : State) × (after : List Placed) × IsReached text after s × DoNotFit s after
+    × IsOf text after (expected_in s.mode s.depth) (refusal.Unexpected expected found span)
+IsStopped text (refusal.Memory e) = Unit {0}
+
+-- the next of the tokens
+abbrev pub IsNext : Option Spanned → List Placed → Type 0
+IsNext None ts = ts ≡ []
+IsNext (Some s) ts = (more : List Placed) × (ts ≡ placed s ∷ more)
+
+-- the state is as one behind an operand, for what is left
+pub record IsBehind (s : State) (after : List Placed) (n : ℕ) (ps : List Piece) : Type 0 where
+  pub depth : s.depth ≡ n
+  pub expected : expected_in s.mode s.depth ≡ expected_behind n
+  pub whole : whole s ≡ finished Behind n ps
+  pub next : (t : Placed) (ts : List Placed) → after ≡ t ∷ ts → step s t.token ≡ behind n ps t.token
+
+-- what the reader keeps: its text was read up to its place
+abbrev pub IsReading : Reader → Type 0
+IsReading r =
+    IsCharBoundary r.text.now r.place × (r.depth ≤ r.place)
+    × (s : State) × IsReached r.text.now (left r.text.now r.place) s
+    × MatchBool r.wanted
+      (s ≡ record { mode = Wants; depth = r.depth; parts = pieces r.parts.items })
+      (IsBehind s (left r.text.now r.place) r.depth (pieces r.parts.items))
+
+-- the token is no operator: it does not fit behind an operand, but `)` does where a bracket is open
+pub record IsNoOperator (t : Lexeme) : Type 0 where
+  pub flat : (ps : List Piece) → behind 0 ps t ≡ None
+  pub nested : (t ≡ RightBracket → ⊥) → (n : ℕ) (ps : List Piece) → behind n ps t ≡ None
+
+-- ---- the exception behind a licence
+
+-- `WITH` does not come next
+abbrev pub LacksWith : List Placed → Type 0
+LacksWith after = (t : Placed) (ts : List Placed) → after ≡ t ∷ ts → t.token ≡ Word (codes "WITH") → ⊥
+
+-- what comes next is `WITH`, then an identifier, and then this
+pub record IsExcepted (after : List Placed) (word : List ℕ) (behind : List Placed) : Type 0 where
+  pub with : Placed
+  pub name : Placed
+  pub comes : after ≡ with ∷ name ∷ behind
+  pub is_with : with.token ≡ Word (codes "WITH")
+  pub is_word : name.token ≡ Word word
+  pub is_identifier : is_identifier word ≡ true
+
+-- what comes next is `WITH`, and then no identifier
+pub record LacksException (text : List ℕ) (after : List Placed) (r : Refusal) : Type 0 where
+  pub with : Placed
+  pub rest : List Placed
+  pub comes : after ≡ with ∷ rest
+  pub is_with : with.token ≡ Word (codes "WITH")
+  pub stops : (t : Term) (n : ℕ) (ps : List Piece)
+      → DoNotFit (record { mode = Excepts t; depth = n; parts = ps }) rest
+  pub refusal : IsOf text rest expected.Exception r
+
+-- ---- the end
+
+-- the text is read as these parts
+abbrev pub IsRead : List ℕ → List Piece → Type 0
+IsRead text ps = (s : State) × (run (Some start) (tokens text) ≡ Some s) × (whole s ≡ Some ps)
