@@ -4,3 +4,7 @@ pub mod Cutting
 pub mod Names
 -- Steps: the reader, token by token
 pub mod Steps
+-- Fitting: which parts may follow one another
+pub mod Fitting
+-- Written: from tokens to parts and back
+pub mod Written

@@ -1,9 +1,9 @@
 -- Which words are what: operators, identifiers and the names of licences. The sources are the annexes "SPDX license
 -- expressions" of the SPDX specification, version 2.3, and Cargo's reference on `license`.
 use Rattle.std.specs.Prelude.{ℕ, Bool, true, false, not, ◌&&◌, ◌||◌, ◌==◌, List, length, take, codes, bytes_eq}
-use Rattle.std.specs.Prelude.{nat_eq, nat_lt, ◌-◌, if◌then◌else◌}
+use Rattle.std.specs.Prelude.{nat_eq, nat_lt, slice_index, ◌-◌, if◌then◌else◌}
 use Rattle.std.specs.Char.{is_ascii_alphanumeric}
-use Rattle.std.specs.List.{list_all, starts_with, ends_with, before_first, after_first}
+use Rattle.std.specs.List.{list_all, starts_with, before_first, after_first}
 
 -- an ASCII letter, an ASCII digit, `-` or `.`
 abbrev pub is_id_byte : ℕ → Bool
@@ -49,8 +49,9 @@ is_name false bs = is_listed bs || is_own_reference bs || is_foreign_reference b
 
 -- ---- a word as a licence
 
+-- the last byte is `+`
 abbrev pub ends_with_plus : List ℕ → Bool
-ends_with_plus w = ends_with nat_eq w (codes "+")
+ends_with_plus w = slice_index w (length w - 1) == 0x2B
 
 abbrev pub without_plus : List ℕ → List ℕ
 without_plus w = if ends_with_plus w then take (length w - 1) w else w

@@ -4,7 +4,7 @@ ghost use Rattle.std.specs.Prelude.{◌≡◌, None, Some, MatchOption};
 ghost use Rattle.std.specs.List.{list_all};
 ghost use Rattle.spdx_expressions.specs.Words.{is_id_byte, is_id_string, is_operator, is_identifier, goes_on};
 ghost use Rattle.spdx_expressions.specs.Inside.Reading.{named};
-ghost use Rattle.spdx_expressions.specs.Words.{is_own_reference, is_foreign_reference, is_listed, is_name};
+ghost use Rattle.spdx_expressions.specs.Words.{is_own_reference, is_foreign_reference, is_listed, is_name, ends_with_plus};
 
 /// An ASCII letter, an ASCII digit, `-` or `.`.
 fn is_id_byte(byte: u8) -> bool
@@ -86,12 +86,19 @@ fn is_name(or_later: bool, name: &str) -> bool
     is_listed(name) || (!or_later && (is_own_reference(name.as_bytes()) || is_foreign_reference(name)))
 }
 
+/// Whether the last byte is `+`.
+fn ends_with_plus(bytes: &[u8]) -> bool
+    ensures { result ≡ ends_with_plus bytes.now }
+{
+    !bytes.is_empty() && bytes[bytes.len() - 1] == b'+'
+}
+
 /// The name of a licence that a word is, and whether `+` stands behind it.
 pub(crate) fn licence_name<'a>(word: &'a str) -> Option<(&'a str, bool)>
     ensures { MatchOption result (named word.now ≡ None)
         (λ r. named word.now ≡ Some (record { name = r.0.now; or_later = r.1; exception = None })) }
 {
-    let or_later = word.as_bytes().ends_with(b"+");
+    let or_later = ends_with_plus(word.as_bytes());
     let name = if or_later {
         &word[..word.len() - 1]
     } else {

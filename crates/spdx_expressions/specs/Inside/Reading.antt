@@ -48,12 +48,17 @@ with_exception t e = record { name = t.name; or_later = t.or_later; exception = 
 abbrev pub at : Mode → ℕ → List Piece → Option State
 at mode depth parts = Some (record { mode = mode; depth = depth; parts = parts })
 
+-- a word is the name of a licence or not
+abbrev pub by_name : Option Term → ℕ → List Piece → Option State
+by_name None n ps = None
+by_name (Some t) n ps = at (Licensed t) n ps
+
 -- an operand is wanted
 abbrev pub operand : ℕ → List Piece → Lexeme → Option State
 operand n ps LeftBracket = at Wants (n + 1) (ps ++ Open ∷ [])
 operand n ps RightBracket = None
 operand n ps Slash = None
-operand n ps (Word w) = elim (named w) as (λ v. Option State) [ None ↦ None | Some t ↦ at (Licensed t) n ps ]
+operand n ps (Word w) = by_name (named w) n ps
 
 -- an operand ended
 abbrev pub behind : ℕ → List Piece → Lexeme → Option State
