@@ -8,3 +8,5 @@ pub mod Steps
 pub mod Fitting
 -- Written: from tokens to parts and back
 pub mod Written
+-- Building: parts that fit spell a tree
+pub mod Building
