@@ -10,3 +10,5 @@ pub mod Fitting
 pub mod Written
 -- Building: parts that fit spell a tree
 pub mod Building
+-- OneTree: parts spell one tree at most
+pub mod OneTree
