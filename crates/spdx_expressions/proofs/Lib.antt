@@ -12,3 +12,5 @@ pub mod Written
 pub mod Building
 -- OneTree: parts spell one tree at most
 pub mod OneTree
+-- Viable: which fronts of tokens can be completed, and what is expected behind one
+pub mod Viable

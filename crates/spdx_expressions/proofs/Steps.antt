@@ -13,9 +13,10 @@ use Rattle.std.specs.Str.{IsCharBoundary}
 use Rattle.std.proofs.Common.{◌≤◌}
 use Rattle.spdx_expressions.specs.Words.{is_identifier}
 use Rattle.spdx_expressions.specs.Trees.{Term, Piece, Named, Close, pieces}
+use Rattle.spdx_expressions.specs.Faults.{expected_behind}
 use Rattle.spdx_expressions.specs.Inside.Reading.{State, Mode, Wants, Licensed, Excepts, Behind, step, run, start, whole}
 use Rattle.spdx_expressions.specs.Inside.Reading.{IsReached, DoNotFit, IsOf, IsStopped, IsBehind, IsExcepted, LacksException}
-use Rattle.spdx_expressions.specs.Inside.Reading.{at, behind, finished, expected_in, expected_behind, with_exception, IsReading, IsRead, left}
+use Rattle.spdx_expressions.specs.Inside.Reading.{at, behind, finished, expected_in, with_exception, IsReading, IsRead, left}
 
 pub run-append : (s : Option State) (ts us : List Lexeme) → run s (ts ++ us) ≡ run (run s ts) us
 run-append None ts us = refl

@@ -60,7 +60,7 @@ more ps qs p rest e = e ∙ append_assoc ps (p ∷ []) rest
 same_some : (a b : List Piece) → Some a ≡ Some b → a ≡ b
 same_some a b h = cc
 
-is_word : (w : List ℕ) (text : List ℕ) → bytes_eq w text ≡ true → w ≡ text
+pub is_word : (w : List ℕ) (text : List ℕ) → bytes_eq w text ≡ true → w ≡ text
 is_word w text h = (bytes_eq-Decides w text).0 h
 
 behind_sound : (t : Lexeme) (ts : List Lexeme) → IsSound ts → (n : ℕ) (ps qs : List Piece)

@@ -7,8 +7,10 @@ pub mod Words
 pub mod Trees
 -- Grammar: which tokens spell which tree
 pub mod Grammar
--- Faults: what is found where a text goes wrong
+-- Faults: why a text is refused
 pub mod Faults
+-- Errors: what is said of a refusal
+pub mod Errors
 -- ---- for private functions
 -- Inside: what their contracts cite, and no promise rests on
 pub mod Inside

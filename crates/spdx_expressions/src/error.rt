@@ -1,6 +1,6 @@
 //! Why a text is refused.
 
-use std::alloc::AllocError;
+use std::alloc::{AllocError, Global};
 use std::ops::Range;
 
 /// What could have come where a text goes wrong.
@@ -39,7 +39,29 @@ pub enum Found {
     Unknown,
 }
 
-/// Why nothing was read.
+/// The fault of a text, at its first token that does not fit.
+#[derive(Debug, Drop)]
+pub struct ParseError {
+    /// The whole text.
+    pub text: String,
+    /// What could have come.
+    pub expected: Expected,
+    /// What came.
+    pub found: Found,
+    /// Where that is, in bytes of the text: the token, or the empty span at the end.
+    pub span: Range<usize>,
+}
+
+/// Why a reader answers nothing.
+#[derive(Debug, Drop)]
+pub enum ReadError {
+    /// The text has a fault.
+    Parse(ParseError),
+    /// Memory was refused.
+    Memory(AllocError),
+}
+
+/// Why nothing was read, before the text is copied.
 #[derive(Drop)]
 pub(crate) enum Refusal {
     Unexpected {
@@ -58,5 +80,32 @@ impl From<AllocError> for Refusal {
 
     fn from(e: AllocError) -> Refusal {
         Refusal::Memory(e)
+    }
+}
+
+impl Refusal {
+    ghost use Rattle.spdx_expressions.specs.Inside.Reading.{Becomes};
+
+    /// The error of the text that is refused.
+    pub(crate) fn into_error(self, alloc: Global, text: &str) -> ReadError
+        ensures { Becomes self text.now result }
+    {
+        let (expected, found, span) = match self {
+            Refusal::Unexpected {
+                expected,
+                found,
+                span,
+            } => (expected, found, span),
+            Refusal::Memory(e) => return ReadError::Memory(e),
+        };
+        match String::from_str(alloc, text) {
+            Ok(text) => ReadError::Parse(ParseError {
+                text,
+                expected,
+                found,
+                span,
+            }),
+            Err(e) => ReadError::Memory(e),
+        }
     }
 }

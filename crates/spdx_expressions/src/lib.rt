@@ -2,9 +2,13 @@
 #![tactic(auto)]
 
 pub mod error;
+mod expression;
 mod reader;
 mod tokens;
 mod words;
+
+pub use expression::LicenceExpression;
+pub use error::{Expected, Found, ParseError, ReadError};
 
 /// One licence, as it stands in an expression.
 #[derive(Debug, Drop)]

@@ -6,9 +6,9 @@ ghost use Rattle.std.specs.Str.{IsCharBoundary};
 ghost use Rattle.spdx_expressions.specs.Tokens.{Placed, placed, lexeme, Word, LeftBracket, RightBracket};
 ghost use Rattle.spdx_expressions.specs.Trees.{Term, Piece, Named, text_of, piece_of, pieces};
 ghost use Rattle.spdx_expressions.specs.Words.{is_identifier};
-ghost use Rattle.spdx_expressions.specs.Faults.{found_in};
+ghost use Rattle.spdx_expressions.specs.Faults.{found_in, expected_behind};
 ghost use Rattle.spdx_expressions.specs.Inside.Reading.{IsOf, IsNext, IsStopped, IsReading, left, whole, excepts};
-ghost use Rattle.spdx_expressions.specs.Inside.Reading.{at, behind, operand, expected_behind, Wants, Licensed, IsReached};
+ghost use Rattle.spdx_expressions.specs.Inside.Reading.{at, behind, operand, Wants, Licensed, IsReached};
 ghost use Rattle.spdx_expressions.specs.Inside.Reading.{IsRead, IsNoOperator, LacksWith, IsExcepted, LacksException};
 
 use crate::error::{Expected, Found, Refusal};

@@ -5,12 +5,15 @@ use Rattle.std.specs.Prelude.{map, drop, MatchBool, ◌≤◌}
 use Rattle.std.specs.Str.{IsCharBoundary}
 use Rattle.spdx_expressions.specs.declared.error.Expected.{Expected}
 use Rattle.spdx_expressions.specs.declared.error.Expected.TheVariants as expected
+use Rattle.std.specs.Prelude.{string_bytes}
+use Rattle.spdx_expressions.specs.declared.error.ReadError.{ReadError}
+use Rattle.spdx_expressions.specs.declared.error.ReadError.TheVariants as errors
 use Rattle.spdx_expressions.specs.declared.error.Refusal.{Refusal}
 use Rattle.spdx_expressions.specs.declared.error.Refusal.TheVariants as refusal
 use Rattle.spdx_expressions.specs.declared.reader.Reader.{Reader}
 use Rattle.spdx_expressions.specs.Tokens.{Lexeme, LeftBracket, RightBracket, Slash, Word, Placed, tokens_from, tokens, lexemes, placed}
 use Rattle.spdx_expressions.specs.declared.tokens.Spanned.{Spanned}
-use Rattle.spdx_expressions.specs.Faults.{found_next, span_next}
+use Rattle.spdx_expressions.specs.Faults.{found_next, span_next, expected_behind}
 use Rattle.spdx_expressions.specs.Words.{is_identifier, ends_with_plus, without_plus, names_licence}
 use Rattle.spdx_expressions.specs.Trees.{Term, Piece, Named, And, Or, Open, Close, pieces}
 
@@ -119,10 +122,6 @@ whole s = finished s.mode s.depth s.parts
 
 -- ---- what is expected
 
-abbrev pub expected_behind : ℕ → Expected
-expected_behind zero = expected.Operator
-expected_behind (suc n) = expected.OperatorOrClose
-
 abbrev pub expected_in : Mode → ℕ → Expected
 expected_in Wants n = expected.Licence
 expected_in (Licensed t) n = expected_behind n
@@ -214,3 +213,10 @@ pub record LacksException (text : List ℕ) (after : List Placed) (r : Refusal) 
 -- the text is read as these parts
 abbrev pub IsRead : List ℕ → List Piece → Type 0
 IsRead text ps = (s : State) × (run (Some start) (tokens text) ≡ Some s) × (whole s ≡ Some ps)
+
+-- the error of a refusal, with the text; memory says nothing
+abbrev pub Becomes : Refusal → List ℕ → ReadError → Type 0
+Becomes r text (errors.Memory e) = Unit {0}
+Becomes (refusal.Unexpected expected found span) text (errors.Parse e) =
+    (string_bytes e.text ≡ text) × (e.expected ≡ expected) × (e.found ≡ found) × (e.span ≡ span)
+Becomes (refusal.Memory a) text (errors.Parse e) = ⊥

@@ -2,7 +2,8 @@ use Rattle.std.proofs.Common.{◌≡◌, ◌∙◌, ℕ, ◌+◌, ◌-◌, List,
 use Rattle.spdx_expressions.specs.declared.error.Expected.TheVariants as expected
 use Rattle.spdx_expressions.specs.Tokens.{placed, lexeme, RightBracket}
 use Rattle.spdx_expressions.specs.Trees.{pieces, Piece}
-use Rattle.spdx_expressions.specs.Inside.Reading.{State, Wants, Behind, at, left, behind, expected_behind}
+use Rattle.spdx_expressions.specs.Faults.{expected_behind}
+use Rattle.spdx_expressions.specs.Inside.Reading.{State, Wants, Behind, at, left, behind}
 use Rattle.spdx_expressions.proofs.Steps.{ended, stopped_at_end, stopped_at_token, reach_behind, by_true, by_false, is_false}
 use Rattle.spdx_expressions.proofs.Steps.{close_step, open_expected, is_behind, read_whole}
 use Rattle.spdx_expressions.proofs.reader.Reader.behind.Goals as goal

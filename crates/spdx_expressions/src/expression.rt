@@ -1,0 +1,53 @@
+//! Expressions: how they are read.
+
+use crate::error::ReadError;
+use crate::reader::read_parts;
+use crate::Part;
+use std::alloc::Global;
+use std::marker::Model;
+
+/// A licence expression: its parts, from left to right.
+#[derive(Debug, Drop)]
+pub struct LicenceExpression {
+    parts: Vec<Part>,
+}
+
+impl Model for LicenceExpression {
+    ghost use Rattle.std.specs.Prelude.{List};
+    ghost use Rattle.spdx_expressions.specs.Trees.{Piece, pieces};
+
+    ghost Value = { List Piece };
+
+    ghost view = { λ e. pieces e.parts.items };
+}
+
+impl LicenceExpression {
+    ghost use Rattle.std.specs.Prelude.{◌≡◌, IfOk, string_bytes};
+    ghost use Rattle.spdx_expressions.specs.Trees.{Tree, pieces};
+    ghost use Rattle.spdx_expressions.specs.Grammar.{IsTreeText, Spells};
+    ghost use Rattle.spdx_expressions.specs.Faults.{IsFault};
+    ghost use Rattle.spdx_expressions.specs.Errors.{IfParse};
+
+    /// Reads an expression.
+    pub fn from_str(alloc: Global, text: &str) -> Result<LicenceExpression, ReadError>
+        // What is read is a tree that the text spells.
+        ensures tree { IfOk result (λ e. (t : Tree) × IsTreeText text.now t × Spells 0 t e) }
+        // No text that spells a tree is refused.
+        ensures refused { IfParse result (λ _. (t : Tree) → IsTreeText text.now t → ⊥) }
+        // The error is of this text, and is its fault.
+        ensures text { IfParse result (λ e. string_bytes e.text ≡ text.now) }
+        ensures fault { IfParse result (λ e. IsFault text.now e.expected e.found e.span) }
+    {
+        match read_parts(alloc, text) {
+            Ok(parts) => Ok(LicenceExpression { parts }),
+            Err(refusal) => Err(refusal.into_error(alloc, text)),
+        }
+    }
+
+    /// The parts, from left to right.
+    pub fn parts(&self) -> &[Part]
+        ensures { pieces result.now ≡ self.now }
+    {
+        &self.parts
+    }
+}
