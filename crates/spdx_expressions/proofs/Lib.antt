@@ -14,3 +14,7 @@ pub mod Building
 pub mod OneTree
 -- Viable: which fronts of tokens can be completed, and what is expected behind one
 pub mod Viable
+-- Truth: going over the parts gives the truth of the tree
+pub mod Truth
+-- Allowing: licences in a list
+pub mod Allowing

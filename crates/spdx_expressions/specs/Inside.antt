@@ -1,3 +1,5 @@
 -- What contracts of private functions cite, and no promise rests on.
 -- Reading: the reader, token by token
 pub mod Reading
+-- Walking: the truth of an expression, part by part
+pub mod Walking

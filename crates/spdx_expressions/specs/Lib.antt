@@ -11,6 +11,8 @@ pub mod Grammar
 pub mod Faults
 -- Errors: what is said of a refusal
 pub mod Errors
+-- Allowed: which licences a list allows, and the truth of a tree
+pub mod Allowed
 -- ---- for private functions
 -- Inside: what their contracts cite, and no promise rests on
 pub mod Inside

@@ -2,6 +2,7 @@
 #![tactic(auto)]
 
 pub mod error;
+mod allowed;
 mod expression;
 mod reader;
 mod tokens;
