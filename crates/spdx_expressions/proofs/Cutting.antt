@@ -73,7 +73,7 @@ tokens_begin (b ∷ bs) at =
       [ true ↦ omega arith | false ↦ with_byte_begins b at _ ] ]
 
 -- what follows a word does not go on with it
-pub EndsWord : List ℕ → Type 0
+unfoldable pub EndsWord : List ℕ → Type 0
 EndsWord [] = Unit {0}
 EndsWord (b ∷ bs) = is_word_byte b ≡ false
 
@@ -101,7 +101,7 @@ last_byte b at (c ∷ cs) h = elim (either (is_space c) (is_mark c) h) [
   | inr mark ↦ rw (mark.0, mark.1, mark_is_no_word c) refl ]
 
 -- all bytes are those of a word
-pub AllWord : List ℕ → Type 0
+unfoldable pub AllWord : List ℕ → Type 0
 AllWord [] = Unit {0}
 AllWord (b ∷ bs) = (is_word_byte b ≡ true) × AllWord bs
 

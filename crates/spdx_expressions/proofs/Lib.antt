@@ -18,3 +18,5 @@ pub mod Viable
 pub mod Truth
 -- Allowing: licences in a list
 pub mod Allowing
+-- Printing: what is printed reads as the same parts
+pub mod Printing

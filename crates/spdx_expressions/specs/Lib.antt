@@ -13,6 +13,8 @@ pub mod Faults
 pub mod Errors
 -- Allowed: which licences a list allows, and the truth of a tree
 pub mod Allowed
+-- Print: what is printed
+pub mod Print
 -- ---- for private functions
 -- Inside: what their contracts cite, and no promise rests on
 pub mod Inside

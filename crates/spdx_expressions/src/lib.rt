@@ -1,8 +1,9 @@
 //! SPDX licence expressions.
 #![tactic(auto)]
 
-pub mod error;
+mod error;
 mod allowed;
+mod display;
 mod expression;
 mod reader;
 mod tokens;
