@@ -20,3 +20,5 @@ pub mod Truth
 pub mod Allowing
 -- Printing: what is printed reads as the same parts
 pub mod Printing
+-- One: a text that is one licence
+pub mod One

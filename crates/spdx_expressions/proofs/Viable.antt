@@ -19,7 +19,7 @@ use Rattle.spdx_expressions.specs.Grammar.{AreWritten, SpellTree, IsTreeText, Sp
 use Rattle.spdx_expressions.specs.declared.error.Expected.{Expected}
 use Rattle.spdx_expressions.specs.declared.error.Expected.TheVariants as expected
 use Rattle.spdx_expressions.specs.Faults.{IsAccepted, IsCompletable, expected_by, expected_after, expected_behind, opened}
-use Rattle.spdx_expressions.specs.Faults.{is_left, is_right, IsStuck, IsFault}
+use Rattle.spdx_expressions.specs.Faults.{is_left, is_right, IsStuck, IsFault, IsFaultBy}
 use Rattle.spdx_expressions.specs.Inside.Reading.{State, Mode, Wants, Licensed, Excepts, Behind, step, run, start, whole}
 use Rattle.spdx_expressions.specs.Inside.Reading.{named, by_name, at, by_mode, behind, finished, expected_in, with_exception}
 use Rattle.spdx_expressions.specs.Inside.Reading.{IsRead, IsStopped, DoNotFit, Becomes}
@@ -80,7 +80,7 @@ goes_on (Licensed t) n ps = (closes n, closed_licence n ps t)
 goes_on (Excepts t) n ps = (Word (codes "a") ∷ closes n, closed n (ps ++ Named (with_exception t (codes "a")) ∷ []))
 goes_on Behind n ps = (closes n, closed n ps)
 
-pub reached_completable : (ts : List Lexeme) (s : State) → run (Some start) ts ≡ Some s → IsCompletable ts
+pub reached_completable : (ts : List Lexeme) (s : State) → run (Some start) ts ≡ Some s → IsCompletable IsAccepted ts
 unfolding HasEnd
 reached_completable ts s h =
     let on = goes_on s.mode s.depth s.parts in
@@ -94,7 +94,7 @@ reached_completable ts s h =
 lost_ends : (ts : List Lexeme) (qs : List Piece) → Ends (run None ts) qs → ⊥
 lost_ends ts qs h = h
 
-pub lost_stuck : (ts : List Lexeme) → run (Some start) ts ≡ None → IsCompletable ts → ⊥
+pub lost_stuck : (ts : List Lexeme) → run (Some start) ts ≡ None → IsCompletable IsAccepted ts → ⊥
 lost_stuck ts h (more, (e, s)) =
     let e' : run (Some start) (ts ++ more) ≡ None =
       run-append (Some start) ts more ∙ ap (λ (o : Option State). run o more) h in
@@ -142,7 +142,7 @@ behind_told n ps (Word w) =
     behind_word (bytes_eq w (codes "AND")) (bytes_eq w (codes "OR")) (bytes_eq w (codes "WITH")) n _ _
 
 -- a word that is named is no operator
-unnamed : (w text : List ℕ) (t : Term) → named text ≡ None → named w ≡ Some t → bytes_eq w text ≡ false
+pub unnamed : (w text : List ℕ) (t : Term) → named text ≡ None → named w ≡ Some t → bytes_eq w text ≡ false
 unnamed w text t none some = by (bytes_eq w text) refl
   where
     by : (b : Bool) → bytes_eq w text ≡ b → b ≡ false
@@ -151,7 +151,7 @@ unnamed w text t none some = by (bytes_eq w text) refl
         let is : named w ≡ None = ap named (is_word w text e) ∙ none in
         absurd cc
 
-unidentified : (w text : List ℕ) → is_identifier text ≡ false → is_identifier w ≡ true → bytes_eq w text ≡ false
+pub unidentified : (w text : List ℕ) → is_identifier text ≡ false → is_identifier w ≡ true → bytes_eq w text ≡ false
 unidentified w text none some = by (bytes_eq w text) refl
   where
     by : (b : Bool) → bytes_eq w text ≡ b → b ≡ false
@@ -259,7 +259,7 @@ one_text_tree text t u first second =
     one_end (Some s) ps qs a b = let e : Some ps ≡ Some qs = sym a ∙ b in cc
 
 stuck_by : (before : List Placed) (s : State) (after : List Placed) → run (Some start) (lexemes before) ≡ Some s
-    → DoNotFit s after → IsStuck (lexemes before) after
+    → DoNotFit s after → IsStuck IsAccepted (lexemes before) after
 stuck_by before s [] h fits = early_end (lexemes before) s h fits
 stuck_by before s (t ∷ ts) h fits =
     lost_stuck (lexemes before ++ t.token ∷ [])
@@ -287,21 +287,22 @@ error_fault text (refusal.Unexpected expected found span) (errors.Parse p) (s, a
       is_at = is.3 ∙ of.2;
     }
 
--- a text with a fault spells nothing
-pub fault_refuses : (text : List ℕ) (wanted : Expected) (found : Found) (span : Range ℕ) → IsFault text wanted found span
-    → (t : Tree) → IsTreeText text t → ⊥
-fault_refuses text wanted found span f t spells = by f.after f.stuck (ap lexemes f.cut ∙ lexemes-append f.before f.after)
+-- a text with a fault is not accepted
+pub fault_refuses : (accepts : List Lexeme → Type 0) (expects : List Lexeme → Expected) (text : List ℕ)
+    (wanted : Expected) (found : Found) (span : Range ℕ) → IsFaultBy accepts expects text wanted found span
+    → accepts (tokens text) → ⊥
+fault_refuses accepts expects text wanted found span f accepted =
+    by f.after f.stuck (ap lexemes f.cut ∙ lexemes-append f.before f.after)
   where
-    by : (after : List Placed) → IsStuck (lexemes f.before) after → tokens text ≡ lexemes f.before ++ lexemes after → ⊥
-    by [] stuck is =
-        let P : List Lexeme → Type 0 = λ l. SpellTree l t in
-        stuck (t, subst P (is ∙ append-nil (lexemes f.before)) spells)
+    by : (after : List Placed) → IsStuck accepts (lexemes f.before) after
+        → tokens text ≡ lexemes f.before ++ lexemes after → ⊥
+    by [] stuck is = stuck (subst accepts (is ∙ append-nil (lexemes f.before)) accepted)
     by (x ∷ xs) stuck is =
-        let P : List Lexeme → Type 0 = λ l. SpellTree l t in
-        stuck (lexemes xs, (t, subst P (is ∙ sym (append_assoc (lexemes f.before) (x.token ∷ []) (lexemes xs))) spells))
+        stuck (lexemes xs, subst accepts (is ∙ sym (append_assoc (lexemes f.before) (x.token ∷ []) (lexemes xs))) accepted)
 
 pub error_refuses : (text : List ℕ) (r : Refusal) (e : ReadError) → IsStopped text r → Becomes r text e
     → OfParse e (λ p. (t : Tree) → IsTreeText text t → ⊥)
 error_refuses text r (errors.Memory a) stopped is = tt
-error_refuses text r (errors.Parse p) stopped is =
-    fault_refuses text p.expected p.found p.span (error_fault text r (errors.Parse p) stopped is)
+error_refuses text r (errors.Parse p) stopped is = λ t spells.
+    fault_refuses IsAccepted expected_after text p.expected p.found p.span
+      (error_fault text r (errors.Parse p) stopped is) (t, spells)

@@ -9,8 +9,8 @@ use Rattle.spdx_expressions.specs.declared.error.Found.{Found}
 use Rattle.spdx_expressions.specs.declared.error.Found.TheVariants as found
 use Rattle.spdx_expressions.specs.Tokens.{Lexeme, LeftBracket, RightBracket, Slash, Word, Placed, tokens_from, lexemes}
 use Rattle.spdx_expressions.specs.Words.{names_licence}
-use Rattle.spdx_expressions.specs.Trees.{Tree}
-use Rattle.spdx_expressions.specs.Grammar.{SpellTree}
+use Rattle.spdx_expressions.specs.Trees.{Term, Tree}
+use Rattle.spdx_expressions.specs.Grammar.{SpellTree, IsTerm, term_tokens}
 
 -- ---- what is found, and where
 
@@ -71,27 +71,51 @@ expected_by (Some (Word w)) n =
 abbrev pub expected_after : List Lexeme → Expected
 expected_after ts = expected_by (last_or None ts) (opened ts)
 
+-- the same, where one licence is read
+abbrev pub expected_last : Option Lexeme → Expected
+expected_last None = expected.Licence
+expected_last (Some LeftBracket) = expected.End
+expected_last (Some RightBracket) = expected.End
+expected_last (Some Slash) = expected.End
+expected_last (Some (Word w)) = if bytes_eq w (codes "WITH") then expected.Exception else expected.End
+
+abbrev pub expected_of_one : List Lexeme → Expected
+expected_of_one ts = expected_last (last_or None ts)
+
 -- ---- the fault
 
--- tokens are accepted if they spell a tree, and completable if some further tokens make them accepted
+-- which tokens are accepted: those of a tree, and those of one licence
 abbrev pub IsAccepted : List Lexeme → Type 0
 IsAccepted ts = (e : Tree) × SpellTree ts e
 
-abbrev pub IsCompletable : List Lexeme → Type 0
-IsCompletable ts = (more : List Lexeme) × IsAccepted (ts ++ more)
+abbrev pub IsOneLicence : List Lexeme → Type 0
+IsOneLicence ts = (t : Term) × IsTerm t × (ts ≡ term_tokens t)
+
+-- some further tokens make them accepted
+abbrev pub IsCompletable : (List Lexeme → Type 0) → List Lexeme → Type 0
+IsCompletable accepts ts = (more : List Lexeme) × accepts (ts ++ more)
 
 -- the tokens before can't go on with what is left: the next token makes them completable no more, or they end too early
-abbrev pub IsStuck : List Lexeme → List Placed → Type 0
-IsStuck before [] = IsAccepted before → ⊥
-IsStuck before (t ∷ ts) = IsCompletable (before ++ t.token ∷ []) → ⊥
+abbrev pub IsStuck : (List Lexeme → Type 0) → List Lexeme → List Placed → Type 0
+IsStuck accepts before [] = accepts before → ⊥
+IsStuck accepts before (t ∷ ts) = IsCompletable accepts (before ++ t.token ∷ []) → ⊥
 
 -- The fault of a text: its longest completable front of tokens, what was expected behind it, and what was found there.
-pub record IsFault (text : List ℕ) (wanted : Expected) (found : Found) (span : Range ℕ) : Type 0 where
+pub record IsFaultBy (accepts : List Lexeme → Type 0) (expects : List Lexeme → Expected) (text : List ℕ)
+    (wanted : Expected) (found : Found) (span : Range ℕ) : Type 0 where
   pub before : List Placed
   pub after : List Placed
   pub cut : tokens_from 0 text ≡ before ++ after
-  pub completable : IsCompletable (lexemes before)
-  pub stuck : IsStuck (lexemes before) after
-  pub is_expected : wanted ≡ expected_after (lexemes before)
+  pub completable : IsCompletable accepts (lexemes before)
+  pub stuck : IsStuck accepts (lexemes before) after
+  pub is_expected : wanted ≡ expects (lexemes before)
   pub is_found : found ≡ found_next after
   pub is_at : span ≡ span_next text after
+
+-- of a text that was read as an expression
+abbrev pub IsFault : List ℕ → Expected → Found → Range ℕ → Type 0
+IsFault = IsFaultBy IsAccepted expected_after
+
+-- of one that was read as a licence
+abbrev pub IsFaultOfOne : List ℕ → Expected → Found → Range ℕ → Type 0
+IsFaultOfOne = IsFaultBy IsOneLicence expected_of_one

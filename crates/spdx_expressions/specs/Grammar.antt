@@ -74,3 +74,7 @@ SpellTree ts e = (ps : List Piece) × AreWritten ps ts × Spells 0 e ps
 -- a text spells a tree
 abbrev pub IsTreeText : List ℕ → Tree → Type 0
 IsTreeText text e = SpellTree (tokens text) e
+
+-- a text is one licence
+abbrev pub IsLicenceText : List ℕ → Term → Type 0
+IsLicenceText text t = IsTerm t × (tokens text ≡ term_tokens t)

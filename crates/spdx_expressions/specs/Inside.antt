@@ -3,3 +3,5 @@
 pub mod Reading
 -- Walking: the truth of an expression, part by part
 pub mod Walking
+-- Single: the reader of one licence
+pub mod Single

@@ -14,6 +14,8 @@ pub enum Expected {
     Operator,
     /// `AND`, `OR` or `)`, where one is.
     OperatorOrClose,
+    /// The end, where one licence is read.
+    End,
 }
 
 /// What came instead.

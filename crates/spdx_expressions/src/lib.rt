@@ -6,6 +6,7 @@ mod allowed;
 mod display;
 mod expression;
 mod reader;
+mod single;
 mod tokens;
 mod words;
 

@@ -59,7 +59,7 @@ fn found_word(word: &str) -> Found
 }
 
 /// The refusal of what comes next.
-fn refuse(text: &str, expected: Expected, next: Option<Spanned<'_>>) -> Refusal
+pub(crate) fn refuse(text: &str, expected: Expected, next: Option<Spanned<'_>>) -> Refusal
     ensures { (after : List Placed) → IsNext next.entry after → IsOf text.now after expected result }
 {
     match next {
@@ -86,13 +86,13 @@ fn push(parts: &mut Vec<Part>, part: Part) -> Result<(), AllocError>
 
 /// An exception, and where it ends.
 #[derive(Clone, Copy)]
-struct Exception<'a> {
-    word: &'a str,
-    end: usize,
+pub(crate) struct Exception<'a> {
+    pub word: &'a str,
+    pub end: usize,
 }
 
 /// The exception that follows a licence: the identifier behind `WITH`, and where it ends.
-fn exception_at<'a>(text: &'a str, from: usize) -> Result<Option<Exception<'a>>, Refusal>
+pub(crate) fn exception_at<'a>(text: &'a str, from: usize) -> Result<Option<Exception<'a>>, Refusal>
     requires { IsCharBoundary text.now from }
     ensures found { IfOk result (λ r. MatchOption r
         (LacksWith (left text.now from))
@@ -170,7 +170,7 @@ fn operator_in(token: Token<'_>) -> Option<Part>
 }
 
 /// The name of a licence that a token is, and whether `+` stands behind it.
-fn name_in<'a>(token: Token<'a>) -> Option<(&'a str, bool)>
+pub(crate) fn name_in<'a>(token: Token<'a>) -> Option<(&'a str, bool)>
     ensures { MatchOption result
         (lexeme token.entry ≢ LeftBracket → (n : ℕ) (ps : List Piece) → operand n ps (lexeme token.entry) ≡ None)
         (λ r. (n : ℕ) (ps : List Piece) → operand n ps (lexeme token.entry)
