@@ -13,19 +13,20 @@ use Rattle.spdx_expressions.specs.Tokens.{Word, Placed, lexemes}
 use Rattle.spdx_expressions.specs.Words.{is_id_byte, is_id_string, is_identifier, is_name, is_listed, is_own_reference}
 use Rattle.spdx_expressions.specs.Words.{is_foreign_reference, goes_on}
 use Rattle.spdx_expressions.specs.Trees.{Term, Tree, Piece, Named, And, Or, Open, Close}
-use Rattle.spdx_expressions.specs.Grammar.{IsTerm, plus, term_tokens, exception_tokens, IsWritten, AreWritten}
+use Rattle.spdx_expressions.specs.Grammar.{IsTerm, plus, term_tokens, exception_tokens, IsWritten, AreWritten, AreTerms}
+use Rattle.spdx_expressions.specs.Grammar.{Spells, IsWellFormed, IsTreeText}
+use Rattle.spdx_expressions.specs.Tokens.{tokens}
+use Rattle.spdx_expressions.specs.Inside.Reading.{State, IsRead, run, start, whole}
+use Rattle.spdx_expressions.specs.declared.error.Refusal.{Refusal}
+use Rattle.spdx_expressions.specs.declared.error.ReadError.{ReadError}
+use Rattle.spdx_expressions.proofs.Written.{Ends}
+use Rattle.spdx_expressions.specs.declared.error.ReadError.TheVariants as errors
+use Rattle.spdx_expressions.specs.Errors.{OfParse}
+use Rattle.spdx_expressions.specs.Inside.Reading.{IsStopped, Becomes}
+use Rattle.spdx_expressions.proofs.Viable.{spelled_fits, accepted_ends, ends_written, error_refuses}
 use Rattle.spdx_expressions.specs.Print.{print_exception, print_term, print_piece, print}
 use Rattle.spdx_expressions.proofs.Cutting.{AllWord, EndsWord, word_first}
 use Rattle.spdx_expressions.proofs.Fitting.{Fits}
-
--- the licences among parts are licences of the grammar
-abbrev pub AreTerms : List Piece → Type 0
-AreTerms [] = Unit {0}
-AreTerms (Named t ∷ ps) = IsTerm t × AreTerms ps
-AreTerms (And ∷ ps) = AreTerms ps
-AreTerms (Or ∷ ps) = AreTerms ps
-AreTerms (Open ∷ ps) = AreTerms ps
-AreTerms (Close ∷ ps) = AreTerms ps
 
 id_is_word : (b : ℕ) → is_id_byte b ≡ true → is_word_byte b ≡ true
 id_is_word b h = grind (arith, nat_tests)
@@ -213,3 +214,46 @@ printed (Or ∷ ps) false n f terms =
     one_more Or (Word (codes "OR") ∷ []) ps (inl refl)
       (operator_gives (codes "OR") (print ps) (0x4F, codes "R", refl) (refl, (refl, tt)))
       (printed ps true n f terms)
+
+-- ---- the whole
+
+-- the print of well-formed parts is written as these
+pub print_written : (ps : List Piece) → IsWellFormed ps → AreWritten ps (tokens (print ps))
+print_written ps (t, spells, terms) = printed ps true 0 (spelled_fits t ps spells) terms 0
+
+pub print_spells : (ps : List Piece) (t : Tree) → Spells 0 t ps → AreTerms ps → IsTreeText (print ps) t
+print_spells ps t spells terms = (ps, print_written ps (t, spells, terms), spells)
+
+-- and is read as these
+pub print_read : (text : List ℕ) (ps qs : List Piece) → IsWellFormed ps → text ≡ print ps → IsRead text qs → qs ≡ ps
+print_read text ps qs well is (s, h, ends) =
+    let P : List ℕ → Type 0 = λ x. IsTreeText x well.0 in
+    let Q : List ℕ → Type 0 = λ x. AreWritten ps (tokens x) in
+    let spelled : AreWritten ps (tokens text) = subst Q (sym is) (print_written ps well) in
+    let wanted = accepted_ends (tokens text) well.0 (ps, spelled, well.1) in
+    let R : Option State → Type 0 = λ o. Ends o ps in
+    let other : whole s ≡ Some ps = subst R h wanted in
+    let e : Some qs ≡ Some ps = sym ends ∙ other in
+    cc
+
+pub written_terms : (ps : List Piece) (ts : List Lexeme) → AreWritten ps ts → AreTerms ps
+written_terms [] ts w = tt
+written_terms (Named t ∷ ps) ts (first, rest, written, others, is) = (written.0, written_terms ps rest others)
+written_terms (And ∷ ps) ts (first, rest, written, others, is) = written_terms ps rest others
+written_terms (Or ∷ ps) ts (first, rest, written, others, is) = written_terms ps rest others
+written_terms (Open ∷ ps) ts (first, rest, written, others, is) = written_terms ps rest others
+written_terms (Close ∷ ps) ts (first, rest, written, others, is) = written_terms ps rest others
+
+pub read_written : (text : List ℕ) (ps : List Piece) → IsRead text ps → AreWritten ps (tokens text)
+read_written text ps (s, h, is) =
+    let P : Option State → Type 0 = λ o. Ends o ps in
+    (ends_written (tokens text) ps (subst P (sym h) is)).0
+
+-- and is not refused
+pub print_refused : (text : List ℕ) (ps : List Piece) (r : Refusal) (e : ReadError) → IsWellFormed ps → text ≡ print ps
+    → IsStopped text r → Becomes r text e → OfParse e (λ p. ⊥)
+print_refused text ps r (errors.Memory a) well is stopped becomes = tt
+print_refused text ps r (errors.Parse p) well is stopped becomes =
+    let P : List ℕ → Type 0 = λ x. IsTreeText x well.0 in
+    error_refuses text r (errors.Parse p) stopped becomes well.0
+      (subst P (sym is) (print_spells ps well.0 well.1 well.2))

@@ -78,3 +78,16 @@ IsTreeText text e = SpellTree (tokens text) e
 -- a text is one licence
 abbrev pub IsLicenceText : List ℕ → Term → Type 0
 IsLicenceText text t = IsTerm t × (tokens text ≡ term_tokens t)
+
+-- the licences among parts are licences of the grammar
+abbrev pub AreTerms : List Piece → Type 0
+AreTerms [] = Unit {0}
+AreTerms (Named t ∷ ps) = IsTerm t × AreTerms ps
+AreTerms (And ∷ ps) = AreTerms ps
+AreTerms (Or ∷ ps) = AreTerms ps
+AreTerms (Open ∷ ps) = AreTerms ps
+AreTerms (Close ∷ ps) = AreTerms ps
+
+-- parts that some text spells: they spell a tree, and their licences are those of the grammar
+abbrev pub IsWellFormed : List Piece → Type 0
+IsWellFormed ps = (t : Tree) × Spells 0 t ps × AreTerms ps

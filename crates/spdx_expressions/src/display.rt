@@ -1,7 +1,7 @@
 //! How licences, parts and expressions print. Nothing is allocated, and plain `{}` is what is promised: a width, a fill
 //! or an alignment is not.
 
-use crate::{Licence, LicenceExpression, Part};
+use crate::{Expected, Found, Licence, LicenceExpression, ParseError, Part, ReadError};
 use std::fmt;
 use std::fmt::Display;
 
@@ -53,6 +53,76 @@ impl fmt::Display for LicenceExpression {
 
     fn fmt<W: fmt::Write>(&self, f: &mut fmt::Formatter<W>) -> fmt::Result {
         write_parts(self.parts(), f)
+    }
+}
+
+impl fmt::Display for Expected {
+    ghost use Rattle.std.specs.Prelude.{Some};
+    ghost use Rattle.spdx_expressions.specs.Print.{print_expected};
+
+    ghost output = { λ e. Some (print_expected e) };
+
+    fn fmt<W: fmt::Write>(&self, f: &mut fmt::Formatter<W>) -> fmt::Result {
+        match self {
+            Expected::Licence => f.write_str("a licence or `(`"),
+            Expected::Exception => f.write_str("an exception"),
+            Expected::Operator => f.write_str("`AND` or `OR`"),
+            Expected::OperatorOrClose => f.write_str("`AND`, `OR` or `)`"),
+            Expected::End => f.write_str("the end"),
+        }
+    }
+}
+
+impl fmt::Display for Found {
+    ghost use Rattle.std.specs.Prelude.{Some};
+    ghost use Rattle.spdx_expressions.specs.Print.{print_found};
+
+    ghost output = { λ e. Some (print_found e) };
+
+    fn fmt<W: fmt::Write>(&self, f: &mut fmt::Formatter<W>) -> fmt::Result {
+        match self {
+            Found::End => f.write_str("the end"),
+            Found::Open => f.write_str("`(`"),
+            Found::Close => f.write_str("`)`"),
+            Found::Slash => f.write_str("`/`"),
+            Found::And => f.write_str("`AND`"),
+            Found::Or => f.write_str("`OR`"),
+            Found::With => f.write_str("`WITH`"),
+            Found::Licence => f.write_str("a licence"),
+            Found::Unknown => f.write_str("a word that names no licence"),
+        }
+    }
+}
+
+impl fmt::Display for ParseError {
+    ghost use Rattle.std.specs.Prelude.{Some};
+    ghost use Rattle.spdx_expressions.specs.Print.{print_error};
+
+    ghost output = { λ e. Some (print_error e) };
+
+    fn fmt<W: fmt::Write>(&self, f: &mut fmt::Formatter<W>) -> fmt::Result {
+        let text = &self.text;
+        let expected = &self.expected;
+        let found = &self.found;
+        write!(
+            f,
+            "failed to parse `{text}` as a licence expression: expected {expected}, found {found}"
+        )
+    }
+}
+
+impl std::error::Error for ParseError {}
+
+impl fmt::Display for ReadError {
+    ghost use Rattle.spdx_expressions.specs.Print.{print_refusal};
+
+    ghost output = { λ e. print_refusal e };
+
+    fn fmt<W: fmt::Write>(&self, f: &mut fmt::Formatter<W>) -> fmt::Result {
+        match self {
+            ReadError::Parse(error) => write!(f, "{error}"),
+            ReadError::Memory(error) => write!(f, "{error}"),
+        }
     }
 }
 

@@ -22,21 +22,32 @@ impl Model for LicenceExpression {
 }
 
 impl LicenceExpression {
-    ghost use Rattle.std.specs.Prelude.{◌≡◌, IfOk, string_bytes};
-    ghost use Rattle.spdx_expressions.specs.Trees.{Tree, pieces};
-    ghost use Rattle.spdx_expressions.specs.Grammar.{IsTreeText, Spells};
+    ghost use Rattle.std.specs.Prelude.{◌≡◌, IfOk, List, string_bytes};
+    ghost use Rattle.spdx_expressions.specs.Trees.{Tree, Piece, pieces};
+    ghost use Rattle.spdx_expressions.specs.Grammar.{IsTreeText, Spells, AreWritten, IsWellFormed};
+    ghost use Rattle.spdx_expressions.specs.Tokens.{tokens};
+    ghost use Rattle.spdx_expressions.specs.Print.{print};
     ghost use Rattle.spdx_expressions.specs.Faults.{IsFault};
     ghost use Rattle.spdx_expressions.specs.Errors.{IfParse};
 
-    /// Reads an expression.
+    /// Reads an expression: licences, joined by `AND` and `OR`, with brackets where one likes. A licence is an
+    /// identifier, perhaps with `+` directly behind it, and perhaps with `WITH` and an exception. A `/` is an older `OR`.
+    ///
+    /// Any other text is refused with `ReadError::Parse` of its fault: the first token that can't follow those before
+    /// it, or the end that comes too early. Where memory is refused the answer is `ReadError::Memory`, whatever the text.
     pub fn from_str(alloc: Global, text: &str) -> Result<LicenceExpression, ReadError>
-        // What is read is a tree that the text spells.
+        // What is read is what the text is written as, and spells a tree.
+        ensures parts { IfOk result (λ e. AreWritten e (tokens text.now)) }
         ensures tree { IfOk result (λ e. (t : Tree) × IsTreeText text.now t × Spells 0 t e) }
         // No text that spells a tree is refused.
         ensures refused { IfParse result (λ _. (t : Tree) → IsTreeText text.now t → ⊥) }
         // The error is of this text, and is its fault.
         ensures text { IfParse result (λ e. string_bytes e.text ≡ text.now) }
         ensures fault { IfParse result (λ e. IsFault text.now e.expected e.found e.span) }
+        // The print of an expression that is read is answered by that very expression.
+        ensures well_formed { IfOk result (λ e. IsWellFormed e) }
+        ensures reads_back { (ps : List Piece) → IsWellFormed ps → text.now ≡ print ps
+            → IfOk result (λ e. e ≡ ps) × IfParse result (λ _. ⊥) }
     {
         match read_parts(alloc, text) {
             Ok(parts) => Ok(LicenceExpression { parts }),
