@@ -15,6 +15,8 @@ pub mod Errors
 pub mod Allowed
 -- Print: what is printed
 pub mod Print
+-- Laws: what follows from them
+pub mod Laws
 -- ---- for private functions
 -- Inside: what their contracts cite, and no promise rests on
 pub mod Inside

@@ -1,10 +1,17 @@
-//! SPDX licence expressions.
+//! SPDX licence expressions, as the field `license` of a Cargo manifest has them: read from text, printed, and judged over
+//! a list of allowed licences.
+//!
+//! The grammar is that of the annex "SPDX license expressions" of the SPDX specification 2.3, by which Cargo's reference
+//! explains the field, and has the older `/` for `OR`. An expression keeps its parts in one list, from left to right, so
+//! that no call takes stack for the depth or the length of a text. What allocates takes the allocator first and answers a
+//! `Result`.
 #![tactic(auto)]
 
 mod error;
 mod allowed;
 mod display;
 mod expression;
+pub mod laws;
 mod reader;
 mod single;
 mod tokens;
