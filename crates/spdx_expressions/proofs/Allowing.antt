@@ -1,5 +1,5 @@
 -- Licences in a list.
-use Rattle.std.proofs.Common.{◌≡◌, refl, sym, ap, ◌∙◌, ◌||◌, ◌&&◌, ℕ, Bool, true, false, List, [], ◌∷◌, map}
+use Rattle.std.proofs.Common.{◌≡◌, refl, sym, ap, ◌||◌, Bool, true, false, List, [], ◌∷◌, map}
 use Rattle.std.specs.Prelude.{IsTrue}
 use Rattle.std.specs.List.{list_any}
 use Rattle.std.proofs.lemmas.Bool.{and_parts, and_from}
@@ -34,7 +34,7 @@ more_satisfies few more (Both l r) within h =
     and_from _ _ (more_satisfies few more l within parts.0) (more_satisfies few more r within parts.1)
 more_satisfies few more (Either l r) within h =
     either_more (truth (is_allowed few) l) (truth (is_allowed few) r) (truth (is_allowed more) l)
-      (truth (is_allowed more) r) (more_satisfies few more l within) (more_satisfies few more r within) h
+    (truth (is_allowed more) r) (more_satisfies few more l within) (more_satisfies few more r within) h
 
 same_truth : (a b : Bool) → (a ≡ true → b ≡ true) → (b ≡ true → a ≡ true) → a ≡ b
 same_truth true b f g = sym (f refl)

@@ -1,8 +1,9 @@
 -- Parts that fit spell a tree.
-use Rattle.std.proofs.Common.{◌≡◌, refl, sym, ap, ◌∙◌, subst, ℕ, suc, zero, ◌+◌, ◌<◌, Bool, true, false, List, [], ◌∷◌, ◌++◌}
+use Rattle.std.proofs.Common.{◌≡◌, refl, sym, ap, ◌∙◌, subst, ℕ, suc, zero, ◌<◌, Bool, true, false, List, [], ◌∷◌}
+use Rattle.std.proofs.Common.{◌++◌}
 use Rattle.std.proofs.Common.{append_assoc, append-nil, Option, Some, None, arith}
 use Rattle.spdx_expressions.specs.Trees.{Term, Tree, Single, Both, Either, Piece, Named, And, Or, Open, Close}
-use Rattle.spdx_expressions.specs.Grammar.{tightness, in_brackets, Around, SpellsBare, Spells}
+use Rattle.spdx_expressions.specs.Grammar.{Spells}
 use Rattle.spdx_expressions.proofs.Fitting.{Fits}
 
 -- what is loose fits where less tightness is asked
@@ -47,44 +48,98 @@ join_and : (a : Option Tree) (ands xs : List Piece) (e : Tree) → AndPart a and
 join_and None ands xs e is s =
     let P : List Piece → Type 0 = λ l. Spells 1 e (l ++ xs) in
     (e, subst P (sym is) (looser 2 1 e xs (omega arith) s))
-join_and (Some l) ands xs e (us, left, is) s =
-    (Both l e, (0, ands ++ xs, (us, xs, left, s,
-      ap (λ (p : List Piece). p ++ xs) is ∙ append_assoc us (And ∷ []) xs), refl, λ below. absurd (omega arith)))
+join_and (Some l) ands xs e (us, left, is) s = (
+  Both l e,
+  (
+    0,
+    ands ++ xs,
+    (
+      us,
+      xs,
+      left,
+      s,
+      ap (λ (p : List Piece). p ++ xs) is ∙ append_assoc us (And ∷ []) xs,
+    ),
+    refl,
+    λ below. absurd (omega arith),
+  ),
+)
 
 join_or : (o : Option Tree) (ors xs : List Piece) (e : Tree) → OrPart o ors → Spells 1 e xs
     → (f : Tree) × Spells 0 f (ors ++ xs)
 join_or None ors xs e is s =
     let P : List Piece → Type 0 = λ l. Spells 0 e (l ++ xs) in
     (e, subst P (sym is) (looser 1 0 e xs (omega arith) s))
-join_or (Some l) ors xs e (us, left, is) s =
-    (Either l e, (0, ors ++ xs, (us, xs, left, s,
-      ap (λ (p : List Piece). p ++ xs) is ∙ append_assoc us (Or ∷ []) xs), refl, λ below. absurd (omega arith)))
+join_or (Some l) ors xs e (us, left, is) s = (
+  Either l e,
+  (
+    0,
+    ors ++ xs,
+    (
+      us,
+      xs,
+      left,
+      s,
+      ap (λ (p : List Piece). p ++ xs) is ∙ append_assoc us (Or ∷ []) xs,
+    ),
+    refl,
+    λ below. absurd (omega arith),
+  ),
+)
 
 -- an operand ended
 end_operand : (n : ℕ) (ps xs : List Piece) (e : Tree) → Wants n ps → Spells 2 e xs → Ended n (ps ++ xs)
 end_operand n ps xs e (us, vs, outer, (o, a, ors, ands, or_part, and_part, is_vs), is) s =
-    let j = join_and a ands xs e and_part s in
-    (us, ors, ands ++ xs, o, j.0, outer, or_part, j.1,
+    let j = join_and a ands xs e and_part s in (
+      us,
+      ors,
+      ands ++ xs,
+      o,
+      j.0,
+      outer,
+      or_part,
+      j.1,
       ap (λ (l : List Piece). l ++ xs) (is ∙ ap (λ (l : List Piece). us ++ l) is_vs)
-      ∙ append_assoc us (ors ++ ands) xs ∙ ap (λ (l : List Piece). us ++ l) (append_assoc ors ands xs))
+          ∙ append_assoc us (ors ++ ands) xs ∙ ap (λ (l : List Piece). us ++ l) (append_assoc ors ands xs),
+    )
 
 begin_bracket : (n : ℕ) (ps : List Piece) → Wants n ps → Wants (suc n) (ps ++ Open ∷ [])
-begin_bracket n ps (us, vs, outer, before, is) =
-    (ps ++ Open ∷ [], [], (us, vs, outer, before, ap (λ (l : List Piece). l ++ Open ∷ []) is),
-      (None, None, [], [], refl, refl, refl), sym (append-nil (ps ++ Open ∷ [])))
+begin_bracket n ps (us, vs, outer, before, is) = (
+  ps ++ Open ∷ [],
+  [],
+  (us, vs, outer, before, ap (λ (l : List Piece). l ++ Open ∷ []) is),
+  (None, None, [], [], refl, refl, refl),
+  sym (append-nil (ps ++ Open ∷ [])),
+)
 
 take_and : (n : ℕ) (ps : List Piece) → Ended n ps → Wants n (ps ++ And ∷ [])
-take_and n ps (us, ors, xs, o, e, outer, or_part, s, is) =
-    (us, ors ++ (xs ++ And ∷ []), outer, (o, Some e, ors, xs ++ And ∷ [], or_part, (xs, s, refl), refl),
-      ap (λ (l : List Piece). l ++ And ∷ []) is ∙ append_assoc us (ors ++ xs) (And ∷ [])
-      ∙ ap (λ (l : List Piece). us ++ l) (append_assoc ors xs (And ∷ [])))
+take_and n ps (us, ors, xs, o, e, outer, or_part, s, is) = (
+  us,
+  ors ++ (xs ++ And ∷ []),
+  outer,
+  (o, Some e, ors, xs ++ And ∷ [], or_part, (xs, s, refl), refl),
+  ap (λ (l : List Piece). l ++ And ∷ []) is ∙ append_assoc us (ors ++ xs) (And ∷ [])
+      ∙ ap (λ (l : List Piece). us ++ l) (append_assoc ors xs (And ∷ [])),
+)
 
 take_or : (n : ℕ) (ps : List Piece) → Ended n ps → Wants n (ps ++ Or ∷ [])
 take_or n ps (us, ors, xs, o, e, outer, or_part, s, is) =
-    let j = join_or o ors xs e or_part s in
-    (us, (ors ++ xs) ++ Or ∷ [], outer,
-      (Some j.0, None, (ors ++ xs) ++ Or ∷ [], [], (ors ++ xs, j.1, refl), refl, sym (append-nil ((ors ++ xs) ++ Or ∷ []))),
-      ap (λ (l : List Piece). l ++ Or ∷ []) is ∙ append_assoc us (ors ++ xs) (Or ∷ []))
+    let j = join_or o ors xs e or_part s in (
+      us,
+      (ors ++ xs) ++ Or ∷ [],
+      outer,
+      (
+        Some j.0,
+        None,
+        (ors ++ xs) ++ Or ∷ [],
+        [],
+        (ors ++ xs, j.1, refl),
+        refl,
+        sym (append-nil
+            ((ors ++ xs) ++ Or ∷ [])),
+      ),
+      ap (λ (l : List Piece). l ++ Or ∷ []) is ∙ append_assoc us (ors ++ xs) (Or ∷ []),
+    )
 
 end_bracket : (n : ℕ) (ps : List Piece) → Ended (suc n) ps → Ended n (ps ++ Close ∷ [])
 end_bracket n ps (us, ors, xs, o, e, (vs, ws, outer, before, is_us), or_part, s, is) =
@@ -92,9 +147,9 @@ end_bracket n ps (us, ors, xs, o, e, (vs, ws, outer, before, is_us), or_part, s,
     let b = bracketed j.0 (ors ++ xs) j.1 in
     let inner : List Piece = ors ++ xs in
     let whole : ps ++ Close ∷ [] ≡ (vs ++ ws) ++ (Open ∷ (inner ++ Close ∷ [])) =
-      ap (λ (l : List Piece). l ++ Close ∷ []) (is ∙ ap (λ (l : List Piece). l ++ inner) is_us
-        ∙ append_assoc (vs ++ ws) (Open ∷ []) inner)
-      ∙ append_assoc (vs ++ ws) (Open ∷ inner) (Close ∷ []) in
+    ap (λ (l : List Piece). l ++ Close ∷ []) (is ∙ ap (λ (l : List Piece). l ++ inner) is_us
+    ∙ append_assoc (vs ++ ws) (Open ∷ []) inner)
+    ∙ append_assoc (vs ++ ws) (Open ∷ inner) (Close ∷ []) in
     let P : List Piece → Type 0 = Ended n in
     subst P (sym whole) (end_operand n (vs ++ ws) (Open ∷ (inner ++ Close ∷ [])) j.0 (vs, ws, outer, before, refl) b)
 
@@ -120,7 +175,7 @@ tree_from [] false n ps (us, ors, xs, o, e, outer, or_part, s, is) f =
     let flat : us ≡ [] = let P : ℕ → Type 0 = λ m. Outer m us in subst P f outer in
     let j = join_or o ors xs e or_part s in
     let whole : ps ++ [] ≡ ors ++ xs =
-      append-nil ps ∙ is ∙ ap (λ (l : List Piece). l ++ (ors ++ xs)) flat in
+    append-nil ps ∙ is ∙ ap (λ (l : List Piece). l ++ (ors ++ xs)) flat in
     let P : List Piece → Type 0 = Spells 0 j.0 in
     (j.0, subst P (sym whole) j.1)
 tree_from (Named t ∷ rest) true n ps a f = onward ps (Named t) rest

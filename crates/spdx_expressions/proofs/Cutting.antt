@@ -1,7 +1,9 @@
 -- From the bytes at a place to the next token.
-use Rattle.std.proofs.Common.{◌≡◌, ◌⊎◌, inl, inr, refl, sym, ap, ◌∙◌, subst, ℕ, suc, zero, ◌+◌, ◌≤◌, ◌<◌, Bool, true, false}
-use Rattle.std.proofs.Common.{not, List, [], ◌∷◌, ◌++◌, length, get_or, drop, drop-cons, arith, cond, add-one, eq-eqb, ◌-◌}
-use Rattle.std.specs.Prelude.{◌||◌, ◌==◌, ◌&&◌, if◌then◌else◌, slice_range}
+use Rattle.std.proofs.Common.{◌≡◌, ◌⊎◌, inl, inr, refl, sym, ap, ◌∙◌, subst, ℕ, suc, ◌+◌, ◌≤◌, ◌<◌, Bool, true}
+use Rattle.std.proofs.Common.{false}
+use Rattle.std.proofs.Common.{not, List, [], ◌∷◌, ◌++◌, length, get_or, drop, drop-cons, arith, cond, add-one, eq-eqb}
+use Rattle.std.proofs.Common.{◌-◌}
+use Rattle.std.specs.Prelude.{◌||◌, ◌==◌, ◌&&◌, slice_range}
 use Rattle.std.proofs.lemmas.Bool.{cases_lt}
 use Rattle.std.proofs.lemmas.Bool.Decides.{nat_tests}
 use Rattle.std.proofs.Math.Nat.{eq-or-lt_of_le}
@@ -9,7 +11,7 @@ use Rattle.std.proofs.lemmas.List.{drop_all}
 use Rattle.std.proofs.lemmas.List.Folds.{drop_split}
 use Rattle.std.proofs.lemmas.List.Edits.{length-between, get_or-between}
 use Rattle.spdx_expressions.specs.Tokens.{is_space, is_mark, is_word_byte, is_word, mark, single, longer, with_byte}
-use Rattle.spdx_expressions.specs.Tokens.{tokens_from, Placed, Lexeme, LeftBracket, RightBracket, Slash, Word, bytes_of}
+use Rattle.spdx_expressions.specs.Tokens.{tokens_from, Placed, LeftBracket, RightBracket, Slash, Word}
 
 -- a byte is a space, a mark or a byte of a word
 neither : (a b : Bool) → not (a || b) ≡ true → (a ≡ false) × (b ≡ false)
@@ -65,12 +67,13 @@ tokens_begin [] at = tt
 tokens_begin (b ∷ bs) at =
     elim (is_space b)
     as (λ v. BeginsFrom at (cond v (tokens_from (at + 1) bs) (cond (is_mark b)
-      (single (mark b) at ∷ tokens_from (at + 1) bs) (with_byte b at (tokens_from (at + 1) bs)))))
-    [ true ↦ begins_later at _ (tokens_begin bs (at + 1))
-    | false ↦ elim (is_mark b)
-      as (λ v. BeginsFrom at (cond v (single (mark b) at ∷ tokens_from (at + 1) bs)
-        (with_byte b at (tokens_from (at + 1) bs))))
-      [ true ↦ omega arith | false ↦ with_byte_begins b at _ ] ]
+    (single (mark b) at ∷ tokens_from (at + 1) bs) (with_byte b at (tokens_from (at + 1) bs))))) [
+      | true ↦ begins_later at _ (tokens_begin bs (at + 1))
+      | false ↦ elim (is_mark b)
+          as (λ v. BeginsFrom at (cond v (single (mark b) at ∷ tokens_from (at + 1) bs)
+          (with_byte b at (tokens_from (at + 1) bs))))
+          [ true ↦ omega arith | false ↦ with_byte_begins b at _ ]
+    ]
 
 -- what follows a word does not go on with it
 unfoldable pub EndsWord : List ℕ → Type 0
@@ -97,8 +100,9 @@ last_byte : (b at : ℕ) (rest : List ℕ) → EndsWord rest
 unfolding EndsWord
 last_byte b at [] h = refl
 last_byte b at (c ∷ cs) h = elim (either (is_space c) (is_mark c) h) [
-    inl space ↦ rw space (alone_before b at _ (tokens_begin cs (at + 1 + 1)))
-  | inr mark ↦ rw (mark.0, mark.1, mark_is_no_word c) refl ]
+  | inl space ↦ rw space (alone_before b at _ (tokens_begin cs (at + 1 + 1)))
+  | inr mark ↦ rw (mark.0, mark.1, mark_is_no_word c) refl
+]
 
 -- all bytes are those of a word
 unfoldable pub AllWord : List ℕ → Type 0
@@ -129,8 +133,9 @@ mark_is_ascii b h = grind (arith, nat_tests)
 
 pub no_word_is_ascii : (b : ℕ) → is_word_byte b ≡ false → b < 128
 no_word_is_ascii b h = elim (either (is_space b) (is_mark b) h) [
-    inl space ↦ space_is_ascii b space
-  | inr mark ↦ mark_is_ascii b mark.1 ]
+  | inl space ↦ space_is_ascii b space
+  | inr mark ↦ mark_is_ascii b mark.1
+]
 
 -- ---- a word from one place up to another
 
@@ -143,8 +148,9 @@ ends_word : (text : List ℕ) (end : ℕ) → (end < length text → is_word_byt
     → EndsWord (drop end text)
 unfolding EndsWord
 ends_word text end past = elim (cases_lt end (length text)) [
-    inl within ↦ rw (drop-cons text end 0) (past within)
-  | inr beyond ↦ rw (drop_all end text beyond) tt ]
+  | inl within ↦ rw (drop-cons text end 0) (past within)
+  | inr beyond ↦ rw (drop_all end text beyond) tt
+]
 
 pub word_step : (text : List ℕ) (start end : ℕ) → start < end → end ≤ length text
     → ((i : ℕ) → start ≤ i → i < end → is_word_byte (get_or text i 0) ≡ true)
@@ -154,9 +160,9 @@ pub word_step : (text : List ℕ) (start end : ℕ) → start < end → end ≤ 
 word_step text start end order within word past =
     let size : length (slice_range text start end) ≡ end - start = length-between text start end within in
     let each : (i : ℕ) → i < length (slice_range text start end)
-            → is_word_byte (get_or (slice_range text start end) i 0) ≡ true =
-      λ i below. ap is_word_byte (get_or-between text start end i 0 (omega arith))
-          ∙ word (start + i) (omega arith) (omega arith) in
+    → is_word_byte (get_or (slice_range text start end) i 0) ≡ true =
+    λ i below. ap is_word_byte (get_or-between text start end i 0 (omega arith))
+    ∙ word (start + i) (omega arith) (omega arith) in
     ap (tokens_from start) (drop_split text start end (omega arith))
     ∙ go (slice_range text start end) size (all_word _ each)
   where
@@ -167,7 +173,7 @@ word_step text start end order within word past =
     go (b ∷ w) size all =
         let is : end ≡ start + 1 + length w = omega arith in
         let P : ℕ → Type 0 = λ n. tokens_from start (b ∷ (w ++ drop end text))
-            ≡ record { token = Word (b ∷ w); start = start; end = n } ∷ tokens_from n (drop end text) in
+        ≡ record { token = Word (b ∷ w); start = start; end = n } ∷ tokens_from n (drop end text) in
         subst P (sym is) (word_first b start w (drop end text) all (ends_word text end past))
 
 -- what holds at a place, and behind it up to another, holds from the place on
@@ -175,5 +181,6 @@ pub from_first : (text : List ℕ) (start end : ℕ) → is_word_byte (get_or te
     → ((i : ℕ) → start + 1 ≤ i → i < end → is_word_byte (get_or text i 0) ≡ true)
     → (i : ℕ) → start ≤ i → i < end → is_word_byte (get_or text i 0) ≡ true
 from_first text start end first others i above below = elim (eq-or-lt_of_le above) [
-    inl is ↦ subst (λ (n : ℕ). is_word_byte (get_or text n 0) ≡ true) is first
-  | inr more ↦ others i (omega arith) below ]
+  | inl is ↦ subst (λ (n : ℕ). is_word_byte (get_or text n 0) ≡ true) is first
+  | inr more ↦ others i (omega arith) below
+]

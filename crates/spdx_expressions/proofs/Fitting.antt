@@ -1,6 +1,6 @@
 -- Which parts may follow one another: operands and operators in turn, and brackets that are closed.
-use Rattle.std.proofs.Common.{◌≡◌, refl, sym, ap, ◌∙◌, subst, ℕ, suc, zero, ◌+◌, Bool, true, false, List, [], ◌∷◌, ◌++◌}
-use Rattle.std.proofs.Common.{append_assoc, ◌<◌}
+use Rattle.std.proofs.Common.{◌≡◌, refl, sym, ap, subst, ℕ, suc, zero, Bool, true, false, List, [], ◌∷◌, ◌++◌}
+use Rattle.std.proofs.Common.{append_assoc}
 use Rattle.spdx_expressions.specs.Grammar.{tightness, in_brackets, Around, SpellsBare, Spells}
 use Rattle.spdx_expressions.specs.Trees.{Tree, Single, Both, Either, Piece, Named, And, Or, Open, Close}
 
@@ -30,7 +30,7 @@ brackets_fit zero inner h = h
 brackets_fit (suc k) inner h = λ n rest f.
     let P : List Piece → Type 0 = Fits true (suc n) in
     subst P (sym (append_assoc (in_brackets k inner) (Close ∷ []) rest))
-      (brackets_fit k inner h (suc n) (Close ∷ rest) (n, refl, f))
+    (brackets_fit k inner h (suc n) (Close ∷ rest) (n, refl, f))
 
 around_fits : (level own : ℕ) (Inner : List Piece → Type 0) (ps : List Piece)
     → ((inner : List Piece) → Inner inner → FitAsOperand inner) → Around level own Inner ps → FitAsOperand ps
@@ -43,7 +43,7 @@ joined_fits : (p : Piece) (ls rs ps : List Piece) → ((n : ℕ) (qs : List Piec
 joined_fits p ls rs ps goes_on left right e = λ n rest f.
     let P : List Piece → Type 0 = Fits true n in
     subst P (ap (λ (l : List Piece). l ++ rest) (sym e))
-      (subst P (sym (append_assoc ls (p ∷ rs) rest)) (left n (p ∷ (rs ++ rest)) (goes_on n _ (right n rest f))))
+    (subst P (sym (append_assoc ls (p ∷ rs) rest)) (left n (p ∷ (rs ++ rest)) (goes_on n _ (right n rest f))))
 
 bare_fits : (e : Tree) (ps : List Piece) → SpellsBare e ps → FitAsOperand ps
 bare_fits (Single t) ps e = let P : List Piece → Type 0 = FitAsOperand in subst P (sym e) (λ n rest f. f)

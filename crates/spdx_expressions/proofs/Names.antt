@@ -1,16 +1,16 @@
 -- Words that are names of licences.
-use Rattle.std.proofs.Common.{◌≡◌, refl, sym, ap, ◌∙◌, subst, ℕ, suc, zero, ◌+◌, ◌-◌, ◌≤◌, ◌<◌, Bool, true, false, not}
-use Rattle.std.proofs.Common.{◌&&◌, List, [], ◌∷◌, ◌++◌, length, take, drop, get_or, arith, cond, Option, Some, None, append-nil}
+use Rattle.std.proofs.Common.{◌≡◌, refl, sym, ap, ◌∙◌, subst, ℕ, ◌+◌, ◌-◌, ◌≤◌, ◌<◌, Bool, true, false, not}
+use Rattle.std.proofs.Common.{◌&&◌, List, [], ◌∷◌, ◌++◌, length, take, drop, get_or, arith, cond, Some, None}
+use Rattle.std.proofs.Common.{append-nil}
 use Rattle.std.proofs.Common.{length-append, true≢false}
 use Rattle.std.specs.Prelude.{◌==◌, ◌||◌, codes}
-use Rattle.std.specs.List.{position_or_len, list_all, before_first, after_first}
-use Rattle.std.specs.Char.{is_ascii_alphanumeric}
-use Rattle.std.proofs.lemmas.Bool.{and_parts, false_from_ne_true, cases_lt}
+use Rattle.std.specs.List.{position_or_len, list_all, after_first}
+use Rattle.std.proofs.lemmas.Bool.{and_parts}
 use Rattle.std.proofs.lemmas.Bool.Decides.{nat_tests}
 use Rattle.std.proofs.lemmas.List.{drop_all, get_or-drop, length-drop}
 use Rattle.std.proofs.Math.Seq.{take-suc, take-length, take-append_seam}
 use Rattle.std.proofs.lemmas.List.Folds.{list_all_at}
-use Rattle.spdx_expressions.specs.Words.{is_foreign_reference, is_own_reference, is_listed, is_identifier, is_id_string, goes_on}
+use Rattle.spdx_expressions.specs.Words.{is_foreign_reference, is_own_reference, is_listed, is_identifier, is_id_string}
 use Rattle.spdx_expressions.specs.Words.{is_id_byte, is_name, ends_with_plus, without_plus, names_licence}
 use Rattle.spdx_expressions.specs.Trees.{Term}
 use Rattle.spdx_expressions.specs.Grammar.{IsTerm, plus}
@@ -101,8 +101,10 @@ split_word w = by (ends_with_plus w) refl
         front (b ∷ u) e =
             let within : length u < length (b ∷ u) = omega arith in
             let is : length (b ∷ u) - 1 ≡ length u = omega arith in
-            let byte : get_or (b ∷ u) (length u) 0 ≡ 0x2B = let last : (get_or (b ∷ u) (length u) 0 == 0x2B) ≡ true = rw is at e in grind (arith, nat_tests) in
-            rw is (sym (take-length (b ∷ u)) ∙ take-suc (b ∷ u) (length u) 0 within ∙ ap (λ (x : ℕ). take (length u) (b ∷ u) ++ x ∷ []) byte)
+            let byte : get_or (b ∷ u) (length u) 0 ≡ 0x2B = let last : (get_or (b ∷ u) (length u) 0 == 0x2B) ≡ true =
+            rw is at e in grind (arith, nat_tests) in
+            rw is (sym (take-length (b ∷ u)) ∙ take-suc (b ∷ u) (length u) 0 within ∙ ap (λ (x : ℕ). take (length u)
+            (b ∷ u) ++ x ∷ []) byte)
 
 pub named_sound : (w : List ℕ) (t : Term) → named w ≡ Some t
     → IsTerm t × (t.exception ≡ None) × (w ≡ t.name ++ plus t.or_later)

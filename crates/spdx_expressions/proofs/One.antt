@@ -1,7 +1,7 @@
 -- A text that is one licence, or has a fault.
-use Rattle.std.proofs.Common.{◌≡◌, refl, sym, ap, ◌∙◌, subst, ℕ, Bool, true, false, List, [], ◌∷◌, ◌++◌, append-nil}
-use Rattle.std.proofs.Common.{append_assoc, Option, Some, None, cond, codes, true≢false}
-use Rattle.std.specs.Prelude.{bytes_eq, IfSome, IsTrue}
+use Rattle.std.proofs.Common.{◌≡◌, refl, sym, ap, ◌∙◌, subst, ℕ, Bool, true, false, List, [], ◌∷◌, ◌++◌}
+use Rattle.std.proofs.Common.{Option, Some, None, cond, codes, true≢false}
+use Rattle.std.specs.Prelude.{IfSome, IsTrue}
 use Rattle.spdx_expressions.specs.declared.error.Expected.{Expected}
 use Rattle.spdx_expressions.specs.declared.error.Expected.TheVariants as expected
 use Rattle.spdx_expressions.specs.declared.error.Refusal.{Refusal}
@@ -9,12 +9,15 @@ use Rattle.spdx_expressions.specs.declared.error.Refusal.TheVariants as refusal
 use Rattle.spdx_expressions.specs.declared.error.ReadError.{ReadError}
 use Rattle.spdx_expressions.specs.declared.error.ReadError.TheVariants as errors
 use Rattle.spdx_expressions.specs.Errors.{OfParse}
-use Rattle.spdx_expressions.specs.Tokens.{Lexeme, LeftBracket, RightBracket, Slash, Word, Placed, lexemes, tokens, tokens_from}
+use Rattle.spdx_expressions.specs.Tokens.{Lexeme, LeftBracket, RightBracket, Slash, Word, Placed, lexemes}
+use Rattle.spdx_expressions.specs.Tokens.{tokens_from}
 use Rattle.spdx_expressions.specs.Words.{is_identifier}
 use Rattle.spdx_expressions.specs.Trees.{Term, Piece, Named}
 use Rattle.spdx_expressions.specs.Grammar.{IsTerm, plus, term_tokens, exception_tokens, IsLicenceText}
-use Rattle.spdx_expressions.specs.Faults.{IsOneLicence, IsCompletable, IsStuck, IsFaultOfOne, expected_of_one, expected_last}
-use Rattle.spdx_expressions.specs.Inside.Reading.{named, by_name, operand, at, State, Mode, Wants, Licensed, Excepts, Behind, excepts, IsOf, Becomes}
+use Rattle.spdx_expressions.specs.Faults.{IsOneLicence, IsCompletable, IsStuck, IsFaultOfOne, expected_of_one}
+use Rattle.spdx_expressions.specs.Faults.{expected_last}
+use Rattle.spdx_expressions.specs.Inside.Reading.{named, by_name, operand, at, State, Mode, Wants, Licensed, Excepts}
+use Rattle.spdx_expressions.specs.Inside.Reading.{Behind, excepts, IsOf, Becomes}
 use Rattle.spdx_expressions.specs.Inside.Reading.{with_exception}
 use Rattle.spdx_expressions.specs.Inside.Reading.{LacksWith, IsExcepted, LacksException, DoNotFit}
 use Rattle.spdx_expressions.specs.Inside.Single.{IsStoppedAtOne}
@@ -56,7 +59,12 @@ name_of (Word w) t h = by (named w) refl h
   where
     by : (o : Option Term) → named w ≡ o → by_name o 0 [] ≡ at (Licensed t) 0 [] → IsName (Word w) t
     by None e h = absurd cc
-    by (Some u) e h = let is : u ≡ t = ap (term_in t) h in record { word = w; is_word = refl; is_named = e ∙ ap Some is }
+    by (Some u) e h = let is : u ≡ t = ap (term_in t) h in record {
+      word = w;
+      is_word = refl;
+      is_named = e
+          ∙ ap Some is;
+    }
 
 with_text : Term → List ℕ → Term
 with_text t e = record { name = t.name; or_later = t.or_later; exception = Some e }
@@ -64,9 +72,11 @@ with_text t e = record { name = t.name; or_later = t.or_later; exception = Some 
 -- the licence of a name
 pub plain_term : (l : Lexeme) (t : Term) → IsName l t → IsTerm t × (l ∷ [] ≡ term_tokens t)
 plain_term l t n =
-    let s = named_sound n.word t n.is_named in
-    (s.0, ap (λ (x : Lexeme). x ∷ []) (n.is_word ∙ ap Word s.2)
-      ∙ ap (λ (ex : Option (List ℕ)). Word (t.name ++ plus t.or_later) ∷ exception_tokens ex) (sym s.1))
+    let s = named_sound n.word t n.is_named in (
+      s.0,
+      ap (λ (x : Lexeme). x ∷ []) (n.is_word ∙ ap Word s.2)
+          ∙ ap (λ (ex : Option (List ℕ)). Word (t.name ++ plus t.or_later) ∷ exception_tokens ex) (sym s.1),
+    )
 
 -- and with an exception
 pub excepted_term : (l w x : Lexeme) (t : Term) (e : List ℕ) → IsName l t → w ≡ Word (codes "WITH") → x ≡ Word e
@@ -74,10 +84,12 @@ pub excepted_term : (l w x : Lexeme) (t : Term) (e : List ℕ) → IsName l t �
     → IsTerm (record { name = t.name; or_later = t.or_later; exception = Some e })
     × (l ∷ w ∷ x ∷ [] ≡ term_tokens (record { name = t.name; or_later = t.or_later; exception = Some e }))
 excepted_term l w x t e n is_with is_e is =
-    let s = named_sound n.word t n.is_named in
-    ((s.0.0, is), ap (λ (y : Lexeme). y ∷ w ∷ x ∷ []) (n.is_word ∙ ap Word s.2)
-      ∙ ap (λ (y : Lexeme). Word (t.name ++ plus t.or_later) ∷ y ∷ x ∷ []) is_with
-      ∙ ap (λ (y : Lexeme). Word (t.name ++ plus t.or_later) ∷ Word (codes "WITH") ∷ y ∷ []) is_e)
+    let s = named_sound n.word t n.is_named in (
+      (s.0.0, is),
+      ap (λ (y : Lexeme). y ∷ w ∷ x ∷ []) (n.is_word ∙ ap Word s.2)
+          ∙ ap (λ (y : Lexeme). Word (t.name ++ plus t.or_later) ∷ y ∷ x ∷ []) is_with
+          ∙ ap (λ (y : Lexeme). Word (t.name ++ plus t.or_later) ∷ Word (codes "WITH") ∷ y ∷ []) is_e,
+    )
 
 -- ---- what can't go on
 
@@ -90,8 +102,13 @@ no_name : (l : Lexeme) → ((l ≡ LeftBracket → ⊥) → (n : ℕ) (ps : List
 no_name l none (more, (t, is, e)) =
     let is_l : l ≡ Word (t.name ++ plus t.or_later) = cc in
     let word : l ≡ LeftBracket → ⊥ = λ open_bracket. cc in
-    let some : operand 0 [] l ≡ by_name (Some (record { name = t.name; or_later = t.or_later; exception = None })) 0 [] =
-      ap (operand 0 []) is_l ∙ ap (λ (o : Option Term). by_name o 0 []) (named_complete t is) in
+    let some : operand 0 [] l ≡ by_name (Some (record {
+      name = t.name;
+      or_later = t.or_later;
+      exception =
+          None;
+    })) 0 [] =
+    ap (operand 0 []) is_l ∙ ap (λ (o : Option Term). by_name o 0 []) (named_complete t is) in
     let both = sym (none word 0 []) ∙ some in
     cc
 
@@ -150,7 +167,14 @@ stopped_one text before after wanted (refusal.Unexpected expected found span) cu
 }
 
 some_licence : IsCompletable IsOneLicence []
-some_licence = (Word (codes "a") ∷ [], (record { name = codes "a"; or_later = false; exception = None }, (refl, tt), refl))
+some_licence = (
+  Word (codes "a") ∷ [],
+  (
+    record { name = codes "a"; or_later = false; exception = None },
+    (refl, tt),
+    refl,
+  ),
+)
 
 pub stopped_empty : (text : List ℕ) (r : Refusal) → tokens_from 0 text ≡ [] → IsOf text [] expected.Licence r
     → IsStoppedAtOne text r
@@ -172,10 +196,10 @@ pub stopped_exception : (text : List ℕ) (first : Placed) (after : List Placed)
     → tokens_from 0 text ≡ first ∷ after → IsName first.token t → LacksException text after r → IsStoppedAtOne text r
 stopped_exception text first after t r some n lacks =
     stopped_one text (first ∷ lacks.with ∷ []) lacks.rest expected.Exception r
-      (some ∙ ap (λ (l : List Placed). first ∷ l) lacks.comes)
-      (some_exception first.token t lacks.with.token n lacks.is_with)
-      (stuck lacks.rest (lacks.stops t 0 []))
-      (ap (λ (l : Lexeme). expected_last (Some l)) (sym lacks.is_with)) lacks.refusal
+    (some ∙ ap (λ (l : List Placed). first ∷ l) lacks.comes)
+    (some_exception first.token t lacks.with.token n lacks.is_with)
+    (stuck lacks.rest (lacks.stops t 0 []))
+    (ap (λ (l : Lexeme). expected_last (Some l)) (sym lacks.is_with)) lacks.refusal
   where
     stuck : (rest : List Placed) → DoNotFit (record { mode = Excepts t; depth = 0; parts = [] }) rest
         → IsStuck IsOneLicence (first.token ∷ lacks.with.token ∷ []) rest
@@ -185,7 +209,7 @@ stopped_exception text first after t r some n lacks =
 named_last : (l : Lexeme) (t : Term) → IsName l t → expected.End ≡ expected_last (Some l)
 named_last l t n =
     ap (λ (b : Bool). cond b expected.Exception expected.End)
-      (sym (unnamed n.word (codes "WITH") t refl n.is_named))
+    (sym (unnamed n.word (codes "WITH") t refl n.is_named))
     ∙ ap (λ (x : Lexeme). expected_last (Some x)) (sym n.is_word)
 
 excepted_last : (l : Lexeme) (e : List ℕ) → l ≡ Word e → is_identifier e ≡ true → expected.End ≡ expected_last (Some l)
@@ -199,7 +223,7 @@ pub stopped_surplus : (text : List ℕ) (first x : Placed) (after : List Placed)
 stopped_surplus text first x after t r some n lacks of =
     let p = plain_term first.token t n in
     stopped_one text (first ∷ []) (x ∷ after) expected.End r some ([], (t, p.0, p.1))
-      (no_second first.token x.token (lacks x after refl)) (named_last first.token t n) of
+    (no_second first.token x.token (lacks x after refl)) (named_last first.token t n) of
 
 pub stopped_behind : (text : List ℕ) (first x : Placed) (ts after : List Placed) (e : List ℕ) (t : Term) (r : Refusal)
     → tokens_from 0 text ≡ first ∷ ts → IsName first.token t → IsExcepted ts e (x ∷ after)
@@ -207,10 +231,10 @@ pub stopped_behind : (text : List ℕ) (first x : Placed) (ts after : List Place
 stopped_behind text first x ts after e t r some n ex of =
     let p = excepted_term first.token ex.with.token ex.name.token t e n ex.is_with ex.is_word ex.is_identifier in
     stopped_one text (first ∷ ex.with ∷ ex.name ∷ []) (x ∷ after) expected.End r
-      (some ∙ ap (λ (l : List Placed). first ∷ l) ex.comes)
-      ([], (record { name = t.name; or_later = t.or_later; exception = Some e }, p.0, p.1))
-      (no_fourth first.token ex.with.token ex.name.token x.token)
-      (excepted_last ex.name.token e ex.is_word ex.is_identifier) of
+    (some ∙ ap (λ (l : List Placed). first ∷ l) ex.comes)
+    ([], (record { name = t.name; or_later = t.or_later; exception = Some e }, p.0, p.1))
+    (no_fourth first.token ex.with.token ex.name.token x.token)
+    (excepted_last ex.name.token e ex.is_word ex.is_identifier) of
 
 -- ---- the licence
 
@@ -224,9 +248,11 @@ pub excepted_text : (text : List ℕ) (first : Placed) (ts after : List Placed) 
     → tokens_from 0 text ≡ first ∷ ts → IsName first.token t → IsExcepted ts e after → after ≡ []
     → IsLicenceText text (record { name = t.name; or_later = t.or_later; exception = Some e })
 excepted_text text first ts after e t some n ex none =
-    let p = excepted_term first.token ex.with.token ex.name.token t e n ex.is_with ex.is_word ex.is_identifier in
-    (p.0, ap lexemes (some ∙ ap (λ (l : List Placed). first ∷ l) (ex.comes
-      ∙ ap (λ (l : List Placed). ex.with ∷ ex.name ∷ l) none)) ∙ p.1)
+    let p = excepted_term first.token ex.with.token ex.name.token t e n ex.is_with ex.is_word ex.is_identifier in (
+      p.0,
+      ap lexemes (some ∙ ap (λ (l : List Placed). first ∷ l) (ex.comes
+          ∙ ap (λ (l : List Placed). ex.with ∷ ex.name ∷ l) none)) ∙ p.1,
+    )
 
 pub one_fault : (text : List ℕ) (r : Refusal) (e : ReadError) → IsStoppedAtOne text r → Becomes r text e
     → OfParse e (λ p. IsFaultOfOne text p.expected p.found p.span)
@@ -248,4 +274,4 @@ pub one_refuses : (text : List ℕ) (r : Refusal) (e : ReadError) → IsStoppedA
 one_refuses text r (errors.Memory a) stopped is = tt
 one_refuses text r (errors.Parse p) stopped is = λ t spells.
     fault_refuses IsOneLicence expected_of_one text p.expected p.found p.span
-      (one_fault text r (errors.Parse p) stopped is) (t, spells.0, spells.1)
+    (one_fault text r (errors.Parse p) stopped is) (t, spells.0, spells.1)

@@ -1,8 +1,9 @@
 -- Parts spell one tree at most: a machine that reads them comes to it.
-use Rattle.std.proofs.Common.{◌≡◌, refl, sym, ap, ◌∙◌, subst, ℕ, suc, zero, ◌+◌, ◌<◌, ◌≤◌, Bool, true, false, List, [], ◌∷◌}
-use Rattle.std.proofs.Common.{◌++◌, append_assoc, append-nil, Option, Some, None, arith}
-use Rattle.spdx_expressions.specs.Trees.{Term, Tree, Single, Both, Either, Piece, Named, And, Or, Open, Close}
-use Rattle.spdx_expressions.specs.Grammar.{tightness, in_brackets, Around, SpellsBare, Spells}
+use Rattle.std.proofs.Common.{◌≡◌, refl, sym, ap, ◌∙◌, subst, ℕ, suc, zero, ◌<◌, List, []}
+use Rattle.std.proofs.Common.{◌∷◌}
+use Rattle.std.proofs.Common.{◌++◌, append_assoc, Option, Some, None, arith}
+use Rattle.spdx_expressions.specs.Trees.{Tree, Single, Both, Either, Piece, Named, And, Or, Open, Close}
+use Rattle.spdx_expressions.specs.Grammar.{in_brackets, SpellsBare, Spells}
 
 -- what stands before an operand in its bracket
 record Frame : Type 0 where
@@ -73,10 +74,10 @@ bracket : (e : Tree) (ps : List Piece) → ReadsWhole e ps → ReadsUnit e (Open
 bracket e ps w = λ o a s rest.
     let inside = w (frame o a ∷ s) (Close ∷ rest) in
     let P : Tree → Type 0 = λ x. run (Some (Want (frame o a) s)) (Open ∷ ((ps ++ Close ∷ []) ++ rest))
-          ≡ run (Some (Have o (both a x) s)) rest in
+    ≡ run (Some (Have o (both a x) s)) rest in
     subst P inside.2
-      (ap (λ (l : List Piece). run (Some (Want (frame None None) (frame o a ∷ s))) l) (append_assoc ps (Close ∷ []) rest)
-      ∙ inside.3)
+    (ap (λ (l : List Piece). run (Some (Want (frame None None) (frame o a ∷ s))) l) (append_assoc ps (Close ∷ []) rest)
+    ∙ inside.3)
 
 brackets : (k : ℕ) (e : Tree) (ps : List Piece) → ReadsWhole e ps → ReadsWhole e (in_brackets k ps)
 brackets zero e ps w = w
@@ -119,7 +120,7 @@ term_around e ps each (suc k, inner, spells, is, low) =
     let P : List Piece → Type 0 = ReadsTerm e in
     let all : List Piece = in_brackets (suc k) inner in
     subst P (sym is) (unit_term e all
-      (bracket e (in_brackets k inner) (brackets k e inner (bare_whole e inner (each inner spells)))))
+    (bracket e (in_brackets k inner) (brackets k e inner (bare_whole e inner (each inner spells)))))
 term_around (Single t) ps each (zero, inner, spells, is, low) =
     let P : List Piece → Type 0 = ReadsTerm (Single t) in subst P (sym is) (unit_term _ inner (each inner spells))
 term_around (Both l r) ps each (zero, inner, spells, is, low) =
@@ -128,22 +129,26 @@ term_around (Either l r) ps each (zero, inner, spells, is, low) =
     let none : 0 < 0 = low (omega arith) in absurd (omega arith)
 
 bare_reads : (e : Tree) → IsReadBare e
-bare_reads (Single t) ps is = let P : List Piece → Type 0 = ReadsUnit (Single t) in subst P (sym is) (λ o a s rest. refl)
+bare_reads (Single t) ps is = let P : List Piece → Type 0 = ReadsUnit (Single t) in subst P (sym is)
+    (λ o a s rest. refl)
 bare_reads (Both l r) ps (ls, rs, left, right, is) =
     let P : List Piece → Type 0 = ReadsTerm (Both l r) in
     subst P (sym is) (λ o s rest.
-      ap (λ (q : List Piece). run (Some (Want (frame o None) s)) q) (append_assoc ls (And ∷ rs) rest)
-      ∙ term_around l ls (bare_reads l) left o s (And ∷ (rs ++ rest))
-      ∙ unit_around r rs (bare_reads r) right o (Some l) s rest)
+    ap (λ (q : List Piece). run (Some (Want (frame o None) s)) q) (append_assoc ls (And ∷ rs) rest)
+    ∙ term_around l ls (bare_reads l) left o s (And ∷ (rs ++ rest))
+    ∙ unit_around r rs (bare_reads r) right o (Some l) s rest)
 bare_reads (Either l r) ps (ls, rs, left, right, is) =
     let P : List Piece → Type 0 = ReadsWhole (Either l r) in
     subst P (sym is) (λ s rest.
-      let w = whole_around l ls (bare_reads l) left s (Or ∷ (rs ++ rest)) in
-      (Some l, r, refl,
-        ap (λ (q : List Piece). run (Some (Want (frame None None) s)) q) (append_assoc ls (Or ∷ rs) rest)
-        ∙ w.3
-        ∙ ap (λ (x : Tree). run (Some (Want (frame (Some x) None) s)) (rs ++ rest)) w.2
-        ∙ term_around r rs (bare_reads r) right (Some l) s rest))
+    let w = whole_around l ls (bare_reads l) left s (Or ∷ (rs ++ rest)) in (
+      Some l,
+      r,
+      refl,
+      ap (λ (q : List Piece). run (Some (Want (frame None None) s)) q) (append_assoc ls (Or ∷ rs) rest)
+          ∙ w.3
+          ∙ ap (λ (x : Tree). run (Some (Want (frame (Some x) None) s)) (rs ++ rest)) w.2
+          ∙ term_around r rs (bare_reads r) right (Some l) s rest,
+    ))
 
 -- the tree that the machine came to, or else another
 abbrev result : Tree → Option State → Tree

@@ -1,22 +1,24 @@
 -- What is printed reads as the same parts.
-use Rattle.std.proofs.Common.{◌≡◌, ◌⊎◌, inl, inr, refl, sym, ap, ◌∙◌, subst, ℕ, suc, zero, ◌+◌, ◌<◌, Bool, true, false}
-use Rattle.std.proofs.Common.{not, List, [], ◌∷◌, ◌++◌, append_assoc, append-nil, Option, Some, None, arith, length, take, drop}
-use Rattle.std.proofs.Common.{cond, codes, get_or}
-use Rattle.std.specs.Prelude.{◌==◌, ◌||◌, ◌&&◌, flat_map, IfSome, IsTrue}
+use Rattle.std.proofs.Common.{◌≡◌, inl, refl, sym, ap, ◌∙◌, subst, ℕ, suc, ◌+◌, ◌<◌, Bool, true, false}
+use Rattle.std.proofs.Common.{not, List, [], ◌∷◌, ◌++◌, append_assoc, Option, Some, None, arith, length}
+use Rattle.std.proofs.Common.{take}
+use Rattle.std.proofs.Common.{codes, get_or}
+use Rattle.std.specs.Prelude.{◌==◌, ◌||◌, IfSome, IsTrue}
 use Rattle.std.specs.List.{list_all, before_first, after_first, position_or_len}
 use Rattle.std.proofs.lemmas.Bool.{and_parts}
 use Rattle.std.proofs.lemmas.List.{drop_more, length-drop, take-append-drop}
 use Rattle.std.proofs.lemmas.List.Sums.{passes_at_first}
 use Rattle.std.proofs.lemmas.Bool.Decides.{nat_tests}
-use Rattle.spdx_expressions.specs.Tokens.{is_space, is_mark, is_word_byte, tokens_from, Lexeme, LeftBracket, RightBracket}
-use Rattle.spdx_expressions.specs.Tokens.{Word, Placed, lexemes}
+use Rattle.spdx_expressions.specs.Tokens.{is_word_byte, tokens_from, Lexeme, LeftBracket}
+use Rattle.spdx_expressions.specs.Tokens.{RightBracket}
+use Rattle.spdx_expressions.specs.Tokens.{Word, lexemes}
 use Rattle.spdx_expressions.specs.Words.{is_id_byte, is_id_string, is_identifier, is_name, is_listed, is_own_reference}
-use Rattle.spdx_expressions.specs.Words.{is_foreign_reference, goes_on}
+use Rattle.spdx_expressions.specs.Words.{is_foreign_reference}
 use Rattle.spdx_expressions.specs.Trees.{Term, Tree, Piece, Named, And, Or, Open, Close}
 use Rattle.spdx_expressions.specs.Grammar.{IsTerm, plus, term_tokens, exception_tokens, IsWritten, AreWritten, AreTerms}
 use Rattle.spdx_expressions.specs.Grammar.{Spells, IsWellFormed, IsTreeText}
 use Rattle.spdx_expressions.specs.Tokens.{tokens}
-use Rattle.spdx_expressions.specs.Inside.Reading.{State, IsRead, run, start, whole}
+use Rattle.spdx_expressions.specs.Inside.Reading.{State, IsRead, whole}
 use Rattle.spdx_expressions.specs.declared.error.Refusal.{Refusal}
 use Rattle.spdx_expressions.specs.declared.error.ReadError.{ReadError}
 use Rattle.spdx_expressions.proofs.Written.{Ends}
@@ -46,7 +48,6 @@ all_append (x ∷ xs) bs a b = (a.0, all_append xs bs a.1 b)
 string_word : (bs : List ℕ) → is_id_string bs ≡ true → AllWord bs
 string_word bs h = all_id_word bs (and_parts (not (length bs == 0)) _ h).1
 
-
 own_word : (bs : List ℕ) → is_own_reference bs ≡ true → AllWord bs
 own_word bs h = string_word bs (and_parts (is_id_string bs) _ h).0
 
@@ -57,19 +58,21 @@ foreign_word bs h =
     let k = position_or_len (λ b. b == 0x3A) bs in
     let after = after_first (λ b. b == 0x3A) bs in
     let own = (and_parts _ (is_own_reference after) h).1 in
-    let first = (and_parts (is_id_string (before_first (λ b. b == 0x3A) bs)) _ (and_parts _ (is_own_reference after) h).0).0 in
+    let first = (and_parts (is_id_string (before_first (λ b. b == 0x3A) bs)) _ (and_parts _
+    (is_own_reference after) h).0).0 in
     let some = nonempty after own in
     let within : k < length bs = omega (arith, length-drop (k + 1) bs, some) in
     let byte = passes_at_first (λ b. b == 0x3A) bs 0 within in
     let is : bs ≡ take k bs ++ (get_or bs k 0 ∷ after) =
-      sym (take-append-drop k bs) ∙ ap (λ (l : List ℕ). take k bs ++ l) (drop_more bs k 0 within) in
+    sym (take-append-drop k bs) ∙ ap (λ (l : List ℕ). take k bs ++ l) (drop_more bs k 0 within) in
     let P : List ℕ → Type 0 = AllWord in
     subst P (sym is) (all_append (take k bs) (get_or bs k 0 ∷ after) (string_word (take k bs) first)
-      (colon_word (get_or bs k 0) byte, own_word after own))
+    (colon_word (get_or bs k 0) byte, own_word after own))
   where
     nonempty : (cs : List ℕ) → is_own_reference cs ≡ true → 0 < length cs
     nonempty [] h = absurd cc
     nonempty (c ∷ cs) h = omega arith
+
     colon_word : (b : ℕ) → (b == 0x3A) ≡ true → is_word_byte b ≡ true
     colon_word b h = grind (arith, nat_tests)
 
@@ -112,13 +115,15 @@ word_tokens b at w rest all ends = ap lexemes (word_first b at w rest all ends)
 
 -- what is printed gives these tokens, and then those of what follows
 abbrev Gives : List ℕ → List Lexeme → List ℕ → Type 0
-Gives text ts rest = (at : ℕ) → (to : ℕ) × (lexemes (tokens_from at (text ++ rest)) ≡ ts ++ lexemes (tokens_from to rest))
+Gives text ts rest = (at : ℕ) → (to : ℕ) × (lexemes (tokens_from at (text ++ rest)) ≡ ts ++ lexemes
+    (tokens_from to rest))
 
-first_word : (text : List ℕ) (rest : List ℕ) → ((b : ℕ) × (more : List ℕ) × (text ≡ b ∷ more)) → AllWord text → EndsWord rest
+first_word : (text : List ℕ) (rest : List ℕ) → ((b : ℕ) × (more : List ℕ) × (text ≡ b ∷ more)) → AllWord text
+    → EndsWord rest
     → Gives text (Word text ∷ []) rest
 first_word text rest (b, more, is) all ends = λ at.
     let P : List ℕ → Type 0 = λ t. AllWord t →
-        (to : ℕ) × (lexemes (tokens_from at (t ++ rest)) ≡ (Word t ∷ []) ++ lexemes (tokens_from to rest)) in
+    (to : ℕ) × (lexemes (tokens_from at (t ++ rest)) ≡ (Word t ∷ []) ++ lexemes (tokens_from to rest)) in
     subst P (sym is) (λ each. (at + 1 + length more, word_tokens b at more rest each ends)) all
 
 space_first : (text : List ℕ) (ts : List Lexeme) (rest : List ℕ) → Gives text ts rest → Gives (0x20 ∷ text) ts rest
@@ -128,20 +133,22 @@ two : (a b : List ℕ) (ts us : List Lexeme) (rest : List ℕ) → Gives a ts (b
     → Gives (a ++ b) (ts ++ us) rest
 two a b ts us rest first second = λ at.
     let f = first at in
-    let s = second f.0 in
-    (s.0, ap (λ (t : List ℕ). lexemes (tokens_from at t)) (append_assoc a b rest) ∙ f.1
-      ∙ ap (λ (l : List Lexeme). ts ++ l) s.1 ∙ sym (append_assoc ts us (lexemes (tokens_from s.0 rest))))
+    let s = second f.0 in (
+      s.0,
+      ap (λ (t : List ℕ). lexemes (tokens_from at t)) (append_assoc a b rest) ∙ f.1
+          ∙ ap (λ (l : List Lexeme). ts ++ l) s.1 ∙ sym (append_assoc ts us (lexemes (tokens_from s.0 rest))),
+    )
 
 exception_gives : (e : List ℕ) (rest : List ℕ) → is_identifier e ≡ true → EndsWord rest
     → Gives (codes " WITH " ++ e) (exception_tokens (Some e)) rest
 unfolding AllWord EndsWord
 exception_gives e rest is ends =
     space_first (codes "WITH " ++ e) (exception_tokens (Some e)) rest
-      (two (codes "WITH") (codes " " ++ e) (Word (codes "WITH") ∷ []) (Word e ∷ []) rest
-        (first_word (codes "WITH") ((codes " " ++ e) ++ rest) (0x57, codes "ITH", refl)
-          (refl, (refl, (refl, (refl, tt)))) refl)
-        (space_first e (Word e ∷ []) rest (first_word e rest (identifier_first e is)
-          (string_word e (and_parts (is_id_string e) _ is).0) ends)))
+    (two (codes "WITH") (codes " " ++ e) (Word (codes "WITH") ∷ []) (Word e ∷ []) rest
+    (first_word (codes "WITH") ((codes " " ++ e) ++ rest) (0x57, codes "ITH", refl)
+    (refl, (refl, (refl, (refl, tt)))) refl)
+    (space_first e (Word e ∷ []) rest (first_word e rest (identifier_first e is)
+    (string_word e (and_parts (is_id_string e) _ is).0) ends)))
 
 ends_exception : (ex : Option (List ℕ)) (rest : List ℕ) → EndsWord rest → EndsWord (print_exception ex ++ rest)
 unfolding EndsWord
@@ -158,20 +165,20 @@ operator_gives : (text : List ℕ) (rest : List ℕ) → ((b : ℕ) × (more : L
 unfolding EndsWord
 operator_gives text rest first all =
     space_first (text ++ codes " ") (Word text ∷ []) rest
-      (λ at. let w = first_word text (codes " " ++ rest) first all refl at in
-        (w.0 + 1, ap (λ (t : List ℕ). lexemes (tokens_from at t)) (append_assoc text (codes " ") rest) ∙ w.1))
+    (λ at. let w = first_word text (codes " " ++ rest) first all refl at in
+    (w.0 + 1, ap (λ (t : List ℕ). lexemes (tokens_from at t)) (append_assoc text (codes " ") rest) ∙ w.1))
 
 term_gives : (t : Term) (rest : List ℕ) → IsTerm t → EndsWord rest → Gives (print_term t) (term_tokens t) rest
 term_gives t rest is ends =
     let word : List ℕ = t.name ++ plus t.or_later in
     let some : (b : ℕ) × (more : List ℕ) × (word ≡ b ∷ more) =
-      (let f = name_first t.or_later t.name is.0 in
-      (f.0, f.1 ++ plus t.or_later, ap (λ (l : List ℕ). l ++ plus t.or_later) f.2)) in
+    (let f = name_first t.or_later t.name is.0 in
+    (f.0, f.1 ++ plus t.or_later, ap (λ (l : List ℕ). l ++ plus t.or_later) f.2)) in
     two word (print_exception t.exception) (Word word ∷ []) (exception_tokens t.exception) rest
-      (first_word word (print_exception t.exception ++ rest) some
-        (all_append t.name (plus t.or_later) (name_word t.or_later t.name is.0) (plus_word t.or_later))
-        (ends_exception t.exception rest ends))
-      (exceptions_give t.exception rest is.1 ends)
+    (first_word word (print_exception t.exception ++ rest) some
+    (all_append t.name (plus t.or_later) (name_word t.or_later t.name is.0) (plus_word t.or_later))
+    (ends_exception t.exception rest ends))
+    (exceptions_give t.exception rest is.1 ends)
 
 -- behind an operand no word goes on
 ends_print : (ps : List Piece) (n : ℕ) → Fits false n ps → EndsWord (print ps)
@@ -197,7 +204,7 @@ printed [] false n f terms = λ at. refl
 printed (Named t ∷ ps) false n f terms = absurd f
 printed (Named t ∷ ps) true n f terms =
     one_more (Named t) (term_tokens t) ps (terms.0, refl) (term_gives t (print ps) terms.0 (ends_print ps n f))
-      (printed ps false n f terms.1)
+    (printed ps false n f terms.1)
 printed (Open ∷ ps) false n f terms = absurd f
 printed (Open ∷ ps) true n f terms =
     one_more Open (LeftBracket ∷ []) ps refl (λ at. (at + 1, refl)) (printed ps true (suc n) f terms)
@@ -207,13 +214,13 @@ printed (Close ∷ ps) false n f terms =
 printed (And ∷ ps) true n f terms = absurd f
 printed (And ∷ ps) false n f terms =
     one_more And (Word (codes "AND") ∷ []) ps refl
-      (operator_gives (codes "AND") (print ps) (0x41, codes "ND", refl) (refl, (refl, (refl, tt))))
-      (printed ps true n f terms)
+    (operator_gives (codes "AND") (print ps) (0x41, codes "ND", refl) (refl, (refl, (refl, tt))))
+    (printed ps true n f terms)
 printed (Or ∷ ps) true n f terms = absurd f
 printed (Or ∷ ps) false n f terms =
     one_more Or (Word (codes "OR") ∷ []) ps (inl refl)
-      (operator_gives (codes "OR") (print ps) (0x4F, codes "R", refl) (refl, (refl, tt)))
-      (printed ps true n f terms)
+    (operator_gives (codes "OR") (print ps) (0x4F, codes "R", refl) (refl, (refl, tt)))
+    (printed ps true n f terms)
 
 -- ---- the whole
 
@@ -256,4 +263,4 @@ print_refused text ps r (errors.Memory a) well is stopped becomes = tt
 print_refused text ps r (errors.Parse p) well is stopped becomes =
     let P : List ℕ → Type 0 = λ x. IsTreeText x well.0 in
     error_refuses text r (errors.Parse p) stopped becomes well.0
-      (subst P (sym is) (print_spells ps well.0 well.1 well.2))
+    (subst P (sym is) (print_spells ps well.0 well.1 well.2))

@@ -1,22 +1,25 @@
 -- The reader, token by token.
-use Rattle.std.proofs.Common.{◌≡◌, refl, sym, ap, ◌∙◌, subst, ◌⊎◌, inl, inr, ℕ, suc, zero, ◌+◌, Bool, true, false, not, List, [], ◌∷◌, ◌++◌}
-use Rattle.std.proofs.Common.{append_assoc, append-nil, Option, Some, None, IsTrue, map}
-use Rattle.std.specs.Prelude.{MatchBool, ◌-◌, bytes_eq, codes}
+use Rattle.std.proofs.Common.{◌≡◌, refl, sym, ap, ◌∙◌, subst, ℕ, suc, zero, Bool, true, false}
+use Rattle.std.proofs.Common.{List, [], ◌∷◌, ◌++◌}
+use Rattle.std.proofs.Common.{append_assoc, append-nil, Option, Some, None, IsTrue}
+use Rattle.std.specs.Prelude.{MatchBool, ◌-◌}
 use Rattle.std.proofs.Common.{arith}
 use Rattle.spdx_expressions.specs.declared.error.Expected.{Expected}
 use Rattle.spdx_expressions.specs.declared.error.Expected.TheVariants as expected
 use Rattle.spdx_expressions.specs.declared.error.Refusal.{Refusal}
 use Rattle.spdx_expressions.specs.declared.error.Refusal.TheVariants as refusal
-use Rattle.spdx_expressions.specs.Tokens.{Lexeme, RightBracket, Word, Placed, lexemes, tokens_from}
+use Rattle.spdx_expressions.specs.Tokens.{Lexeme, RightBracket, Placed, lexemes, tokens_from}
 use Rattle.spdx_expressions.specs.declared.reader.Reader.{Reader}
 use Rattle.std.specs.Str.{IsCharBoundary}
 use Rattle.std.proofs.Common.{◌≤◌}
-use Rattle.spdx_expressions.specs.Words.{is_identifier}
 use Rattle.spdx_expressions.specs.Trees.{Term, Piece, Named, Close, pieces}
 use Rattle.spdx_expressions.specs.Faults.{expected_behind}
-use Rattle.spdx_expressions.specs.Inside.Reading.{State, Mode, Wants, Licensed, Excepts, Behind, step, run, start, whole}
-use Rattle.spdx_expressions.specs.Inside.Reading.{IsReached, DoNotFit, IsOf, IsStopped, IsBehind, IsExcepted, LacksException}
-use Rattle.spdx_expressions.specs.Inside.Reading.{at, behind, finished, expected_in, with_exception, IsReading, IsRead, left}
+use Rattle.spdx_expressions.specs.Inside.Reading.{State, Wants, Licensed, Excepts, Behind, step, run, start}
+use Rattle.spdx_expressions.specs.Inside.Reading.{whole}
+use Rattle.spdx_expressions.specs.Inside.Reading.{IsReached, DoNotFit, IsOf, IsStopped, IsBehind, IsExcepted}
+use Rattle.spdx_expressions.specs.Inside.Reading.{LacksException}
+use Rattle.spdx_expressions.specs.Inside.Reading.{at, behind, finished, expected_in, with_exception, IsReading, IsRead}
+use Rattle.spdx_expressions.specs.Inside.Reading.{left}
 
 pub run-append : (s : Option State) (ts us : List Lexeme) → run s (ts ++ us) ≡ run (run s ts) us
 run-append None ts us = refl
@@ -116,10 +119,10 @@ pub reach_excepted : (text : List ℕ) (ts behind : List Placed) (word : List �
     → IsReached text behind (record { mode = Behind; depth = n; parts = ps ++ Named (with_exception t word) ∷ [] })
 reach_excepted text ts behind word t n ps e r =
     let with_reached = reach_by text ts e.with (e.name ∷ behind) (record { mode = Licensed t; depth = n; parts = ps })
-        (record { mode = Excepts t; depth = n; parts = ps }) r e.comes (rw e.is_with refl) in
+    (record { mode = Excepts t; depth = n; parts = ps }) r e.comes (rw e.is_with refl) in
     reach_step text e.name behind (record { mode = Excepts t; depth = n; parts = ps })
-      (record { mode = Behind; depth = n; parts = ps ++ Named (with_exception t word) ∷ [] }) with_reached
-      (rw (e.is_word, e.is_identifier) refl)
+    (record { mode = Behind; depth = n; parts = ps ++ Named (with_exception t word) ∷ [] }) with_reached
+    (rw (e.is_word, e.is_identifier) refl)
 
 pub by_true : (w : Bool) (P Q : Type 0) → w ≡ true → P → MatchBool w P Q
 by_true true P Q is h = h
@@ -147,8 +150,8 @@ pub stopped_at_end : (r : Reader) (e : Refusal) → BehindState r → left r.tex
 unfolding BehindState
 stopped_at_end r e b none nested of =
     stopped r.text.now b.0 (left r.text.now r.place) expected.OperatorOrClose e b.1
-      (no_end b.0 _ none (b.2.whole ∙ open_end r.depth _ nested))
-      (b.2.expected ∙ open_expected r.depth nested) of
+    (no_end b.0 _ none (b.2.whole ∙ open_end r.depth _ nested))
+    (b.2.expected ∙ open_expected r.depth nested) of
 
 pub stopped_at_token : (r : Reader) (e : Refusal) (t : Placed) (ts : List Placed) (wanted : Expected) → BehindState r
     → left r.text.now r.place ≡ t ∷ ts → behind r.depth (pieces r.parts.items) t.token ≡ None
@@ -156,8 +159,8 @@ pub stopped_at_token : (r : Reader) (e : Refusal) (t : Placed) (ts : List Placed
 unfolding BehindState
 stopped_at_token r e t ts wanted b some none is of =
     stopped r.text.now b.0 (left r.text.now r.place) wanted e b.1
-      (no_token b.0 _ t ts some (b.2.next t ts some ∙ none))
-      (b.2.expected ∙ is) of
+    (no_token b.0 _ t ts some (b.2.next t ts some ∙ none))
+    (b.2.expected ∙ is) of
 
 pub reach_behind : (r : Reader) (t : Placed) (ts : List Placed) (new : State) → BehindState r
     → left r.text.now r.place ≡ t ∷ ts → behind r.depth (pieces r.parts.items) t.token ≡ Some new
@@ -171,8 +174,8 @@ pub read_whole : (r : Reader) → BehindState r → left r.text.now r.place ≡ 
     → IsRead r.text.now (pieces r.parts.items)
 unfolding BehindState
 read_whole r b none flat =
-    let e : tokens_from 0 r.text.now ≡ b.1.before = b.1.cut ∙ ap (λ (l : List Placed). b.1.before ++ l) none ∙ append-nil _ in
-    (
+    let e : tokens_from 0 r.text.now ≡ b.1.before = b.1.cut ∙ ap (λ (l : List Placed). b.1.before ++ l) none
+    ∙ append-nil _ in (
       b.0,
       ap (λ (l : List Placed). run (Some start) (lexemes l)) e ∙ b.1.leads,
       b.2.whole ∙ ap (λ (n : ℕ). finished Behind n (pieces r.parts.items)) flat,
@@ -187,6 +190,6 @@ pub stopped_at_exception : (text : List ℕ) (after : List Placed) (t : Term) (n
     → IsStopped text e
 stopped_at_exception text after t n ps e r lacks =
     stopped text (record { mode = Excepts t; depth = n; parts = ps }) lacks.rest expected.Exception e
-      (reach_by text after lacks.with lacks.rest (record { mode = Licensed t; depth = n; parts = ps })
-        (record { mode = Excepts t; depth = n; parts = ps }) r lacks.comes (rw lacks.is_with refl))
-      (lacks.stops t n ps) refl lacks.refusal
+    (reach_by text after lacks.with lacks.rest (record { mode = Licensed t; depth = n; parts = ps })
+    (record { mode = Excepts t; depth = n; parts = ps }) r lacks.comes (rw lacks.is_with refl))
+    (lacks.stops t n ps) refl lacks.refusal

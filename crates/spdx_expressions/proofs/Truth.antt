@@ -1,11 +1,11 @@
 -- Going over the parts of an expression gives the truth of its tree.
-use Rattle.std.proofs.Common.{◌≡◌, ◌⊎◌, inl, inr, refl, sym, ap, ◌∙◌, subst, ℕ, suc, zero, ◌+◌, ◌<◌, Bool, true, false}
-use Rattle.std.proofs.Common.{List, [], ◌∷◌, ◌++◌, append_assoc, append-nil, Option, Some, None, arith, add-one}
+use Rattle.std.proofs.Common.{◌≡◌, ◌⊎◌, inl, inr, refl, sym, ap, ◌∙◌, subst, ℕ, suc, zero, ◌<◌, Bool, true, false}
+use Rattle.std.proofs.Common.{List, [], ◌∷◌, ◌++◌, append_assoc, append-nil, arith, add-one}
 use Rattle.std.specs.Prelude.{◌&&◌, ◌||◌}
-use Rattle.spdx_expressions.specs.Trees.{Term, Tree, Single, Both, Either, Piece, Named, And, Or, Open, Close}
-use Rattle.spdx_expressions.specs.Grammar.{tightness, in_brackets, Around, SpellsBare, Spells}
+use Rattle.spdx_expressions.specs.Trees.{Term, Tree, Single, Both, Either, Piece, And, Or, Open, Close}
+use Rattle.spdx_expressions.specs.Grammar.{in_brackets, SpellsBare, Spells}
 use Rattle.spdx_expressions.specs.Allowed.{truth}
-use Rattle.spdx_expressions.specs.Inside.Walking.{Walk, live, passes, step, walk}
+use Rattle.spdx_expressions.specs.Inside.Walking.{Walk, live, passes, walk}
 
 -- ---- what is passed over
 
@@ -34,7 +34,7 @@ brackets_inside : (holds : Term → Bool) (k : ℕ) (ps : List Piece) → Passed
 brackets_inside holds zero ps inside = inside
 brackets_inside holds (suc k) ps inside =
     flat_inside holds (in_brackets (suc k) ps)
-      (bracket_passed holds (in_brackets k ps) (brackets_inside holds k ps inside))
+    (bracket_passed holds (in_brackets k ps) (brackets_inside holds k ps inside))
 
 -- by the tree's own operator
 abbrev PassedBare : (Term → Bool) → Tree → List Piece → Type 0
@@ -61,7 +61,7 @@ flat_around : (holds : Term → Bool) (level : ℕ) (e : Tree) (ps : List Piece)
 flat_around holds level e ps each high (suc k, inner, spells, is, low) =
     let P : List Piece → Type 0 = PassedFlat holds in
     subst P (sym is) (bracket_passed holds (in_brackets k inner)
-      (brackets_inside holds k inner (bare_inside holds e inner (each inner spells))))
+    (brackets_inside holds k inner (bare_inside holds e inner (each inner spells))))
 flat_around holds level (Single t) ps each high (zero, inner, spells, is, low) =
     let P : List Piece → Type 0 = PassedFlat holds in subst P (sym is) (each inner spells)
 flat_around holds level (Both l r) ps each high (zero, inner, spells, is, low) =
@@ -77,16 +77,16 @@ bare_passed holds (Both l r) ps (ls, rs, left, right, is) =
     let one : 0 < 1 = omega arith in
     let two : 0 < 2 = omega arith in
     subst P (sym is) (λ v d rest.
-      ap (walk holds (passes v d)) (append_assoc ls (And ∷ rs) rest)
-      ∙ flat_around holds 1 l ls (bare_passed holds l) one left v d (And ∷ (rs ++ rest))
-      ∙ flat_around holds 2 r rs (bare_passed holds r) two right v d rest)
+    ap (walk holds (passes v d)) (append_assoc ls (And ∷ rs) rest)
+    ∙ flat_around holds 1 l ls (bare_passed holds l) one left v d (And ∷ (rs ++ rest))
+    ∙ flat_around holds 2 r rs (bare_passed holds r) two right v d rest)
 bare_passed holds (Either l r) ps (ls, rs, left, right, is) =
     let P : List Piece → Type 0 = PassedInside holds in
     subst P (sym is) (λ v d rest.
-      ap (walk holds (passes v (suc d))) (append_assoc ls (Or ∷ rs) rest)
-      ∙ inside_around holds 0 l ls (bare_passed holds l) left v d (Or ∷ (rs ++ rest))
-      ∙ or_passed v d (rs ++ rest)
-      ∙ inside_around holds 1 r rs (bare_passed holds r) right v d rest)
+    ap (walk holds (passes v (suc d))) (append_assoc ls (Or ∷ rs) rest)
+    ∙ inside_around holds 0 l ls (bare_passed holds l) left v d (Or ∷ (rs ++ rest))
+    ∙ or_passed v d (rs ++ rest)
+    ∙ inside_around holds 1 r rs (bare_passed holds r) right v d rest)
   where
     or_passed : (v : Bool) (d : ℕ) (qs : List Piece)
         → walk holds (passes v (suc d)) (Or ∷ qs) ≡ walk holds (passes v (suc d)) qs
@@ -147,7 +147,7 @@ brackets_give holds v zero ps g = g
 brackets_give holds v (suc k) ps g =
     let all : List Piece = in_brackets (suc k) ps in
     term_whole holds v all (unit_term holds v all
-      (bracket_gives holds v (in_brackets k ps) (brackets_give holds v k ps g)))
+    (bracket_gives holds v (in_brackets k ps) (brackets_give holds v k ps g)))
 
 abbrev GivesBare : (Term → Bool) → Tree → List Piece → Type 0
 GivesBare holds (Single t) ps = GivesUnit holds (truth holds (Single t)) ps
@@ -174,7 +174,7 @@ unit_around : (holds : Term → Bool) (e : Tree) (ps : List Piece) → IsGivenBa
 unit_around holds e ps each (suc k, inner, spells, is, low) =
     let P : List Piece → Type 0 = GivesUnit holds (truth holds e) in
     subst P (sym is) (bracket_gives holds (truth holds e) (in_brackets k inner)
-      (brackets_give holds (truth holds e) k inner (bare_whole holds e inner (each inner spells))))
+    (brackets_give holds (truth holds e) k inner (bare_whole holds e inner (each inner spells))))
 unit_around holds (Single t) ps each (zero, inner, spells, is, low) =
     let P : List Piece → Type 0 = GivesUnit holds (holds t) in subst P (sym is) (each inner spells)
 unit_around holds (Both l r) ps each (zero, inner, spells, is, low) =
@@ -188,7 +188,7 @@ term_around holds e ps each (suc k, inner, spells, is, low) =
     let P : List Piece → Type 0 = GivesTerm holds (truth holds e) in
     let all : List Piece = in_brackets (suc k) inner in
     subst P (sym is) (unit_term holds (truth holds e) all (bracket_gives holds (truth holds e) (in_brackets k inner)
-      (brackets_give holds (truth holds e) k inner (bare_whole holds e inner (each inner spells)))))
+    (brackets_give holds (truth holds e) k inner (bare_whole holds e inner (each inner spells)))))
 term_around holds (Single t) ps each (zero, inner, spells, is, low) =
     let P : List Piece → Type 0 = GivesTerm holds (holds t) in
     subst P (sym is) (unit_term holds _ inner (each inner spells))
@@ -230,17 +230,17 @@ bare_gives holds (Single t) ps is =
 bare_gives holds (Both l r) ps (ls, rs, left, right, is) =
     let P : List Piece → Type 0 = GivesTerm holds (truth holds (Both l r)) in
     subst P (sym is) (λ u rest.
-      let a = term_around holds l ls (bare_gives holds l) left u (And ∷ (rs ++ rest)) in
-      let b = and_gives holds (truth holds l) (truth holds r) a.0 rs rest a.1 (unit_passed holds r rs right)
-            (unit_around holds r rs (bare_gives holds r) right) in
-      (b.0, b.1, ap (walk holds (live u)) (append_assoc ls (And ∷ rs) rest) ∙ a.2 ∙ b.2))
+    let a = term_around holds l ls (bare_gives holds l) left u (And ∷ (rs ++ rest)) in
+    let b = and_gives holds (truth holds l) (truth holds r) a.0 rs rest a.1 (unit_passed holds r rs right)
+    (unit_around holds r rs (bare_gives holds r) right) in
+    (b.0, b.1, ap (walk holds (live u)) (append_assoc ls (And ∷ rs) rest) ∙ a.2 ∙ b.2))
 bare_gives holds (Either l r) ps (ls, rs, left, right, is) =
     let P : List Piece → Type 0 = GivesWhole holds (truth holds (Either l r)) in
     subst P (sym is) (λ u rest.
-      let a = whole_around holds l ls (bare_gives holds l) left u (Or ∷ (rs ++ rest)) in
-      let b = or_gives holds (truth holds l) (truth holds r) a.0 rs rest a.1 (term_passed holds r rs right)
-            (term_around holds r rs (bare_gives holds r) right) in
-      (b.0, b.1, ap (walk holds (live u)) (append_assoc ls (Or ∷ rs) rest) ∙ a.2 ∙ b.2))
+    let a = whole_around holds l ls (bare_gives holds l) left u (Or ∷ (rs ++ rest)) in
+    let b = or_gives holds (truth holds l) (truth holds r) a.0 rs rest a.1 (term_passed holds r rs right)
+    (term_around holds r rs (bare_gives holds r) right) in
+    (b.0, b.1, ap (walk holds (live u)) (append_assoc ls (Or ∷ rs) rest) ∙ a.2 ∙ b.2))
 
 pub walk_truth : (holds : Term → Bool) (e : Tree) (ps : List Piece) → Spells 0 e ps
     → (walk holds (live false) ps).value ≡ truth holds e

@@ -1,6 +1,6 @@
 -- Which fronts of tokens can be completed, and what is expected behind one.
-use Rattle.std.proofs.Common.{◌≡◌, refl, sym, ap, ◌∙◌, subst, ℕ, suc, zero, ◌+◌, ◌-◌, Bool, true, false, List, [], ◌∷◌}
-use Rattle.std.proofs.Common.{◌++◌, append-nil, Option, Some, None, arith, cond, codes, add-zero, Result, Ok, Err}
+use Rattle.std.proofs.Common.{◌≡◌, refl, sym, ap, ◌∙◌, subst, ℕ, suc, zero, ◌+◌, Bool, true, false, List, [], ◌∷◌}
+use Rattle.std.proofs.Common.{◌++◌, append-nil, Option, Some, None, arith, cond, codes, add-zero}
 use Rattle.std.specs.Prelude.{bytes_eq, count_by, ◌||◌}
 use Rattle.std.specs.List.{last_or}
 use Rattle.std.proofs.lemmas.List.Sums.{sum_by-cons}
@@ -14,18 +14,21 @@ use Rattle.spdx_expressions.specs.declared.error.ReadError.TheVariants as errors
 use Rattle.spdx_expressions.specs.Errors.{OfParse}
 use Rattle.spdx_expressions.specs.Tokens.{Lexeme, LeftBracket, RightBracket, Slash, Word, Placed, lexemes, tokens}
 use Rattle.spdx_expressions.specs.Words.{is_identifier}
-use Rattle.spdx_expressions.specs.Trees.{Term, Tree, Piece, Named, And, Or, Open, Close}
+use Rattle.spdx_expressions.specs.Trees.{Term, Tree, Piece, Named, Close}
 use Rattle.spdx_expressions.specs.Grammar.{AreWritten, SpellTree, IsTreeText, Spells}
 use Rattle.spdx_expressions.specs.declared.error.Expected.{Expected}
 use Rattle.spdx_expressions.specs.declared.error.Expected.TheVariants as expected
-use Rattle.spdx_expressions.specs.Faults.{IsAccepted, IsCompletable, expected_by, expected_after, expected_behind, opened}
+use Rattle.spdx_expressions.specs.Faults.{IsAccepted, IsCompletable, expected_by, expected_after, expected_behind}
+use Rattle.spdx_expressions.specs.Faults.{opened}
 use Rattle.spdx_expressions.specs.Faults.{is_left, is_right, IsStuck, IsFault, IsFaultBy}
-use Rattle.spdx_expressions.specs.Inside.Reading.{State, Mode, Wants, Licensed, Excepts, Behind, step, run, start, whole}
-use Rattle.spdx_expressions.specs.Inside.Reading.{named, by_name, at, by_mode, behind, finished, expected_in, with_exception}
+use Rattle.spdx_expressions.specs.Inside.Reading.{State, Mode, Wants, Licensed, Excepts, Behind, step, run, start}
+use Rattle.spdx_expressions.specs.Inside.Reading.{whole}
+use Rattle.spdx_expressions.specs.Inside.Reading.{named, by_name, at, by_mode, behind, expected_in}
+use Rattle.spdx_expressions.specs.Inside.Reading.{with_exception}
 use Rattle.spdx_expressions.specs.Inside.Reading.{IsRead, IsStopped, DoNotFit, Becomes}
 use Rattle.spdx_expressions.proofs.Steps.{run-append, lexemes-append}
 use Rattle.spdx_expressions.proofs.OneTree.{one_tree}
-use Rattle.spdx_expressions.proofs.Written.{is_word, Ends, IsKept, Adds, sound, complete}
+use Rattle.spdx_expressions.proofs.Written.{is_word, Ends, sound, complete}
 use Rattle.spdx_expressions.proofs.Fitting.{Fits, spells_fits}
 use Rattle.spdx_expressions.proofs.Building.{fits_tree}
 
@@ -85,7 +88,7 @@ unfolding HasEnd
 reached_completable ts s h =
     let on = goes_on s.mode s.depth s.parts in
     let e : run (Some start) (ts ++ on.0) ≡ run (Some s) on.0 =
-      run-append (Some start) ts on.0 ∙ ap (λ (o : Option State). run o on.0) h in
+    run-append (Some start) ts on.0 ∙ ap (λ (o : Option State). run o on.0) h in
     let P : Option State → Type 0 = λ o. Ends o on.1.0 in
     (on.0, ends_accepted (ts ++ on.0) on.1.0 (subst P (sym e) on.1.1))
 
@@ -97,7 +100,7 @@ lost_ends ts qs h = h
 pub lost_stuck : (ts : List Lexeme) → run (Some start) ts ≡ None → IsCompletable IsAccepted ts → ⊥
 lost_stuck ts h (more, (e, s)) =
     let e' : run (Some start) (ts ++ more) ≡ None =
-      run-append (Some start) ts more ∙ ap (λ (o : Option State). run o more) h in
+    run-append (Some start) ts more ∙ ap (λ (o : Option State). run o more) h in
     let P : Option State → Type 0 = λ o. Ends o s.0 in
     subst P e' (accepted_ends (ts ++ more) e s)
 
@@ -223,7 +226,7 @@ run_told (t ∷ ts) l s new told h = on (step s t) (step_told s.mode s.depth s.p
   where
     on : (o : Option State) → Told t s.depth o → run o ts ≡ Some new
         → ((m new : State) → expected_in m.mode m.depth ≡ expected_by (Some t) m.depth → run (Some m) ts ≡ Some new
-            → IsTold (Some t) ts m.depth new)
+        → IsTold (Some t) ts m.depth new)
         → IsTold l (t ∷ ts) s.depth new
     on None told h later = absurd cc
     on (Some m) told h later =
@@ -250,7 +253,7 @@ read_tree text ps (s, h, is) =
 pub one_text_tree : (text : List ℕ) (t u : Tree) → IsTreeText text t → IsTreeText text u → t ≡ u
 one_text_tree text t u first second =
     let same = one_end (run (Some start) (tokens text)) first.0 second.0
-        (accepted_ends (tokens text) t first) (accepted_ends (tokens text) u second) in
+    (accepted_ends (tokens text) t first) (accepted_ends (tokens text) u second) in
     let P : List Piece → Type 0 = Spells 0 t in
     one_tree second.0 t u (subst P same first.2) second.2
   where
@@ -263,9 +266,9 @@ stuck_by : (before : List Placed) (s : State) (after : List Placed) → run (Som
 stuck_by before s [] h fits = early_end (lexemes before) s h fits
 stuck_by before s (t ∷ ts) h fits =
     lost_stuck (lexemes before ++ t.token ∷ [])
-      (run-append (Some start) (lexemes before) (t.token ∷ [])
-      ∙ ap (λ (o : Option State). run o (t.token ∷ [])) h
-      ∙ lost (step s t.token) fits)
+    (run-append (Some start) (lexemes before) (t.token ∷ [])
+    ∙ ap (λ (o : Option State). run o (t.token ∷ [])) h
+    ∙ lost (step s t.token) fits)
   where
     lost : (o : Option State) → o ≡ None → run o [] ≡ None
     lost None e = refl
@@ -298,11 +301,15 @@ fault_refuses accepts expects text wanted found span f accepted =
         → tokens text ≡ lexemes f.before ++ lexemes after → ⊥
     by [] stuck is = stuck (subst accepts (is ∙ append-nil (lexemes f.before)) accepted)
     by (x ∷ xs) stuck is =
-        stuck (lexemes xs, subst accepts (is ∙ sym (append_assoc (lexemes f.before) (x.token ∷ []) (lexemes xs))) accepted)
+        stuck (
+          lexemes xs,
+          subst accepts (is ∙ sym (append_assoc (lexemes f.before) (x.token ∷ [])
+              (lexemes xs))) accepted,
+        )
 
 pub error_refuses : (text : List ℕ) (r : Refusal) (e : ReadError) → IsStopped text r → Becomes r text e
     → OfParse e (λ p. (t : Tree) → IsTreeText text t → ⊥)
 error_refuses text r (errors.Memory a) stopped is = tt
 error_refuses text r (errors.Parse p) stopped is = λ t spells.
     fault_refuses IsAccepted expected_after text p.expected p.found p.span
-      (error_fault text r (errors.Parse p) stopped is) (t, spells)
+    (error_fault text r (errors.Parse p) stopped is) (t, spells)

@@ -1,14 +1,16 @@
 -- From tokens to parts and back.
-use Rattle.std.proofs.Common.{◌≡◌, ◌⊎◌, inl, inr, refl, sym, ap, ◌∙◌, subst, ℕ, suc, zero, ◌+◌, Bool, true, false, not}
-use Rattle.std.proofs.Common.{List, [], ◌∷◌, ◌++◌, append_assoc, append-nil, Option, Some, None, cond, arith, add-one}
+use Rattle.std.proofs.Common.{◌≡◌, inl, inr, refl, sym, ap, ◌∙◌, subst, ℕ, suc, zero, ◌+◌, Bool, true, false}
+use Rattle.std.proofs.Common.{List, [], ◌∷◌, ◌++◌, append_assoc, append-nil, Option, Some, None, cond, add-one}
 use Rattle.std.specs.Prelude.{bytes_eq, codes}
 use Rattle.std.proofs.lemmas.Slice.Eq.{bytes_eq-Decides}
 use Rattle.spdx_expressions.specs.Tokens.{Lexeme, LeftBracket, RightBracket, Slash, Word}
 use Rattle.spdx_expressions.specs.Words.{is_identifier}
 use Rattle.spdx_expressions.specs.Trees.{Term, Piece, Named, And, Or, Open, Close}
 use Rattle.spdx_expressions.specs.Grammar.{IsTerm, plus, exception_tokens, term_tokens, IsWritten, AreWritten}
-use Rattle.spdx_expressions.specs.Inside.Reading.{named, State, Mode, Wants, Licensed, Excepts, Behind, step, run, whole}
-use Rattle.spdx_expressions.specs.Inside.Reading.{finished, at, by_name, operand, behind, licensed, excepts, with_exception}
+use Rattle.spdx_expressions.specs.Inside.Reading.{named, State, Mode, Wants, Licensed, Excepts, Behind, run}
+use Rattle.spdx_expressions.specs.Inside.Reading.{whole}
+use Rattle.spdx_expressions.specs.Inside.Reading.{at, by_name, behind}
+use Rattle.spdx_expressions.specs.Inside.Reading.{with_exception}
 use Rattle.spdx_expressions.proofs.Names.{named_sound, named_complete}
 use Rattle.spdx_expressions.proofs.Fitting.{Fits}
 
@@ -79,22 +81,36 @@ behind_sound (Word w) ts sound n ps qs h = by (bytes_eq w (codes "AND")) (bytes_
         → Ends (run (cond a (at Wants n (ps ++ And ∷ [])) (cond o (at Wants n (ps ++ Or ∷ [])) None)) ts) qs
         → Adds Behind n ps (Word w ∷ ts) qs
     by true o ea eo h =
-        let a = sound Wants n (ps ++ And ∷ []) qs tt h in
-        (And ∷ a.0, more ps qs And a.0 a.1,
-          (Word w ∷ [], ts, ap (λ (u : List ℕ). Word u ∷ []) (is_word w (codes "AND") ea), a.2, refl), a.3)
+        let a = sound Wants n (ps ++ And ∷ []) qs tt h in (
+          And ∷ a.0,
+          more ps qs And a.0 a.1,
+          (Word w ∷ [], ts, ap (λ (u : List ℕ). Word u ∷ []) (is_word w (codes "AND") ea), a.2, refl),
+          a.3,
+        )
     by false true ea eo h =
-        let a = sound Wants n (ps ++ Or ∷ []) qs tt h in
-        (Or ∷ a.0, more ps qs Or a.0 a.1,
-          (Word w ∷ [], ts, inl (ap (λ (u : List ℕ). Word u ∷ []) (is_word w (codes "OR") eo)), a.2, refl), a.3)
+        let a = sound Wants n (ps ++ Or ∷ []) qs tt h in (
+          Or ∷ a.0,
+          more ps qs Or a.0 a.1,
+          (Word w ∷ [], ts, inl (ap (λ (u : List ℕ). Word u ∷ []) (is_word w (codes "OR") eo)), a.2, refl),
+          a.3,
+        )
     by false false ea eo h = absurd h
 
 -- a licence with no exception, and what is added behind it
 with_term : (t : Term) (n : ℕ) (ps qs : List Piece) (ts : List Lexeme) → IsTerm t → t.exception ≡ None
     → Adds Behind n (ps ++ Named t ∷ []) ts qs → Adds (Licensed t) n ps ts qs
-with_term t n ps qs ts is none a =
-    (Named t ∷ a.0, more ps qs (Named t) a.0 a.1,
-      (Word (word_of t) ∷ [], ts, (is, ap (λ (e : Option (List ℕ)). Word (word_of t) ∷ exception_tokens e) (sym none)), a.2, refl),
-      a.3)
+with_term t n ps qs ts is none a = (
+  Named t ∷ a.0,
+  more ps qs (Named t) a.0 a.1,
+  (
+    Word (word_of t) ∷ [],
+    ts,
+    (is, ap (λ (e : Option (List ℕ)). Word (word_of t) ∷ exception_tokens e) (sym none)),
+    a.2,
+    refl,
+  ),
+  a.3,
+)
 
 name_sound : (w : List ℕ) (ts : List Lexeme) → IsSound ts → (n : ℕ) (ps qs : List Piece) (o : Option Term) → named w ≡ o
     → Ends (run (by_name o n ps) ts) qs → Adds Wants n ps (Word w ∷ ts) qs
@@ -122,29 +138,41 @@ exception_sound : (w : List ℕ) (ts : List Lexeme) → IsSound ts → (t : Term
     → Adds (Excepts t) n ps (Word w ∷ ts) qs
 exception_sound w ts sound t n ps qs kept false e h = absurd h
 exception_sound w ts sound t n ps qs kept true e h =
-    let a = sound Behind n (ps ++ Named (with_exception t w) ∷ []) qs tt h in
-    (Named (with_exception t w) ∷ a.0, more ps qs (Named (with_exception t w)) a.0 a.1,
-      (term_tokens (with_exception t w), ts, ((kept.0.0, e), refl), a.2, refl), a.3)
+    let a = sound Behind n (ps ++ Named (with_exception t w) ∷ []) qs tt h in (
+      Named (with_exception t w) ∷ a.0,
+      more ps qs (Named (with_exception t w)) a.0 a.1,
+      (term_tokens (with_exception t w), ts, ((kept.0.0, e), refl), a.2, refl),
+      a.3,
+    )
 
 pub sound : (ts : List Lexeme) → IsSound ts
 sound [] Wants n ps qs kept h = absurd cc
 sound [] (Licensed t) zero ps qs kept h =
-    with_term t 0 ps qs [] kept.0 kept.1 ([], sym (same_some _ qs h) ∙ sym (append-nil (ps ++ Named t ∷ [])), refl, refl)
+    with_term t 0 ps qs [] kept.0 kept.1 (
+      [],
+      sym (same_some _ qs h) ∙ sym (append-nil (ps ++ Named t ∷ [])),
+      refl,
+      refl,
+    )
 sound [] (Licensed t) (suc n) ps qs kept h = absurd cc
 sound [] (Excepts t) n ps qs kept h = absurd cc
 sound [] Behind zero ps qs kept h = ([], sym (same_some ps qs h) ∙ sym (append-nil ps), refl, refl)
 sound [] Behind (suc n) ps qs kept h = absurd cc
 sound (t ∷ ts) Behind n ps qs kept h = behind_sound t ts (sound ts) n ps qs h
 sound (LeftBracket ∷ ts) Wants n ps qs kept h =
-    let a = sound ts Wants (n + 1) (ps ++ Open ∷ []) qs tt h in
-    (Open ∷ a.0, more ps qs Open a.0 a.1, (LeftBracket ∷ [], ts, refl, a.2, refl),
-      let P : ℕ → Type 0 = λ m. Fits true m a.0 in subst P (add-one n) a.3)
+    let a = sound ts Wants (n + 1) (ps ++ Open ∷ []) qs tt h in (
+      Open ∷ a.0,
+      more ps qs Open a.0 a.1,
+      (LeftBracket ∷ [], ts, refl, a.2, refl),
+      let P : ℕ → Type 0 = λ m. Fits true m a.0 in subst P (add-one n) a.3,
+    )
 sound (RightBracket ∷ ts) Wants n ps qs kept h = absurd h
 sound (Slash ∷ ts) Wants n ps qs kept h = absurd h
 sound (Word w ∷ ts) Wants n ps qs kept h = name_sound w ts (sound ts) n ps qs (named w) refl h
 sound (LeftBracket ∷ ts) (Licensed t) n ps qs kept h = absurd h
 sound (RightBracket ∷ ts) (Licensed t) n ps qs kept h =
-    with_term t n ps qs (RightBracket ∷ ts) kept.0 kept.1 (behind_sound RightBracket ts (sound ts) n (ps ++ Named t ∷ []) qs h)
+    with_term t n ps qs (RightBracket ∷ ts) kept.0 kept.1 (behind_sound RightBracket ts (sound ts) n
+    (ps ++ Named t ∷ []) qs h)
 sound (Slash ∷ ts) (Licensed t) n ps qs kept h =
     with_term t n ps qs (Slash ∷ ts) kept.0 kept.1 (behind_sound Slash ts (sound ts) n (ps ++ Named t ∷ []) qs h)
 sound (Word w ∷ ts) (Licensed t) n ps qs kept h =
@@ -178,8 +206,13 @@ regroup mode n now ps p rest us h =
 plain_leads : (t : Term) (n : ℕ) (ps : List Piece) (rest : List Piece) (us : List Lexeme) → t.exception ≡ None
     → IsComplete rest us n ps → Fits false n rest
     → Leads (Licensed (without_exception t.name t.or_later)) n ps us (ps ++ Named t ∷ rest)
-plain_leads t n ps rest us none all f = 
-    let is : without_exception t.name t.or_later ≡ t = ap (λ (e : Option (List ℕ)). record { name = t.name; or_later = t.or_later; exception = e }) (sym none) in
+plain_leads t n ps rest us none all f =
+    let is : without_exception t.name t.or_later ≡ t = ap (λ (e : Option (List ℕ)). record {
+      name =
+          t.name;
+      or_later = t.or_later;
+      exception = e;
+    }) (sym none) in
     let P : Term → Type 0 = λ u. Leads (Licensed u) n ps us (ps ++ Named t ∷ rest) in
     subst P (sym is) (regroup (Licensed t) n ps ps (Named t) rest us (all.licensed t f))
 
@@ -195,9 +228,9 @@ term_leads name later None n ps qs us is plain full =
 term_leads name later (Some e) n ps qs us is plain full =
     let P : Option Term → Type 0 = λ o. Ends (run (by_name o n ps) (Word (codes "WITH") ∷ Word e ∷ us)) qs in
     subst P (sym (named_complete (record { name = name; or_later = later; exception = Some e }) is))
-      (let Q : Bool → Type 0 = λ b. Ends (run (cond b (at Behind n
-        (ps ++ Named (record { name = name; or_later = later; exception = Some e }) ∷ [])) None) us) qs in
-        subst Q (sym is.1) full)
+    (let Q : Bool → Type 0 = λ b. Ends (run (cond b (at Behind n
+    (ps ++ Named (record { name = name; or_later = later; exception = Some e }) ∷ [])) None) us) qs in
+    subst Q (sym is.1) full)
 
 -- a part, before parts that lead to an end
 part_complete : (p : Piece) (rest : List Piece) (first us : List Lexeme) (n : ℕ) (ps : List Piece) → IsWritten p first

@@ -22,8 +22,8 @@ found_in Slash = found.Slash
 found_in (Word w) =
     if bytes_eq w (codes "AND") then found.And
     else (if bytes_eq w (codes "OR") then found.Or
-      else (if bytes_eq w (codes "WITH") then found.With
-        else (if names_licence w then found.Licence else found.Unknown)))
+    else (if bytes_eq w (codes "WITH") then found.With
+    else (if names_licence w then found.Licence else found.Unknown)))
 
 -- what is found, by the tokens that are left
 abbrev pub found_next : List Placed → Found

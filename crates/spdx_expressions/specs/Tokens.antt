@@ -70,8 +70,8 @@ tokens_from at (b ∷ bs) =
     if is_space b
     then tokens_from (at + 1) bs
     else (if is_mark b
-      then single (mark b) at ∷ tokens_from (at + 1) bs
-      else with_byte b at (tokens_from (at + 1) bs))
+    then single (mark b) at ∷ tokens_from (at + 1) bs
+    else with_byte b at (tokens_from (at + 1) bs))
 
 abbrev pub lexemes : List Placed → List Lexeme
 lexemes ts = map (λ t. t.token) ts

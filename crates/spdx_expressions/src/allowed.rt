@@ -5,9 +5,9 @@ ghost use Rattle.std.specs.List.{list_any};
 ghost use Rattle.std.specs.Str.{str_eq_ignore_ascii_case};
 ghost use Rattle.spdx_expressions.specs.Trees.{Tree, term_of, piece_of, pieces, text_of};
 ghost use Rattle.spdx_expressions.specs.Grammar.{Spells};
-ghost use Rattle.spdx_expressions.specs.Allowed.{ends_in, offers_later, stem, same_exception, allows, is_allowed, truth};
+ghost use Rattle.spdx_expressions.specs.Allowed.{ends_in, offers_later, stem, same_exception, allows, is_allowed};
+ghost use Rattle.spdx_expressions.specs.Allowed.{truth};
 ghost use Rattle.spdx_expressions.specs.Inside.Walking.{step, walk, live, live_step, passing_step, walk_of};
-
 
 use crate::{Licence, LicenceExpression, Part};
 
@@ -60,7 +60,9 @@ fn same_exception(a: &Option<String>, b: &Option<String>) -> bool
 }
 
 impl Licence {
-    /// Whether this licence, as an entry of a list of allowed ones, allows another.
+    /// Whether this licence, as an entry of a list of allowed ones, allows another: one of the same identifier,
+    /// whatever the case of its letters, and of the same exception. `-or-later` is `+`, and `-only` is neither. What is offered
+    /// in later versions is allowed by either form of the entry, and else only one that names no later versions.
     pub fn allows(&self, licence: &Licence) -> bool
         ensures { result ≡ allows (term_of self.now) (term_of licence.now) }
     {
@@ -103,7 +105,8 @@ impl Walk {
     /// Goes over a part that can change what is known.
     fn go_into(self, part: &Part, allowed: &[Licence]) -> Walk
         requires { self.passing ≡ false }
-        ensures step { walk_of result ≡ live_step (is_allowed (map term_of allowed.now)) self.value (piece_of part.now) }
+        ensures step { walk_of result
+            ≡ live_step (is_allowed (map term_of allowed.now)) self.value (piece_of part.now) }
         ensures depth { result.depth ≤ self.depth }
     {
         match part {
@@ -160,7 +163,8 @@ impl Walk {
 }
 
 impl LicenceExpression {
-    /// Whether a licence of each part that has to be met is allowed.
+    /// Whether it is satisfied by a list of allowed licences: both sides of each `AND`, one side of each `OR`, and each
+    /// licence by some entry that `allows` it. It goes over the parts once, and over the list for each licence.
     pub fn is_satisfied(&self, allowed: &[Licence]) -> bool
         ensures { (t : Tree) → Spells 0 t self.now → result ≡ truth (is_allowed (map term_of allowed.now)) t }
     {

@@ -1,8 +1,8 @@
 //! Expressions: how they are read.
 
+use crate::Part;
 use crate::error::ReadError;
 use crate::reader::read_parts;
-use crate::Part;
 use std::alloc::Global;
 use std::marker::Model;
 
@@ -31,10 +31,12 @@ impl LicenceExpression {
     ghost use Rattle.spdx_expressions.specs.Errors.{IfParse};
 
     /// Reads an expression: licences, joined by `AND` and `OR`, with brackets where one likes. A licence is an
-    /// identifier, perhaps with `+` directly behind it, and perhaps with `WITH` and an exception. A `/` is an older `OR`.
+    /// identifier, perhaps with `+` directly behind it, and perhaps with `WITH` and an exception. A `/` is an older
+    /// `OR`. The grammar is that of the SPDX specification 2.3, annex "SPDX license expressions".
     ///
     /// Any other text is refused with `ReadError::Parse` of its fault: the first token that can't follow those before
-    /// it, or the end that comes too early. Where memory is refused the answer is `ReadError::Memory`, whatever the text.
+    /// it, or the end that comes too early. Where memory is refused the answer is `ReadError::Memory`, whatever the
+    /// text.
     pub fn from_str(alloc: Global, text: &str) -> Result<LicenceExpression, ReadError>
         // What is read is what the text is written as, and spells a tree.
         ensures parts { IfOk result (λ e. AreWritten e (tokens text.now)) }

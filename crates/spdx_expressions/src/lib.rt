@@ -1,15 +1,15 @@
-//! SPDX licence expressions, as the field `license` of a Cargo manifest has them: read from text, printed, and judged over
-//! a list of allowed licences.
+//! SPDX licence expressions, as the field `license` of a Cargo manifest has them: read from text, printed, and judged
+//! over a list of allowed licences.
 //!
-//! The grammar is that of the annex "SPDX license expressions" of the SPDX specification 2.3, by which Cargo's reference
-//! explains the field, and has the older `/` for `OR`. An expression keeps its parts in one list, from left to right, so
-//! that no call takes stack for the depth or the length of a text. What allocates takes the allocator first and answers a
-//! `Result`.
+//! The grammar is that of the annex "SPDX license expressions" of the SPDX specification 2.3, by which Cargo's
+//! reference explains the field, and has the older `/` for `OR`. An expression keeps its parts in one list, from left
+//! to right, so that no call takes stack for the depth or the length of a text. What allocates takes the allocator first
+//! and answers a `Result`.
 #![tactic(auto)]
 
-mod error;
 mod allowed;
 mod display;
+mod error;
 mod expression;
 pub mod laws;
 mod reader;
@@ -17,8 +17,8 @@ mod single;
 mod tokens;
 mod words;
 
-pub use expression::LicenceExpression;
 pub use error::{Expected, Found, ParseError, ReadError};
+pub use expression::LicenceExpression;
 
 /// One licence, as it stands in an expression.
 #[derive(Debug, Drop)]

@@ -1,6 +1,7 @@
 //! The reader: one token after another, with the brackets that are open.
 
-ghost use Rattle.std.specs.Prelude.{◌≡◌, ◌<◌, ◌≤◌, ◌∷◌, ◌++◌, ◌+◌, ◌≢◌, [], ℕ, List, true, false, length, None, Some, OnOk, IfOk, IfErr, IsTrue};
+ghost use Rattle.std.specs.Prelude.{◌≡◌, ◌<◌, ◌≤◌, ◌∷◌, ◌++◌, ◌+◌, ◌≢◌, [], ℕ, List, true, false, length, None, Some};
+ghost use Rattle.std.specs.Prelude.{OnOk, IfOk, IfErr, IsTrue};
 ghost use Rattle.std.specs.Prelude.{MatchOption, IsFalse, IfSome, ◌↔◌, codes};
 ghost use Rattle.std.specs.Str.{IsCharBoundary};
 ghost use Rattle.spdx_expressions.specs.Tokens.{Placed, placed, lexeme, Word, LeftBracket, RightBracket};
@@ -174,7 +175,7 @@ pub(crate) fn name_in<'a>(token: Token<'a>) -> Option<(&'a str, bool)>
     ensures { MatchOption result
         (lexeme token.entry ≢ LeftBracket → (n : ℕ) (ps : List Piece) → operand n ps (lexeme token.entry) ≡ None)
         (λ r. (n : ℕ) (ps : List Piece) → operand n ps (lexeme token.entry)
-            ≡ at (Licensed (record { name = r.0.now; or_later = r.1; exception = None })) n ps) }
+        ≡ at (Licensed (record { name = r.0.now; or_later = r.1; exception = None })) n ps) }
 {
     match token {
         Token::Word(word) => licence_name(word),
@@ -239,8 +240,10 @@ impl<'a> Reader<'a> {
         requires order { self.old.place < end }
         requires depth { self.old.depth ≤ self.old.place }
         requires reached { IsReached self.old.text.now (left self.old.text.now end) (record {
-            mode = Licensed (record { name = name.now; or_later = or_later; exception = None });
-            depth = self.old.depth; parts = pieces self.old.parts.items }) }
+          mode = Licensed (record { name = name.now; or_later = or_later; exception = None });
+          depth = self.old.depth;
+          parts = pieces self.old.parts.items;
+        }) }
         ensures same { self.new.text ≡ self.old.text }
         ensures reading { OnOk result (IsReading self.new) }
         ensures further { OnOk result (self.old.place < self.new.place) }

@@ -82,7 +82,8 @@ fn word_at<'a>(text: &'a str, start: usize) -> Spanned<'a>
     requires boundary { IsCharBoundary text.now start }
     requires within { start < length text.now }
     requires begins { is_word_byte (slice_index text.now start) ≡ true }
-    ensures next { tokens_from start (drop start text.now) ≡ placed result ∷ tokens_from result.end (drop result.end text.now) }
+    ensures next { tokens_from start (drop start text.now)
+        ≡ placed result ∷ tokens_from result.end (drop result.end text.now) }
     ensures boundary { IsCharBoundary text.now result.end }
     ensures order { start < result.end }
     ensures within { result.end ≤ length text.now }

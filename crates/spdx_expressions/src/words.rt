@@ -4,7 +4,8 @@ ghost use Rattle.std.specs.Prelude.{◌≡◌, None, Some, MatchOption};
 ghost use Rattle.std.specs.List.{list_all};
 ghost use Rattle.spdx_expressions.specs.Words.{is_id_byte, is_id_string, is_operator, is_identifier, goes_on};
 ghost use Rattle.spdx_expressions.specs.Inside.Reading.{named};
-ghost use Rattle.spdx_expressions.specs.Words.{is_own_reference, is_foreign_reference, is_listed, is_name, ends_with_plus};
+ghost use Rattle.spdx_expressions.specs.Words.{is_own_reference, is_foreign_reference, is_listed, is_name};
+ghost use Rattle.spdx_expressions.specs.Words.{ends_with_plus};
 
 /// An ASCII letter, an ASCII digit, `-` or `.`.
 fn is_id_byte(byte: u8) -> bool
@@ -83,7 +84,8 @@ fn is_listed(name: &str) -> bool
 fn is_name(or_later: bool, name: &str) -> bool
     ensures { result ≡ is_name or_later name.now }
 {
-    is_listed(name) || (!or_later && (is_own_reference(name.as_bytes()) || is_foreign_reference(name)))
+    is_listed(name)
+        || (!or_later && (is_own_reference(name.as_bytes()) || is_foreign_reference(name)))
 }
 
 /// Whether the last byte is `+`.

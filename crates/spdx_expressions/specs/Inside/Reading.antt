@@ -1,7 +1,7 @@
 -- The reader, token by token.
-use Rattle.std.specs.Prelude.{ℕ, suc, zero, ◌+◌, ◌-◌, Bool, true, false, ◌≡◌, if◌then◌else◌, List, [], ◌∷◌, ◌++◌, length, take}
-use Rattle.std.specs.Prelude.{Option, Some, None, codes, nat_eq, bytes_eq}
-use Rattle.std.specs.Prelude.{map, drop, MatchBool, ◌≤◌}
+use Rattle.std.specs.Prelude.{ℕ, suc, zero, ◌+◌, true, ◌≡◌, if◌then◌else◌, List, [], ◌∷◌, ◌++◌}
+use Rattle.std.specs.Prelude.{Option, Some, None, codes, bytes_eq}
+use Rattle.std.specs.Prelude.{drop, MatchBool, ◌≤◌}
 use Rattle.std.specs.Str.{IsCharBoundary}
 use Rattle.spdx_expressions.specs.declared.error.Expected.{Expected}
 use Rattle.spdx_expressions.specs.declared.error.Expected.TheVariants as expected
@@ -11,7 +11,8 @@ use Rattle.spdx_expressions.specs.declared.error.ReadError.TheVariants as errors
 use Rattle.spdx_expressions.specs.declared.error.Refusal.{Refusal}
 use Rattle.spdx_expressions.specs.declared.error.Refusal.TheVariants as refusal
 use Rattle.spdx_expressions.specs.declared.reader.Reader.{Reader}
-use Rattle.spdx_expressions.specs.Tokens.{Lexeme, LeftBracket, RightBracket, Slash, Word, Placed, tokens_from, tokens, lexemes, placed}
+use Rattle.spdx_expressions.specs.Tokens.{Lexeme, LeftBracket, RightBracket, Slash, Word, Placed, tokens_from, tokens}
+use Rattle.spdx_expressions.specs.Tokens.{lexemes, placed}
 use Rattle.spdx_expressions.specs.declared.tokens.Spanned.{Spanned}
 use Rattle.spdx_expressions.specs.Faults.{found_next, span_next, expected_behind}
 use Rattle.spdx_expressions.specs.Words.{is_identifier, ends_with_plus, without_plus, names_licence}
@@ -175,8 +176,8 @@ IsReading r =
     IsCharBoundary r.text.now r.place × (r.depth ≤ r.place)
     × (s : State) × IsReached r.text.now (left r.text.now r.place) s
     × MatchBool r.wanted
-      (s ≡ record { mode = Wants; depth = r.depth; parts = pieces r.parts.items })
-      (IsBehind s (left r.text.now r.place) r.depth (pieces r.parts.items))
+    (s ≡ record { mode = Wants; depth = r.depth; parts = pieces r.parts.items })
+    (IsBehind s (left r.text.now r.place) r.depth (pieces r.parts.items))
 
 -- the token is no operator: it does not fit behind an operand, but `)` does where a bracket is open
 pub record IsNoOperator (t : Lexeme) : Type 0 where

@@ -1,4 +1,4 @@
-use Rattle.std.proofs.Common.{◌≡◌, ◌≤◌, map, take, drop}
+use Rattle.std.proofs.Common.{◌≡◌, ◌≤◌, map, drop}
 use Rattle.spdx_expressions.specs.Trees.{term_of, pieces}
 use Rattle.spdx_expressions.specs.Allowed.{is_allowed}
 use Rattle.spdx_expressions.specs.Inside.Walking.{walk, walk_of, live}

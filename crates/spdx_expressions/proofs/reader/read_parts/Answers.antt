@@ -1,7 +1,6 @@
-use Rattle.std.proofs.Common.{refl, arith, sym, ap, []}
+use Rattle.std.proofs.Common.{refl, arith, []}
 use Rattle.std.proofs.lemmas.Str.{IsCharBoundary-start}
-use Rattle.spdx_expressions.specs.Trees.{pieces}
-use Rattle.spdx_expressions.specs.Inside.Reading.{start, Wants, State}
+use Rattle.spdx_expressions.specs.Inside.Reading.{start}
 use Rattle.spdx_expressions.proofs.reader.read_parts.Goals as goal
 
 pub tokens-init : goal.tokens-init

@@ -1,7 +1,7 @@
-use Rattle.std.proofs.Common.{◌≡◌, ◌≢◌, ◌∙◌, ◌+◌, ◌<◌, sym, ap, length, get_or, arith, true}
+use Rattle.std.proofs.Common.{◌≡◌, ◌<◌, ap, length, get_or, arith, true}
 use Rattle.std.proofs.lemmas.Str.{IsCharBoundary-after_ascii}
 use Rattle.spdx_expressions.specs.Tokens.{is_mark}
-use Rattle.spdx_expressions.proofs.Cutting.{mark_step, mark_is_ascii}
+use Rattle.spdx_expressions.proofs.Cutting.{mark_is_ascii}
 use Rattle.spdx_expressions.proofs.tokens.token_at.Goals as goal
 
 pub returns-clause-boundary : goal.returns-clause-boundary

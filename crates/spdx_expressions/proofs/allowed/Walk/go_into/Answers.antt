@@ -1,4 +1,4 @@
-use Rattle.std.proofs.Common.{◌≡◌, ◌∙◌, ap, map, List}
+use Rattle.std.proofs.Common.{◌∙◌, ap}
 use Rattle.spdx_expressions.specs.Trees.{Term, term_of}
 use Rattle.spdx_expressions.specs.Allowed.{allows}
 use Rattle.spdx_expressions.specs.Inside.Walking.{live}
@@ -9,4 +9,4 @@ pub returns-in-Licence-clause-step : goal.returns-in-Licence-clause-step
 returns-in-Licence-clause-step c =
     rw (c.requires, c.in-Licence.is)
     (ap live (c.is_allowed.ensures
-      ∙ any_map (λ (entry : Term). allows entry (term_of c.in-Licence.licence)) term_of c.args.allowed.now))
+    ∙ any_map (λ (entry : Term). allows entry (term_of c.in-Licence.licence)) term_of c.args.allowed.now))

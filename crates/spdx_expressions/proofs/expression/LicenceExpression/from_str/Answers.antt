@@ -1,7 +1,4 @@
-use Rattle.std.proofs.Common.{List, ◌≡◌}
-use Rattle.spdx_expressions.specs.Trees.{Piece, pieces}
-use Rattle.spdx_expressions.specs.Grammar.{IsWellFormed}
-use Rattle.spdx_expressions.specs.Print.{print}
+use Rattle.spdx_expressions.specs.Trees.{pieces}
 use Rattle.spdx_expressions.proofs.Viable.{read_tree, error_fault, error_refuses}
 use Rattle.spdx_expressions.proofs.Printing.{read_written, written_terms, print_read, print_refused}
 use Rattle.spdx_expressions.proofs.expression.LicenceExpression.from_str.Goals as goal
@@ -31,6 +28,8 @@ returns-in-Err-clause-fault c =
     error_fault c.args.text.now c.in-Err.refusal c.into_error.result c.in-Err.ensures.refused c.into_error.ensures
 
 pub returns-in-Err-clause-reads_back : goal.returns-in-Err-clause-reads_back
-returns-in-Err-clause-reads_back c = λ ps well is.
-    (tt, print_refused c.args.text.now ps c.in-Err.refusal c.into_error.result well is c.in-Err.ensures.refused
-      c.into_error.ensures)
+returns-in-Err-clause-reads_back c = λ ps well is. (
+  tt,
+  print_refused c.args.text.now ps c.in-Err.refusal c.into_error.result well is c.in-Err.ensures.refused
+      c.into_error.ensures,
+)

@@ -1,4 +1,4 @@
-use Rattle.std.proofs.Common.{◌≡◌, ◌∙◌, ap, map, List, false}
+use Rattle.std.proofs.Common.{◌∙◌, ap, map, List, false}
 use Rattle.spdx_expressions.specs.Trees.{Tree, Piece, term_of}
 use Rattle.spdx_expressions.specs.Grammar.{Spells}
 use Rattle.spdx_expressions.specs.Allowed.{is_allowed}
@@ -9,5 +9,6 @@ use Rattle.spdx_expressions.proofs.expression.LicenceExpression.is_satisfied.Goa
 pub returns : goal.returns
 returns c = λ (t : Tree) (s : Spells 0 t c.args.self.now).
     c.walk_over.ensures
-    ∙ ap (λ (ps : List Piece). (walk (is_allowed (map term_of c.args.allowed.now)) (live false) ps).value) c.parts.ensures
+    ∙ ap (λ (ps : List Piece). (walk (is_allowed (map term_of c.args.allowed.now))
+    (live false) ps).value) c.parts.ensures
     ∙ walk_truth (is_allowed (map term_of c.args.allowed.now)) t c.args.self.now s
