@@ -1,0 +1,76 @@
+//! One licence, read on its own: an entry of a list of allowed ones.
+
+ghost use Rattle.std.specs.Prelude.{◌≡◌, IfOk, IfErr, string_bytes};
+ghost use Rattle.spdx_expressions.specs.Trees.{Term, term_of};
+ghost use Rattle.spdx_expressions.specs.Grammar.{IsLicenceText};
+ghost use Rattle.spdx_expressions.specs.Faults.{IsFaultOfOne};
+ghost use Rattle.spdx_expressions.specs.Errors.{IfParse};
+ghost use Rattle.spdx_expressions.specs.Inside.Single.{IsStoppedAtOne};
+
+use crate::Licence;
+use crate::error::{Expected, ReadError, Refusal};
+use crate::reader::{exception_at, name_in, refuse};
+use crate::tokens::token_at;
+use std::alloc::Global;
+
+impl Licence {
+    /// Reads one licence: its identifier, with `+` directly behind it where it has that, and `WITH` and an exception
+    /// where it has one.
+    pub fn from_str(alloc: Global, text: &str) -> Result<Licence, ReadError>
+        // What is read is the licence that the text spells.
+        ensures licence { IfOk result (λ l. IsLicenceText text.now (term_of l)) }
+        // No text that spells one is refused.
+        ensures refused { IfParse result (λ _. (t : Term) → IsLicenceText text.now t → ⊥) }
+        // The error is of this text, and is its fault.
+        ensures text { IfParse result (λ e. string_bytes e.text ≡ text.now) }
+        ensures fault { IfParse result (λ e. IsFaultOfOne text.now e.expected e.found e.span) }
+    {
+        match read_one(alloc, text) {
+            Ok(licence) => Ok(licence),
+            Err(refusal) => Err(refusal.into_error(alloc, text)),
+        }
+    }
+}
+
+/// The licence that a text is.
+fn read_one(alloc: Global, text: &str) -> Result<Licence, Refusal>
+    ensures licence { IfOk result (λ l. IsLicenceText text.now (term_of l)) }
+    ensures refused { IfErr result (IsStoppedAtOne text.now) }
+{
+    let next = token_at(text, 0);
+    let Some(first) = next else {
+        return Err(refuse(text, Expected::Licence, None));
+    };
+    let Some((name, or_later)) = name_in(first.token) else {
+        return Err(refuse(text, Expected::Licence, Some(first)));
+    };
+    let found = match exception_at(text, first.end) {
+        Ok(found) => found,
+        Err(refusal) => return Err(refusal),
+    };
+    match found {
+        Some(exception) => {
+            if let Some(surplus) = token_at(text, exception.end) {
+                return Err(refuse(text, Expected::End, Some(surplus)));
+            }
+            let word = String::from_str(alloc, exception.word)?;
+            let id = String::from_str(alloc, name)?;
+            Ok(Licence {
+                id,
+                or_later,
+                exception: Some(word),
+            })
+        }
+        None => {
+            if let Some(surplus) = token_at(text, first.end) {
+                return Err(refuse(text, Expected::End, Some(surplus)));
+            }
+            let id = String::from_str(alloc, name)?;
+            Ok(Licence {
+                id,
+                or_later,
+                exception: None,
+            })
+        }
+    }
+}
