@@ -26,6 +26,7 @@ pub record IsKindRow (d : Data) (row : KindRow) : Type 0 where
 
 pub record IsDependency (d : Data) (dependency : Dependency) : Type 0 where
   pub on : text_at (codes "pkg") d ≡ Some dependency.on.now
+  pub name : text_at (codes "name") d ≡ option_copied dependency.name
   pub kinds : AreRowsAt IsKindRow (codes "dep_kinds") d dependency.kinds.items
 
 pub record IsNode (d : Data) (node : Node) : Type 0 where

@@ -7,7 +7,7 @@ ghost use Rattle.cargo_metadata.specs.Fields.{IsWrong};
 ghost use Rattle.cargo_metadata.specs.Nodes.{kind_at, condition_at, IsKindRow, IsDependency, IsNode};
 ghost use Rattle.cargo_metadata.specs.Nodes.{IsInDependency, IsInNode};
 
-use crate::fields::{field_at, wanted_list, wanted_text};
+use crate::fields::{field_at, text_at, wanted_list, wanted_text};
 use crate::refusals::{InDependency, InNode, Wanted, Wrong};
 use serde_json::Value;
 use std::alloc::{AllocError, Global};
@@ -31,6 +31,8 @@ pub struct KindRow<'a> {
 #[derive(Drop)]
 pub struct Dependency<'a> {
     pub on: &'a str,
+    /// The name by which the node's code calls it, if one is a text there.
+    pub name: Option<&'a str>,
     pub kinds: Vec<KindRow<'a>>,
 }
 
@@ -118,7 +120,8 @@ fn dependency_of<'a>(alloc: Global, value: &'a Value) -> Result<Dependency<'a>, 
             return Err(InDependency::Memory(AllocError::from(error)));
         }
     }
-    Ok(Dependency { on, kinds })
+    let name = text_at(value, "name");
+    Ok(Dependency { on, name, kinds })
 }
 
 /// The node that an object is.

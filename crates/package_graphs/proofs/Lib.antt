@@ -7,3 +7,4 @@ pub mod Reached
 pub mod Chosen
 pub mod Sided
 pub mod Alone
+pub mod Distances

@@ -55,7 +55,7 @@ pub fits_node : (p n : ℕ) (from : Side) → p < n → node_of p from < 2 * n
 fits_node p n Target below = omega (arith, below)
 fits_node p n Host below = omega (arith, below)
 
-has_package : (packages : List Package) (p : ℕ) (d : Dependency) → Contains (dependencies packages p) d
+pub has_package : (packages : List Package) (p : ℕ) (d : Dependency) → Contains (dependencies packages p) d
     → p < length packages
 has_package packages p d (j, below, is) =
     elim (cases_lt p (length packages)) as (λ _. p < length packages) [

@@ -1,2 +1,3 @@
 pub mod Spreading
 pub mod Numbered
+pub mod Searching

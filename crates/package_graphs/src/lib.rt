@@ -1,10 +1,12 @@
 //! Graphs whose edges hold at some targets, and the targets at which each node is there.
 #![tactic(auto)]
 
+mod following;
 mod graph;
 pub mod laws;
 mod package_sets;
 mod packages;
+mod paths;
 mod presence;
 mod queue;
 mod sides;
@@ -12,4 +14,5 @@ mod sides;
 pub use graph::{Edge, Graph};
 pub use package_sets::{PackageSets, present_packages};
 pub use packages::{Dependency, Kind, Kinds, Package, Side};
+pub use paths::{Step, shortest_path};
 pub use presence::{Counted, present, present_counted};

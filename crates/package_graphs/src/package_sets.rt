@@ -56,12 +56,7 @@ pub fn present_packages(
     ensures without_host { host ≡ None → IfOk result (λ sets. (p k : ℕ) → p < length packages.now → k < COUNT
         → IsTrue (is_at sets p k) ↔ IsThere packages.now kinds k p) }
 {
-    let question = Question {
-        kinds,
-        host,
-        always: TargetSet::all(),
-        never: TargetSet::none(),
-    };
+    let question = Question::new(kinds, host);
     let graph = question.graph(alloc, packages)?;
     let roots = question.roots(alloc, packages)?;
     Ok(PackageSets {

@@ -5,7 +5,7 @@ ghost use Rattle.known_targets.specs.Sets.{is_member};
 ghost use Rattle.package_graphs.specs.Graphs.{edge_lists};
 ghost use Rattle.package_graphs.specs.Kinds.{is_followed};
 ghost use Rattle.package_graphs.specs.Packages.{node_of, side, is_macro, is_of_host, side_after, first_side};
-ghost use Rattle.package_graphs.specs.Inside.Numbered.{holds_by, edge_of, edges_on, numbered, AreFirst};
+ghost use Rattle.package_graphs.specs.Inside.Numbered.{holds_by, edge_of, edges_on, numbered, AreFirst, IsQuestion};
 
 use crate::graph::{Edge, Graph};
 use crate::packages::{Dependency, Kind, Kinds, Package, Side};
@@ -56,8 +56,22 @@ fn side(is_for_host: bool) -> Side
 }
 
 impl Question {
+    /// What is asked by these kinds, and of this host.
+    pub fn new(kinds: Kinds, host: Option<KnownTarget>) -> Question
+        ensures sets { IsQuestion result }
+        ensures kinds { result.kinds ≡ kinds }
+        ensures host { result.host ≡ host }
+    {
+        Question {
+            kinds,
+            host,
+            always: TargetSet::all(),
+            never: TargetSet::none(),
+        }
+    }
+
     /// What a package is built for that a dependency leads to.
-    fn side_after(&self, from: Side, kind: Kind, is_macro: bool) -> Side
+    pub fn side_after(&self, from: Side, kind: Kind, is_macro: bool) -> Side
         ensures { result ≡ side_after self.now.host from kind is_macro }
     {
         match self.host {
@@ -67,7 +81,7 @@ impl Question {
     }
 
     /// What a root is built for.
-    fn first_side(&self, is_macro: bool) -> Side
+    pub fn first_side(&self, is_macro: bool) -> Side
         ensures { result ≡ first_side self.now.host is_macro }
     {
         match self.host {
@@ -77,7 +91,7 @@ impl Question {
     }
 
     /// Where a dependency holds: everywhere or nowhere, where it is asked of the host.
-    fn holds_by(&self, from: Side, dependency: &Dependency) -> TargetSet
+    pub fn holds_by(&self, from: Side, dependency: &Dependency) -> TargetSet
         ensures { result ≡ holds_by self.now.host self.now.always self.now.never from dependency.now }
     {
         match self.host {

@@ -1,0 +1,167 @@
+//! What is asked of a graph.
+
+use key_answers::answer::Answer;
+use key_answers::printing::shown_name;
+use known_targets::{COUNT, KnownTarget, RUSTC_VERSION, TargetSet};
+use package_graphs::Kinds;
+use std::alloc::{AllocError, Global};
+
+/// What is printed.
+#[derive(Clone, Copy, Debug, PartialEq, Eq, Drop)]
+pub enum Show {
+    Packages,
+    Edges,
+    Targets,
+    Why,
+}
+
+/// The words of the command line, as they are.
+#[derive(Clone, Copy, Drop)]
+pub struct Words<'a> {
+    /// Names of targets; none stands for all known ones.
+    pub targets: &'a [&'a str],
+    /// The kinds of dependencies that are followed, joined by commas; nothing stands for all.
+    pub edges: Option<&'a str>,
+    pub host: Option<&'a str>,
+    /// Names of the workspace's members that are roots; none stands for all members.
+    pub packages: &'a [&'a str],
+    pub show: Option<&'a str>,
+    /// Of the packages with which name it is asked why they are there.
+    pub of: Option<&'a str>,
+    pub json: bool,
+}
+
+/// What is asked, as it is understood.
+#[derive(Clone, Copy, Drop)]
+pub struct Asked<'a> {
+    /// The targets that are asked for.
+    pub targets: TargetSet,
+    /// How many these are.
+    pub count: usize,
+    /// Whether they were named.
+    pub are_named: bool,
+    pub kinds: Kinds,
+    pub host: Option<KnownTarget>,
+    pub packages: &'a [&'a str],
+    pub show: Show,
+    pub of: &'a str,
+    pub json: bool,
+}
+
+/// What is said of words that can't be used.
+fn unusable(alloc: Global, text: &str) -> Result<Answer, AllocError> {
+    let text = format!(in alloc; "error: {text}\n")?;
+    Ok(Answer::unusable(alloc, text))
+}
+
+/// The target with this name, or what is said where none is known.
+fn target_of(alloc: Global, name: &str) -> Result<Result<KnownTarget, Answer>, AllocError> {
+    match KnownTarget::by_name(name) {
+        Some(target) => Ok(Ok(target)),
+        None => {
+            let shown = shown_name(alloc, name)?;
+            let text = format!(in alloc;
+                "error: no target that rustc {RUSTC_VERSION} knows is named {shown}\n"
+            )?;
+            Ok(Err(Answer::unusable(alloc, text)))
+        }
+    }
+}
+
+/// The targets with these names, or all known ones where there are none.
+fn targets_of(alloc: Global, names: &[&str]) -> Result<Result<TargetSet, Answer>, AllocError> {
+    if names.is_empty() {
+        return Ok(Ok(TargetSet::all()));
+    }
+    let mut targets = TargetSet::none();
+    for name in names {
+        match target_of(alloc, name)? {
+            Ok(target) => targets = targets.union(TargetSet::only(target)),
+            Err(answer) => return Ok(Err(answer)),
+        }
+    }
+    Ok(Ok(targets))
+}
+
+/// The kinds that these words name, or what is said where one names none.
+fn kinds_of(alloc: Global, words: Option<&str>) -> Result<Result<Kinds, Answer>, AllocError> {
+    let Some(words) = words else {
+        return Ok(Ok(Kinds {
+            normal: true,
+            build: true,
+            dev: true,
+        }));
+    };
+    let mut kinds = Kinds {
+        normal: false,
+        build: false,
+        dev: false,
+    };
+    for word in words.split(',') {
+        match word {
+            "normal" => kinds.normal = true,
+            "build" => kinds.build = true,
+            "dev" => kinds.dev = true,
+            _ => {
+                let shown = shown_name(alloc, word)?;
+                let text = format!(in alloc;
+                    "error: --edges names normal, build and dev, joined by commas, and not {shown}\n"
+                )?;
+                return Ok(Err(Answer::unusable(alloc, text)));
+            }
+        }
+    }
+    Ok(Ok(kinds))
+}
+
+/// What is printed by this word.
+fn show_of(word: Option<&str>) -> Option<Show> {
+    match word {
+        None | Some("packages") => Some(Show::Packages),
+        Some("edges") => Some(Show::Edges),
+        Some("targets") => Some(Show::Targets),
+        Some("why") => Some(Show::Why),
+        Some(_) => None,
+    }
+}
+
+impl<'a> Asked<'a> {
+    /// What the words ask, or what is said of words that can't be used.
+    pub fn of(alloc: Global, words: &Words<'a>) -> Result<Result<Asked<'a>, Answer>, AllocError> {
+        let Some(show) = show_of(words.show) else {
+            let text = "--show names packages, edges, targets or why";
+            return Ok(Err(unusable(alloc, text)?));
+        };
+        if words.of.is_some() != (show == Show::Why) {
+            let text = "`--show why` and `--of NAME` go together";
+            return Ok(Err(unusable(alloc, text)?));
+        }
+        let targets = match targets_of(alloc, words.targets)? {
+            Ok(targets) => targets,
+            Err(answer) => return Ok(Err(answer)),
+        };
+        let kinds = match kinds_of(alloc, words.edges)? {
+            Ok(kinds) => kinds,
+            Err(answer) => return Ok(Err(answer)),
+        };
+        let mut host = None;
+        if let Some(name) = words.host {
+            match target_of(alloc, name)? {
+                Ok(target) => host = Some(target),
+                Err(answer) => return Ok(Err(answer)),
+            }
+        }
+        let are_named = !words.targets.is_empty();
+        Ok(Ok(Asked {
+            targets,
+            count: if are_named { targets.len() } else { COUNT },
+            are_named,
+            kinds,
+            host,
+            packages: words.packages,
+            show,
+            of: words.of.unwrap_or(""),
+            json: words.json,
+        }))
+    }
+}

@@ -1,0 +1,141 @@
+//! The answer on a document: it is read, linked and asked.
+
+use crate::asked::{Asked, Show, Words};
+use crate::edges::show_edges;
+use crate::packages::show_packages;
+use crate::refused::{refused_document, refused_graph, unusable};
+use crate::targets::show_targets;
+use crate::why::show_why;
+use cargo_metadata::{Metadata, Package as Described, read};
+use cargo_platform::shown_text;
+use key_answers::answer::Answer;
+use key_answers::printing::shown_name;
+use known_targets::TargetSet;
+use metadata_graphs::{Linked, link};
+use package_graphs::{PackageSets, present_packages};
+use serde_json::Value;
+use std::alloc::{AllocError, Global};
+
+/// A graph, with the targets at which each of its packages is there.
+#[derive(Drop)]
+pub struct Graph<'a> {
+    pub metadata: Metadata<'a>,
+    pub linked: Linked<'a>,
+    pub sets: PackageSets,
+    /// The packages' places, in order of name, version and id.
+    pub order: Vec<usize>,
+}
+
+impl<'a> Graph<'a> {
+    /// The targets that are asked for at which a package is there.
+    pub fn at(&self, index: usize, asked: &Asked<'_>) -> TargetSet {
+        self.sets.at(index).intersection(asked.targets)
+    }
+
+    /// The package at a place, as the document describes it.
+    pub fn described(&self, index: usize) -> Option<&Described<'a>> {
+        self.linked.described.get(index)
+    }
+}
+
+/// The places of the packages in order of name, version and id.
+fn in_order(alloc: Global, described: &[Described<'_>]) -> Result<Vec<usize>, AllocError> {
+    let mut keys = Vec::new(alloc);
+    for i in 0..described.len() {
+        let it = &described[i];
+        keys.push(((it.name, it.version), (it.id, i)))?;
+    }
+    keys.sort()?;
+    let mut order = Vec::new(alloc);
+    for (_, (_, i)) in &keys {
+        order.push(*i)?;
+    }
+    Ok(order)
+}
+
+/// Leaves those members alone as roots that have one of these names. An `Err` is a name that no member has.
+fn choose_roots<'a>(linked: &mut Linked<'_>, names: &[&'a str]) -> Result<(), &'a str> {
+    if names.is_empty() {
+        return Ok(());
+    }
+    for name in names {
+        let mut is_known = false;
+        for i in 0..linked.packages.len() {
+            if let Some(described) = linked.described.get(i) {
+                is_known |= linked.packages[i].is_root && described.name == *name;
+            }
+        }
+        if !is_known {
+            return Err(name);
+        }
+    }
+    for i in 0..linked.packages.len() {
+        let is_named = match linked.described.get(i) {
+            Some(described) => names.contains(&described.name),
+            None => false,
+        };
+        if let Some(unit) = linked.packages.get_mut(i) {
+            unit.is_root &= is_named;
+        }
+    }
+    Ok(())
+}
+
+/// The answer on a document that is JSON.
+fn answer_on_document(
+    alloc: Global,
+    file: &str,
+    document: &Value,
+    asked: &Asked<'_>,
+) -> Result<Answer, AllocError> {
+    let metadata = match read(alloc, document) {
+        Ok(metadata) => metadata,
+        Err(refusal) => return refused_document(alloc, file, document, &refusal),
+    };
+    let mut linked = match link(alloc, &metadata) {
+        Ok(linked) => linked,
+        Err(refusal) => return refused_graph(alloc, file, &metadata, &refusal),
+    };
+    if let Err(name) = choose_roots(&mut linked, asked.packages) {
+        let name = shown_name(alloc, name)?;
+        let reason = format!(in alloc; "no member of the workspace is named {name}")?;
+        return unusable(alloc, file, reason.as_str());
+    }
+    let sets = present_packages(alloc, &linked.packages, asked.kinds, asked.host)?;
+    let order = in_order(alloc, &linked.described)?;
+    let graph = Graph {
+        metadata,
+        linked,
+        sets,
+        order,
+    };
+    match asked.show {
+        Show::Packages => show_packages(alloc, &graph, asked),
+        Show::Edges => show_edges(alloc, &graph, asked),
+        Show::Targets => show_targets(alloc, &graph, asked),
+        Show::Why => show_why(alloc, file, &graph, asked),
+    }
+}
+
+/// The answer to the words on what `cargo metadata` printed; `file` is where that was read.
+pub fn answer_on(
+    alloc: Global,
+    file: &str,
+    text: &str,
+    words: &Words<'_>,
+) -> Result<Answer, AllocError> {
+    let asked = match Asked::of(alloc, words)? {
+        Ok(asked) => asked,
+        Err(answer) => return Ok(answer),
+    };
+    let file = shown_text(alloc, file)?;
+    match Value::from_str(alloc, text) {
+        Ok(document) => answer_on_document(alloc, file.as_str(), &document, &asked),
+        Err(error) => {
+            let reason = format!(in alloc; "{error}")?;
+            let reason = shown_text(alloc, reason.as_str())?;
+            let reason = format!(in alloc; "no JSON: {reason}")?;
+            unusable(alloc, file.as_str(), reason.as_str())
+        }
+    }
+}

@@ -1,0 +1,123 @@
+//! JSON, written as text: an object a line. No text of a document can end a line or move one.
+
+use cargo_platform::shown_text;
+use known_targets::TargetSet;
+use std::alloc::{AllocError, Global};
+
+/// Whether a character stands in a JSON text as it is, of those below U+0080.
+fn is_plain(byte: u8) -> bool {
+    (0x20..0x7f).contains(&byte) && byte != b'"' && byte != b'\\'
+}
+
+/// Whether a character is one that is shown as it is.
+fn is_shown(alloc: Global, c: char) -> Result<bool, AllocError> {
+    let mut text = String::new(alloc);
+    text.push(c)?;
+    let shown = shown_text(alloc, text.as_str())?;
+    Ok(shown.as_str() == text.as_str())
+}
+
+/// Appends sixteen bits of a character as `\u` and four digits.
+fn push_unit(text: &mut String, alloc: Global, unit: u32) -> Result<(), AllocError> {
+    let unit = format!(in alloc; "\\u{unit:04x}")?;
+    text.push_str(unit.as_str())
+}
+
+/// Appends a character as its number, above U+FFFF as two numbers.
+fn push_number(text: &mut String, alloc: Global, c: char) -> Result<(), AllocError> {
+    let code = u32::from(c);
+    if code <= 0xffff {
+        return push_unit(text, alloc, code);
+    }
+    let above = code.wrapping_sub(0x1_0000);
+    push_unit(text, alloc, 0xd800 | (above >> 10) & 0x3ff)?;
+    push_unit(text, alloc, 0xdc00 | above & 0x3ff)
+}
+
+/// Appends a text with its quotes. What lines of people show as U+FFFD is written as a number.
+pub fn push_text(text: &mut String, alloc: Global, part: &str) -> Result<(), AllocError> {
+    text.push_str("\"")?;
+    if part.bytes().all(is_plain) {
+        text.push_str(part)?;
+        return text.push_str("\"");
+    }
+    for c in part.chars() {
+        match c {
+            '"' => text.push_str("\\\"")?,
+            '\\' => text.push_str("\\\\")?,
+            ' '..='~' => text.push(c)?,
+            _ => {
+                if is_shown(alloc, c)? {
+                    text.push(c)?;
+                } else {
+                    push_number(text, alloc, c)?;
+                }
+            }
+        }
+    }
+    text.push_str("\"")
+}
+
+/// Appends a text, or null.
+pub fn push_optional(
+    text: &mut String,
+    alloc: Global,
+    part: Option<&str>,
+) -> Result<(), AllocError> {
+    match part {
+        Some(part) => push_text(text, alloc, part),
+        None => text.push_str("null"),
+    }
+}
+
+/// Appends the name of a member of an object, after what begins it: `{` or `, `.
+pub fn push_field(text: &mut String, begin: &str, name: &str) -> Result<(), AllocError> {
+    text.push_str(begin)?;
+    text.push_str("\"")?;
+    text.push_str(name)?;
+    text.push_str("\": ")
+}
+
+/// Appends a number.
+pub fn push_count(text: &mut String, alloc: Global, count: usize) -> Result<(), AllocError> {
+    let count = format!(in alloc; "{count}")?;
+    text.push_str(count.as_str())
+}
+
+/// Appends the members `targets`, how many these are, and `at`, which is "all" where they are all that are asked for.
+pub fn push_targets(
+    text: &mut String,
+    alloc: Global,
+    targets: TargetSet,
+    asked: TargetSet,
+) -> Result<(), AllocError> {
+    push_field(text, ", ", "targets")?;
+    push_count(text, alloc, targets.len())?;
+    push_field(text, ", ", "at")?;
+    if targets.equals(asked) {
+        return text.push_str("\"all\"");
+    }
+    push_names(text, targets)
+}
+
+/// Appends the names of targets, as an array.
+pub fn push_names(text: &mut String, targets: TargetSet) -> Result<(), AllocError> {
+    text.push_str("[")?;
+    let mut is_first = true;
+    for target in targets.iter() {
+        push_comma(text, is_first)?;
+        is_first = false;
+        text.push_str("\"")?;
+        text.push_str(target.name())?;
+        text.push_str("\"")?;
+    }
+    text.push_str("]")
+}
+
+/// Appends a comma and a space before each part but the first.
+pub fn push_comma(text: &mut String, is_first: bool) -> Result<(), AllocError> {
+    if is_first {
+        return Ok(());
+    }
+    text.push_str(", ")
+}

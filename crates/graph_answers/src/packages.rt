@@ -1,0 +1,174 @@
+//! `--show packages`: at which targets each package is there.
+
+use crate::asked::Asked;
+use crate::graph::Graph;
+use crate::json::{push_comma, push_field, push_optional, push_targets, push_text};
+use crate::lines::{shown_package, shown_targets};
+use key_answers::answer::{Answer, Status};
+use known_targets::TargetSet;
+use package_graphs::Kind;
+use std::alloc::{AllocError, Global};
+
+/// By which kinds of dependencies a package is reached at a target that is asked for.
+#[derive(Clone, Copy, Drop)]
+struct Reached {
+    normal: bool,
+    build: bool,
+    dev: bool,
+}
+
+impl Reached {
+    /// The words of the kinds, as an array.
+    fn push(self, text: &mut String) -> Result<(), AllocError> {
+        text.push_str("[")?;
+        push_word(text, self.normal, "\"normal\"", true)?;
+        push_word(text, self.build, "\"build\"", !self.normal)?;
+        push_word(text, self.dev, "\"dev\"", !self.normal && !self.build)?;
+        text.push_str("]")
+    }
+}
+
+/// Appends a word where it is to be told.
+fn push_word(
+    text: &mut String,
+    is_told: bool,
+    word: &str,
+    is_first: bool,
+) -> Result<(), AllocError> {
+    if !is_told {
+        return Ok(());
+    }
+    push_comma(text, is_first)?;
+    text.push_str(word)
+}
+
+/// By which kinds each package is reached.
+fn kinds_reached(
+    alloc: Global,
+    graph: &Graph<'_>,
+    asked: &Asked<'_>,
+) -> Result<Vec<Reached>, AllocError> {
+    let none = Reached {
+        normal: false,
+        build: false,
+        dev: false,
+    };
+    let packages = &graph.linked.packages;
+    let mut reached = vec![in alloc; none; packages.len()]?;
+    for i in 0..packages.len() {
+        for dependency in &packages[i].dependencies {
+            let Some(to) = reached.get_mut(dependency.to) else {
+                continue;
+            };
+            let targets = graph
+                .sets
+                .following(packages, asked.kinds, asked.host, i, dependency);
+            if targets.intersection(asked.targets).is_empty() {
+                continue;
+            }
+            match dependency.kind {
+                Kind::Normal => to.normal = true,
+                Kind::Build => to.build = true,
+                Kind::Dev => to.dev = true,
+            }
+        }
+    }
+    Ok(reached)
+}
+
+/// The answer to `--show packages`.
+pub fn show_packages(
+    alloc: Global,
+    graph: &Graph<'_>,
+    asked: &Asked<'_>,
+) -> Result<Answer, AllocError> {
+    let reached = kinds_reached(alloc, graph, asked)?;
+    let mut answer = Answer::of(alloc, String::new(alloc), Status::Fine);
+    let mut count: usize = 0;
+    for i in &graph.order {
+        let targets = graph.at(*i, asked);
+        if !targets.is_empty() {
+            count = count.saturating_add(1);
+        }
+        if asked.json {
+            if let Some(reached) = reached.get(*i) {
+                push_object(
+                    &mut answer.output,
+                    alloc,
+                    graph,
+                    *i,
+                    targets,
+                    *reached,
+                    asked,
+                )?;
+            }
+        } else {
+            push_line(&mut answer.output, alloc, graph, *i, targets, asked)?;
+        }
+    }
+    if !asked.json {
+        let all = graph.order.len();
+        let line = format!(in alloc; "{count} of {all} packages\n")?;
+        answer.errors.push_str(line.as_str())?;
+    }
+    Ok(answer)
+}
+
+/// Appends the line of a package.
+fn push_line(
+    text: &mut String,
+    alloc: Global,
+    graph: &Graph<'_>,
+    index: usize,
+    targets: TargetSet,
+    asked: &Asked<'_>,
+) -> Result<(), AllocError> {
+    let Some(described) = graph.described(index) else {
+        return Ok(());
+    };
+    let package = shown_package(alloc, described)?;
+    let targets = shown_targets(alloc, targets, asked)?;
+    let line = format!(in alloc; "{package}: {targets}\n")?;
+    text.push_str(line.as_str())
+}
+
+/// Appends the members `package` and `id` of the object of a package, after `{`.
+pub fn push_package(
+    text: &mut String,
+    alloc: Global,
+    graph: &Graph<'_>,
+    index: usize,
+) -> Result<(), AllocError> {
+    let Some(described) = graph.described(index) else {
+        return Ok(());
+    };
+    let name = described.name;
+    let version = described.version;
+    let package = format!(in alloc; "{name} {version}")?;
+    push_field(text, "{", "package")?;
+    push_text(text, alloc, package.as_str())?;
+    push_field(text, ", ", "id")?;
+    push_text(text, alloc, described.id)
+}
+
+/// Appends the object of a package, on a line of its own.
+fn push_object(
+    text: &mut String,
+    alloc: Global,
+    graph: &Graph<'_>,
+    index: usize,
+    targets: TargetSet,
+    reached: Reached,
+    asked: &Asked<'_>,
+) -> Result<(), AllocError> {
+    let Some(described) = graph.described(index) else {
+        return Ok(());
+    };
+    push_package(text, alloc, graph, index)?;
+    push_field(text, ", ", "license")?;
+    push_optional(text, alloc, described.license)?;
+    push_targets(text, alloc, targets, asked.targets)?;
+    push_field(text, ", ", "kinds")?;
+    reached.push(text)?;
+    text.push_str("}\n")
+}

@@ -1,0 +1,120 @@
+//! What is said of a document that can't be used: the path in it, what is wrong there, and of which package.
+
+use crate::lines::shown;
+use cargo_metadata::{InResolve, Metadata, Refusal};
+use cargo_platform::ParseError;
+use key_answers::answer::Answer;
+use key_answers::printing::refused_key;
+use metadata_graphs::{InDependency, Refusal as Unlinked};
+use serde_json::Value;
+use std::alloc::{AllocError, Global};
+
+/// The answer that is this reason on a line of its own.
+pub fn unusable(alloc: Global, file: &str, reason: &str) -> Result<Answer, AllocError> {
+    let text = format!(in alloc; "{file}: error: {reason}\n")?;
+    Ok(Answer::unusable(alloc, text))
+}
+
+/// The reason with the package that it is about, where one is known.
+fn about(
+    alloc: Global,
+    file: &str,
+    reason: &str,
+    subject: Option<&str>,
+) -> Result<Answer, AllocError> {
+    match subject {
+        Some(subject) => {
+            let subject = shown(alloc, subject)?;
+            let whole = format!(in alloc; "{reason}, of {subject}")?;
+            unusable(alloc, file, whole.as_str())
+        }
+        None => unusable(alloc, file, reason),
+    }
+}
+
+/// The text at a field of an element of a list.
+fn text_in<'a>(list: Option<&'a Value>, index: usize, field: &str) -> Option<&'a str> {
+    let items = list?.as_array()?;
+    items.get(index)?.get(field)?.as_str()
+}
+
+/// The package that a refusal is about: its name, or the id of its node.
+fn subject_of<'a>(document: &'a Value, refusal: &Refusal) -> Option<&'a str> {
+    match refusal {
+        Refusal::Package(i, _) => text_in(document.get("packages"), *i, "name"),
+        Refusal::Resolve(InResolve::Node(i, _)) => {
+            let resolve = document.get("resolve")?;
+            text_in(resolve.get("nodes"), *i, "id")
+        }
+        _ => None,
+    }
+}
+
+/// What is said of a document that is none of `cargo metadata`.
+pub fn refused_document(
+    alloc: Global,
+    file: &str,
+    document: &Value,
+    refusal: &Refusal,
+) -> Result<Answer, AllocError> {
+    if let Refusal::Memory(_) = refusal {
+        return Err(AllocError);
+    }
+    let reason = format!(in alloc; "{refusal}")?;
+    about(alloc, file, reason.as_str(), subject_of(document, refusal))
+}
+
+/// The id that a refusal is about.
+fn id_of<'a>(metadata: &Metadata<'a>, refusal: &Unlinked) -> Option<&'a str> {
+    match refusal {
+        Unlinked::SamePackage { again, .. } => Some(metadata.packages.get(*again)?.id),
+        Unlinked::NoPackage(i) => Some(metadata.nodes.get(*i)?.id),
+        Unlinked::SameNode { again, .. } => Some(metadata.nodes.get(*again)?.id),
+        Unlinked::NoMember(i) => Some(metadata.members.get(*i)?),
+        Unlinked::Dependency(i, j, InDependency::NoNode) => {
+            Some(metadata.nodes.get(*i)?.dependencies.get(*j)?.on)
+        }
+        Unlinked::Dependency(i, _, _) => Some(metadata.nodes.get(*i)?.id),
+        Unlinked::Memory(_) => None,
+    }
+}
+
+/// The text of the condition at these places.
+fn condition_at<'a>(metadata: &Metadata<'a>, i: usize, j: usize, k: usize) -> Option<&'a str> {
+    let dependency = metadata.nodes.get(i)?.dependencies.get(j)?;
+    dependency.kinds.get(k)?.condition
+}
+
+/// Where a condition is refused and why, indented, as `targets` shows it.
+fn fault_lines(alloc: Global, key: &str, error: &ParseError) -> Result<String, AllocError> {
+    let whole = refused_key(alloc, key, error)?;
+    match whole.as_str().split_once('\n') {
+        Some((_, lines)) => String::from_str(alloc, lines),
+        None => Ok(String::new(alloc)),
+    }
+}
+
+/// What is said of a document whose ids or conditions make no graph.
+pub fn refused_graph(
+    alloc: Global,
+    file: &str,
+    metadata: &Metadata<'_>,
+    refusal: &Unlinked,
+) -> Result<Answer, AllocError> {
+    let is_memory = matches!(
+        refusal,
+        Unlinked::Memory(_) | Unlinked::Dependency(_, _, InDependency::Memory(_))
+    );
+    if is_memory {
+        return Err(AllocError);
+    }
+    let reason = format!(in alloc; "{refusal}")?;
+    let mut answer = about(alloc, file, reason.as_str(), id_of(metadata, refusal))?;
+    if let Unlinked::Dependency(i, j, InDependency::Condition(k, error)) = refusal {
+        if let Some(key) = condition_at(metadata, *i, *j, *k) {
+            let lines = fault_lines(alloc, key, error)?;
+            answer.errors.push_str(lines.as_str())?;
+        }
+    }
+    Ok(answer)
+}

@@ -1,0 +1,229 @@
+//! `--show targets`: classes of targets that no package tells apart, and which packages each has.
+
+use crate::asked::Asked;
+use crate::edges::edges_of;
+use crate::graph::Graph;
+use crate::json::{push_comma, push_count, push_field, push_optional, push_targets, push_text};
+use crate::lines::{joined_names, shown_count, shown_package};
+use cargo_platform::Cfg;
+use key_answers::answer::{Answer, Status};
+use known_targets::{KnownFact, TargetSet, having};
+use manifest_lints_standings::values_of;
+use std::alloc::{AllocError, Global};
+use target_classes::{Simple, classes, covering};
+
+/// A class of targets, and a condition that holds at exactly these of all known targets, where one was found.
+#[derive(Drop)]
+struct Class {
+    targets: TargetSet,
+    condition: Option<String>,
+}
+
+/// The targets of each package, without those that are alike.
+fn different_sets(alloc: Global, graph: &Graph<'_>) -> Result<Vec<TargetSet>, AllocError> {
+    let mut different: Vec<TargetSet> = Vec::new(alloc);
+    for i in 0..graph.linked.packages.len() {
+        let set = graph.sets.at(i);
+        if !different.contains(&set) {
+            different.push(set)?;
+        }
+    }
+    Ok(different)
+}
+
+/// The first target of a set, by its place, for an order of sets.
+fn first_of(set: TargetSet) -> usize {
+    match set.iter().next() {
+        Some(target) => target.index(),
+        None => known_targets::COUNT,
+    }
+}
+
+/// The facts that the conditions of the graph ask for, each with its targets.
+fn asked_facts(alloc: Global, graph: &Graph<'_>) -> Result<Vec<KnownFact>, AllocError> {
+    let mut values = Vec::new(alloc);
+    for i in 0..graph.linked.packages.len() {
+        for edge in &edges_of(alloc, graph, i)? {
+            if let Some(condition) = &edge.condition {
+                for value in &values_of(alloc, condition)? {
+                    let value: &Cfg = *value;
+                    values.push(value.clone(alloc)?)?;
+                }
+            }
+        }
+    }
+    values.sort()?;
+    values.dedup();
+    let mut facts = Vec::new(alloc);
+    for fact in values {
+        let targets = having(&fact);
+        facts.push(KnownFact { fact, targets })?;
+    }
+    Ok(facts)
+}
+
+/// The classes in the order of their first targets, each with its condition.
+fn classes_of(alloc: Global, graph: &Graph<'_>) -> Result<Vec<Class>, AllocError> {
+    let mut sets = classes(alloc, &different_sets(alloc, graph)?)?;
+    sets.sort_by_key(|set| first_of(*set))?;
+    let simple = Simple::new(alloc)?;
+    let facts = asked_facts(alloc, graph)?;
+    let mut found = Vec::new(alloc);
+    for targets in sets {
+        let condition = condition_of(alloc, targets, &simple, &facts)?;
+        found.push(Class { targets, condition })?;
+    }
+    Ok(found)
+}
+
+/// A condition that holds at exactly these targets: one fact or a name, else of the facts that the graph asks for, else
+/// of all facts.
+fn condition_of(
+    alloc: Global,
+    targets: TargetSet,
+    simple: &Simple,
+    facts: &[KnownFact],
+) -> Result<Option<String>, AllocError> {
+    let mut found = simple.condition(alloc, targets)?;
+    if found.is_none() {
+        found = covering(alloc, facts, targets)?;
+    }
+    if found.is_none() {
+        found = covering(alloc, simple.facts(), targets)?;
+    }
+    match found {
+        Some(found) => Ok(Some(format!(in alloc; "{found}")?)),
+        None => Ok(None),
+    }
+}
+
+/// The answer to `--show targets`.
+pub fn show_targets(
+    alloc: Global,
+    graph: &Graph<'_>,
+    asked: &Asked<'_>,
+) -> Result<Answer, AllocError> {
+    let mut answer = Answer::of(alloc, String::new(alloc), Status::Fine);
+    let mut classes = classes_of(alloc, graph)?;
+    classes.retain(|class| !class.targets.intersection(asked.targets).is_empty());
+    for i in 0..classes.len() {
+        let number = i.saturating_add(1);
+        if asked.json {
+            push_object(&mut answer.output, alloc, graph, number, &classes[i], asked)?;
+        } else {
+            push_line(&mut answer.output, alloc, number, &classes[i], asked)?;
+        }
+    }
+    if !asked.json {
+        push_table(&mut answer.output, alloc, graph, &classes)?;
+        let count = classes.len();
+        let line = format!(in alloc; "{count} classes\n")?;
+        answer.errors.push_str(line.as_str())?;
+    }
+    Ok(answer)
+}
+
+/// Appends the line of a class.
+fn push_line(
+    text: &mut String,
+    alloc: Global,
+    number: usize,
+    class: &Class,
+    asked: &Asked<'_>,
+) -> Result<(), AllocError> {
+    let targets = class.targets.intersection(asked.targets);
+    let count = shown_count(alloc, targets.len())?;
+    let names = joined_names(alloc, targets)?;
+    let line = match &class.condition {
+        Some(condition) => {
+            format!(in alloc; "class {number}: {count} where {condition}: {names}\n")?
+        }
+        None => format!(in alloc; "class {number}: {count}: {names}\n")?,
+    };
+    text.push_str(line.as_str())
+}
+
+/// Appends a line for each package: the classes at which it is there.
+fn push_table(
+    text: &mut String,
+    alloc: Global,
+    graph: &Graph<'_>,
+    classes: &[Class],
+) -> Result<(), AllocError> {
+    for i in &graph.order {
+        let Some(described) = graph.described(*i) else {
+            continue;
+        };
+        let package = shown_package(alloc, described)?;
+        text.push_str(package.as_str())?;
+        push_classes(text, alloc, graph.sets.at(*i), classes)?;
+    }
+    Ok(())
+}
+
+/// Appends the numbers of the classes at which a package is there, and a line end.
+fn push_classes(
+    text: &mut String,
+    alloc: Global,
+    targets: TargetSet,
+    classes: &[Class],
+) -> Result<(), AllocError> {
+    let mut count: usize = 0;
+    let mut numbers = String::new(alloc);
+    for i in 0..classes.len() {
+        if classes[i].targets.intersection(targets).is_empty() {
+            continue;
+        }
+        push_comma(&mut numbers, count == 0)?;
+        push_count(&mut numbers, alloc, i.saturating_add(1))?;
+        count = count.saturating_add(1);
+    }
+    if count == 0 {
+        text.push_str(": nowhere\n")
+    } else if count == classes.len() {
+        text.push_str(": all\n")
+    } else {
+        text.push_str(": ")?;
+        text.push_str(numbers.as_str())?;
+        text.push_str("\n")
+    }
+}
+
+/// Appends the object of a class, on a line of its own.
+fn push_object(
+    text: &mut String,
+    alloc: Global,
+    graph: &Graph<'_>,
+    number: usize,
+    class: &Class,
+    asked: &Asked<'_>,
+) -> Result<(), AllocError> {
+    push_field(text, "{", "class")?;
+    push_count(text, alloc, number)?;
+    push_field(text, ", ", "condition")?;
+    push_optional(
+        text,
+        alloc,
+        class.condition.as_ref().map(|text| text.as_str()),
+    )?;
+    push_targets(
+        text,
+        alloc,
+        class.targets.intersection(asked.targets),
+        asked.targets,
+    )?;
+    push_field(text, ", ", "packages")?;
+    text.push_str("[")?;
+    let mut is_first = true;
+    for i in &graph.order {
+        if graph.sets.at(*i).intersection(class.targets).is_empty() {
+            continue;
+        }
+        if let Some(described) = graph.described(*i) {
+            push_comma(text, is_first)?;
+            is_first = false;
+            push_text(text, alloc, described.id)?;
+        }
+    }
+    text.push_str("]}\n")
+}

@@ -1,0 +1,189 @@
+//! `--show why`: for each package of a name a shortest path from a root, at each target at which it is there.
+
+use crate::asked::Asked;
+use crate::edges::{Edge, edges_of, push_edge, shown_kind};
+use crate::graph::Graph;
+use crate::json::{push_comma, push_field, push_targets};
+use crate::lines::{joined_names, shown_count, shown_package};
+use crate::packages::push_package;
+use crate::refused::unusable;
+use key_answers::answer::{Answer, Status};
+use key_answers::printing::shown_name;
+use known_targets::TargetSet;
+use package_graphs::{Step, shortest_path};
+use std::alloc::{AllocError, Global};
+
+/// The targets at which one path is the shortest.
+#[derive(Drop)]
+struct Way {
+    targets: TargetSet,
+    steps: Vec<Step>,
+}
+
+/// The ways to a package, in the order of their first targets.
+fn ways_to(
+    alloc: Global,
+    graph: &Graph<'_>,
+    index: usize,
+    asked: &Asked<'_>,
+) -> Result<Vec<Way>, AllocError> {
+    let mut ways: Vec<Way> = Vec::new(alloc);
+    for target in graph.at(index, asked).iter() {
+        let packages = &graph.linked.packages;
+        let found = shortest_path(alloc, packages, asked.kinds, asked.host, target, index)?;
+        let Some(steps) = found else {
+            continue;
+        };
+        let only = TargetSet::only(target);
+        let mut is_new = true;
+        for way in &mut ways {
+            if way.steps.as_slice() == steps.as_slice() {
+                way.targets = way.targets.union(only);
+                is_new = false;
+                break;
+            }
+        }
+        if is_new {
+            ways.push(Way {
+                targets: only,
+                steps,
+            })?;
+        }
+    }
+    Ok(ways)
+}
+
+/// The answer to `--show why`.
+pub fn show_why(
+    alloc: Global,
+    file: &str,
+    graph: &Graph<'_>,
+    asked: &Asked<'_>,
+) -> Result<Answer, AllocError> {
+    let mut answer = Answer::of(alloc, String::new(alloc), Status::Fine);
+    let mut is_known = false;
+    for i in &graph.order {
+        match graph.described(*i) {
+            Some(described) if described.name == asked.of => {}
+            _ => continue,
+        }
+        is_known = true;
+        let ways = ways_to(alloc, graph, *i, asked)?;
+        if asked.json {
+            push_objects(&mut answer.output, alloc, graph, *i, &ways, asked)?;
+        } else {
+            push_lines(&mut answer.output, alloc, graph, *i, &ways)?;
+        }
+    }
+    if is_known {
+        return Ok(answer);
+    }
+    let name = shown_name(alloc, asked.of)?;
+    let reason = format!(in alloc; "no package of the graph is named {name}")?;
+    unusable(alloc, file, reason.as_str())
+}
+
+/// The edge that a step goes along.
+fn edge_of<'a>(
+    alloc: Global,
+    graph: &Graph<'a>,
+    step: &Step,
+) -> Result<Option<Edge<'a>>, AllocError> {
+    for edge in edges_of(alloc, graph, step.from)? {
+        if edge.place == step.dependency {
+            return Ok(Some(edge));
+        }
+    }
+    Ok(None)
+}
+
+/// Appends the lines of the ways to a package.
+fn push_lines(
+    text: &mut String,
+    alloc: Global,
+    graph: &Graph<'_>,
+    index: usize,
+    ways: &[Way],
+) -> Result<(), AllocError> {
+    let Some(described) = graph.described(index) else {
+        return Ok(());
+    };
+    let package = shown_package(alloc, described)?;
+    if ways.is_empty() {
+        let line = format!(in alloc; "{package}: nowhere\n")?;
+        return text.push_str(line.as_str());
+    }
+    for way in ways {
+        let count = shown_count(alloc, way.targets.len())?;
+        let names = joined_names(alloc, way.targets)?;
+        let line = format!(in alloc; "{package}: {count}: {names}\n")?;
+        text.push_str(line.as_str())?;
+        push_path(text, alloc, graph, index, way)?;
+    }
+    Ok(())
+}
+
+/// Appends the lines of a path, indented: its root, and each step.
+fn push_path(
+    text: &mut String,
+    alloc: Global,
+    graph: &Graph<'_>,
+    index: usize,
+    way: &Way,
+) -> Result<(), AllocError> {
+    let root = match way.steps.first() {
+        Some(step) => step.from,
+        None => index,
+    };
+    if let Some(described) = graph.described(root) {
+        let package = shown_package(alloc, described)?;
+        let line = format!(in alloc; "    {package}, a member of the workspace\n")?;
+        text.push_str(line.as_str())?;
+    }
+    for step in &way.steps {
+        let Some(edge) = edge_of(alloc, graph, step)? else {
+            continue;
+        };
+        let kind = shown_kind(alloc, &edge)?;
+        if let Some(described) = graph.described(edge.to) {
+            let package = shown_package(alloc, described)?;
+            let line = format!(in alloc; "    -> {package}, {kind}\n")?;
+            text.push_str(line.as_str())?;
+        }
+    }
+    Ok(())
+}
+
+/// Appends the objects of the ways to a package, each on a line of its own; one without a path where there is no way.
+fn push_objects(
+    text: &mut String,
+    alloc: Global,
+    graph: &Graph<'_>,
+    index: usize,
+    ways: &[Way],
+    asked: &Asked<'_>,
+) -> Result<(), AllocError> {
+    if ways.is_empty() {
+        push_package(text, alloc, graph, index)?;
+        push_targets(text, alloc, TargetSet::none(), asked.targets)?;
+        push_field(text, ", ", "path")?;
+        return text.push_str("null}\n");
+    }
+    for way in ways {
+        push_package(text, alloc, graph, index)?;
+        push_targets(text, alloc, way.targets, asked.targets)?;
+        push_field(text, ", ", "path")?;
+        text.push_str("[")?;
+        let mut is_first = true;
+        for step in &way.steps {
+            if let Some(edge) = edge_of(alloc, graph, step)? {
+                push_comma(text, is_first)?;
+                is_first = false;
+                push_edge(text, alloc, graph, &edge)?;
+                text.push_str("}")?;
+            }
+        }
+        text.push_str("]}\n")?;
+    }
+    Ok(())
+}

@@ -1,0 +1,4 @@
+pub mod Ids
+pub mod Links
+pub mod Refusals
+pub mod Inside

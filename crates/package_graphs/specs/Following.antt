@@ -1,0 +1,19 @@
+-- At which targets a dependency is followed.
+use Rattle.std.specs.Prelude.{ℕ, IsTrue, List, Option}
+use Rattle.known_targets.specs.Sets.{is_member}
+use Rattle.known_targets.specs.declared.known.KnownTarget.{KnownTarget}
+use Rattle.package_graphs.specs.Kinds.{is_followed}
+use Rattle.package_graphs.specs.Packages.{is_root, is_on, asked_at}
+use Rattle.package_graphs.specs.declared.packages.Kinds.{Kinds}
+use Rattle.package_graphs.specs.declared.packages.Dependency.{Dependency}
+use Rattle.package_graphs.specs.declared.packages.Package.{Package}
+use Rattle.package_graphs.specs.declared.packages.Side.{Side}
+use Rattle.package_graphs.specs.declared.package_sets.PackageSets.{PackageSets}
+
+-- the package is there at the target k, built for one side, and from there the dependency is followed and holds
+pub record IsFollowedAt (sets : PackageSets) (packages : List Package) (kinds : Kinds) (host : Option KnownTarget)
+    (from : ℕ) (d : Dependency) (k : ℕ) : Type 0 where
+  pub on : Side
+  pub there : IsTrue (is_on sets from on k)
+  pub followed : IsTrue (is_followed kinds (is_root packages from) d.kind)
+  pub holds : IsTrue (is_member d.holds (asked_at host k on d.kind))

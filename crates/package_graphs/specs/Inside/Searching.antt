@@ -1,0 +1,34 @@
+-- What is known while a path is searched, of the packages and the target of the search.
+use Rattle.std.specs.Prelude.{◌≡◌, ◌<◌, ◌≤◌, ◌+◌, ℕ, List, length, All}
+use Rattle.std.specs.List.{slice_index_or}
+use Rattle.known_targets.specs.Sets.{place}
+use Rattle.package_graphs.specs.Packages.{Sided, node_of, dependencies, StartsOn}
+use Rattle.package_graphs.specs.Paths.{LeadsBy, IsStep, IsPath, LeadTo}
+use Rattle.package_graphs.specs.declared.packages.Dependency.{Dependency}
+use Rattle.package_graphs.specs.declared.paths.Step.{Step}
+use Rattle.package_graphs.specs.declared.paths.Search.{Search}
+
+abbrev pub LeadsAlong : Search → Dependency → Sided → Sided → Type 0
+LeadsAlong s d m n = LeadsBy s.packages.now s.question.kinds s.question.host (place s.at) d m n
+
+abbrev pub IsStepOf : Search → Step → Sided → Sided → Type 0
+IsStepOf s step m n = IsStep s.packages.now s.question.kinds s.question.host (place s.at) step m n
+
+abbrev pub IsPathOf : Search → List Step → Sided → Type 0
+IsPathOf s steps n = IsPath s.packages.now s.question.kinds s.question.host (place s.at) steps n
+
+abbrev pub Leads : Search → List Step → ℕ → Type 0
+Leads s steps p = LeadTo s.packages.now s.question.kinds s.question.host (place s.at) steps p
+
+abbrev pub distance : List ℕ → Sided → ℕ
+distance ds n = slice_index_or ds (node_of n.0 n.1) 0
+
+-- what the dependency d leads to from m is no farther than this
+abbrev pub IsWithin : Search → List ℕ → Sided → ℕ → Dependency → Type 0
+IsWithin s ds m most d =
+    (n : Sided) → LeadsAlong s d m n → n.0 < length s.packages.now → distance ds n ≤ most
+
+-- a root is at the distance 0, and what a dependency of m leads to is no farther than one step from m
+pub record IsNear (s : Search) (ds : List ℕ) (m : Sided) : Type 0 where
+  pub root : StartsOn s.packages.now s.question.host m → distance ds m ≡ 0
+  pub next : All (λ d. IsWithin s ds m (distance ds m + 1) d) (dependencies s.packages.now m.0)

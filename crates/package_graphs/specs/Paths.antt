@@ -1,0 +1,48 @@
+-- Paths of dependencies from a root.
+use Rattle.std.specs.Prelude.{◌≡◌, ◌≤◌, ℕ, IsTrue, List, [], ◌∷◌, ◌++◌, Option, Some, length}
+use Rattle.std.specs.List.{slice_get}
+use Rattle.known_targets.specs.Sets.{is_member}
+use Rattle.known_targets.specs.declared.known.KnownTarget.{KnownTarget}
+use Rattle.package_graphs.specs.Kinds.{is_followed}
+use Rattle.package_graphs.specs.Packages.{is_root, is_macro, dependencies, Sided, asked_at, side_after, StartsOn}
+use Rattle.package_graphs.specs.declared.packages.Kinds.{Kinds}
+use Rattle.package_graphs.specs.declared.packages.Dependency.{Dependency}
+use Rattle.package_graphs.specs.declared.packages.Package.{Package}
+use Rattle.package_graphs.specs.declared.packages.Side.{Side}
+use Rattle.package_graphs.specs.declared.paths.Step.{Step}
+
+abbrev pub Steps : Type 0
+Steps = List Step
+
+-- the dependency d is followed from m, holds at the target k, and leads to n
+pub record LeadsBy (packages : List Package) (kinds : Kinds) (host : Option KnownTarget) (k : ℕ) (d : Dependency)
+    (m n : Sided) : Type 0 where
+  pub ends : d.to ≡ n.0
+  pub followed : IsTrue (is_followed kinds (is_root packages m.0) d.kind)
+  pub holds : IsTrue (is_member d.holds (asked_at host k m.1 d.kind))
+  pub on : n.1 ≡ side_after host m.1 d.kind (is_macro packages n.0)
+
+-- the step goes along a dependency of m, to n
+pub record IsStep (packages : List Package) (kinds : Kinds) (host : Option KnownTarget) (k : ℕ) (step : Step)
+    (m n : Sided) : Type 0 where
+  pub from : step.from ≡ m.0
+  pub dependency : Dependency
+  pub stands : slice_get (dependencies packages m.0) step.dependency ≡ Some dependency
+  pub leads : LeadsBy packages kinds host k dependency m n
+
+-- the steps lead from a root to n at the target k; no steps lead to a root
+pub data IsPath (packages : List Package) (kinds : Kinds) (host : Option KnownTarget) (k : ℕ)
+    : List Step → Sided → Type 0 where
+  starts : (n : Sided) → StartsOn packages host n → IsPath packages kinds host k [] n
+  goes_on : (steps : List Step) (step : Step) (m n : Sided) → IsPath packages kinds host k steps m
+      → IsStep packages kinds host k step m n → IsPath packages kinds host k (steps ++ step ∷ []) n
+
+-- these steps lead to the package p, on one side or the other
+abbrev pub LeadTo : List Package → Kinds → Option KnownTarget → ℕ → List Step → ℕ → Type 0
+LeadTo packages kinds host k steps p = (side : Side) × IsPath packages kinds host k steps (p, side)
+
+-- they do, and no fewer
+pub record IsShortest (packages : List Package) (kinds : Kinds) (host : Option KnownTarget) (k : ℕ)
+    (steps : List Step) (p : ℕ) : Type 0 where
+  pub path : LeadTo packages kinds host k steps p
+  pub shortest : (others : List Step) → LeadTo packages kinds host k others p → length steps ≤ length others

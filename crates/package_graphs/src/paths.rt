@@ -1,0 +1,372 @@
+//! Why a package is there: a shortest path of dependencies from a root.
+
+ghost use Rattle.std.specs.Prelude.{◌≡◌, ◌<◌, ◌≤◌, IsTrue, IfOk, IfSome, IfNone, length};
+ghost use Rattle.known_targets.specs.Sets.{place};
+ghost use Rattle.package_graphs.specs.Packages.{Sided, StartsOn, dependencies};
+ghost use Rattle.package_graphs.specs.Paths.{Steps, IsShortest};
+ghost use Rattle.package_graphs.specs.Inside.Numbered.{IsQuestion};
+ghost use Rattle.package_graphs.specs.Inside.Searching.{LeadsAlong, IsStepOf, IsPathOf, Leads, distance, IsWithin};
+ghost use Rattle.package_graphs.specs.Inside.Searching.{IsNear};
+
+use crate::following::is_root;
+use crate::packages::{Dependency, Kinds, Package, Side};
+use crate::sides::{Question, node_of};
+use known_targets::KnownTarget;
+use std::alloc::{AllocError, Global};
+
+/// A step from a package along one of its dependencies, by their places.
+#[derive(Clone, Copy, Debug, PartialEq, Eq, Drop)]
+pub struct Step {
+    pub from: usize,
+    pub dependency: usize,
+}
+
+/// A package, and what it is built for.
+type Place = (usize, Side);
+
+/// What no distance is.
+const FAR: usize = usize::MAX;
+
+/// How far from the roots each package is, on both sides, and by which step it was reached first.
+#[derive(Drop)]
+struct Spread {
+    distances: Vec<usize>,
+    reached_by: Vec<Option<(usize, Step)>>,
+}
+
+/// What is asked of packages at one target.
+#[derive(Clone, Copy)]
+struct Search<'a> {
+    question: Question,
+    packages: &'a [Package],
+    at: KnownTarget,
+}
+
+/// The steps of a shortest path from a root to the package at this place, each along a dependency that holds at the
+/// target; no steps lead to a root. Nothing where none was found. `packages`, `kinds` and `host` are those of
+/// `present_packages`. It refuses only where memory is refused.
+pub fn shortest_path(
+    alloc: Global,
+    packages: &[Package],
+    kinds: Kinds,
+    host: Option<KnownTarget>,
+    at: KnownTarget,
+    to: usize,
+) -> Result<Option<Vec<Step>>, AllocError>
+    ensures { IfOk result (λ found. IfSome found
+        (λ steps. IsShortest packages.now kinds host (place at) steps.items to)) }
+{
+    let search = Search {
+        question: Question::new(kinds, host),
+        packages,
+        at,
+    };
+    let spread = search.spread(alloc)?;
+    let steps = spread.steps_to(alloc, to)?;
+    if search.leads_to(&steps, to) && search.is_no_nearer(&spread.distances, steps.len(), to) {
+        Ok(Some(steps))
+    } else {
+        Ok(None)
+    }
+}
+
+impl Spread {
+    /// The distance of a node.
+    fn distance(&self, node: usize) -> usize {
+        self.distances.get(node).copied().unwrap_or(FAR)
+    }
+
+    /// The steps that were gone to the package, or some others where none were.
+    fn steps_to(&self, alloc: Global, to: usize) -> Result<Vec<Step>, AllocError> {
+        let mut steps = Vec::new(alloc);
+        if to > self.distances.len() / 2 {
+            return Ok(steps);
+        }
+        let target = node_of(to, Side::Target);
+        let host = node_of(to, Side::Host);
+        let mut node = if self.distance(host) < self.distance(target) {
+            host
+        } else {
+            target
+        };
+        for _ in 0..self.distances.len() {
+            let Some(Some((before, step))) = self.reached_by.get(node).copied() else {
+                break;
+            };
+            steps.push(step)?;
+            node = before;
+        }
+        steps.reverse();
+        Ok(steps)
+    }
+}
+
+impl<'a> Search<'a> {
+    /// What a dependency leads to; nothing where it is not followed, does not hold, or leads to no package.
+    fn step_along(&self, from: Place, dependency: &Dependency) -> Option<Place>
+        requires { IsQuestion self.now.question }
+        ensures leads { IfSome result (λ n. LeadsAlong self.now dependency.now from n) }
+        ensures none { IfNone result ((n : Sided) → n.0 < length self.now.packages.now
+            → LeadsAlong self.now dependency.now from n → ⊥) }
+        ensures only { IfSome result (λ n. (other : Sided) → LeadsAlong self.now dependency.now from other
+            → other ≡ n) }
+        ensures inside { IfSome result (λ n. n.0 < length self.now.packages.now) }
+    {
+        let (index, side) = from;
+        if dependency.to >= self.packages.len() {
+            return None;
+        }
+        let question = &self.question;
+        if !question
+            .kinds
+            .follow(is_root(self.packages, index), dependency.kind)
+        {
+            return None;
+        }
+        if !question.holds_by(side, dependency).contains(self.at) {
+            return None;
+        }
+        let is_macro = self.packages[dependency.to].is_macro;
+        Some((
+            dependency.to,
+            question.side_after(side, dependency.kind, is_macro),
+        ))
+    }
+
+    /// Where a root is; nothing for what is no root.
+    fn start(&self, index: usize) -> Option<Place>
+        ensures { IfSome result (λ n. (n.0 ≡ index) × StartsOn self.now.packages.now self.now.question.host n) }
+    {
+        if index >= self.packages.len() || !self.packages[index].is_root {
+            return None;
+        }
+        Some((
+            index,
+            self.question.first_side(self.packages[index].is_macro),
+        ))
+    }
+
+    /// Goes from the roots to all that is reached, nearest first.
+    fn spread(&self, alloc: Global) -> Result<Spread, AllocError>
+        requires { IsQuestion self.now.question }
+    {
+        let count = self.packages.len();
+        let mut spread = Spread {
+            distances: Vec::new(alloc),
+            reached_by: Vec::new(alloc),
+        };
+        let mut waiting = Vec::new(alloc);
+        for _ in 0..count {
+            for _ in 0..2u8 {
+                spread.distances.push(FAR)?;
+                spread.reached_by.push(None)?;
+            }
+        }
+        for index in 0..count {
+            if let Some(place) = self.start(index) {
+                reach(&mut spread, &mut waiting, place, 0, None)?;
+            }
+        }
+        for turn in 0..spread.distances.len() {
+            let Some(place) = waiting.get(turn).copied() else {
+                break;
+            };
+            self.go_on(place, &mut spread, &mut waiting)?;
+        }
+        Ok(spread)
+    }
+
+    /// Reaches what the dependencies of a package lead to.
+    fn go_on(
+        &self,
+        place: Place,
+        spread: &mut Spread,
+        waiting: &mut Vec<Place>,
+    ) -> Result<(), AllocError>
+        requires { IsQuestion self.now.question }
+    {
+        let (index, side) = place;
+        if index >= self.packages.len() {
+            return Ok(());
+        }
+        let node = node_of(index, side);
+        let distance = spread.distance(node).saturating_add(1);
+        let dependencies = dependencies_of(self.packages, index);
+        'dependencies: for i in 0..dependencies.len() {
+            let step = Step {
+                from: index,
+                dependency: i,
+            };
+            if let Some(next) = self.step_along(place, &dependencies[i]) {
+                reach(spread, waiting, next, distance, Some((node, step)))?;
+            }
+        }
+        Ok(())
+    }
+
+    /// Whether the steps lead from a root to the package.
+    fn leads_to(&self, steps: &[Step], to: usize) -> bool
+        requires { IsQuestion self.now.question }
+        ensures { IsTrue result → Leads self.now steps.now to }
+    {
+        match self.end_of(steps, to) {
+            Some((index, _)) => index == to,
+            None => false,
+        }
+    }
+
+    /// Where the steps lead from a root; without steps the package at this place has to be one.
+    fn end_of(&self, steps: &[Step], to: usize) -> Option<Place>
+        requires { IsQuestion self.now.question }
+        ensures { IfSome result (λ n. IsPathOf self.now steps.now n) }
+    {
+        let first = match steps.first() {
+            Some(step) => step.from,
+            None => to,
+        };
+        let mut place = self.start(first)?;
+        'steps: for step in steps {
+            place = self.go(place, *step)?;
+        }
+        Some(place)
+    }
+
+    /// Where a step from a place leads.
+    fn go(&self, place: Place, step: Step) -> Option<Place>
+        requires { IsQuestion self.now.question }
+        ensures { IfSome result (λ n. IsStepOf self.now step place n) }
+    {
+        let (index, _) = place;
+        if step.from != index {
+            return None;
+        }
+        let dependencies = dependencies_of(self.packages, index);
+        if step.dependency >= dependencies.len() {
+            return None;
+        }
+        self.step_along(place, &dependencies[step.dependency])
+    }
+
+    /// Whether the distances show that no fewer steps lead to the package.
+    fn is_no_nearer(&self, distances: &[usize], steps: usize, to: usize) -> bool
+        requires { IsQuestion self.now.question }
+        ensures { IsTrue result → (others : Steps) → Leads self.now others to → steps ≤ length others }
+    {
+        if to >= self.packages.len() {
+            return false;
+        }
+        'packages: for i in 0..self.packages.len() {
+            if !self.are_near(distances, (i, Side::Target)) {
+                return false;
+            }
+            if !self.are_near(distances, (i, Side::Host)) {
+                return false;
+            }
+        }
+        if steps > distance_at(distances, (to, Side::Target)) {
+            return false;
+        }
+        steps <= distance_at(distances, (to, Side::Host))
+    }
+
+    /// Whether a root is at no distance, and what the dependencies of a package lead to is no farther than one step
+    /// from it.
+    fn are_near(&self, distances: &[usize], place: Place) -> bool
+        requires { IsQuestion self.now.question }
+        ensures { IsTrue result → IsNear self.now distances.now place }
+    {
+        let (index, side) = place;
+        let distance = distance_at(distances, place);
+        if distance != 0 && self.is_start(index, side) {
+            return false;
+        }
+        let most = distance.saturating_add(1);
+        let dependencies = dependencies_of(self.packages, index);
+        'dependencies: for i in 0..dependencies.len() {
+            if !self.is_within(distances, place, &dependencies[i], most) {
+                return false;
+            }
+        }
+        true
+    }
+
+    /// Whether what a dependency leads to is no farther than this.
+    fn is_within(
+        &self,
+        distances: &[usize],
+        place: Place,
+        dependency: &Dependency,
+        most: usize,
+    ) -> bool
+        requires { IsQuestion self.now.question }
+        ensures { IsTrue result → IsWithin self.now distances.now place most dependency.now }
+    {
+        match self.step_along(place, dependency) {
+            Some(next) => distance_at(distances, next) <= most,
+            None => true,
+        }
+    }
+
+    /// Whether the package is a root that is built for this side.
+    fn is_start(&self, index: usize, side: Side) -> bool
+        ensures { StartsOn self.now.packages.now self.now.question.host (index, side) → IsTrue result }
+    {
+        if index >= self.packages.len() || !self.packages[index].is_root {
+            return false;
+        }
+        let first = self.question.first_side(self.packages[index].is_macro);
+        match first {
+            Side::Target => matches!(side, Side::Target),
+            Side::Host => matches!(side, Side::Host),
+        }
+    }
+}
+
+/// The dependencies of the package at this place; none past the end.
+fn dependencies_of(packages: &[Package], index: usize) -> &[Dependency]
+    ensures { result.now ≡ dependencies packages.now index }
+{
+    match packages.get(index) {
+        Some(found) => found.dependencies.as_slice(),
+        None => &[],
+    }
+}
+
+/// The distance of a place; 0 past the end.
+fn distance_at(distances: &[usize], place: Place) -> usize
+    ensures { result ≡ distance distances.now place }
+{
+    let (index, side) = place;
+    if index > distances.len() / 2 {
+        return 0;
+    }
+    match distances.get(node_of(index, side)) {
+        Some(distance) => *distance,
+        None => 0,
+    }
+}
+
+/// Notes how a place was reached, where it was not reached before.
+fn reach(
+    spread: &mut Spread,
+    waiting: &mut Vec<Place>,
+    place: Place,
+    distance: usize,
+    by: Option<(usize, Step)>,
+) -> Result<(), AllocError> {
+    let (index, side) = place;
+    if index > spread.distances.len() / 2 {
+        return Ok(());
+    }
+    let node = node_of(index, side);
+    if node >= spread.distances.len() || node >= spread.reached_by.len() {
+        return Ok(());
+    }
+    if spread.distances[node] != FAR {
+        return Ok(());
+    }
+    spread.distances[node] = distance;
+    spread.reached_by[node] = by;
+    waiting.push(place)?;
+    Ok(())
+}

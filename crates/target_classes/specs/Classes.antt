@@ -1,0 +1,24 @@
+-- Classes of known targets.
+use Rattle.std.specs.Prelude.{◌≡◌, ◌<◌, ◌↔◌, ℕ, IsTrue, List, All}
+use Rattle.std.specs.List.{Any}
+use Rattle.known_targets.specs.Sets.{is_member}
+use Rattle.known_targets.specs.declared.table.TheConstants.{COUNT}
+use Rattle.known_targets.specs.declared.target_set.TargetSet.{TargetSet}
+
+-- each of the sets has both targets or neither
+abbrev pub AreAlike : List TargetSet → ℕ → ℕ → Type 0
+AreAlike sets j k = All (λ set. is_member set j ≡ is_member set k) sets
+
+-- some of these has the target
+abbrev pub IsInOne : List TargetSet → ℕ → Type 0
+IsInOne sets k = Any (λ set. IsTrue (is_member set k)) sets
+
+-- beside each of its targets it has those that are alike, and no other
+abbrev pub IsClass : List TargetSet → TargetSet → Type 0
+IsClass sets class =
+    (j k : ℕ) → j < COUNT → k < COUNT → IsTrue (is_member class j) → IsTrue (is_member class k) ↔ AreAlike sets j k
+
+-- each target is in one of the classes
+pub record AreClasses (sets classes : List TargetSet) : Type 0 where
+  pub covering : (k : ℕ) → k < COUNT → IsInOne classes k
+  pub each : All (λ class. IsClass sets class) classes

@@ -1,0 +1,11 @@
+//! Classes of known targets that some sets do not tell apart, and conditions that hold at the targets of a set.
+#![tactic(auto)]
+
+mod covers;
+mod exact;
+mod partition;
+mod simple;
+
+pub use covers::covering;
+pub use partition::classes;
+pub use simple::Simple;
