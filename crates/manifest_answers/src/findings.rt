@@ -5,6 +5,7 @@ use key_answers::answer::Status;
 use key_answers::printing::{push_indented, push_json, put, put_text, text_value};
 use manifest_files::reading::Manifest;
 use manifest_lints_findings::{Finding, Level, Report};
+use manifest_tables::TargetKey;
 use serde_json::{Map, Value, json};
 use std::alloc::{AllocError, Global};
 use std::ops::Range;
@@ -44,11 +45,16 @@ pub struct Place<'a> {
     line: Option<usize>,
 }
 
+/// The key that a finding is on, if it is on one.
+fn key_of<'k, 'a>(report: &'k Report<'a>, finding: &Finding) -> Option<&'k TargetKey<'a>> {
+    report.keys.get(finding.key?)
+}
+
 /// The place of a finding of a report on a manifest.
 pub fn place_of<'a>(manifest: &'a Manifest, report: &Report<'a>, finding: &Finding) -> Place<'a> {
     let path = manifest.path.as_str();
     let lines = &manifest.document.lines;
-    match finding.key.and_then(|place: usize| report.keys.get(place)) {
+    match key_of(report, finding) {
         Some(key) => Place {
             path,
             key: Some(key.key),

@@ -1,7 +1,7 @@
 -- One more key, and one more code, of a report.
 use Rattle.std.proofs.Common.{◌≡◌, ◌∙◌, refl, sym, ap, subst, ℕ, ◌+◌, ◌<◌, ◌≤◌, Bool, true, false, arith}
 use Rattle.std.proofs.Common.{List, [], ◌∷◌, ◌++◌, append_assoc, map, take, length, get_or, Some}
-use Rattle.std.specs.List.{All, filter}
+use Rattle.std.specs.List.{filter}
 use Rattle.std.proofs.lemmas.List.{take_all, take_more, map-append, append-nil, length-map, length-take-le}
 use Rattle.std.proofs.lemmas.List.Elements.{filter-append}
 use Rattle.std.proofs.Math.Bool.{cond}
@@ -10,9 +10,9 @@ use Rattle.manifest_lints_findings.specs.declared.codes.Code.{Code}
 use Rattle.manifest_lints_findings.specs.declared.findings.Finding.{Finding}
 use Rattle.manifest_lints_findings.specs.declared.readings.ReadKey.{ReadKey}
 use Rattle.manifest_lints_findings.specs.Codes.{CodeSet}
-use Rattle.manifest_lints_findings.specs.Spells.{IsRead, entry_read}
+use Rattle.manifest_lints_findings.specs.Spells.{entry_read}
 use Rattle.declared_cfgs.specs.Declarations.{DeclaredEntry}
-use Rattle.manifest_lints.specs.Reports.{Entry, AreFindingsOn, on_more, IsFound}
+use Rattle.manifest_lints.specs.Reports.{AreFindingsOn, on_more, IsFound}
 use Rattle.manifest_lints_findings.specs.Marks.{Mark, mark, marks}
 use Rattle.manifest_lints.specs.Reports.{told_marks, left_open}
 

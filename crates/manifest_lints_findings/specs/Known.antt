@@ -10,7 +10,6 @@ use Rattle.manifest_lints_standings.specs.Standings.{Sorted, sorted_by, sorted_i
 use Rattle.manifest_lints_findings.specs.NoTables.{is_no_table, is_empty_list}
 use Rattle.manifest_lints_findings.specs.Codes.{CodeSet}
 use Rattle.manifest_lints_findings.specs.Spells.{entry_read}
-use Rattle.manifest_lints_findings.specs.declared.codes.Code.{Code}
 use Rattle.manifest_lints_findings.specs.declared.codes.Code.TheVariants as code
 use Rattle.manifest_lints_findings.specs.declared.known_keys.KnownKey.{KnownKey}
 use Rattle.manifest_lints_findings.specs.declared.readings.ReadKey.{ReadKey}

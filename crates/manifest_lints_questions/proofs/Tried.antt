@@ -1,6 +1,6 @@
 -- Sets of facts that are shown to be possible.
 use Rattle.std.proofs.Common.{◌≡◌, ◌∙◌, refl, sym, ap, true, false, true≢false, not, ◌&&◌, ℕ, Bool}
-use Rattle.std.proofs.Common.{List, [], map, length, ◌==◌, Result, Ok, Err, IfOk, Option, Some, None, inl}
+use Rattle.std.proofs.Common.{List, [], map, length, ◌==◌, Option, Some, None, inl}
 use Rattle.std.specs.Borrow.{Bor}
 use Rattle.std.specs.FinSet.{contains, contains-from_list}
 use Rattle.std.specs.Prelude.{bytes_eq, is_some, Contains}

@@ -1,4 +1,4 @@
-use Rattle.std.proofs.Common.{◌≡◌, ◌∙◌, ◌↔◌, refl, sym, ap, subst, map, IsTrue}
+use Rattle.std.proofs.Common.{◌∙◌, ◌↔◌, refl, sym, ap, subst, map, IsTrue}
 use Rattle.std.proofs.lemmas.Simd.{map-map}
 use Rattle.cargo_platform.specs.Trees.{value_of}
 use Rattle.declared_cfgs.specs.Declarations.{declarations_of}

@@ -1,4 +1,4 @@
-use Rattle.std.proofs.Common.{◌≡◌, ◌∙◌, sym, ap, subst, map, Some}
+use Rattle.std.proofs.Common.{◌∙◌, sym, ap, subst, map, Some}
 use Rattle.std.proofs.lemmas.List.Sorted.{IsPermutation-map}
 use Rattle.manifest_tables.specs.Entries.{entry_of}
 use Rattle.manifest_tables.specs.Tables.{target_told}
