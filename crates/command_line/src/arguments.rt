@@ -9,6 +9,9 @@ const BUDGET: &str = "65536";
 /// What `--deny` may name.
 const DENIED: &[&str] = &["notes"];
 
+/// What `--show` may name.
+const SHOWN: &[&str] = &["packages", "edges", "targets", "why"];
+
 /// What Cargo hands over as the first argument of `cargo manifest-check ..`.
 const CARGO_NAME: &str = "manifest-check";
 
@@ -31,7 +34,8 @@ pub fn command<'a>(alloc: Global, version: &'a str) -> Result<Command<'a>, Alloc
         .subcommand(match_command(alloc)?)?
         .subcommand(targets_command(alloc)?)?
         .subcommand(facts_command(alloc)?)?
-        .subcommand(compare_command(alloc)?)
+        .subcommand(compare_command(alloc)?)?
+        .subcommand(graph_command(alloc)?)
 }
 
 /// A key of a table under `target`.
@@ -179,4 +183,56 @@ fn compare_command<'a>(alloc: Global) -> Result<Command<'a>, AllocError> {
         .arg(budget)?
         .arg(key(alloc, "first"))?
         .arg(key(alloc, "second"))
+}
+
+/// An argument with a value, of which the last one counts, or each one where it may be repeated.
+fn valued<'a>(
+    alloc: Global,
+    id: &'a str,
+    value: &'a str,
+    is_repeated: bool,
+    help: &'a str,
+) -> Arg<'a> {
+    let action = if is_repeated {
+        ArgAction::Append
+    } else {
+        ArgAction::Set
+    };
+    Arg::new(alloc, id)
+        .long(id)
+        .value_name(value)
+        .action(action)
+        .help(help)
+}
+
+fn graph_command<'a>(alloc: Global) -> Result<Command<'a>, AllocError> {
+    let metadata =
+        "The file that `cargo metadata --format-version 1` printed, without --filter-platform";
+    let targets = "Tells of this target alone; all known ones without it";
+    let edges = "Follows these kinds, joined by commas: normal,build,dev";
+    let host = "Asks what build scripts and procedural macros need of this target";
+    let packages = "Takes the members of this name as roots; all members without it";
+    let of = "With `--show why`: of the packages of this name";
+    let show = valued(
+        alloc,
+        "show",
+        "WHAT",
+        false,
+        "What is told; packages without it",
+    );
+    Command::new(alloc, "graph")
+        .about("Tells which packages are in a build at which targets, and why")
+        .after_help(
+            "Example: cargo metadata --format-version 1 | manifest_check graph --show why --of libc\n\n\
+             Without --metadata standard input is read. A file that was made with --filter-platform can't be told from \
+             a whole one. Features are not resolved: what `cargo metadata` turned on is on.",
+        )
+        .arg(valued(alloc, "metadata", "FILE", false, metadata))?
+        .arg(valued(alloc, "target", "NAME", true, targets))?
+        .arg(valued(alloc, "edges", "KINDS", false, edges))?
+        .arg(valued(alloc, "host", "NAME", false, host))?
+        .arg(valued(alloc, "package", "NAME", true, packages))?
+        .arg(show.value_parser(SHOWN))?
+        .arg(valued(alloc, "of", "NAME", false, of))?
+        .arg(json(alloc))
 }

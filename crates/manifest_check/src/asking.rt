@@ -1,5 +1,6 @@
 //! The subcommands, asked by the words that `clap` read.
 
+use crate::graphs::graph_answer;
 use crate::linting::lint_each;
 use anyhow::{Context, Result};
 use clap::ArgMatches;
@@ -140,6 +141,9 @@ pub fn answer_to<R: Files + Input + Env + AllocGlobal>(
     }
     if let Some(m) = matches.subcommand_matches("select") {
         return select_answer(rt, m);
+    }
+    if let Some(m) = matches.subcommand_matches("graph") {
+        return graph_answer(rt, m);
     }
     if let Some(m) = matches.subcommand_matches("match") {
         return match_answer(rt, m);

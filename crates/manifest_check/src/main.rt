@@ -2,6 +2,7 @@
 #![tactic(auto)]
 
 mod asking;
+mod graphs;
 mod linting;
 
 use anyhow::Result;
