@@ -5,6 +5,7 @@
 # make c-library  proves and builds the library for C, and says where it is
 # make install-c PREFIX=..  puts the library for C, its header, a file for pkg-config and the Python package in place
 # make wheel  builds a wheel of the Python package, with the shared library in it, into out/wheel
+# make dist   one archive of the programs, the library for C and the wheel, into out/dist, from what it proves and builds
 # make take INTO=FOLDER CRATES=".."  copies crates into another repository, with those that they stand on
 # make test   THE GATE: proves everything from nothing, tries wrong bodies, and runs all tests and programs
 # make quick  the proofs alone, over what earlier checks kept
@@ -23,7 +24,7 @@
 # make try-c      the library for C and Python, called from both; it needs a C compiler
 # make pages      what the pages say, beside what it is said of
 # make depths     the programs on the deepest conditions that their inputs hold
-.PHONY: lint run build install c-library install-c wheel try-c take test gate fits mutants refusals second-reader \
+.PHONY: lint run build install c-library install-c wheel dist try-c take test gate fits mutants refusals second-reader \
 	statuses manifests graphs cargo-select \
 	pages depths quick measure targets fmt rt
 
@@ -69,6 +70,10 @@ install-c: c-library
 
 wheel: rt
 	@.ci/c-library --wheel out/wheel
+
+dist: build
+	@! command -v $(CC) > /dev/null || $(MAKE) --no-print-directory c-library
+	@.ci/dist out/dist
 
 try-c: rt
 	.ci/c-library

@@ -18,11 +18,16 @@ class Kept:
     def __init__(self, is_anew):
         self.is_anew, self.folder, self.below = is_anew, ROOT / "out" / "mutants", stands_on()
         version = subprocess.run([os.environ.get("RT", "rt"), "version"], capture_output=True, check=True).stdout
-        scripts = [HERE / "mutants", *(HERE / f"{name}.py" for name in ("crates", "edits", "functions", "kept"))]
+        names = ("crates", "edits", "functions", "kept", "proved")
+        scripts = [HERE / "mutants", *(HERE / f"{name}.py" for name in names)]
         self.base = b"".join([version, *(file.read_bytes() for file in (ROOT / "HANDLES", *scripts))])
 
     @functools.cache
-    def sum_of(self, crate, crates=CRATES):
+    def sum_of(self, crate):
+        """The sum of what proves a crate, as it stood when it was asked for first."""
+        return self.sum_now(crate, CRATES)
+
+    def sum_now(self, crate, crates):
         """The sum of what proves a crate, as it stands in this folder of crates."""
         found = hashlib.sha256(self.base)
         for name in with_those_below([crate], self.below):

@@ -88,6 +88,7 @@ class Steps:
                         self.say(f"{step.name}: {FAILED}{told[-1]}")
                     elif re.search(step.told, line):
                         self.say(f"{step.name}: {line.rstrip()}")
+            log.write(f"the step ended with status {process.returncode}\n")
         self.end(step, process.returncode, count if step.counts else last, told)
 
     def end(self, step, status, last, told):

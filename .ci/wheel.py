@@ -14,6 +14,11 @@ CONFIG = ROOT / "include" / "nevgrasi.pc"
 TAG = "py3-none-linux_x86_64"
 
 
+def version():
+    """The one version of the programs, the library and the package."""
+    return re.search(r"^Version: (.*)$", CONFIG.read_text(), re.M)[1]
+
+
 def record_line(name, data):
     """The line of RECORD for a file."""
     digest = base64.urlsafe_b64encode(hashlib.sha256(data).digest()).rstrip(b"=").decode()
@@ -22,10 +27,9 @@ def record_line(name, data):
 
 def make_wheel(library, folder):
     """Writes the wheel into the folder, and answers its path."""
-    version = re.search(r"^Version: (.*)$", CONFIG.read_text(), re.M)[1]
-    about = f"nevgrasi-{version}.dist-info"
+    about = f"nevgrasi-{version()}.dist-info"
     summary = re.search(r"^Description: (.*)$", CONFIG.read_text(), re.M)[1]
-    metadata = (f"Metadata-Version: 2.1\nName: nevgrasi\nVersion: {version}\nSummary: {summary}\n"
+    metadata = (f"Metadata-Version: 2.1\nName: nevgrasi\nVersion: {version()}\nSummary: {summary}\n"
                 "License: Apache-2.0 OR MIT\nRequires-Python: >=3.8\n")
     files = {
         "nevgrasi/__init__.py": PACKAGE.read_bytes(),
@@ -35,7 +39,7 @@ def make_wheel(library, folder):
     }
     record = "".join(record_line(name, data) for name, data in files.items()) + f"{about}/RECORD,,\n"
     folder.mkdir(parents=True, exist_ok=True)
-    wheel = folder / f"nevgrasi-{version}-{TAG}.whl"
+    wheel = folder / f"nevgrasi-{version()}-{TAG}.whl"
     with zipfile.ZipFile(wheel, "w", zipfile.ZIP_DEFLATED) as archive:
         for name, data in [*files.items(), (f"{about}/RECORD", record.encode())]:
             archive.writestr(name, data)
