@@ -3,7 +3,6 @@ use Rattle.std.proofs.Common.{◌≡◌, ◌∙◌, refl, sym, ap, subst, ℕ, z
 use Rattle.std.proofs.Common.{Bool, true, false, not, ◌&&◌, ◌||◌, List, [], ◌∷◌, ◌++◌, map, reverse, length, drop, min}
 use Rattle.std.proofs.Common.{true≢false, arith, bit_and, bit_or, bit_xor, ◌==◌, ltb}
 use Rattle.std.specs.Int.{bit_at}
-use Rattle.std.specs.Bool.{OnTrue}
 use Rattle.std.specs.List.{All}
 use Rattle.std.specs.Cmp.{first_so, second_so}
 use Rattle.std.specs.FinSet.{contains}
@@ -13,19 +12,21 @@ use Rattle.std.proofs.lemmas.List.Sums.{sum-map, sum_by_push}
 use Rattle.std.proofs.lemmas.Bool.Decides.{Decides-eqb, Decides-ltb}
 use Rattle.std.proofs.lemmas.Nat.Bits.{bit_at_and, bit_at_or, bit_at_xor, bit_at_ones, bit_at-lt, bit_at-zero}
 use Rattle.cargo_platform.specs.Trees.{All as all_of, Any, tree_of, trees_of, value_of}
-use Rattle.cargo_platform.specs.Facts.{Pair, FactSet, pair_of, truth}
+use Rattle.cargo_platform.specs.Facts.{FactSet, pair_of, truth}
 use Rattle.cargo_platform.specs.ExpressionSizes.{node_count}
 use Rattle.cargo_platform.specs.declared.cfg.CfgExpr.{CfgExpr}
-use Rattle.exact_answers.specs.Asking.{is_pair}
 use Rattle.exact_answers.specs.declared.search.Goal.{Goal}
 use Rattle.exact_answers.specs.declared.outlook.Words.{Words}
 use Rattle.exact_answers.specs.declared.outlook.Outlook.{Outlook}
-use Rattle.exact_answers.specs.declared.path.Path.{Path}
-use Rattle.exact_answers.specs.Inside.Paths.{IsAsTold, told_by_path, base_of, turns}
-use Rattle.exact_answers.specs.Inside.Goals.{true_as_wanted, goals_true, AreMissed}
+use Rattle.exact_answers.specs.declared.outlook.Finding.{Finding}
+use Rattle.exact_answers.specs.declared.outlook.Seen.TheVariants as seen
+use Rattle.exact_answers.specs.declared.outlook.Operation.{Operation}
+use Rattle.exact_answers.specs.declared.search.Step.TheVariants as step
+use Rattle.exact_answers.specs.Inside.Paths.{Base, Turn, IsAsTold, as_told, set_on, told_on}
+use Rattle.exact_answers.specs.Inside.Goals.{true_as_wanted, goals_true, AreMissed, SaysStepOn}
 use Rattle.exact_answers.specs.Inside.Ahead.{both, gathered, meets, goals_size, worked_out, IsOutlook, Fits, Covers}
-use Rattle.exact_answers.specs.Inside.Ahead.{patterns, IsSo, AllSo, AreChosen}
-use Rattle.exact_answers.proofs.Telling.{is_false, same, told_sound}
+use Rattle.exact_answers.specs.Inside.Ahead.{IsOpenAt, IsSeen, Says, patterns, IsSo, AllSo, AreChosen}
+use Rattle.exact_answers.proofs.Telling.{is_false, told_sound}
 
 -- ---- words
 
@@ -75,57 +76,55 @@ out : (b : Bool) → not b ≡ true → b ≡ false
 out true h = absurd (true≢false (sym h))
 out false h = refl
 
-pub with_it : (s : FactSet) (l : ℕ) (w : Words) (p : Pair) (wanted : Bool) → Fits s l w → wanted ≡ true
-    → is_pair p (pair_of (value_of w.pair.now)) ≡ true → true_as_wanted wanted (contains s p) ≡ true
-    → bit_at w.with l ≡ 1
-with_it s l w p true fits e h is = fits.0 (ap (contains s) (sym (same p _ h)) ∙ is)
-with_it s l w p false fits e h is = absurd (true≢false (sym e))
+pub with_it : (s : FactSet) (l : ℕ) (w : Words) (wanted : Bool) → wanted ≡ true → Fits s l w
+    → true_as_wanted wanted (contains s (pair_of (value_of w.pair.now))) ≡ true → bit_at w.with l ≡ 1
+with_it s l w true e fits is = fits.0 is
+with_it s l w false e fits is = absurd (true≢false (sym e))
 
-pub without_it : (s : FactSet) (l : ℕ) (w : Words) (p : Pair) (wanted : Bool) → Fits s l w → wanted ≡ false
-    → is_pair p (pair_of (value_of w.pair.now)) ≡ true → true_as_wanted wanted (contains s p) ≡ true
-    → bit_at w.without l ≡ 1
-without_it s l w p true fits e h is = absurd (true≢false e)
-without_it s l w p false fits e h is = fits.1 (ap (contains s) (sym (same p _ h)) ∙ out (contains s p) is)
+pub without_it : (s : FactSet) (l : ℕ) (w : Words) (wanted : Bool) → wanted ≡ false → Fits s l w
+    → true_as_wanted wanted (contains s (pair_of (value_of w.pair.now))) ≡ true → bit_at w.without l ≡ 1
+without_it s l w true e fits is = absurd (true≢false e)
+without_it s l w false e fits is = fits.1 (out (contains s (pair_of (value_of w.pair.now))) is)
 
--- ---- the words that are joined
+-- ---- the findings that are joined
 
-abbrev pub AreJoined : Bool → ℕ → ℕ → ℕ → List ℕ → ℕ → List Bool → Type 0
-AreJoined each count left word ws l bs =
-    (a : Bool) × (cs : List Bool) × Covers l ws cs × (a ≡ true → bit_at word l ≡ 1)
+abbrev pub AreJoined : List Words → Bool → ℕ → ℕ → Finding → List Finding → ℕ → List Bool → Type 0
+AreJoined table each count left f fs l bs =
+    (a : Bool) × (cs : List Bool) × Covers table l fs cs × Says table l f a
     × (gathered each count bs ≡ both each a (gathered each left cs)) × (drop count bs ≡ drop left cs)
 
-pub first_joined : (each : Bool) (count word : ℕ) (ws : List ℕ) (l : ℕ) (bs : List Bool)
-    → (each ≡ true → bit_at word l ≡ 1) → Covers l ws bs → AreJoined each count count word ws l bs
-first_joined each count word ws l bs f cov = (each, bs, cov, f, both_itself each _, refl)
+pub first_joined : (table : List Words) (each : Bool) (count : ℕ) (f : Finding) (fs : List Finding) (l : ℕ)
+    (bs : List Bool) → Says table l f each → Covers table l fs bs → AreJoined table each count count f fs l bs
+first_joined table each count f fs l bs says cov = (each, bs, cov, says, both_itself each _, refl)
 
-pub next_joined : (each : Bool) (count left word w new : ℕ) (ws : List ℕ) (l : ℕ) (bs : List Bool)
-    → ((a b : Bool) → (a ≡ true → bit_at word l ≡ 1) → (b ≡ true → bit_at w l ≡ 1) → both each a b ≡ true
-    → bit_at new l ≡ 1)
-    → AreJoined each count (suc left) word (w ∷ ws) l bs → AreJoined each count left new ws l bs
-next_joined each count left word w new ws l bs join (a, [], cov, f, e, d) = absurd cov
-next_joined each count left word w new ws l bs join (a, b ∷ cs, cov, f, e, d) = (
+pub next_joined : (table : List Words) (each : Bool) (count left : ℕ) (f g new : Finding) (fs : List Finding) (l : ℕ)
+    (bs : List Bool)
+    → ((a b : Bool) → Says table l f a → Says table l g b → Says table l new (both each a b))
+    → AreJoined table each count (suc left) f (g ∷ fs) l bs → AreJoined table each count left new fs l bs
+next_joined table each count left f g new fs l bs join (a, [], cov, says, e, d) = absurd cov
+next_joined table each count left f g new fs l bs join (a, b ∷ cs, cov, says, e, d) = (
   both each a b,
   cs,
   cov.1,
-  join a b f cov.0,
+  join a b says cov.0,
   e ∙ both_both each a b (gathered each left cs),
   d,
 )
 
-abbrev pub IsGathered : Bool → ℕ → ℕ → List ℕ → ℕ → List Bool → Type 0
-IsGathered each count word ws l bs =
-    (gathered each count bs ≡ true → bit_at word l ≡ 1) × Covers l ws (drop count bs)
+abbrev pub IsGathered : List Words → Bool → ℕ → Finding → List Finding → ℕ → List Bool → Type 0
+IsGathered table each count f fs l bs =
+    Says table l f (gathered each count bs) × Covers table l fs (drop count bs)
 
-pub end_joined : (each : Bool) (count word : ℕ) (ws : List ℕ) (l : ℕ) (bs : List Bool)
-    → AreJoined each count 0 word ws l bs → IsGathered each count word ws l bs
-end_joined each count word ws l bs (a, cs, cov, f, e, d) = (
-  λ h. f (sym (both_neutral each a) ∙ sym e ∙ h),
-  subst (Covers l ws) (sym d) cov,
+pub end_joined : (table : List Words) (each : Bool) (count : ℕ) (f : Finding) (fs : List Finding) (l : ℕ)
+    (bs : List Bool) → AreJoined table each count 0 f fs l bs → IsGathered table each count f fs l bs
+end_joined table each count f fs l bs (a, cs, cov, says, e, d) = (
+  subst (Says table l f) (sym (both_neutral each a) ∙ sym e) says,
+  subst (Covers table l fs) (sym d) cov,
 )
 
-pub nothing : (ws : List ℕ) → length ws ≡ 0 → ws ≡ []
+pub nothing : (fs : List Finding) → length fs ≡ 0 → fs ≡ []
 nothing [] h = refl
-nothing (w ∷ ws) h = absurd (let never : ⊥ = omega (arith, h) in never)
+nothing (f ∷ fs) h = absurd (let never : ⊥ = omega (arith, h) in never)
 
 gathered_none : (each : Bool) (n : ℕ) → gathered each n [] ≡ each
 gathered_none each zero = refl
@@ -136,21 +135,23 @@ drop_none zero bs h = h
 drop_none (suc n) [] h = refl
 drop_none (suc n) (b ∷ bs) h = cc
 
-pub none_joined : (each : Bool) (count left word : ℕ) (l : ℕ) (bs : List Bool)
-    → AreJoined each count left word [] l bs → IsGathered each count word [] l bs
-none_joined each count left word l bs (a, [], cov, f, e, d) = (
-  λ h. f (sym (both_neutral each a) ∙ ap (both each a) (sym (gathered_none each left)) ∙ sym e ∙ h),
-  subst (Covers l []) (sym (d ∙ drop_none left [] refl)) tt,
+pub none_joined : (table : List Words) (each : Bool) (count left : ℕ) (f : Finding) (l : ℕ) (bs : List Bool)
+    → AreJoined table each count left f [] l bs → IsGathered table each count f [] l bs
+none_joined table each count left f l bs (a, [], cov, says, e, d) = (
+  subst (Says table l f)
+      (sym (both_neutral each a) ∙ ap (both each a) (sym (gathered_none each left)) ∙ sym e) says,
+  subst (Covers table l []) (sym (d ∙ drop_none left [] refl)) tt,
 )
-none_joined each count left word l bs (a, c ∷ cs, cov, f, e, d) = absurd cov
+none_joined table each count left f l bs (a, c ∷ cs, cov, says, e, d) = absurd cov
 
 -- ---- operations
 
 pub last_first : {X : Type 0} → (xs : List X) (x : X) → reverse (xs ++ x ∷ []) ≡ x ∷ reverse xs
 last_first xs x = reverse-append xs (x ∷ [])
 
-pub covers_last : (l w : ℕ) (ws : List ℕ) → Covers l (w ∷ ws) (true ∷ []) → bit_at w l ≡ 1
-covers_last l w ws cov = cov.0 refl
+pub covers_last : (table : List Words) (l : ℕ) (f : Finding) (fs : List Finding) (b : Bool)
+    → Covers table l (f ∷ fs) (b ∷ []) → Says table l f b
+covers_last table l f fs b cov = cov.0
 
 -- ---- one of the 64 sets agrees with a set of facts in six pairs
 
@@ -319,26 +320,47 @@ first_outcome s n gs ps same long =
     ∙ ap (λ b. b ∷ drop (length gs) (map (meets s) gs)) (goals_gathered s gs)
     ∙ ap (λ bs. goals_true s gs ∷ bs) (goals_dropped s gs)
 
--- ---- refuted
+-- ---- what is found on a path
 
 pub never : (word l : ℕ) → word ≡ 0 → bit_at word l ≡ 1 → ⊥
 never word l e h = let none : bit_at 0 l ≡ 1 = sym (ap (λ w. bit_at w l) e) ∙ h in omega (arith, none, bit_at-zero l)
 
-on_true : (b : Bool) (P : Type 0) → (b ≡ true → P) → OnTrue b P
-on_true true P f = f refl
-on_true false P f = tt
+module _ (outlook : Outlook) (gs : List Goal) (is : IsOutlook outlook gs) (k : Base) (ds : List Turn)
+    (table : List Words) (found : Finding)
+    (chosen : (s : FactSet) → IsAsTold (told_on k ds) s → (l : ℕ) × (l < 64) × All (Fits s l) table)
+    (works : (s : FactSet) (l : ℕ) (b : Bool) → l < 64 → All (Fits s l) table
+    → worked_out s outlook.operations.items [] ≡ b ∷ [] → Says table l found b) where
+  says : (s : FactSet) → IsAsTold (told_on k ds) s → (l : ℕ) × Says table l found (goals_true s gs)
+  says s told =
+      let r = chosen s told in
+      (r.0, works s r.0 (goals_true s gs) r.1 r.2 (is.works_out s))
 
-pub on_zero : (word : ℕ) (P : Type 0) → (word ≡ 0 → P) → OnTrue (word == 0) P
-on_zero word P f = on_true (word == 0) P (λ h. f ((Decides-eqb word 0).0 h))
+  -- no set is left
+  pub none_met : found.sets ≡ 0 → AreMissed k gs ds
+  none_met none s over agrees =
+      let r = says s (told_sound k ds s over agrees) in
+      is_false (goals_true s gs) (λ h. never found.sets r.0 none (r.1.0 h))
 
-pub missed : (outlook : Outlook) (gs : List Goal) (path : Path) → IsOutlook outlook gs
-    → ((s : FactSet) → IsAsTold (told_by_path path) s
-    → worked_out s outlook.operations.items [] ≡ true ∷ [] → ⊥)
-    → AreMissed (base_of path.known.now) gs (turns path)
-missed outlook gs path is never = λ s over agrees.
-    is_false (goals_true s gs)
-    (λ h. never s (told_sound (base_of path.known.now) (turns path) s over agrees) (is s ∙ ap (λ b. b ∷ []) h))
+  pub known_by : (b : Bool) → found.seen ≡ seen.Known b → (s : FactSet) → IsAsTold (told_on k ds) s
+      → goals_true s gs ≡ b
+  known_by b e s told = subst (λ x. IsSeen table x (goals_true s gs)) e (says s told).1.1
 
-pub weaker_true : (b : Bool) (P Q : Type 0) → (P → Q) → OnTrue b P → OnTrue b Q
-weaker_true true P Q f h = f h
-weaker_true false P Q f h = h
+  -- what is told of pairs decides the goals
+  pub decided : (b : Bool) → found.seen ≡ seen.Known b → SaysStepOn (step.Decided b) k gs ds
+  decided true e = known_by true e (set_on k ds) (as_told k ds)
+  decided false e = λ s over agrees. known_by false e s (told_sound k ds s over agrees)
+
+  pub open_at : (n : ℕ) → found.seen ≡ seen.Open n → IsOpenAt table n
+  open_at n e =
+      subst (λ x. IsSeen table x (goals_true (set_on k ds) gs)) e (says (set_on k ds) (as_told k ds)).1.1
+
+-- the same by what the code is given
+pub found_by : (outlook : Outlook) (os : List Operation) (ws table : List Words) (found : Finding)
+    → os ≡ outlook.operations.items → ws ≡ table
+    → ((s : FactSet) (l : ℕ) (b : Bool) → l < 64 → All (Fits s l) ws → worked_out s os [] ≡ b ∷ []
+    → Says ws l found b)
+    → (s : FactSet) (l : ℕ) (b : Bool) → l < 64 → All (Fits s l) table
+    → worked_out s outlook.operations.items [] ≡ b ∷ [] → Says table l found b
+found_by outlook os ws table found is same h s l b low fit e =
+    subst (λ ws. Says ws l found b) same
+    (h s l b low (subst (All (Fits s l)) (sym same) fit) (ap (λ os. worked_out s os []) is ∙ e))

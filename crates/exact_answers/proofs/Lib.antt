@@ -8,5 +8,6 @@ pub mod Spending
 pub mod Asked
 pub mod Targets
 pub mod Ahead
+pub mod Numbers
 pub mod Adding
 pub mod Families

@@ -1,23 +1,25 @@
-//! A look ahead. The goals are worked out over the 64 sets of six open pairs at once, a bit of a word for each set:
-//! where no bit is left, they are missed whatever becomes of these pairs.
+//! Goals as operations on numbers of pairs, and a look ahead. The operations are worked out over the 64 sets of six
+//! open pairs at once, a bit of a word for each set: where no bit is left, the goals are missed whatever becomes of
+//! these pairs. The same pass sees whether what is told of pairs decides the goals, and else an open pair that they
+//! hang on.
 
 ghost use Rattle.std.specs.Prelude.{◌≡◌, ◌≤◌, ◌<◌, ◌+◌, ◌++◌, false, ◌∷◌, [], ℕ, Bool, true, map, reverse, drop, List};
-ghost use Rattle.std.specs.Prelude.{IfOk, OnOk};
-ghost use Rattle.std.specs.Bool.{OnTrue};
+ghost use Rattle.std.specs.Prelude.{IfOk, OnOk, IfSome, Some, None, length};
 ghost use Rattle.std.specs.List.{All};
 ghost use Rattle.std.specs.Int.{bit_at};
 ghost use Rattle.std.specs.FinSet.{contains};
-ghost use Rattle.cargo_platform.specs.Trees.{tree_of, value_of};
-ghost use Rattle.cargo_platform.specs.Facts.{FactSet, pair_of, truth};
+ghost use Rattle.cargo_platform.specs.Trees.{tree_of, trees_of, value_of};
+ghost use Rattle.cargo_platform.specs.Facts.{Pair, FactSet, pair_of, truth};
 ghost use Rattle.cargo_platform.specs.ExpressionSizes.{node_count, node_counts};
-ghost use Rattle.exact_answers.specs.Asking.{is_pair};
-ghost use Rattle.exact_answers.specs.Inside.Paths.{told_by_path, IsAsTold};
-ghost use Rattle.exact_answers.specs.Inside.Goals.{true_as_wanted};
+ghost use Rattle.exact_answers.specs.Asking.{is_pair, some_asks};
+ghost use Rattle.exact_answers.specs.Inside.Paths.{Base, Turn, told_by_path, told_on, base_of, turns, IsAsTold};
+ghost use Rattle.exact_answers.specs.Inside.Goals.{true_as_wanted, SaysStepOn};
 ghost use Rattle.exact_answers.specs.Inside.Ahead.{both, gathered, meets, done, worked_out, outcome, goals_size};
-ghost use Rattle.exact_answers.specs.Inside.Ahead.{IsOutlook, Fits, Covers, IsNext};
+ghost use Rattle.exact_answers.specs.Inside.Ahead.{pairs_of, table_pairs, StandsAt, AreAmong, HasNumber, AsksAmong};
+ghost use Rattle.exact_answers.specs.Inside.Ahead.{IsOutlook, Fits, IsOpenAt, IsSeen, Says, Covers, AreTold, IsNext};
 
 use crate::path::Path;
-use crate::search::Goal;
+use crate::search::{Goal, Step};
 use cargo_platform::{Cfg, CfgExpr};
 use partial_facts::Knowledge;
 use std::alloc::{AllocError, Global};
@@ -25,7 +27,7 @@ use std::alloc::{AllocError, Global};
 /// What is done to work out whether goals are met. What is worked out stands in a list, the last one last.
 #[derive(Clone, Copy)]
 pub enum Operation<'a> {
-    /// A pair, the truth that is wanted of it, and the place at which its words may stand.
+    /// A pair, the truth that is wanted of it, and its number.
     Pair(&'a Cfg, bool, usize),
     /// A goal that is met, or missed, over each set of facts.
     Is(bool),
@@ -33,18 +35,32 @@ pub enum Operation<'a> {
     Group(bool, usize),
 }
 
-/// The sets that may have a pair, and those that may be without it, a bit for each set.
+/// What is told of a pair, the sets that may have it, and those that may be without it, a bit for each set.
 #[derive(Clone, Copy)]
 pub struct Words<'a> {
     pub pair: &'a Cfg,
+    pub tells: Option<bool>,
     pub with: u64,
     pub without: u64,
 }
 
-/// How many pairs have words. The sets may be with and without any other pair.
-const PAIRS: usize = 64;
+/// What is seen of a goal by what is told of pairs.
+#[derive(Clone, Copy)]
+pub enum Seen {
+    /// Whether it is met.
+    Known(bool),
+    /// It hangs on the pair with this number, which is open.
+    Open(usize),
+}
 
-/// How goals are worked out, and the pairs that they ask for.
+/// What is found of a goal: the sets over which it may be met, and what is seen of it.
+#[derive(Clone, Copy)]
+pub struct Finding {
+    pub sets: u64,
+    pub seen: Seen,
+}
+
+/// How goals are worked out, and the pairs that they ask for, in the order of their numbers.
 #[derive(Drop)]
 pub struct Outlook<'a> {
     pub pairs: Vec<&'a Cfg>,
@@ -77,6 +93,11 @@ impl<'a> Outlook<'a> {
             ≡ outcome s self.old (goal.entry ∷ reverse pending.old.items)) }
         ensures size { OnOk result (goals_size pending.new.items + 1
             ≤ node_count goal.entry.e.now + goals_size pending.old.items) }
+        ensures numbered { OnOk result (All (HasNumber (pairs_of self.old.pairs.items)) self.old.operations.items
+            → All (HasNumber (pairs_of self.new.pairs.items)) self.new.operations.items) }
+        ensures asked { OnOk result ((among : Pair → Bool) → AsksAmong among goal.entry
+            → All (AsksAmong among) pending.old.items → AreAmong among (pairs_of self.old.pairs.items)
+            → All (AsksAmong among) pending.new.items × AreAmong among (pairs_of self.new.pairs.items)) }
     {
         let wanted = goal.wanted;
         match goal.e {
@@ -98,8 +119,8 @@ impl<'a> Outlook<'a> {
                 add_members(pending, members, wanted)
             }
             CfgExpr::Value(c) => {
-                let place = place_of(&mut self.pairs, c)?;
-                self.operations.push(Operation::Pair(c, wanted, place))?;
+                let number = number_of(&mut self.pairs, c)?;
+                self.operations.push(Operation::Pair(c, wanted, number))?;
                 Ok(())
             }
             CfgExpr::True => {
@@ -113,14 +134,21 @@ impl<'a> Outlook<'a> {
         }
     }
 
-    /// Whether the goals are missed on the path, as far as this look ahead shows.
-    pub fn refutes(&self, alloc: Global, path: &Path<'a>) -> Result<bool, AllocError>
-        ensures { IfOk result (λ is. OnTrue is ((s : FactSet) → IsAsTold (told_by_path path.now) s
-            → worked_out s self.now.operations.items [] ≡ true ∷ [] → ⊥)) }
+    /// What is known of the goals on the path, or seen ahead.
+    pub fn step(&self, alloc: Global, path: &Path<'a>) -> Result<Step<'a>, AllocError>
+        requires { (gs : List Goal) × IsOutlook self.now gs }
+        ensures { IfOk result (λ step. (gs : List Goal) → IsOutlook self.now gs
+            → SaysStepOn step (base_of path.now.known.now) gs (turns path.now)) }
     {
         let table = words_of(alloc, &self.pairs, path)?;
-        let sets = where_met(alloc, &self.operations, &table)?;
-        Ok(sets == 0)
+        let found = work_out_all(alloc, &self.operations, &table)?;
+        if found.sets == 0 {
+            return Ok(Step::Decided(false));
+        }
+        match found.seen {
+            Seen::Known(met) => Ok(Step::Decided(met)),
+            Seen::Open(number) => Ok(Step::Open(open_pair(&table, number))),
+        }
     }
 }
 
@@ -143,6 +171,9 @@ fn add_members<'a>(
         ≡ map (λ e. true_as_wanted wanted (truth s (tree_of e))) members.now
         ++ map (meets s) (reverse pending.old.items)) }
     ensures size { OnOk result (goals_size pending.new.items ≡ node_counts members.now + goals_size pending.old.items) }
+    ensures asked { OnOk result ((among : Pair → Bool)
+        → ((p : Pair) → some_asks (trees_of (map tree_of members.now)) p ≡ true → among p ≡ true)
+        → All (AsksAmong among) pending.old.items → All (AsksAmong among) pending.new.items) }
 {
     let mut left = members;
     'members: while let Some((e, others)) = left.split_last() {
@@ -152,19 +183,36 @@ fn add_members<'a>(
     Ok(())
 }
 
-/// The place of the pair among those that have words, or after them. No more is promised: whoever looks there compares
-/// the pairs.
-fn place_of<'a>(pairs: &mut Vec<&'a Cfg>, c: &'a Cfg) -> Result<usize, AllocError> {
-    for (place, pair) in pairs.iter().enumerate() {
-        if *pair == c {
-            return Ok(place);
+/// The number of the pair, where it has one.
+fn number_so_far(pairs: &[&Cfg], c: &Cfg) -> Option<usize>
+    ensures { IfSome result (λ n. StandsAt (pairs_of pairs.now) n (pair_of (value_of c.now))) }
+{
+    let mut number = 0;
+    'pairs: while number < pairs.len() {
+        if is_same(c, pairs[number]) {
+            return Some(number);
+        }
+        number += 1;
+    }
+    None
+}
+
+/// The number of the pair. One that has none gets the next one.
+fn number_of<'a>(pairs: &mut Vec<&'a Cfg>, c: &'a Cfg) -> Result<usize, AllocError>
+    ensures number { IfOk result (λ n. StandsAt (pairs_of pairs.new.items) n (pair_of (value_of c.now))) }
+    ensures kept { OnOk result ((n : ℕ) (p : Pair) → StandsAt (pairs_of pairs.old.items) n p
+        → StandsAt (pairs_of pairs.new.items) n p) }
+    ensures among { OnOk result ((among : Pair → Bool) → among (pair_of (value_of c.now)) ≡ true
+        → AreAmong among (pairs_of pairs.old.items) → AreAmong among (pairs_of pairs.new.items)) }
+{
+    match number_so_far(pairs, c) {
+        Some(number) => Ok(number),
+        None => {
+            let number = pairs.len();
+            pairs.push(c)?;
+            Ok(number)
         }
     }
-    let place = pairs.len();
-    if place < PAIRS {
-        pairs.push(c)?;
-    }
-    Ok(place)
 }
 
 /// All sets, or none.
@@ -174,20 +222,57 @@ fn all_or_none(all: bool) -> u64
     if all { u64::MAX } else { 0 }
 }
 
+/// What is found of a goal whose truth is known.
+fn literal(met: bool) -> Finding
+    ensures { (table : List Words) (l : ℕ) → l < 64 → Says table l result met }
+{
+    Finding {
+        sets: all_or_none(met),
+        seen: Seen::Known(met),
+    }
+}
+
 /// The sets of both words, or of either.
-fn joined(each: bool, word: u64, other: u64) -> u64
+fn joined_sets(each: bool, word: u64, other: u64) -> u64
     ensures { (l : ℕ) (a b : Bool) → (a ≡ true → bit_at word l ≡ 1) → (b ≡ true → bit_at other l ≡ 1)
         → both each a b ≡ true → bit_at result l ≡ 1 }
 {
     if each { word & other } else { word | other }
 }
 
+/// What is seen of two goals together. The first one that is open gives the open pair.
+fn joined_seen(each: bool, one: Seen, other: Seen) -> Seen
+    ensures { (table : List Words) (a b : Bool) → IsSeen table one a → IsSeen table other b
+        → IsSeen table result (both each a b) }
+{
+    match one {
+        Seen::Known(met) => { if met == each { other } else { one } }
+        Seen::Open(_) => match other {
+            Seen::Known(met) => { if met == each { one } else { other } }
+            Seen::Open(_) => one,
+        },
+    }
+}
+
+/// What is found of two goals together.
+fn joined(each: bool, one: Finding, other: Finding) -> Finding
+    ensures { (table : List Words) (l : ℕ) (a b : Bool) → Says table l one a → Says table l other b
+        → Says table l result (both each a b) }
+{
+    let sets = joined_sets(each, one.sets, other.sets);
+    let seen = joined_seen(each, one.seen, other.seen);
+    Finding { sets, seen }
+}
+
 /// The words of a pair of which it is told whether it is a fact.
 fn told<'a>(pair: &'a Cfg, fact: bool) -> Words<'a>
-    ensures { (s : FactSet) (l : ℕ) → l < 64 → contains s (pair_of (value_of pair.now)) ≡ fact → Fits s l result }
+    ensures same { pair_of (value_of result.pair.now) ≡ pair_of (value_of pair.now) }
+    ensures tells { result.tells ≡ Some fact }
+    ensures fits { (s : FactSet) (l : ℕ) → l < 64 → contains s (pair_of (value_of pair.now)) ≡ fact → Fits s l result }
 {
     Words {
         pair,
+        tells: Some(fact),
         with: all_or_none(fact),
         without: all_or_none(!fact),
     }
@@ -195,12 +280,15 @@ fn told<'a>(pair: &'a Cfg, fact: bool) -> Words<'a>
 
 /// The words of an open pair that the sets of a pattern have.
 fn split<'a>(pair: &'a Cfg, pattern: u64) -> Words<'a>
-    ensures { (s : FactSet) (l : ℕ) → l < 64
+    ensures same { pair_of (value_of result.pair.now) ≡ pair_of (value_of pair.now) }
+    ensures tells { result.tells ≡ None }
+    ensures fits { (s : FactSet) (l : ℕ) → l < 64
         → (contains s (pair_of (value_of pair.now)) ≡ true → bit_at pattern l ≡ 1)
         → (contains s (pair_of (value_of pair.now)) ≡ false → bit_at pattern l ≡ 0) → Fits s l result }
 {
     Words {
         pair,
+        tells: None,
         with: pattern,
         without: pattern ^ u64::MAX,
     }
@@ -208,10 +296,13 @@ fn split<'a>(pair: &'a Cfg, pattern: u64) -> Words<'a>
 
 /// The words of a pair that any set may have.
 fn unsplit<'a>(pair: &'a Cfg) -> Words<'a>
-    ensures { (s : FactSet) (l : ℕ) → l < 64 → Fits s l result }
+    ensures same { pair_of (value_of result.pair.now) ≡ pair_of (value_of pair.now) }
+    ensures tells { result.tells ≡ None }
+    ensures fits { (s : FactSet) (l : ℕ) → l < 64 → Fits s l result }
 {
     Words {
         pair,
+        tells: None,
         with: u64::MAX,
         without: u64::MAX,
     }
@@ -223,7 +314,9 @@ fn next_words<'a, 'b>(
     tells: Option<bool>,
     patterns: &'b [u64],
 ) -> (Words<'a>, &'b [u64])
-    ensures { IsNext (pair_of (value_of pair.now)) tells patterns.now result.0 result.1.now }
+    ensures same { pair_of (value_of result.0.pair.now) ≡ pair_of (value_of pair.now) }
+    ensures tells { result.0.tells ≡ tells }
+    ensures next { IsNext (pair_of (value_of pair.now)) tells patterns.now result.0 result.1.now }
 {
     match tells {
         Some(fact) => (told(pair, fact), patterns),
@@ -241,7 +334,9 @@ fn words_of<'a>(
     pairs: &[&'a Cfg],
     path: &Path<'a>,
 ) -> Result<Vec<Words<'a>>, AllocError>
-    ensures { IfOk result (λ table. (s : FactSet) → IsAsTold (told_by_path path.now) s
+    ensures pairs { IfOk result (λ table. table_pairs table.items ≡ pairs_of pairs.now) }
+    ensures told { IfOk result (λ table. AreTold (base_of path.now.known.now) (turns path.now) table.items) }
+    ensures chosen { IfOk result (λ table. (s : FactSet) → IsAsTold (told_by_path path.now) s
         → (l : ℕ) × (l < 64) × All (Fits s l) table.items) }
 {
     let patterns = [
@@ -270,45 +365,60 @@ fn is_same(c: &Cfg, other: &Cfg) -> bool
 }
 
 /// The sets over which the pair may have this truth.
-fn word_of(table: &[Words<'_>], c: &Cfg, wanted: bool, place: usize) -> u64
-    ensures { (s : FactSet) (l : ℕ) → l < 64 → All (Fits s l) table.now
-        → true_as_wanted wanted (contains s (pair_of (value_of c.now))) ≡ true → bit_at result l ≡ 1 }
+fn sets_of(words: &Words<'_>, wanted: bool) -> u64
+    ensures { (s : FactSet) (l : ℕ) → Fits s l words.now
+        → true_as_wanted wanted (contains s (pair_of (value_of words.now.pair.now))) ≡ true → bit_at result l ≡ 1 }
 {
-    if place < table.len() {
-        let words = &table[place];
-        if is_same(c, words.pair) {
-            if wanted { words.with } else { words.without }
-        } else {
-            u64::MAX
-        }
-    } else {
-        u64::MAX
+    if wanted { words.with } else { words.without }
+}
+
+/// What is seen of a pair of which this is told, where a truth is wanted of it.
+fn seen_of(tells: Option<bool>, wanted: bool, number: usize) -> Seen
+    ensures { (table : List Words) (b : Bool) → (tells ≡ None → IsOpenAt table number) → IfSome tells (λ t. b ≡ t)
+        → IsSeen table result (true_as_wanted wanted b) }
+{
+    match tells {
+        Some(truth) => Seen::Known(truth == wanted),
+        None => Seen::Open(number),
     }
 }
 
-/// Takes the last words, so many, and joins them.
-fn gathered(words: &mut Vec<u64>, each: bool, count: usize) -> u64
-    ensures { (l : ℕ) (bs : List Bool) → l < 64 → Covers l (reverse words.old.items) bs
-        → (gathered each count bs ≡ true → bit_at result l ≡ 1) × Covers l (reverse words.new.items) (drop count bs) }
+/// What is found of the pair with this number, where a truth is wanted of it.
+fn finding_of(table: &[Words<'_>], wanted: bool, number: usize) -> Finding
+    requires { number < length table.now }
+    ensures { (s : FactSet) (l : ℕ) (p : Pair) → All (Fits s l) table.now → StandsAt (table_pairs table.now) number p
+        → Says table.now l result (true_as_wanted wanted (contains s p)) }
 {
-    let mut word = all_or_none(each);
+    let words = &table[number];
+    let sets = sets_of(words, wanted);
+    let seen = seen_of(words.tells, wanted, number);
+    Finding { sets, seen }
+}
+
+/// Takes the last findings, so many, and joins them.
+fn gathered(findings: &mut Vec<Finding>, each: bool, count: usize) -> Finding
+    ensures { (table : List Words) (l : ℕ) (bs : List Bool) → l < 64 → Covers table l (reverse findings.old.items) bs
+        → Says table l result (gathered each count bs)
+        × Covers table l (reverse findings.new.items) (drop count bs) }
+{
+    let mut finding = literal(each);
     let mut left = count;
-    'words: while left > 0 {
-        match words.pop() {
+    'findings: while left > 0 {
+        match findings.pop() {
             Some(other) => {
-                word = joined(each, word, other);
+                finding = joined(each, finding, other);
                 left -= 1;
             }
-            None => return word,
+            None => return finding,
         }
     }
-    word
+    finding
 }
 
-fn pushed(words: &mut Vec<u64>, word: u64) -> Result<(), AllocError>
-    ensures { OnOk result (reverse words.new.items ≡ word ∷ reverse words.old.items) }
+fn pushed(findings: &mut Vec<Finding>, finding: Finding) -> Result<(), AllocError>
+    ensures { OnOk result (reverse findings.new.items ≡ finding ∷ reverse findings.old.items) }
 {
-    words.push(word)?;
+    findings.push(finding)?;
     Ok(())
 }
 
@@ -316,47 +426,63 @@ fn pushed(words: &mut Vec<u64>, word: u64) -> Result<(), AllocError>
 fn work_out(
     operation: Operation<'_>,
     table: &[Words<'_>],
-    words: &mut Vec<u64>,
+    findings: &mut Vec<Finding>,
 ) -> Result<(), AllocError>
+    requires { HasNumber (table_pairs table.now) operation }
     ensures { OnOk result ((s : FactSet) (l : ℕ) (bs : List Bool) → l < 64 → All (Fits s l) table.now
-        → Covers l (reverse words.old.items) bs → Covers l (reverse words.new.items) (done s operation.entry bs)) }
+        → Covers table.now l (reverse findings.old.items) bs
+        → Covers table.now l (reverse findings.new.items) (done s operation.entry bs)) }
 {
     match operation {
-        Operation::Pair(c, wanted, place) => {
-            let word = word_of(table, c, wanted, place);
-            pushed(words, word)
+        Operation::Pair(_pair, wanted, number) => {
+            let finding = finding_of(table, wanted, number);
+            pushed(findings, finding)
         }
-        Operation::Is(met) => pushed(words, all_or_none(met)),
+        Operation::Is(met) => pushed(findings, literal(met)),
         Operation::Group(each, count) => {
-            let word = gathered(words, each, count);
-            pushed(words, word)
+            let finding = gathered(findings, each, count);
+            pushed(findings, finding)
         }
     }
 }
 
-/// The last word.
-fn last(words: Vec<u64>) -> u64
-    ensures { (l : ℕ) → l < 64 → Covers l (reverse words.items) (true ∷ []) → bit_at result l ≡ 1 }
+/// The last finding.
+fn last(findings: Vec<Finding>) -> Finding
+    ensures { (table : List Words) (l : ℕ) (b : Bool) → Covers table l (reverse findings.items) (b ∷ [])
+        → Says table l result b }
 {
-    let mut words = words;
-    match words.pop() {
-        Some(word) => word,
-        None => u64::MAX,
+    let mut findings = findings;
+    match findings.pop() {
+        Some(finding) => finding,
+        None => literal(true),
     }
 }
 
-/// The sets over which the goals may be met.
-fn where_met(
+/// What is found of all goals together.
+fn work_out_all(
     alloc: Global,
     operations: &[Operation<'_>],
     table: &[Words<'_>],
-) -> Result<u64, AllocError>
-    ensures { IfOk result (λ word. (s : FactSet) (l : ℕ) → l < 64 → All (Fits s l) table.now
-        → worked_out s operations.now [] ≡ true ∷ [] → bit_at word l ≡ 1) }
+) -> Result<Finding, AllocError>
+    requires { All (HasNumber (table_pairs table.now)) operations.now }
+    ensures { IfOk result (λ finding. (s : FactSet) (l : ℕ) (b : Bool) → l < 64 → All (Fits s l) table.now
+        → worked_out s operations.now [] ≡ b ∷ [] → Says table.now l finding b) }
 {
-    let mut words = Vec::new(alloc);
+    let mut findings = Vec::new(alloc);
     for operation in operations {
-        work_out(*operation, table, &mut words)?;
+        work_out(*operation, table, &mut findings)?;
     }
-    Ok(last(words))
+    Ok(last(findings))
+}
+
+/// The pair with this number, which is open.
+fn open_pair<'a>(table: &[Words<'a>], number: usize) -> &'a Cfg
+    requires short { number < length table.now }
+    requires untold { IsOpenAt table.now number }
+    ensures stands { StandsAt (table_pairs table.now) number (pair_of (value_of result.now)) }
+    ensures open { (k : Base) (ds : List Turn) → AreTold k ds table.now
+        → told_on k ds (pair_of (value_of result.now)) ≡ None }
+{
+    let words = &table[number];
+    words.pair
 }

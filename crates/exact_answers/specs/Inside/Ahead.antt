@@ -1,15 +1,22 @@
 -- Goals that are worked out operation by operation, over one set of facts and over 64 at once.
-use Rattle.std.specs.Prelude.{◌≡◌, ℕ, zero, suc, ◌<◌, Bool, true, false, ◌&&◌, ◌||◌, Option, IfSome}
+use Rattle.std.specs.Prelude.{◌≡◌, ℕ, zero, suc, ◌<◌, Bool, true, false, ◌&&◌, ◌||◌, Option, None, IfSome}
 use Rattle.std.specs.Prelude.{List, [], ◌∷◌, ◌++◌, map, reverse, drop, sum}
+use Rattle.std.specs.Borrow.{Bor}
 use Rattle.std.specs.Int.{bit_at}
 use Rattle.std.specs.List.{All}
 use Rattle.std.specs.FinSet.{contains}
 use Rattle.cargo_platform.specs.Trees.{tree_of, value_of}
 use Rattle.cargo_platform.specs.Facts.{Pair, FactSet, pair_of, truth}
 use Rattle.cargo_platform.specs.ExpressionSizes.{node_count}
-use Rattle.exact_answers.specs.Inside.Goals.{true_as_wanted, goals_true}
+use Rattle.cargo_platform.specs.declared.cfg.Cfg.{Cfg}
+use Rattle.exact_answers.specs.Asking.{asks, some_asks}
+use Rattle.exact_answers.specs.Inside.Paths.{Turn, Base, told_on}
+use Rattle.exact_answers.specs.Inside.Goals.{true_as_wanted, goals_true, goal_trees}
 use Rattle.exact_answers.specs.declared.search.Goal.{Goal}
 use Rattle.exact_answers.specs.declared.outlook.Words.{Words}
+use Rattle.exact_answers.specs.declared.outlook.Finding.{Finding}
+use Rattle.exact_answers.specs.declared.outlook.Seen.{Seen}
+use Rattle.exact_answers.specs.declared.outlook.Seen.TheVariants as seen
 use Rattle.exact_answers.specs.declared.outlook.Outlook.{Outlook}
 use Rattle.exact_answers.specs.declared.outlook.Operation.{Operation}
 use Rattle.exact_answers.specs.declared.outlook.Operation.TheVariants as operation
@@ -41,24 +48,74 @@ worked_out s (o ∷ os) bs = worked_out s os (done s o bs)
 abbrev pub outcome : FactSet → Outlook → List Goal → List Bool
 outcome s outlook left = worked_out s (reverse outlook.operations.items) (map (meets s) left)
 
--- they give whether all goals are met
-abbrev pub IsOutlook : Outlook → List Goal → Type 0
-IsOutlook outlook gs = (s : FactSet) → worked_out s outlook.operations.items [] ≡ goals_true s gs ∷ []
+-- pairs apart from where they lie in memory
+abbrev pub pairs_of : List (Bor Cfg) → List Pair
+pairs_of cs = map (λ c. pair_of (value_of c.now)) cs
+
+abbrev pub table_pairs : List Words → List Pair
+table_pairs ws = map (λ w. pair_of (value_of w.pair.now)) ws
+
+-- the pair has this number
+abbrev pub StandsAt : List Pair → ℕ → Pair → Type 0
+StandsAt [] n p = ⊥
+StandsAt (q ∷ qs) zero p = q ≡ p
+StandsAt (q ∷ qs) (suc n) p = StandsAt qs n p
+
+-- each pair with a number is one of some pairs
+abbrev pub AreAmong : (Pair → Bool) → List Pair → Type 0
+AreAmong among ps = (n : ℕ) (p : Pair) → StandsAt ps n p → among p ≡ true
+
+-- the number in an operation is that of its pair
+abbrev pub HasNumber : List Pair → Operation → Type 0
+HasNumber ps (operation.Pair c wanted n) = StandsAt ps n (pair_of (value_of c.now))
+HasNumber ps (operation.Is b) = Unit {0}
+HasNumber ps (operation.Group each n) = Unit {0}
+
+-- a goal asks for some pairs alone
+abbrev pub AsksAmong : (Pair → Bool) → Goal → Type 0
+AsksAmong among g = (p : Pair) → asks (tree_of g.e.now) p ≡ true → among p ≡ true
+
+-- they give whether all goals are met, and have numbers for the pairs of these
+pub record IsOutlook (outlook : Outlook) (gs : List Goal) : Type 0 where
+  pub works_out : (s : FactSet) → worked_out s outlook.operations.items [] ≡ goals_true s gs ∷ []
+  pub numbered : All (HasNumber (pairs_of outlook.pairs.items)) outlook.operations.items
+  pub asked : AreAmong (some_asks (goal_trees gs)) (pairs_of outlook.pairs.items)
 
 abbrev pub goals_size : List Goal → ℕ
 goals_size gs = sum (map (λ g. node_count g.e.now) gs)
 
--- the set of facts s agrees with the set l of the 64 in a pair
+-- the set of facts s agrees with the set l of the 64 in a pair, and with what is told of it
 abbrev pub Fits : FactSet → ℕ → Words → Type 0
 Fits s l w = (contains s (pair_of (value_of w.pair.now)) ≡ true → bit_at w.with l ≡ 1)
     × (contains s (pair_of (value_of w.pair.now)) ≡ false → bit_at w.without l ≡ 1)
+    × IfSome w.tells (λ b. contains s (pair_of (value_of w.pair.now)) ≡ b)
 
--- a word has the set l where what it stands for holds
-abbrev pub Covers : ℕ → List ℕ → List Bool → Type 0
-Covers l [] [] = Unit {0}
-Covers l [] (b ∷ bs) = ⊥
-Covers l (w ∷ ws) [] = ⊥
-Covers l (w ∷ ws) (b ∷ bs) = (b ≡ true → bit_at w l ≡ 1) × Covers l ws bs
+-- nothing is told of the pair with this number
+abbrev pub IsOpenAt : List Words → ℕ → Type 0
+IsOpenAt [] n = ⊥
+IsOpenAt (w ∷ ws) zero = w.tells ≡ None
+IsOpenAt (w ∷ ws) (suc n) = IsOpenAt ws n
+
+-- what is seen of a goal is its truth, or it hangs on an open pair
+abbrev pub IsSeen : List Words → Seen → Bool → Type 0
+IsSeen table (seen.Known c) b = b ≡ c
+IsSeen table (seen.Open n) b = IsOpenAt table n
+
+-- what is found of a goal with this truth: it has the set l where the goal is met, and what is seen is so
+abbrev pub Says : List Words → ℕ → Finding → Bool → Type 0
+Says table l f b = (b ≡ true → bit_at f.sets l ≡ 1) × IsSeen table f.seen b
+
+-- each is found of a goal with its truth
+abbrev pub Covers : List Words → ℕ → List Finding → List Bool → Type 0
+Covers table l [] [] = Unit {0}
+Covers table l [] (b ∷ bs) = ⊥
+Covers table l (f ∷ fs) [] = ⊥
+Covers table l (f ∷ fs) (b ∷ bs) = Says table l f b × Covers table l fs bs
+
+-- what is told of each pair on a path
+abbrev pub AreTold : Base → List Turn → List Words → Type 0
+AreTold k ds [] = Unit {0}
+AreTold k ds (w ∷ ws) = (w.tells ≡ told_on k ds (pair_of (value_of w.pair.now))) × AreTold k ds ws
 
 -- the sets that have the first pair, the second one, and so on
 abbrev pub patterns : List ℕ

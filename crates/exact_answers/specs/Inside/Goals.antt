@@ -7,7 +7,7 @@ use Rattle.std.specs.FinSet.{contains, from_list}
 use Rattle.cargo_platform.specs.Trees.{CfgValue, Trees, none, tree, tree_of, value_of}
 use Rattle.cargo_platform.specs.Facts.{Pair, FactSet, pair_of, pair_cmp, fact_set, truth}
 use Rattle.partial_facts.specs.Kleene.{kleene, kleene_not, kleene_and}
-use Rattle.exact_answers.specs.Inside.Paths.{Base, IsOver, Turn, told_on, Agrees}
+use Rattle.exact_answers.specs.Inside.Paths.{Base, IsOver, Turn, set_on, told_on, Agrees}
 use Rattle.exact_answers.specs.Possible.{IsAllowed}
 use Rattle.exact_answers.specs.Asking.{some_asks, one_if, HasAll, NeedsMore}
 use Rattle.exact_answers.specs.Answers.{IsUnmarked, IsFactOfExample}
@@ -55,9 +55,13 @@ SaysStep (step.Open c) told gs =
 abbrev pub AreMissed : Base → List Goal → List Turn → Type 0
 AreMissed k gs ds = (s : FactSet) → IsOver k s → Agrees s ds → goals_true s gs ≡ false
 
+-- the facts so far meet the goals
+abbrev pub AreMet : Base → List Goal → List Turn → Type 0
+AreMet k gs ds = goals_true (set_on k ds) gs ≡ true
+
 -- what a step says, with a look ahead
 abbrev pub SaysStepOn : Step → Base → List Goal → List Turn → Type 0
-SaysStepOn (step.Decided b) k gs ds = MatchBool b (goals_known (told_on k ds) gs ≡ Some true) (AreMissed k gs ds)
+SaysStepOn (step.Decided b) k gs ds = MatchBool b (AreMet k gs ds) (AreMissed k gs ds)
 SaysStepOn (step.Open c) k gs ds =
     (told_on k ds (pair_of (value_of c.now)) ≡ None) × (some_asks (goal_trees gs) (pair_of (value_of c.now)) ≡ true)
 

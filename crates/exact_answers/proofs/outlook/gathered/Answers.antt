@@ -1,25 +1,30 @@
 use Rattle.std.proofs.Common.{◌≡◌, ◌∙◌, sym, ap, subst, ◌-◌, suc, reverse, [], ◌∷◌, arith}
-use Rattle.exact_answers.proofs.Ahead.{AreJoined, IsGathered, next_joined, none_joined, last_first, nothing}
+use Rattle.exact_answers.proofs.Ahead.{AreJoined, IsGathered, first_joined, next_joined, none_joined}
+use Rattle.exact_answers.proofs.Ahead.{last_first, nothing}
 use Rattle.exact_answers.proofs.outlook.gathered.Goals as goal
 
-pub words-preserved : goal.words-preserved
-words-preserved c = λ i bs low cov.
-    let more : suc (c.words.left - 1) ≡ c.words.left = omega (arith, c.words-test.true) in
-    let all : reverse c.words.words.items ≡ c.in-Some.other ∷ reverse c.pop.new.self.items =
+pub findings-init : goal.findings-init
+findings-init c = λ table i bs low cov.
+    first_joined table c.args.each c.args.count _ _ i bs (c.literal-finding.ensures table i low) cov
+
+pub findings-preserved : goal.findings-preserved
+findings-preserved c = λ table i bs low cov.
+    let more : suc (c.findings.left - 1) ≡ c.findings.left = omega (arith, c.findings-test.true) in
+    let all : reverse c.findings.findings.items ≡ c.in-Some.other ∷ reverse c.pop.new.self.items =
     ap reverse c.in-Some.ensures.items ∙ last_first c.pop.new.self.items c.in-Some.other in
-    next_joined c.args.each c.args.count (c.words.left - 1) c.words.word c.in-Some.other c.joined-word.result
-    (reverse c.pop.new.self.items) i bs (c.joined-word.ensures i)
-    (subst (λ ws. AreJoined c.args.each c.args.count (suc (c.words.left - 1)) c.words.word ws i bs) all
-    (subst (λ n. AreJoined c.args.each c.args.count n c.words.word (reverse c.words.words.items) i bs) (sym more)
-    (c.words.invariant i bs low cov)))
+    next_joined table c.args.each c.args.count (c.findings.left - 1) c.findings.finding c.in-Some.other
+    c.joined-finding.result (reverse c.pop.new.self.items) i bs (c.joined-finding.ensures table i)
+    (subst (λ fs. AreJoined table c.args.each c.args.count (suc (c.findings.left - 1)) c.findings.finding fs i bs) all
+    (subst (λ n. AreJoined table c.args.each c.args.count n c.findings.finding (reverse c.findings.findings.items) i bs)
+    (sym more) (c.findings.invariant table i bs low cov)))
 
 pub returns-in-None : goal.returns-in-None
-returns-in-None c = λ l bs low cov.
-    let old : reverse c.words.words.items ≡ [] =
-    ap reverse (nothing c.words.words.items (sym c.words.words.ok.0 ∙ c.in-None.ensures.cases.0)) in
+returns-in-None c = λ table l bs low cov.
+    let old : reverse c.findings.findings.items ≡ [] =
+    ap reverse (nothing c.findings.findings.items (sym c.findings.findings.ok.0 ∙ c.in-None.ensures.cases.0)) in
     let new : [] ≡ reverse c.pop.new.self.items =
     sym (ap reverse (nothing c.pop.new.self.items (sym c.pop.new.self.ok.0 ∙ c.in-None.ensures.cases.1))) in
-    subst (λ ws. IsGathered c.args.each c.args.count c.words.word ws l bs) new
-    (none_joined c.args.each c.args.count c.words.left c.words.word l bs
-    (subst (λ ws. AreJoined c.args.each c.args.count c.words.left c.words.word ws l bs) old
-    (c.words.invariant l bs low cov)))
+    subst (λ fs. IsGathered table c.args.each c.args.count c.findings.finding fs l bs) new
+    (none_joined table c.args.each c.args.count c.findings.left c.findings.finding l bs
+    (subst (λ fs. AreJoined table c.args.each c.args.count c.findings.left c.findings.finding fs l bs) old
+    (c.findings.invariant table l bs low cov)))

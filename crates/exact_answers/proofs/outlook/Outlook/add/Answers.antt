@@ -5,6 +5,8 @@ use Rattle.exact_answers.specs.Inside.Ahead.{meets, goals_size}
 use Rattle.exact_answers.proofs.Ahead.{size_last}
 use Rattle.exact_answers.proofs.Adding.{pushed_goal, not_meets, not_size, pushed_operation, all_done, any_done}
 use Rattle.exact_answers.proofs.Adding.{value_meets, true_meets, false_meets}
+use Rattle.exact_answers.proofs.Adding.{more_numbered, pair_numbered, pushed_asks, not_asks, all_asks, any_asks}
+use Rattle.exact_answers.proofs.OpenMembers.{value_asks}
 use Rattle.exact_answers.proofs.outlook.Outlook.add.Goals as goal
 
 pub returns-in_ok-push-in-Not-clause-same : goal.returns-in_ok-push-in-Not-clause-same
@@ -65,3 +67,67 @@ returns-in_ok-push-in-False-clause-same c = λ s.
     pushed_operation s c.args.self.now.operations.items c.push-in-False.new.self.items _ bs _
     c.in_ok-push-in-False.ensures.items
     (ap (λ b. b ∷ bs) (false_meets s c.args.goal.wanted c.args.goal.e.now c.in-False.is))
+
+pub returns-in_ok-push-in-Not-clause-asked : goal.returns-in_ok-push-in-Not-clause-asked
+returns-in_ok-push-in-Not-clause-asked c = λ among is all pairs.
+    let inner : c.deref.result.now ≡ box_value c.in-Not.inner = cc in (
+      pushed_asks among c.args.pending.now.items c.push.new.self.items _ c.in_ok-push-in-Not.ensures.items
+          (not_asks among c.args.goal.e.now c.deref.result.now c.in-Not.inner inner c.in-Not.is is) all,
+      pairs,
+    )
+
+pub returns-in_ok-push-in-All-clause-numbered : goal.returns-in_ok-push-in-All-clause-numbered
+returns-in_ok-push-in-All-clause-numbered c =
+    IfOk-weaker c.add_members.result _ _
+    (λ done asked all. more_numbered _ c.args.self.now.operations.items c.push-in-All.new.self.items _
+    c.in_ok-push-in-All.ensures.items tt all)
+    c.add_members.ensures.asked
+
+pub returns-in_ok-push-in-All-clause-asked : goal.returns-in_ok-push-in-All-clause-asked
+returns-in_ok-push-in-All-clause-asked c =
+    IfOk-weaker c.add_members.result _ _
+    (λ done asked among is all pairs. (
+      asked among
+          (all_asks among c.args.goal.e.now c.in-All.members c.deref-in-All.result.now c.in-All.is
+          c.deref-in-All.ensures.value is) all,
+      pairs,
+    ))
+    c.add_members.ensures.asked
+
+pub returns-in_ok-push-in-Any-clause-numbered : goal.returns-in_ok-push-in-Any-clause-numbered
+returns-in_ok-push-in-Any-clause-numbered c =
+    IfOk-weaker c.add_members-in-Any.result _ _
+    (λ done asked all. more_numbered _ c.args.self.now.operations.items c.push-in-Any.new.self.items _
+    c.in_ok-push-in-Any.ensures.items tt all)
+    c.add_members-in-Any.ensures.asked
+
+pub returns-in_ok-push-in-Any-clause-asked : goal.returns-in_ok-push-in-Any-clause-asked
+returns-in_ok-push-in-Any-clause-asked c =
+    IfOk-weaker c.add_members-in-Any.result _ _
+    (λ done asked among is all pairs. (
+      asked among
+          (any_asks among c.args.goal.e.now c.in-Any.members c.deref-in-Any.result.now c.in-Any.is
+          c.deref-in-Any.ensures.value is) all,
+      pairs,
+    ))
+    c.add_members-in-Any.ensures.asked
+
+pub returns-in_ok-push-in-Value-clause-numbered : goal.returns-in_ok-push-in-Value-clause-numbered
+returns-in_ok-push-in-Value-clause-numbered c = λ all.
+    pair_numbered _ _ c.args.self.now.operations.items c.push-in-Value.new.self.items _
+    c.in_ok-push-in-Value.ensures.items c.in_ok-number-in-Value.ensures.kept c.in_ok-number-in-Value.ensures.number all
+
+pub returns-in_ok-push-in-Value-clause-asked : goal.returns-in_ok-push-in-Value-clause-asked
+returns-in_ok-push-in-Value-clause-asked c = λ among is all pairs.
+    let asked = value_asks c.args.goal.e.now c.in-Value.c c.in-Value.is in
+    (all, c.in_ok-number-in-Value.ensures.among among (is _ asked) pairs)
+
+pub returns-in_ok-push-in-True-clause-numbered : goal.returns-in_ok-push-in-True-clause-numbered
+returns-in_ok-push-in-True-clause-numbered c = λ all.
+    more_numbered _ c.args.self.now.operations.items c.push-in-True.new.self.items _ c.in_ok-push-in-True.ensures.items
+    tt all
+
+pub returns-in_ok-push-in-False-clause-numbered : goal.returns-in_ok-push-in-False-clause-numbered
+returns-in_ok-push-in-False-clause-numbered c = λ all.
+    more_numbered _ c.args.self.now.operations.items c.push-in-False.new.self.items _
+    c.in_ok-push-in-False.ensures.items tt all
