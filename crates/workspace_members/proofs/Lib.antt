@@ -1,0 +1,3 @@
+pub mod Steps
+pub mod RowSteps
+pub mod Without

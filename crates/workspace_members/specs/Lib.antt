@@ -1,0 +1,4 @@
+pub mod Stretches
+pub mod Rows
+pub mod Globs
+pub mod Members

@@ -1,0 +1,11 @@
+//! The manifests of workspaces, found in folders.
+//!
+//! Which folders are members is what `workspace_members` answers; this crate reads folders and manifests.
+#![tactic(auto)]
+
+mod dependencies;
+mod finding;
+mod folders;
+mod manifests;
+
+pub use finding::{Asked, Found, find};

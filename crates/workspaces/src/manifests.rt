@@ -1,0 +1,123 @@
+//! Manifests as texts and tables, and paths beside each other.
+
+use std::alloc::{AllocError, Global};
+use std::fs;
+use std::rt::Files;
+use toml::{Table, Value, table_from_str};
+
+/// The name of a manifest.
+pub const MANIFEST: &str = "Cargo.toml";
+
+/// A path inside a folder. The folder `""` is the one at hand.
+pub fn inside(alloc: Global, folder: &str, path: &str) -> Result<String, AllocError> {
+    if folder.is_empty() {
+        return String::from_str(alloc, path);
+    }
+    if folder.ends_with('/') {
+        return format!(in alloc; "{folder}{path}");
+    }
+    format!(in alloc; "{folder}/{path}")
+}
+
+/// The folder of a file.
+pub fn folder_of(file: &str) -> &str {
+    match file.rsplit_once('/') {
+        Some(("", _)) => "/",
+        Some((folder, _)) => folder,
+        None => "",
+    }
+}
+
+/// Whether a folder stands at the path.
+pub fn is_folder<R: Files + AllocGlobal>(rt: &R, path: &str) -> bool {
+    let path = if path.is_empty() { "." } else { path };
+    match fs::metadata(rt, path) {
+        Ok(found) => found.is_dir(),
+        Err(_) => false,
+    }
+}
+
+/// Whether a file stands at the path.
+pub fn is_file<R: Files + AllocGlobal>(rt: &R, path: &str) -> bool {
+    match fs::metadata(rt, path) {
+        Ok(found) => found.is_file(),
+        Err(_) => false,
+    }
+}
+
+/// The table of a manifest. There is none where it can't be read or is no TOML: who reads it next says so.
+pub fn table_at<R: Files + AllocGlobal>(rt: &R, file: &str) -> Result<Option<Table>, AllocError> {
+    let alloc = rt.alloc();
+    let Ok(text) = fs::read_to_string(rt, file) else {
+        return Ok(None);
+    };
+    let text = text
+        .as_str()
+        .strip_prefix("\u{FEFF}")
+        .unwrap_or(text.as_str());
+    match table_from_str(alloc, text) {
+        Ok(table) => Ok(Some(table)),
+        Err(error) => {
+            if error.is_memory() {
+                return Err(AllocError);
+            }
+            Ok(None)
+        }
+    }
+}
+
+/// The table of a manifest with this word in its text: a large one without it is not read as TOML.
+pub fn table_with_word<R: Files + AllocGlobal>(
+    rt: &R,
+    file: &str,
+    word: &str,
+) -> Result<Option<Table>, AllocError> {
+    match fs::read_to_string(rt, file) {
+        Ok(text) => {
+            if text.contains(word) {
+                table_at(rt, file)
+            } else {
+                Ok(None)
+            }
+        }
+        Err(_) => Ok(None),
+    }
+}
+
+/// The table at a key of a table.
+pub fn table_in<'a>(table: &'a Table, key: &str) -> Option<&'a Table> {
+    match table.get(key) {
+        Some(value) => value.as_table(),
+        None => None,
+    }
+}
+
+/// The text at a key of a table.
+pub fn text_in<'a>(table: &'a Table, key: &str) -> Option<&'a str> {
+    match table.get(key) {
+        Some(value) => value.as_str(),
+        None => None,
+    }
+}
+
+/// The texts of an array at a key of a table.
+pub fn texts_in<'a>(
+    alloc: Global,
+    table: &'a Table,
+    key: &str,
+) -> Result<Vec<&'a str>, AllocError> {
+    let mut texts = Vec::new(alloc);
+    if let Some(Value::Array(values)) = table.get(key) {
+        for value in values {
+            if let Some(text) = value.as_str() {
+                texts.push(text)?;
+            }
+        }
+    }
+    Ok(texts)
+}
+
+/// The name of the package of a manifest.
+pub fn package_name(manifest: &Table) -> Option<&str> {
+    text_in(table_in(manifest, "package")?, "name")
+}
