@@ -14,6 +14,11 @@ CONFIG = ROOT / "include" / "nevgrasi.pc"
 TAG = "py3-none-linux_x86_64"
 
 
+def version():
+    """The one version of the programs, the library and the package."""
+    return re.search(r"^Version: (.*)$", CONFIG.read_text(), re.M)[1]
+
+
 def record_line(name, data):
     """The line of RECORD for a file."""
     digest = base64.urlsafe_b64encode(hashlib.sha256(data).digest()).rstrip(b"=").decode()
