@@ -6,14 +6,233 @@ use std::alloc::{AllocError, Global};
 /// How many splits each line of `compare` may take, unless `--budget` says another number.
 const BUDGET: &str = "65536";
 
-/// What `--deny` may name.
-const DENIED: &[&str] = &["notes"];
-
-/// What `--show` may name.
-const SHOWN: &[&str] = &["packages", "edges", "targets", "why"];
-
 /// What Cargo hands over as the first argument of `cargo manifest-check ..`.
 const CARGO_NAME: &str = "manifest-check";
+
+/// What is given to an argument.
+#[derive(Clone, Copy)]
+enum Given {
+    /// Nothing: it is there or not.
+    Flag,
+    /// One value, of any text.
+    Value(&'static str),
+    /// One of these words.
+    OneOf(&'static str, &'static [&'static str]),
+    /// A number, and what it is where none is given.
+    Number(&'static str, &'static str),
+    /// A value each time that it is repeated.
+    Values(&'static str),
+    /// A value at its place, which has to be there.
+    Place(&'static str),
+    /// One or more values at its place.
+    Places(&'static str),
+    /// One value, which has to be there.
+    Needed(&'static str),
+}
+
+/// An argument: its name, what is given to it, and its help.
+struct Argument {
+    name: &'static str,
+    given: Given,
+    help: &'static str,
+}
+
+/// A subcommand: its name, what it does, what its help ends in, and its arguments.
+struct Subcommand {
+    name: &'static str,
+    about: &'static str,
+    end: &'static str,
+    arguments: &'static [Argument],
+}
+
+const JSON: Argument = Argument {
+    name: "json",
+    given: Given::Flag,
+    help: "Prints JSON",
+};
+
+const TARGET: Argument = Argument {
+    name: "target",
+    given: Given::Needed("NAME"),
+    help: "The name of the target",
+};
+
+const FACTS: Argument = Argument {
+    name: "facts",
+    given: Given::Value("FILE"),
+    help: "The facts of the target, as `rustc --print cfg` prints them, in place of rustc's",
+};
+
+const ADDED_FACTS: Argument = Argument {
+    name: "cfg",
+    given: Given::Values("FACT"),
+    help: "One more fact of the target, as unix or key=\"value\"",
+};
+
+const MANIFESTS: Argument = Argument {
+    name: "manifest",
+    given: Given::Places("MANIFEST"),
+    help: "A manifest, a folder that holds Cargo.toml, or - for standard input",
+};
+
+/// What a key is, for the help.
+const KEY: &str = "The key of a table under `target`: the name of a target, or cfg(..)";
+
+const LINT: Subcommand = Subcommand {
+    name: "lint",
+    about: "Tells what is wrong or odd about the keys of `target` in manifests",
+    end: "Example: manifest_check lint Cargo.toml\n\n\
+          The status is 0 where nothing is found but notes, 1 where an error or a warning is, and 2 where the \
+          input can't be used.",
+    arguments: &[
+        JSON,
+        Argument {
+            name: "deny",
+            given: Given::OneOf("LEVEL", &["notes"]),
+            help: "With notes: notes count for the status too",
+        },
+        MANIFESTS,
+    ],
+};
+
+const SELECT: Subcommand = Subcommand {
+    name: "select",
+    about: "Tells which dependencies of manifests are selected for a target",
+    end: "Example: manifest_check select --target x86_64-pc-windows-msvc Cargo.toml\n\n\
+          Features are not resolved: an optional dependency is told as optional.",
+    arguments: &[
+        TARGET,
+        Argument {
+            name: "host",
+            given: Given::Value("NAME"),
+            help: "The target of build-dependencies; without it those under a key are open",
+        },
+        FACTS,
+        ADDED_FACTS,
+        Argument {
+            name: "open",
+            given: Given::Values("NAME"),
+            help: "Leaves each fact of this name or key open",
+        },
+        JSON,
+        MANIFESTS,
+    ],
+};
+
+const MATCH: Subcommand = Subcommand {
+    name: "match",
+    about: "Says whether a key applies to a target",
+    end: "Example: manifest_check match 'cfg(unix)' --target x86_64-unknown-linux-gnu\n\n\
+          The status is 0 where it applies, 1 where it does not, and 2 where the input can't be used.",
+    arguments: &[
+        Argument {
+            name: "key",
+            given: Given::Place("KEY"),
+            help: KEY,
+        },
+        TARGET,
+        FACTS,
+        ADDED_FACTS,
+    ],
+};
+
+const TARGETS: Subcommand = Subcommand {
+    name: "targets",
+    about: "Lists the known targets at which a key holds",
+    end: "Example: manifest_check targets 'cfg(all(unix, target_pointer_width = \"16\"))'",
+    arguments: &[
+        JSON,
+        Argument {
+            name: "key",
+            given: Given::Place("KEY"),
+            help: KEY,
+        },
+    ],
+};
+
+const FACTS_OF: Subcommand = Subcommand {
+    name: "facts",
+    about: "Prints the facts of a known target, as `rustc --print cfg` does",
+    end: "Example: manifest_check facts x86_64-unknown-linux-gnu",
+    arguments: &[Argument {
+        name: "name",
+        given: Given::Place("NAME"),
+        help: "The name of a target that rustc knows",
+    }],
+};
+
+const COMPARE: Subcommand = Subcommand {
+    name: "compare",
+    about: "Says how two keys stand to each other, over every target and every set of facts",
+    end: "Example: manifest_check compare 'cfg(target_os = \"linux\")' 'cfg(unix)'",
+    arguments: &[
+        JSON,
+        Argument {
+            name: "budget",
+            given: Given::Number("N", BUDGET),
+            help: "How many splits each line may take",
+        },
+        Argument {
+            name: "first",
+            given: Given::Place("KEY"),
+            help: KEY,
+        },
+        Argument {
+            name: "second",
+            given: Given::Place("KEY"),
+            help: KEY,
+        },
+    ],
+};
+
+const GRAPH: Subcommand = Subcommand {
+    name: "graph",
+    about: "Tells which packages are in a build at which targets, and why",
+    end: "Example: cargo metadata --format-version 1 | manifest_check graph --show why --of libc\n\n\
+          Without --metadata standard input is read. A file that was made with --filter-platform can't be told from \
+          a whole one. Features are not resolved: what `cargo metadata` turned on is on.",
+    arguments: &[
+        Argument {
+            name: "metadata",
+            given: Given::Value("FILE"),
+            help: "The file that `cargo metadata --format-version 1` printed, without --filter-platform",
+        },
+        Argument {
+            name: "target",
+            given: Given::Values("NAME"),
+            help: "Tells of this target alone; all known ones without it",
+        },
+        Argument {
+            name: "edges",
+            given: Given::Value("KINDS"),
+            help: "Follows these kinds, joined by commas: normal,build,dev",
+        },
+        Argument {
+            name: "host",
+            given: Given::Value("NAME"),
+            help: "Asks what build scripts and procedural macros need of this target",
+        },
+        Argument {
+            name: "package",
+            given: Given::Values("NAME"),
+            help: "Takes the members of this name as roots; all members without it",
+        },
+        Argument {
+            name: "show",
+            given: Given::OneOf("WHAT", &["packages", "edges", "targets", "why"]),
+            help: "What is told; packages without it",
+        },
+        Argument {
+            name: "of",
+            given: Given::Value("NAME"),
+            help: "With `--show why`: of the packages of this name",
+        },
+        JSON,
+    ],
+};
+
+/// The subcommands, in the order of the help.
+const SUBCOMMANDS: &[Subcommand] = &[LINT, SELECT, MATCH, TARGETS, FACTS_OF, COMPARE, GRAPH];
 
 /// The words without the name that Cargo hands over before those of its user.
 pub fn without_cargo_name(words: &mut Vec<String>) {
@@ -24,215 +243,52 @@ pub fn without_cargo_name(words: &mut Vec<String>) {
 
 /// The program's command, of which `version` is the version.
 pub fn command<'a>(alloc: Global, version: &'a str) -> Result<Command<'a>, AllocError> {
-    Command::new(alloc, "manifest_check")
+    let mut made = Command::new(alloc, "manifest_check")
         .about("Answers what the target conditions of Cargo manifests mean")
         .version(version)
         .subcommand_required(true)
-        .arg_required_else_help(true)
-        .subcommand(lint_command(alloc)?)?
-        .subcommand(select_command(alloc)?)?
-        .subcommand(match_command(alloc)?)?
-        .subcommand(targets_command(alloc)?)?
-        .subcommand(facts_command(alloc)?)?
-        .subcommand(compare_command(alloc)?)?
-        .subcommand(graph_command(alloc)?)
+        .arg_required_else_help(true);
+    for it in SUBCOMMANDS {
+        made = made.subcommand(to_subcommand(alloc, it)?)?;
+    }
+    Ok(made)
 }
 
-/// A key of a table under `target`.
-fn key<'a>(alloc: Global, id: &'a str) -> Arg<'a> {
-    Arg::new(alloc, id)
-        .value_name("KEY")
-        .required(true)
-        .action(ArgAction::Set)
-        .help("The key of a table under `target`: the name of a target, or cfg(..)")
+fn to_subcommand<'a>(alloc: Global, told: &Subcommand) -> Result<Command<'a>, AllocError> {
+    let mut made = Command::new(alloc, told.name)
+        .about(told.about)
+        .after_help(told.end);
+    for it in told.arguments {
+        made = made.arg(to_argument(alloc, it))?;
+    }
+    Ok(made)
 }
 
-fn json<'a>(alloc: Global) -> Arg<'a> {
-    Arg::new(alloc, "json")
-        .long("json")
-        .action(ArgAction::SetTrue)
-        .help("Prints JSON")
+fn to_argument<'a>(alloc: Global, told: &Argument) -> Arg<'a> {
+    let made = Arg::new(alloc, told.name).help(told.help);
+    match told.given {
+        Given::Flag => made.long(told.name).action(ArgAction::SetTrue),
+        Given::Value(value) => option(made, told.name, value).action(ArgAction::Set),
+        Given::Needed(value) => option(made, told.name, value)
+            .required(true)
+            .action(ArgAction::Set),
+        Given::Values(value) => option(made, told.name, value).action(ArgAction::Append),
+        Given::OneOf(value, words) => option(made, told.name, value)
+            .action(ArgAction::Set)
+            .value_parser(words),
+        Given::Number(value, without) => option(made, told.name, value)
+            .action(ArgAction::Set)
+            .value_parser(value_parser!(u64))
+            .default_value(without),
+        Given::Place(value) => made.value_name(value).required(true).action(ArgAction::Set),
+        Given::Places(value) => made
+            .value_name(value)
+            .required(true)
+            .num_args(1..)
+            .action(ArgAction::Append),
+    }
 }
 
-fn target<'a>(alloc: Global) -> Arg<'a> {
-    Arg::new(alloc, "target")
-        .long("target")
-        .value_name("NAME")
-        .required(true)
-        .action(ArgAction::Set)
-        .help("The name of the target")
-}
-
-fn facts_file<'a>(alloc: Global) -> Arg<'a> {
-    Arg::new(alloc, "facts")
-        .long("facts")
-        .value_name("FILE")
-        .action(ArgAction::Set)
-        .help("The facts of the target, as `rustc --print cfg` prints them, in place of rustc's")
-}
-
-fn added_facts<'a>(alloc: Global) -> Arg<'a> {
-    Arg::new(alloc, "cfg")
-        .long("cfg")
-        .value_name("FACT")
-        .action(ArgAction::Append)
-        .help("One more fact of the target, as unix or key=\"value\"")
-}
-
-fn manifests<'a>(alloc: Global) -> Arg<'a> {
-    Arg::new(alloc, "manifest")
-        .value_name("MANIFEST")
-        .required(true)
-        .num_args(1..)
-        .action(ArgAction::Append)
-        .help("A manifest, a folder that holds Cargo.toml, or - for standard input")
-}
-
-fn lint_command<'a>(alloc: Global) -> Result<Command<'a>, AllocError> {
-    let deny = Arg::new(alloc, "deny")
-        .long("deny")
-        .value_name("LEVEL")
-        .action(ArgAction::Set)
-        .value_parser(DENIED)
-        .help("With notes: notes count for the status too");
-    Command::new(alloc, "lint")
-        .about("Tells what is wrong or odd about the keys of `target` in manifests")
-        .after_help(
-            "Example: manifest_check lint Cargo.toml\n\n\
-             The status is 0 where nothing is found but notes, 1 where an error or a warning is, and 2 where the \
-             input can't be used.",
-        )
-        .arg(json(alloc))?
-        .arg(deny)?
-        .arg(manifests(alloc))
-}
-
-fn select_command<'a>(alloc: Global) -> Result<Command<'a>, AllocError> {
-    let host = Arg::new(alloc, "host")
-        .long("host")
-        .value_name("NAME")
-        .action(ArgAction::Set)
-        .help("The target of build-dependencies; without it those under a key are open");
-    let open = Arg::new(alloc, "open")
-        .long("open")
-        .value_name("NAME")
-        .action(ArgAction::Append)
-        .help("Leaves each fact of this name or key open");
-    Command::new(alloc, "select")
-        .about("Tells which dependencies of manifests are selected for a target")
-        .after_help(
-            "Example: manifest_check select --target x86_64-pc-windows-msvc Cargo.toml\n\n\
-             Features are not resolved: an optional dependency is told as optional.",
-        )
-        .arg(target(alloc))?
-        .arg(host)?
-        .arg(facts_file(alloc))?
-        .arg(added_facts(alloc))?
-        .arg(open)?
-        .arg(json(alloc))?
-        .arg(manifests(alloc))
-}
-
-fn match_command<'a>(alloc: Global) -> Result<Command<'a>, AllocError> {
-    Command::new(alloc, "match")
-        .about("Says whether a key applies to a target")
-        .after_help(
-            "Example: manifest_check match 'cfg(unix)' --target x86_64-unknown-linux-gnu\n\n\
-             The status is 0 where it applies, 1 where it does not, and 2 where the input can't be used.",
-        )
-        .arg(key(alloc, "key"))?
-        .arg(target(alloc))?
-        .arg(facts_file(alloc))?
-        .arg(added_facts(alloc))
-}
-
-fn targets_command<'a>(alloc: Global) -> Result<Command<'a>, AllocError> {
-    Command::new(alloc, "targets")
-        .about("Lists the known targets at which a key holds")
-        .after_help(
-            "Example: manifest_check targets 'cfg(all(unix, target_pointer_width = \"16\"))'",
-        )
-        .arg(json(alloc))?
-        .arg(key(alloc, "key"))
-}
-
-fn facts_command<'a>(alloc: Global) -> Result<Command<'a>, AllocError> {
-    let name = Arg::new(alloc, "name")
-        .value_name("NAME")
-        .required(true)
-        .action(ArgAction::Set)
-        .help("The name of a target that rustc knows");
-    Command::new(alloc, "facts")
-        .about("Prints the facts of a known target, as `rustc --print cfg` does")
-        .after_help("Example: manifest_check facts x86_64-unknown-linux-gnu")
-        .arg(name)
-}
-
-fn compare_command<'a>(alloc: Global) -> Result<Command<'a>, AllocError> {
-    let budget = Arg::new(alloc, "budget")
-        .long("budget")
-        .value_name("N")
-        .action(ArgAction::Set)
-        .value_parser(value_parser!(u64))
-        .default_value(BUDGET)
-        .help("How many splits each line may take");
-    Command::new(alloc, "compare")
-        .about("Says how two keys stand to each other, over every target and every set of facts")
-        .after_help("Example: manifest_check compare 'cfg(target_os = \"linux\")' 'cfg(unix)'")
-        .arg(json(alloc))?
-        .arg(budget)?
-        .arg(key(alloc, "first"))?
-        .arg(key(alloc, "second"))
-}
-
-/// An argument with a value, of which the last one counts, or each one where it may be repeated.
-fn valued<'a>(
-    alloc: Global,
-    id: &'a str,
-    value: &'a str,
-    is_repeated: bool,
-    help: &'a str,
-) -> Arg<'a> {
-    let action = if is_repeated {
-        ArgAction::Append
-    } else {
-        ArgAction::Set
-    };
-    Arg::new(alloc, id)
-        .long(id)
-        .value_name(value)
-        .action(action)
-        .help(help)
-}
-
-fn graph_command<'a>(alloc: Global) -> Result<Command<'a>, AllocError> {
-    let metadata =
-        "The file that `cargo metadata --format-version 1` printed, without --filter-platform";
-    let targets = "Tells of this target alone; all known ones without it";
-    let edges = "Follows these kinds, joined by commas: normal,build,dev";
-    let host = "Asks what build scripts and procedural macros need of this target";
-    let packages = "Takes the members of this name as roots; all members without it";
-    let of = "With `--show why`: of the packages of this name";
-    let show = valued(
-        alloc,
-        "show",
-        "WHAT",
-        false,
-        "What is told; packages without it",
-    );
-    Command::new(alloc, "graph")
-        .about("Tells which packages are in a build at which targets, and why")
-        .after_help(
-            "Example: cargo metadata --format-version 1 | manifest_check graph --show why --of libc\n\n\
-             Without --metadata standard input is read. A file that was made with --filter-platform can't be told from \
-             a whole one. Features are not resolved: what `cargo metadata` turned on is on.",
-        )
-        .arg(valued(alloc, "metadata", "FILE", false, metadata))?
-        .arg(valued(alloc, "target", "NAME", true, targets))?
-        .arg(valued(alloc, "edges", "KINDS", false, edges))?
-        .arg(valued(alloc, "host", "NAME", false, host))?
-        .arg(valued(alloc, "package", "NAME", true, packages))?
-        .arg(show.value_parser(SHOWN))?
-        .arg(valued(alloc, "of", "NAME", false, of))?
-        .arg(json(alloc))
+fn option<'a>(made: Arg<'a>, name: &'static str, value: &'static str) -> Arg<'a> {
+    made.long(name).value_name(value)
 }
