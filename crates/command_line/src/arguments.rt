@@ -68,7 +68,9 @@ fn facts_file<'a>(alloc: Global) -> Arg<'a> {
         .long("facts")
         .value_name("FILE")
         .action(ArgAction::Set)
-        .help("The facts of the target, as `rustc --print cfg` prints them, in place of rustc's")
+        .help(
+            "The facts of the target, as `rustc --print cfg` prints them, in place of rustc's; - for standard input",
+        )
 }
 
 fn added_facts<'a>(alloc: Global) -> Arg<'a> {
@@ -82,10 +84,43 @@ fn added_facts<'a>(alloc: Global) -> Arg<'a> {
 fn manifests<'a>(alloc: Global) -> Arg<'a> {
     Arg::new(alloc, "manifest")
         .value_name("MANIFEST")
-        .required(true)
         .num_args(1..)
         .action(ArgAction::Append)
-        .help("A manifest, a folder that holds Cargo.toml, or - for standard input")
+        .help(
+            "A manifest, a folder that holds Cargo.toml, or - for standard input; without any the Cargo.toml here or \
+             in the nearest folder above",
+        )
+}
+
+/// Adds the arguments that say which manifests are meant, as Cargo has them.
+fn with_manifests<'a>(command: Command<'a>, alloc: Global) -> Result<Command<'a>, AllocError> {
+    let packages = valued(
+        alloc,
+        "package",
+        "NAME",
+        true,
+        "The package of this name in the workspace alone",
+    );
+    let excluded = "Leaves out the package of this name";
+    let whole = Arg::new(alloc, "workspace")
+        .long("workspace")
+        .action(ArgAction::SetTrue)
+        .help("All members of the workspace, from a member too");
+    command
+        .arg(valued(alloc, "manifest-path", "PATH", true, "One more MANIFEST"))?
+        .arg(packages.short('p'))?
+        .arg(valued(alloc, "exclude", "NAME", true, excluded))?
+        .arg(whole)?
+        .arg(manifests(alloc))
+}
+
+/// What is told on standard error.
+fn loudness<'a>(alloc: Global, id: &'a str, short: char, help: &'a str) -> Arg<'a> {
+    Arg::new(alloc, id)
+        .long(id)
+        .short(short)
+        .action(ArgAction::SetTrue)
+        .help(help)
 }
 
 fn lint_command<'a>(alloc: Global) -> Result<Command<'a>, AllocError> {
@@ -95,16 +130,30 @@ fn lint_command<'a>(alloc: Global) -> Result<Command<'a>, AllocError> {
         .action(ArgAction::Set)
         .value_parser(DENIED)
         .help("With notes: notes count for the status too");
-    Command::new(alloc, "lint")
+    let quiet = loudness(
+        alloc,
+        "quiet",
+        'q',
+        "Leaves out the last line, which sums up",
+    );
+    let verbose = loudness(
+        alloc,
+        "verbose",
+        'v',
+        "Names each manifest without a key of `target`",
+    );
+    let command = Command::new(alloc, "lint")
         .about("Tells what is wrong or odd about the keys of `target` in manifests")
         .after_help(
             "Example: manifest_check lint Cargo.toml\n\n\
-             The status is 0 where nothing is found but notes, 1 where an error or a warning is, and 2 where the \
-             input can't be used.",
+             The root of a workspace stands for its members too. The status is 0 where nothing is found but notes, 1 \
+             where an error or a warning is, and 2 where the input can't be used.",
         )
         .arg(json(alloc))?
         .arg(deny)?
-        .arg(manifests(alloc))
+        .arg(quiet)?
+        .arg(verbose)?;
+    with_manifests(command, alloc)
 }
 
 fn select_command<'a>(alloc: Global) -> Result<Command<'a>, AllocError> {
@@ -118,19 +167,20 @@ fn select_command<'a>(alloc: Global) -> Result<Command<'a>, AllocError> {
         .value_name("NAME")
         .action(ArgAction::Append)
         .help("Leaves each fact of this name or key open");
-    Command::new(alloc, "select")
+    let command = Command::new(alloc, "select")
         .about("Tells which dependencies of manifests are selected for a target")
         .after_help(
             "Example: manifest_check select --target x86_64-pc-windows-msvc Cargo.toml\n\n\
-             Features are not resolved: an optional dependency is told as optional.",
+             The root of a workspace stands for its members too. Features are not resolved: an optional dependency is \
+             told as optional.",
         )
         .arg(target(alloc))?
         .arg(host)?
         .arg(facts_file(alloc))?
         .arg(added_facts(alloc))?
         .arg(open)?
-        .arg(json(alloc))?
-        .arg(manifests(alloc))
+        .arg(json(alloc))?;
+    with_manifests(command, alloc)
 }
 
 fn match_command<'a>(alloc: Global) -> Result<Command<'a>, AllocError> {
