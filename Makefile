@@ -20,13 +20,14 @@
 # make second-reader  what a reader in Python says of the rows on texts, and of 1.3 million questions to the library
 # make statuses   the program where reading or writing fails
 # make manifests  the program manifest_check over questions whose answers are known, and hostile input
+# make workspaces  the same at the roots of workspaces, with no manifest named
 # make graphs     the same for its command graph
 # make cargo-select  what `manifest_check select` selects, beside what Cargo does; it needs cargo and rustc 1.95.0
 # make try-c      the library for C and Python, called from both; it needs a C compiler
 # make pages      what the pages say, beside what it is said of
 # make depths     the programs on the deepest conditions that their inputs hold
 .PHONY: lint run build install c-library install-c wheel dist try-c take test gate fits mutants refusals second-reader \
-	statuses manifests graphs cargo-select \
+	statuses manifests workspaces graphs cargo-select \
 	pages depths quick measure targets fmt rt
 
 PROGRAM := crates/platform_check
@@ -108,5 +109,5 @@ targets:
 fmt: rt
 	for crate in crates/*/; do (cd $$crate && rt fmt) || exit 1; done
 
-refusals second-reader statuses manifests graphs cargo-select pages depths: rt
+refusals second-reader statuses manifests workspaces graphs cargo-select pages depths: rt
 	.ci/$@

@@ -9,15 +9,19 @@ from crates import ROOT
 
 SOURCE = ROOT / "crates" / "command_line" / "src" / "arguments.rt"
 
-# A string, a name with its path, or one mark.
-PIECE = re.compile(r'\s*(?:"(?P<text>(?:[^"\\]|\\.)*)"|(?P<name>[A-Za-z_][\w:]*)|(?P<mark>[^\s\w"]))', re.S)
+# A string, a letter, a name with its path, or one mark.
+PIECE = re.compile(
+    r"""\s*(?:"(?P<text>(?:[^"\\]|\\.)*)"|'(?P<letter>\w)'|(?P<name>[A-Za-z_][\w:]*)|(?P<mark>[^\s\w"]))""", re.S
+)
 ESCAPED = {"n": "\n", '"': '"', "\\": "\\"}
 
 
 class Argument(NamedTuple):
-    """An argument: its name, how it is given, what its value is called, the words that it may be, and its help."""
+    """An argument: its name, the letter that is enough for it, how it is given, what its value is called, the words
+    that it may be, and its help."""
 
     name: str
+    letter: str
     kind: str
     value: str
     words: list
@@ -29,11 +33,11 @@ class Argument(NamedTuple):
 
     @property
     def is_repeated(self):
-        return self.kind in ("Values", "Places")
+        return self.kind in ("Values", "ShortValues", "Places")
 
     @property
     def is_needed(self):
-        return self.kind in ("Needed", "Place", "Places")
+        return self.kind in ("Needed", "Place")
 
 
 class Subcommand(NamedTuple):
@@ -48,6 +52,10 @@ class Subcommand(NamedTuple):
 def without_escapes(text):
     """The value of a string, of which a line that ends in `\\` goes on at the next one's first character."""
     return re.sub(r"\\(\n\s*|.)", lambda it: ESCAPED.get(it[1], ""), text)
+
+
+class Letter(str):
+    """A character of Rust."""
 
 
 class Reader:
@@ -78,6 +86,8 @@ class Reader:
         self.at += 1
         if piece["text"] is not None:
             return without_escapes(piece["text"])
+        if piece["letter"]:
+            return Letter(piece["letter"])
         if self.take("("):
             return (piece["name"].rpartition(":")[2], *self.all_until(")"))
         if self.take("{"):
@@ -95,9 +105,10 @@ def made(kind, fields):
     if kind == "Subcommand":
         return Subcommand(*(fields[it] for it in Subcommand._fields))
     how, *given = fields["given"]
-    texts = [it for it in given if isinstance(it, str)]
+    letter = next((it for it in given if isinstance(it, Letter)), "")
+    value = next((it for it in given if isinstance(it, str) and not isinstance(it, Letter)), "")
     words = [word for it in given if isinstance(it, list) for word in it]
-    return Argument(fields["name"], how, texts[0] if texts else "", words, fields["help"])
+    return Argument(fields["name"], letter, how, value, words, fields["help"])
 
 
 def subcommands():

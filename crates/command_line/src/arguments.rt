@@ -14,6 +14,8 @@ const CARGO_NAME: &str = "manifest-check";
 enum Given {
     /// Nothing: it is there or not.
     Flag,
+    /// Nothing, and a letter is enough.
+    ShortFlag(char),
     /// One value, of any text.
     Value(&'static str),
     /// One of these words.
@@ -22,9 +24,11 @@ enum Given {
     Number(&'static str, &'static str),
     /// A value each time that it is repeated.
     Values(&'static str),
+    /// The same, and a letter is enough.
+    ShortValues(char, &'static str),
     /// A value at its place, which has to be there.
     Place(&'static str),
-    /// One or more values at its place.
+    /// Any number of values at its place.
     Places(&'static str),
     /// One value, which has to be there.
     Needed(&'static str),
@@ -60,7 +64,7 @@ const TARGET: Argument = Argument {
 const FACTS: Argument = Argument {
     name: "facts",
     given: Given::Value("FILE"),
-    help: "The facts of the target, as `rustc --print cfg` prints them, in place of rustc's",
+    help: "The facts of the target, as `rustc --print cfg` prints them, in place of rustc's; - for standard input",
 };
 
 const ADDED_FACTS: Argument = Argument {
@@ -69,10 +73,35 @@ const ADDED_FACTS: Argument = Argument {
     help: "One more fact of the target, as unix or key=\"value\"",
 };
 
+const MANIFEST_PATH: Argument = Argument {
+    name: "manifest-path",
+    given: Given::Values("PATH"),
+    help: "One more MANIFEST",
+};
+
+const PACKAGE: Argument = Argument {
+    name: "package",
+    given: Given::ShortValues('p', "NAME"),
+    help: "The package of this name in the workspace alone",
+};
+
+const EXCLUDE: Argument = Argument {
+    name: "exclude",
+    given: Given::Values("NAME"),
+    help: "Leaves out the package of this name",
+};
+
+const WORKSPACE: Argument = Argument {
+    name: "workspace",
+    given: Given::Flag,
+    help: "All members of the workspace, from a member too",
+};
+
 const MANIFESTS: Argument = Argument {
     name: "manifest",
     given: Given::Places("MANIFEST"),
-    help: "A manifest, a folder that holds Cargo.toml, or - for standard input",
+    help: "A manifest, a folder that holds Cargo.toml, or - for standard input; without any the Cargo.toml here or \
+           in the nearest folder above",
 };
 
 /// What a key is, for the help.
@@ -82,8 +111,8 @@ const LINT: Subcommand = Subcommand {
     name: "lint",
     about: "Tells what is wrong or odd about the keys of `target` in manifests",
     end: "Example: manifest_check lint Cargo.toml\n\n\
-          The status is 0 where nothing is found but notes, 1 where an error or a warning is, and 2 where the \
-          input can't be used.",
+          The root of a workspace stands for its members too. The status is 0 where nothing is found but notes, 1 \
+          where an error or a warning is, and 2 where the input can't be used.",
     arguments: &[
         JSON,
         Argument {
@@ -91,6 +120,20 @@ const LINT: Subcommand = Subcommand {
             given: Given::OneOf("LEVEL", &["notes"]),
             help: "With notes: notes count for the status too",
         },
+        Argument {
+            name: "quiet",
+            given: Given::ShortFlag('q'),
+            help: "Leaves out the last line, which sums up",
+        },
+        Argument {
+            name: "verbose",
+            given: Given::ShortFlag('v'),
+            help: "Names each manifest without a key of `target`",
+        },
+        MANIFEST_PATH,
+        PACKAGE,
+        EXCLUDE,
+        WORKSPACE,
         MANIFESTS,
     ],
 };
@@ -99,7 +142,8 @@ const SELECT: Subcommand = Subcommand {
     name: "select",
     about: "Tells which dependencies of manifests are selected for a target",
     end: "Example: manifest_check select --target x86_64-pc-windows-msvc Cargo.toml\n\n\
-          Features are not resolved: an optional dependency is told as optional.",
+          The root of a workspace stands for its members too. Features are not resolved: an optional dependency is \
+          told as optional.",
     arguments: &[
         TARGET,
         Argument {
@@ -115,6 +159,10 @@ const SELECT: Subcommand = Subcommand {
             help: "Leaves each fact of this name or key open",
         },
         JSON,
+        MANIFEST_PATH,
+        PACKAGE,
+        EXCLUDE,
+        WORKSPACE,
         MANIFESTS,
     ],
 };
@@ -190,7 +238,8 @@ const GRAPH: Subcommand = Subcommand {
     about: "Tells which packages are in a build at which targets, and why",
     end: "Example: cargo metadata --format-version 1 | manifest_check graph --show why --of libc\n\n\
           Without --metadata standard input is read. A file that was made with --filter-platform can't be told from \
-          a whole one. Features are not resolved: what `cargo metadata` turned on is on.",
+          a whole one. Features are not resolved: what `cargo metadata` turned on is on.\n\n\
+          With --allow or --allow-file the status is 1 where something is told.",
     arguments: &[
         Argument {
             name: "metadata",
@@ -226,6 +275,26 @@ const GRAPH: Subcommand = Subcommand {
             name: "of",
             given: Given::Value("NAME"),
             help: "With `--show why`: of the packages of this name",
+        },
+        Argument {
+            name: "allow",
+            given: Given::Value("LIST"),
+            help: "Tells the packages whose licence these do not satisfy, joined by commas: MIT,ISC",
+        },
+        Argument {
+            name: "allow-file",
+            given: Given::Value("FILE"),
+            help: "Reads allowed licences from this file, one a line",
+        },
+        Argument {
+            name: "except",
+            given: Given::Values("PACKAGE"),
+            help: "Tells nothing of this package: NAME@VERSION",
+        },
+        Argument {
+            name: "html",
+            given: Given::Value("FILE"),
+            help: "Writes a page of the packages by classes of targets to this file too",
         },
         JSON,
     ],
@@ -268,11 +337,18 @@ fn to_argument<'a>(alloc: Global, told: &Argument) -> Arg<'a> {
     let made = Arg::new(alloc, told.name).help(told.help);
     match told.given {
         Given::Flag => made.long(told.name).action(ArgAction::SetTrue),
+        Given::ShortFlag(letter) => made
+            .long(told.name)
+            .short(letter)
+            .action(ArgAction::SetTrue),
         Given::Value(value) => option(made, told.name, value).action(ArgAction::Set),
         Given::Needed(value) => option(made, told.name, value)
             .required(true)
             .action(ArgAction::Set),
         Given::Values(value) => option(made, told.name, value).action(ArgAction::Append),
+        Given::ShortValues(letter, value) => option(made, told.name, value)
+            .short(letter)
+            .action(ArgAction::Append),
         Given::OneOf(value, words) => option(made, told.name, value)
             .action(ArgAction::Set)
             .value_parser(words),
@@ -283,7 +359,6 @@ fn to_argument<'a>(alloc: Global, told: &Argument) -> Arg<'a> {
         Given::Place(value) => made.value_name(value).required(true).action(ArgAction::Set),
         Given::Places(value) => made
             .value_name(value)
-            .required(true)
             .num_args(1..)
             .action(ArgAction::Append),
     }

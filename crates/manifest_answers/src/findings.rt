@@ -152,22 +152,41 @@ fn push_object(
     push_json(text, alloc, &Value::Object(object))
 }
 
-/// How many findings there are of each level.
+/// How many manifests and keys were checked, and how many findings there are of each level.
 #[derive(Clone, Copy, Drop)]
 pub struct Counts {
+    manifests: usize,
+    keys: usize,
     errors: usize,
     warnings: usize,
     notes: usize,
+}
+
+/// A number of things.
+fn counted(alloc: Global, count: usize, thing: &str) -> Result<String, AllocError> {
+    if count == 1 {
+        format!(in alloc; "{count} {thing}")
+    } else {
+        format!(in alloc; "{count} {thing}s")
+    }
 }
 
 impl Counts {
     /// None.
     pub fn none() -> Counts {
         Counts {
+            manifests: 0,
+            keys: 0,
             errors: 0,
             warnings: 0,
             notes: 0,
         }
+    }
+
+    /// One more manifest, with so many keys.
+    pub fn add_manifest(&mut self, keys: usize) {
+        self.manifests = self.manifests.saturating_add(1);
+        self.keys = self.keys.saturating_add(keys);
     }
 
     /// One more of this level.
@@ -181,12 +200,12 @@ impl Counts {
 
     /// The last line, which sums up.
     pub fn line(self, alloc: Global) -> Result<String, AllocError> {
-        let Counts {
-            errors,
-            warnings,
-            notes,
-        } = self;
-        format!(in alloc; "{errors} errors, {warnings} warnings, {notes} notes\n")
+        let manifests = counted(alloc, self.manifests, "manifest")?;
+        let keys = counted(alloc, self.keys, "key")?;
+        let errors = counted(alloc, self.errors, "error")?;
+        let warnings = counted(alloc, self.warnings, "warning")?;
+        let notes = counted(alloc, self.notes, "note")?;
+        format!(in alloc; "{manifests}, {keys} checked: {errors}, {warnings}, {notes}\n")
     }
 }
 

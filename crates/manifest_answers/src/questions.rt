@@ -124,14 +124,59 @@ pub fn targets(alloc: Global, key: &str, json: bool) -> Result<Answer, Refusal> 
     })
 }
 
+/// A line without the carriage return at its end; none where it is blank then.
+fn fact_on(line: &str) -> Option<&str> {
+    let line = line.strip_suffix("\r").unwrap_or(line);
+    if line.trim().is_empty() {
+        None
+    } else {
+        Some(line)
+    }
+}
+
+/// The text without a mark of the byte order.
+fn without_mark(text: &str) -> &str {
+    text.strip_prefix("\u{FEFF}").unwrap_or(text)
+}
+
+/// A file of facts without what editors add: a mark of the byte order, carriage returns at the ends of lines, and blank
+/// lines.
+fn fact_lines_of(alloc: Global, text: &str) -> Result<String, AllocError> {
+    let mut lines = String::new(alloc);
+    for line in without_mark(text).split('\n') {
+        if let Some(fact) = fact_on(line) {
+            lines.push_str(fact)?;
+            lines.push_str("\n")?;
+        }
+    }
+    Ok(lines)
+}
+
+/// The number of the line on which a fact stands, of which so many stand up to it.
+fn line_of_fact(text: &str, facts: usize) -> usize {
+    let mut left = facts;
+    let mut number: usize = 0;
+    for line in without_mark(text).split('\n') {
+        if left == 0 {
+            return number;
+        }
+        number = number.saturating_add(1);
+        if fact_on(line).is_some() {
+            left = left.saturating_sub(1);
+        }
+    }
+    number
+}
+
 /// The facts of a target: those of the lines where there are some, else those of the table.
 pub fn table_or_lines(alloc: Global, name: &str, lines: Option<&str>) -> Result<Vec<Cfg>, Refusal> {
     match lines {
-        Some(lines) => match read_facts(alloc, lines) {
+        Some(text) => match read_facts(alloc, fact_lines_of(alloc, text)?.as_str()) {
             Ok(facts) => Ok(facts),
             Err(FactsError::Memory(refused)) => Err(Refusal::Memory(refused)),
             Err(FactsError::Line { number, error }) => {
-                Err(Refusal::Unusable(refused_fact(alloc, number, &error)?))
+                let line = line_of_fact(text, number);
+                Err(Refusal::Unusable(refused_fact(alloc, line, &error)?))
             }
         },
         None => match KnownTarget::by_name(name) {

@@ -1,7 +1,8 @@
 //! The subcommands, asked by the words that `clap` read.
 
-use crate::graphs::graph_answer;
-use crate::linting::lint_each;
+use crate::graphs::{graph_answer, text_of};
+use crate::linting::{Loudness, lint_each};
+use crate::named::{Named, named_manifests};
 use anyhow::{Context, Result};
 use clap::ArgMatches;
 use key_answers::answer::{Answer, answered};
@@ -10,28 +11,22 @@ use manifest_answers::findings::Style;
 use manifest_answers::questions;
 use manifest_answers::selecting::{Target, select_each};
 use std::alloc::Global;
+use std::env;
 use std::rt::{Env, Files};
-use std::{env, fs};
-
-/// Which outputs are terminals.
-#[derive(Clone, Copy, Drop)]
-pub struct Terminals {
-    pub output: bool,
-    pub errors: bool,
-}
 
 /// The text of a word that its subcommand requires.
 fn word<'a>(matches: &ArgMatches<'a>, id: &str) -> &'a str {
     matches.get_str(id).unwrap_or("")
 }
 
-/// The text of the file of facts, where one is named.
-fn facts_file<R: Files + AllocGlobal>(rt: &R, matches: &ArgMatches<'_>) -> Result<Option<String>> {
+/// The text of the file of facts, or of standard input, where one is named.
+fn facts_file<R: Files + Input + AllocGlobal>(
+    rt: &R,
+    matches: &ArgMatches<'_>,
+) -> Result<Option<String>> {
     match matches.get_str("facts") {
         Some(path) => {
-            let text = fs::read_to_string(rt, path).context(format_args!(
-                "reading the facts of {path:?}"
-            ))?;
+            let text = text_of(rt, path).context(format_args!("reading the facts of {path:?}"))?;
             Ok(Some(text))
         }
         None => Ok(None),
@@ -39,7 +34,10 @@ fn facts_file<R: Files + AllocGlobal>(rt: &R, matches: &ArgMatches<'_>) -> Resul
 }
 
 /// Answers `match`.
-fn match_answer<R: Files + AllocGlobal>(rt: &R, matches: &ArgMatches<'_>) -> Result<Answer> {
+fn match_answer<R: Files + Input + AllocGlobal>(
+    rt: &R,
+    matches: &ArgMatches<'_>,
+) -> Result<Answer> {
     let lines = facts_file(rt, matches)?;
     let answer = questions::applies(
         rt.alloc(),
@@ -52,7 +50,7 @@ fn match_answer<R: Files + AllocGlobal>(rt: &R, matches: &ArgMatches<'_>) -> Res
 }
 
 /// Answers `select`.
-fn select_answer<R: Files + Input + AllocGlobal>(
+fn select_answer<R: Files + Input + Env + AllocGlobal + Clone + Drop>(
     rt: &R,
     matches: &ArgMatches<'_>,
 ) -> Result<Answer> {
@@ -62,15 +60,18 @@ fn select_answer<R: Files + Input + AllocGlobal>(
         added: matches.get_strs("cfg").unwrap_or(&[]),
         open: matches.get_strs("open").unwrap_or(&[]),
     };
-    let answer = select_each(
+    let Named { paths, mut answer } = named_manifests(rt, matches)?;
+    let paths: Vec<&str> = paths.iter().map(|path| path.as_str()).collect(rt.alloc())?;
+    let selected = select_each(
         rt,
-        matches.get_strs("manifest").unwrap_or(&[]),
+        &paths,
         &target,
         lines.as_ref().map(|text| text.as_str()),
         matches.get_str("host"),
         matches.get_flag("json"),
     );
-    Ok(answered(rt.alloc(), answer)?)
+    answer.append(answered(rt.alloc(), selected)?)?;
+    Ok(answer)
 }
 
 /// Whether `NO_COLOR` is set to anything.
@@ -83,23 +84,25 @@ fn has_no_color<R: Env + AllocGlobal>(rt: &R) -> bool {
 }
 
 /// Answers `lint`.
-fn lint_answer<R: Files + Input + Env + AllocGlobal>(
+fn lint_answer<R: Files + Input + Env + AllocGlobal + Clone + Drop>(
     rt: &R,
     matches: &ArgMatches<'_>,
-    terminals: Terminals,
+    on_terminal: bool,
 ) -> Result<Answer> {
     let json = matches.get_flag("json");
     let style = Style {
         json,
-        colours: terminals.output && !json && !has_no_color(rt),
+        colours: on_terminal && !json && !has_no_color(rt),
         deny_notes: matches.get_str("deny").is_some(),
     };
-    Ok(lint_each(
-        rt,
-        matches.get_strs("manifest").unwrap_or(&[]),
-        style,
-        terminals.errors,
-    )?)
+    let loudness = Loudness {
+        is_verbose: matches.get_flag("verbose"),
+        is_quiet: matches.get_flag("quiet"),
+    };
+    let Named { paths, mut answer } = named_manifests(rt, matches)?;
+    let paths: Vec<&str> = paths.iter().map(|path| path.as_str()).collect(rt.alloc())?;
+    answer.append(lint_each(rt, &paths, style, loudness)?)?;
+    Ok(answer)
 }
 
 /// Answers `compare`.
@@ -131,13 +134,13 @@ fn question_answer(alloc: Global, matches: &ArgMatches<'_>) -> Result<Answer> {
 }
 
 /// Answers the subcommand that was asked.
-pub fn answer_to<R: Files + Input + Env + AllocGlobal>(
+pub fn answer_to<R: Files + Input + Env + AllocGlobal + Clone + Drop>(
     rt: &R,
     matches: &ArgMatches<'_>,
-    terminals: Terminals,
+    on_terminal: bool,
 ) -> Result<Answer> {
     if let Some(m) = matches.subcommand_matches("lint") {
-        return lint_answer(rt, m, terminals);
+        return lint_answer(rt, m, on_terminal);
     }
     if let Some(m) = matches.subcommand_matches("select") {
         return select_answer(rt, m);

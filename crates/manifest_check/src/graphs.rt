@@ -13,7 +13,7 @@ use std::{fs, io};
 const INPUT: &str = "-";
 
 /// The text of a file, or of standard input.
-fn text_of<R: Files + Input + AllocGlobal>(rt: &R, file: &str) -> io::Result<String> {
+pub fn text_of<R: Files + Input + AllocGlobal>(rt: &R, file: &str) -> io::Result<String> {
     if file == INPUT {
         io::read_to_string(rt.alloc(), rt.reader())
     } else {

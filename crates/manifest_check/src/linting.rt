@@ -15,6 +15,7 @@ use std::rt::Files;
 struct Linting<'a> {
     words: &'a Words,
     style: Style,
+    is_verbose: bool,
     counts: Counts,
 }
 
@@ -28,28 +29,43 @@ impl<'a> Question for Linting<'a> {
             self.counts.add(finding.level);
             answer.raise(status_of(finding.level, self.style));
         }
+        self.counts.add_manifest(report.keys.len());
+        if self.is_verbose && report.keys.is_empty() {
+            let path = manifest.path.as_str();
+            let line = format!(in alloc; "{path}: no key of `target` to check\n")?;
+            answer.errors.push_str(line.as_str())?;
+        }
         push_undecided(&mut answer.errors, alloc, manifest.path.as_str(), &report)?;
         Ok(answer)
     }
 }
 
-/// The findings on the manifests that are named, in their order. With `sums_up` standard error has a last line that
-/// sums up.
+/// What is told on standard error beside what can't be used.
+#[derive(Clone, Copy, Drop)]
+pub struct Loudness {
+    /// Each manifest without a key.
+    pub is_verbose: bool,
+    /// No last line that sums up.
+    pub is_quiet: bool,
+}
+
+/// The findings on the manifests that are named, in their order.
 pub fn lint_each<R: Files + Input + AllocGlobal>(
     rt: &R,
     paths: &[&str],
     style: Style,
-    sums_up: bool,
+    loudness: Loudness,
 ) -> Result<Answer, AllocError> {
     let alloc = rt.alloc();
     let words = Words::new(alloc)?;
     let mut linting = Linting {
         words: &words,
         style,
+        is_verbose: loudness.is_verbose,
         counts: Counts::none(),
     };
     let mut whole = answer_each(rt, paths, &mut linting)?;
-    if sums_up {
+    if !loudness.is_quiet {
         let line = linting.counts.line(alloc)?;
         whole.errors.push_str(line.as_str())?;
     }

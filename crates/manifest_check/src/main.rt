@@ -4,15 +4,16 @@
 mod asking;
 mod graphs;
 mod linting;
+mod named;
 
 use anyhow::Result;
-use asking::{Terminals, answer_to};
+use asking::answer_to;
 use command_line::arguments::{command, without_cargo_name};
 use key_answers::answer::Status;
 use known_targets::RUSTC_VERSION;
 use std::alloc::{AllocError, Global};
 use std::env;
-use std::io::IsTerminal;
+use std::io::{ErrorKind, IsTerminal};
 use std::process::ExitCode;
 use std::rt::{Env, Files};
 
@@ -22,9 +23,9 @@ fn version(alloc: Global) -> Result<String, AllocError> {
 }
 
 /// Answers the words of the command line, and prints the answer.
-fn run<R: Print + Eprint + Input + Env + Files + AllocGlobal>(
+fn run<R: Print + Eprint + Input + Env + Files + AllocGlobal + Clone + Drop>(
     rt: &R,
-    terminals: Terminals,
+    on_terminal: bool,
 ) -> Result<Status> {
     let alloc = rt.alloc();
     let mut words: Vec<String> = env::args(rt)?.collect(alloc)?;
@@ -42,18 +43,20 @@ fn run<R: Print + Eprint + Input + Env + Files + AllocGlobal>(
             });
         }
     };
-    let answer = answer_to(rt, &matches, terminals)?;
-    rt.print(&answer.output)?;
+    let answer = answer_to(rt, &matches, on_terminal)?;
+    if let Err(error) = rt.print(&answer.output) {
+        if error.kind() == ErrorKind::BrokenPipe {
+            return Ok(Status::Unusable);
+        }
+        return Err(error.into());
+    }
     rt.eprint(&answer.errors)?;
     Ok(answer.status)
 }
 
 fn main(rt: HostRuntime) -> ExitCode {
-    let terminals = Terminals {
-        output: rt.stdout().is_terminal(),
-        errors: rt.stderr().is_terminal(),
-    };
-    ExitCode::from(match run(&rt, terminals) {
+    let on_terminal = rt.stdout().is_terminal();
+    ExitCode::from(match run(&rt, on_terminal) {
         Ok(status) => status.code(),
         Err(error) => {
             let _ = rt.eprintln(format_args!("error: {error}"));
