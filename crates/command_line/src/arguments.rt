@@ -213,6 +213,10 @@ fn graph_command<'a>(alloc: Global) -> Result<Command<'a>, AllocError> {
     let host = "Asks what build scripts and procedural macros need of this target";
     let packages = "Takes the members of this name as roots; all members without it";
     let of = "With `--show why`: of the packages of this name";
+    let allow = "Tells the packages whose licence these do not satisfy, joined by commas: MIT,ISC";
+    let allow_file = "Reads allowed licences from this file, one a line";
+    let except = "Tells nothing of this package: NAME@VERSION";
+    let html = "Writes a page of the packages by classes of targets to this file too";
     let show = valued(
         alloc,
         "show",
@@ -225,7 +229,8 @@ fn graph_command<'a>(alloc: Global) -> Result<Command<'a>, AllocError> {
         .after_help(
             "Example: cargo metadata --format-version 1 | manifest_check graph --show why --of libc\n\n\
              Without --metadata standard input is read. A file that was made with --filter-platform can't be told from \
-             a whole one. Features are not resolved: what `cargo metadata` turned on is on.",
+             a whole one. Features are not resolved: what `cargo metadata` turned on is on.\n\n\
+             With --allow or --allow-file the status is 1 where something is told.",
         )
         .arg(valued(alloc, "metadata", "FILE", false, metadata))?
         .arg(valued(alloc, "target", "NAME", true, targets))?
@@ -234,5 +239,9 @@ fn graph_command<'a>(alloc: Global) -> Result<Command<'a>, AllocError> {
         .arg(valued(alloc, "package", "NAME", true, packages))?
         .arg(show.value_parser(SHOWN))?
         .arg(valued(alloc, "of", "NAME", false, of))?
+        .arg(valued(alloc, "allow", "LIST", false, allow))?
+        .arg(valued(alloc, "allow-file", "FILE", false, allow_file))?
+        .arg(valued(alloc, "except", "PACKAGE", true, except))?
+        .arg(valued(alloc, "html", "FILE", false, html))?
         .arg(json(alloc))
 }
