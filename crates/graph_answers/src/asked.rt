@@ -28,7 +28,15 @@ pub struct Words<'a> {
     pub show: Option<&'a str>,
     /// Of the packages with which name it is asked why they are there.
     pub of: Option<&'a str>,
+    /// Allowed licences, joined by commas.
+    pub allow: Option<&'a str>,
+    /// A file of allowed licences, one a line: its name, and its text.
+    pub allow_file: Option<(&'a str, &'a str)>,
+    /// Packages that no audit tells of, each as its name, `@` and its version.
+    pub except: &'a [&'a str],
     pub json: bool,
+    /// Whether a page is wanted too.
+    pub html: bool,
 }
 
 /// What is asked, as it is understood.
@@ -46,10 +54,11 @@ pub struct Asked<'a> {
     pub show: Show,
     pub of: &'a str,
     pub json: bool,
+    pub html: bool,
 }
 
 /// What is said of words that can't be used.
-fn unusable(alloc: Global, text: &str) -> Result<Answer, AllocError> {
+pub fn unusable_words(alloc: Global, text: &str) -> Result<Answer, AllocError> {
     let text = format!(in alloc; "error: {text}\n")?;
     Ok(Answer::unusable(alloc, text))
 }
@@ -130,11 +139,11 @@ impl<'a> Asked<'a> {
     pub fn of(alloc: Global, words: &Words<'a>) -> Result<Result<Asked<'a>, Answer>, AllocError> {
         let Some(show) = show_of(words.show) else {
             let text = "--show names packages, edges, targets or why";
-            return Ok(Err(unusable(alloc, text)?));
+            return Ok(Err(unusable_words(alloc, text)?));
         };
         if words.of.is_some() != (show == Show::Why) {
             let text = "`--show why` and `--of NAME` go together";
-            return Ok(Err(unusable(alloc, text)?));
+            return Ok(Err(unusable_words(alloc, text)?));
         }
         let targets = match targets_of(alloc, words.targets)? {
             Ok(targets) => targets,
@@ -162,6 +171,7 @@ impl<'a> Asked<'a> {
             show,
             of: words.of.unwrap_or(""),
             json: words.json,
+            html: words.html,
         }))
     }
 }

@@ -3,7 +3,7 @@
 use crate::asked::Asked;
 use crate::graph::Graph;
 use crate::json::{push_comma, push_field, push_optional, push_targets, push_text};
-use crate::lines::{kind_word, shown_condition, shown_package, shown_targets};
+use crate::lines::{kind_word, push, shown_condition, shown_package, shown_targets};
 use cargo_metadata::Kind;
 use cargo_platform::{CfgExpr, Platform, ReadError};
 use key_answers::answer::{Answer, Status};
@@ -131,7 +131,7 @@ pub fn show_edges(
     }
     if !asked.json {
         let line = format!(in alloc; "{count} edges\n")?;
-        answer.errors.push_str(line.as_str())?;
+        push(&mut answer.errors, line.as_str())?;
     }
     Ok(answer)
 }
@@ -164,7 +164,7 @@ fn push_line(
     let kind = shown_kind(alloc, edge)?;
     let targets = shown_targets(alloc, followed(graph, edge, asked), asked)?;
     let line = format!(in alloc; "{from} -> {to}, {kind}: {targets}\n")?;
-    text.push_str(line.as_str())
+    push(text, line.as_str())
 }
 
 /// The canonical form of a condition.
@@ -211,8 +211,8 @@ fn push_object(
     let smaller = smaller_condition(alloc, edge, simple)?;
     push_optional(text, alloc, smaller.as_ref().map(|text| text.as_str()))?;
     push_field(text, ", ", "group")?;
-    text.push_str(group)?;
-    text.push_str("}\n")
+    push(text, group)?;
+    push(text, "}\n")
 }
 
 /// A shorter condition that holds at the same known targets, where the rules of `Simple` find one.
@@ -304,7 +304,7 @@ fn is_expression(condition: &Platform) -> bool {
 fn any_of(alloc: Global, keys: Vec<Platform>) -> Result<String, AllocError> {
     let mut text = String::new(alloc);
     if keys.len() > 1 && !keys.iter().all(is_expression) {
-        text.push_str("[")?;
+        push(&mut text, "[")?;
         let mut is_first = true;
         for key in &keys {
             push_comma(&mut text, is_first)?;
@@ -312,7 +312,7 @@ fn any_of(alloc: Global, keys: Vec<Platform>) -> Result<String, AllocError> {
             let key = format!(in alloc; "{key}")?;
             push_text(&mut text, alloc, key.as_str())?;
         }
-        text.push_str("]")?;
+        push(&mut text, "]")?;
         return Ok(text);
     }
     let whole = any_of_expressions(alloc, keys)?;

@@ -1,14 +1,16 @@
-//! The answer on a document: it is read, linked and asked.
+//! The report on a document: it is read, linked and asked.
 
 use crate::asked::{Asked, Show, Words};
 use crate::edges::show_edges;
+use crate::licences::{Audit, show_licences};
 use crate::packages::show_packages;
+use crate::page::page_of;
 use crate::refused::{refused_document, refused_graph, unusable};
 use crate::targets::show_targets;
 use crate::why::show_why;
 use cargo_metadata::{Metadata, Package as Described, read};
 use cargo_platform::shown_text;
-use key_answers::answer::Answer;
+use key_answers::answer::{Answer, Status};
 use key_answers::printing::shown_name;
 use known_targets::TargetSet;
 use metadata_graphs::{Linked, link};
@@ -81,61 +83,115 @@ fn choose_roots<'a>(linked: &mut Linked<'_>, names: &[&'a str]) -> Result<(), &'
     Ok(())
 }
 
-/// The answer on a document that is JSON.
-fn answer_on_document(
+/// The graph of a document that is JSON, or what is said of one that can't be used.
+fn graph_of<'a>(
     alloc: Global,
     file: &str,
-    document: &Value,
+    document: &'a Value,
     asked: &Asked<'_>,
-) -> Result<Answer, AllocError> {
+) -> Result<Result<Graph<'a>, Answer>, AllocError> {
     let metadata = match read(alloc, document) {
         Ok(metadata) => metadata,
-        Err(refusal) => return refused_document(alloc, file, document, &refusal),
+        Err(refusal) => return Ok(Err(refused_document(alloc, file, document, &refusal)?)),
     };
     let mut linked = match link(alloc, &metadata) {
         Ok(linked) => linked,
-        Err(refusal) => return refused_graph(alloc, file, &metadata, &refusal),
+        Err(refusal) => return Ok(Err(refused_graph(alloc, file, &metadata, &refusal)?)),
     };
     if let Err(name) = choose_roots(&mut linked, asked.packages) {
         let name = shown_name(alloc, name)?;
         let reason = format!(in alloc; "no member of the workspace is named {name}")?;
-        return unusable(alloc, file, reason.as_str());
+        return Ok(Err(unusable(alloc, file, reason.as_str())?));
     }
     let sets = present_packages(alloc, &linked.packages, asked.kinds, asked.host)?;
     let order = in_order(alloc, &linked.described)?;
-    let graph = Graph {
+    Ok(Ok(Graph {
         metadata,
         linked,
         sets,
         order,
-    };
+    }))
+}
+
+/// What is printed of a graph.
+fn answer_of(
+    alloc: Global,
+    file: &str,
+    graph: &Graph<'_>,
+    asked: &Asked<'_>,
+    audit: &Option<Audit<'_>>,
+) -> Result<Answer, AllocError> {
+    if let Some(audit) = audit {
+        return show_licences(alloc, file, graph, asked, audit);
+    }
     match asked.show {
-        Show::Packages => show_packages(alloc, &graph, asked),
-        Show::Edges => show_edges(alloc, &graph, asked),
-        Show::Targets => show_targets(alloc, &graph, asked),
-        Show::Why => show_why(alloc, file, &graph, asked),
+        Show::Packages => show_packages(alloc, graph, asked),
+        Show::Edges => show_edges(alloc, graph, asked),
+        Show::Targets => show_targets(alloc, graph, asked),
+        Show::Why => show_why(alloc, file, graph, asked),
     }
 }
 
-/// The answer to the words on what `cargo metadata` printed; `file` is where that was read.
-pub fn answer_on(
+/// What is printed, and the page where one is wanted and there is an answer.
+#[derive(Drop)]
+pub struct Report {
+    pub answer: Answer,
+    pub page: Option<String>,
+}
+
+impl Report {
+    /// What is printed where there is no page.
+    fn without_page(answer: Answer) -> Report {
+        Report { answer, page: None }
+    }
+}
+
+/// The report on a document that is JSON.
+fn report_on_document(
+    alloc: Global,
+    file: &str,
+    document: &Value,
+    asked: &Asked<'_>,
+    audit: &Option<Audit<'_>>,
+) -> Result<Report, AllocError> {
+    let graph = match graph_of(alloc, file, document, asked)? {
+        Ok(graph) => graph,
+        Err(answer) => return Ok(Report::without_page(answer)),
+    };
+    let answer = answer_of(alloc, file, &graph, asked, audit)?;
+    if !asked.html || answer.status == Status::Unusable {
+        return Ok(Report::without_page(answer));
+    }
+    let page = page_of(alloc, &graph, asked)?;
+    Ok(Report {
+        answer,
+        page: Some(page),
+    })
+}
+
+/// The report to the words on what `cargo metadata` printed; `file` is where that was read.
+pub fn report_on(
     alloc: Global,
     file: &str,
     text: &str,
     words: &Words<'_>,
-) -> Result<Answer, AllocError> {
+) -> Result<Report, AllocError> {
     let asked = match Asked::of(alloc, words)? {
         Ok(asked) => asked,
-        Err(answer) => return Ok(answer),
+        Err(answer) => return Ok(Report::without_page(answer)),
+    };
+    let audit = match Audit::of(alloc, words)? {
+        Ok(audit) => audit,
+        Err(answer) => return Ok(Report::without_page(answer)),
     };
     let file = shown_text(alloc, file)?;
     match Value::from_str(alloc, text) {
-        Ok(document) => answer_on_document(alloc, file.as_str(), &document, &asked),
+        Ok(document) => report_on_document(alloc, file.as_str(), &document, &asked, &audit),
         Err(error) => {
             let reason = format!(in alloc; "{error}")?;
             let reason = shown_text(alloc, reason.as_str())?;
             let reason = format!(in alloc; "no JSON: {reason}")?;
-            unusable(alloc, file.as_str(), reason.as_str())
+            Ok(Report::without_page(unusable(alloc, file.as_str(), reason.as_str())?))
         }
     }
 }

@@ -1,5 +1,6 @@
 //! JSON, written as text: an object a line. No text of a document can end a line or move one.
 
+use crate::lines::push;
 use cargo_platform::shown_text;
 use known_targets::TargetSet;
 use std::alloc::{AllocError, Global};
@@ -20,7 +21,7 @@ fn is_shown(alloc: Global, c: char) -> Result<bool, AllocError> {
 /// Appends sixteen bits of a character as `\u` and four digits.
 fn push_unit(text: &mut String, alloc: Global, unit: u32) -> Result<(), AllocError> {
     let unit = format!(in alloc; "\\u{unit:04x}")?;
-    text.push_str(unit.as_str())
+    push(text, unit.as_str())
 }
 
 /// Appends a character as its number, above U+FFFF as two numbers.
@@ -36,15 +37,15 @@ fn push_number(text: &mut String, alloc: Global, c: char) -> Result<(), AllocErr
 
 /// Appends a text with its quotes. What lines of people show as U+FFFD is written as a number.
 pub fn push_text(text: &mut String, alloc: Global, part: &str) -> Result<(), AllocError> {
-    text.push_str("\"")?;
+    push(text, "\"")?;
     if part.bytes().all(is_plain) {
-        text.push_str(part)?;
-        return text.push_str("\"");
+        push(text, part)?;
+        return push(text, "\"");
     }
     for c in part.chars() {
         match c {
-            '"' => text.push_str("\\\"")?,
-            '\\' => text.push_str("\\\\")?,
+            '"' => push(text, "\\\"")?,
+            '\\' => push(text, "\\\\")?,
             ' '..='~' => text.push(c)?,
             _ => {
                 if is_shown(alloc, c)? {
@@ -55,7 +56,7 @@ pub fn push_text(text: &mut String, alloc: Global, part: &str) -> Result<(), All
             }
         }
     }
-    text.push_str("\"")
+    push(text, "\"")
 }
 
 /// Appends a text, or null.
@@ -66,22 +67,22 @@ pub fn push_optional(
 ) -> Result<(), AllocError> {
     match part {
         Some(part) => push_text(text, alloc, part),
-        None => text.push_str("null"),
+        None => push(text, "null"),
     }
 }
 
 /// Appends the name of a member of an object, after what begins it: `{` or `, `.
 pub fn push_field(text: &mut String, begin: &str, name: &str) -> Result<(), AllocError> {
-    text.push_str(begin)?;
-    text.push_str("\"")?;
-    text.push_str(name)?;
-    text.push_str("\": ")
+    push(text, begin)?;
+    push(text, "\"")?;
+    push(text, name)?;
+    push(text, "\": ")
 }
 
 /// Appends a number.
 pub fn push_count(text: &mut String, alloc: Global, count: usize) -> Result<(), AllocError> {
     let count = format!(in alloc; "{count}")?;
-    text.push_str(count.as_str())
+    push(text, count.as_str())
 }
 
 /// Appends the members `targets`, how many these are, and `at`, which is "all" where they are all that are asked for.
@@ -95,23 +96,23 @@ pub fn push_targets(
     push_count(text, alloc, targets.len())?;
     push_field(text, ", ", "at")?;
     if targets.equals(asked) {
-        return text.push_str("\"all\"");
+        return push(text, "\"all\"");
     }
     push_names(text, targets)
 }
 
 /// Appends the names of targets, as an array.
 pub fn push_names(text: &mut String, targets: TargetSet) -> Result<(), AllocError> {
-    text.push_str("[")?;
+    push(text, "[")?;
     let mut is_first = true;
     for target in targets.iter() {
         push_comma(text, is_first)?;
         is_first = false;
-        text.push_str("\"")?;
-        text.push_str(target.name())?;
-        text.push_str("\"")?;
+        push(text, "\"")?;
+        push(text, target.name())?;
+        push(text, "\"")?;
     }
-    text.push_str("]")
+    push(text, "]")
 }
 
 /// Appends a comma and a space before each part but the first.
@@ -119,5 +120,5 @@ pub fn push_comma(text: &mut String, is_first: bool) -> Result<(), AllocError> {
     if is_first {
         return Ok(());
     }
-    text.push_str(", ")
+    push(text, ", ")
 }

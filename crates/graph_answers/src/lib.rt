@@ -1,14 +1,18 @@
-//! What is printed of a graph of packages: the packages, edges, classes of targets, and why a package is there.
+//! What is printed of a graph of packages: the packages, edges, classes of targets, why a package is there, what an
+//! audit of licences tells, and a page.
 #![tactic(auto)]
 
 pub mod asked;
 mod edges;
+mod faults;
 mod graph;
 mod json;
+mod licences;
 mod lines;
 mod packages;
+mod page;
 mod refused;
 mod targets;
 mod why;
 
-pub use graph::answer_on;
+pub use graph::{Report, report_on};

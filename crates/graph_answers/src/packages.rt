@@ -3,7 +3,7 @@
 use crate::asked::Asked;
 use crate::graph::Graph;
 use crate::json::{push_comma, push_field, push_optional, push_targets, push_text};
-use crate::lines::{shown_package, shown_targets};
+use crate::lines::{push, shown_package, shown_targets};
 use key_answers::answer::{Answer, Status};
 use known_targets::TargetSet;
 use package_graphs::Kind;
@@ -11,20 +11,29 @@ use std::alloc::{AllocError, Global};
 
 /// By which kinds of dependencies a package is reached at a target that is asked for.
 #[derive(Clone, Copy, Drop)]
-struct Reached {
+pub struct Reached {
     normal: bool,
     build: bool,
     dev: bool,
 }
 
 impl Reached {
+    /// The words of the kinds, joined by commas.
+    pub fn words(self, alloc: Global) -> Result<String, AllocError> {
+        let mut text = String::new(alloc);
+        push_word(&mut text, self.normal, "normal", true)?;
+        push_word(&mut text, self.build, "build", !self.normal)?;
+        push_word(&mut text, self.dev, "dev", !self.normal && !self.build)?;
+        Ok(text)
+    }
+
     /// The words of the kinds, as an array.
     fn push(self, text: &mut String) -> Result<(), AllocError> {
-        text.push_str("[")?;
+        push(text, "[")?;
         push_word(text, self.normal, "\"normal\"", true)?;
         push_word(text, self.build, "\"build\"", !self.normal)?;
         push_word(text, self.dev, "\"dev\"", !self.normal && !self.build)?;
-        text.push_str("]")
+        push(text, "]")
     }
 }
 
@@ -39,11 +48,11 @@ fn push_word(
         return Ok(());
     }
     push_comma(text, is_first)?;
-    text.push_str(word)
+    push(text, word)
 }
 
 /// By which kinds each package is reached.
-fn kinds_reached(
+pub fn kinds_reached(
     alloc: Global,
     graph: &Graph<'_>,
     asked: &Asked<'_>,
@@ -109,7 +118,7 @@ pub fn show_packages(
     if !asked.json {
         let all = graph.order.len();
         let line = format!(in alloc; "{count} of {all} packages\n")?;
-        answer.errors.push_str(line.as_str())?;
+        push(&mut answer.errors, line.as_str())?;
     }
     Ok(answer)
 }
@@ -129,7 +138,7 @@ fn push_line(
     let package = shown_package(alloc, described)?;
     let targets = shown_targets(alloc, targets, asked)?;
     let line = format!(in alloc; "{package}: {targets}\n")?;
-    text.push_str(line.as_str())
+    push(text, line.as_str())
 }
 
 /// Appends the members `package` and `id` of the object of a package, after `{`.
@@ -170,5 +179,5 @@ fn push_object(
     push_targets(text, alloc, targets, asked.targets)?;
     push_field(text, ", ", "kinds")?;
     reached.push(text)?;
-    text.push_str("}\n")
+    push(text, "}\n")
 }

@@ -1,6 +1,6 @@
 //! What is said of a document that can't be used: the path in it, what is wrong there, and of which package.
 
-use crate::lines::shown;
+use crate::lines::{push, shown};
 use cargo_metadata::{InResolve, Metadata, Refusal};
 use cargo_platform::ParseError;
 use key_answers::answer::Answer;
@@ -113,7 +113,7 @@ pub fn refused_graph(
     if let Unlinked::Dependency(i, j, InDependency::Condition(k, error)) = refusal {
         if let Some(key) = condition_at(metadata, *i, *j, *k) {
             let lines = fault_lines(alloc, key, error)?;
-            answer.errors.push_str(lines.as_str())?;
+            push(&mut answer.errors, lines.as_str())?;
         }
     }
     Ok(answer)

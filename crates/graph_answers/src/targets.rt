@@ -4,7 +4,7 @@ use crate::asked::Asked;
 use crate::edges::edges_of;
 use crate::graph::Graph;
 use crate::json::{push_comma, push_count, push_field, push_optional, push_targets, push_text};
-use crate::lines::{joined_names, shown_count, shown_package};
+use crate::lines::{joined_names, push, shown_count, shown_package};
 use cargo_platform::Cfg;
 use key_answers::answer::{Answer, Status};
 use known_targets::{KnownFact, TargetSet, having};
@@ -14,9 +14,9 @@ use target_classes::{Simple, classes, covering};
 
 /// A class of targets, and a condition that holds at exactly these of all known targets, where one was found.
 #[derive(Drop)]
-struct Class {
-    targets: TargetSet,
-    condition: Option<String>,
+pub struct Class {
+    pub targets: TargetSet,
+    pub condition: Option<String>,
 }
 
 /// The targets of each package, without those that are alike.
@@ -97,6 +97,17 @@ fn condition_of(
     }
 }
 
+/// The classes that have a target that is asked for.
+pub fn classes_at(
+    alloc: Global,
+    graph: &Graph<'_>,
+    asked: &Asked<'_>,
+) -> Result<Vec<Class>, AllocError> {
+    let mut classes = classes_of(alloc, graph)?;
+    classes.retain(|class| !class.targets.intersection(asked.targets).is_empty());
+    Ok(classes)
+}
+
 /// The answer to `--show targets`.
 pub fn show_targets(
     alloc: Global,
@@ -104,8 +115,7 @@ pub fn show_targets(
     asked: &Asked<'_>,
 ) -> Result<Answer, AllocError> {
     let mut answer = Answer::of(alloc, String::new(alloc), Status::Fine);
-    let mut classes = classes_of(alloc, graph)?;
-    classes.retain(|class| !class.targets.intersection(asked.targets).is_empty());
+    let classes = classes_at(alloc, graph, asked)?;
     for i in 0..classes.len() {
         let number = i.saturating_add(1);
         if asked.json {
@@ -118,7 +128,7 @@ pub fn show_targets(
         push_table(&mut answer.output, alloc, graph, &classes)?;
         let count = classes.len();
         let line = format!(in alloc; "{count} classes\n")?;
-        answer.errors.push_str(line.as_str())?;
+        push(&mut answer.errors, line.as_str())?;
     }
     Ok(answer)
 }
@@ -140,7 +150,7 @@ fn push_line(
         }
         None => format!(in alloc; "class {number}: {count}: {names}\n")?,
     };
-    text.push_str(line.as_str())
+    push(text, line.as_str())
 }
 
 /// Appends a line for each package: the classes at which it is there.
@@ -155,7 +165,7 @@ fn push_table(
             continue;
         };
         let package = shown_package(alloc, described)?;
-        text.push_str(package.as_str())?;
+        push(text, package.as_str())?;
         push_classes(text, alloc, graph.sets.at(*i), classes)?;
     }
     Ok(())
@@ -179,13 +189,13 @@ fn push_classes(
         count = count.saturating_add(1);
     }
     if count == 0 {
-        text.push_str(": nowhere\n")
+        push(text, ": nowhere\n")
     } else if count == classes.len() {
-        text.push_str(": all\n")
+        push(text, ": all\n")
     } else {
-        text.push_str(": ")?;
-        text.push_str(numbers.as_str())?;
-        text.push_str("\n")
+        push(text, ": ")?;
+        push(text, numbers.as_str())?;
+        push(text, "\n")
     }
 }
 
@@ -213,7 +223,7 @@ fn push_object(
         asked.targets,
     )?;
     push_field(text, ", ", "packages")?;
-    text.push_str("[")?;
+    push(text, "[")?;
     let mut is_first = true;
     for i in &graph.order {
         if graph.sets.at(*i).intersection(class.targets).is_empty() {
@@ -225,5 +235,5 @@ fn push_object(
             push_text(text, alloc, described.id)?;
         }
     }
-    text.push_str("]}\n")
+    push(text, "]}\n")
 }

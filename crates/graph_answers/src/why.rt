@@ -4,7 +4,7 @@ use crate::asked::Asked;
 use crate::edges::{Edge, edges_of, push_edge, shown_kind};
 use crate::graph::Graph;
 use crate::json::{push_comma, push_field, push_targets};
-use crate::lines::{joined_names, shown_count, shown_package};
+use crate::lines::{joined_names, push, shown_count, shown_package};
 use crate::packages::push_package;
 use crate::refused::unusable;
 use key_answers::answer::{Answer, Status};
@@ -111,13 +111,13 @@ fn push_lines(
     let package = shown_package(alloc, described)?;
     if ways.is_empty() {
         let line = format!(in alloc; "{package}: nowhere\n")?;
-        return text.push_str(line.as_str());
+        return push(text, line.as_str());
     }
     for way in ways {
         let count = shown_count(alloc, way.targets.len())?;
         let names = joined_names(alloc, way.targets)?;
         let line = format!(in alloc; "{package}: {count}: {names}\n")?;
-        text.push_str(line.as_str())?;
+        push(text, line.as_str())?;
         push_path(text, alloc, graph, index, way)?;
     }
     Ok(())
@@ -138,7 +138,7 @@ fn push_path(
     if let Some(described) = graph.described(root) {
         let package = shown_package(alloc, described)?;
         let line = format!(in alloc; "    {package}, a member of the workspace\n")?;
-        text.push_str(line.as_str())?;
+        push(text, line.as_str())?;
     }
     for step in &way.steps {
         let Some(edge) = edge_of(alloc, graph, step)? else {
@@ -148,7 +148,7 @@ fn push_path(
         if let Some(described) = graph.described(edge.to) {
             let package = shown_package(alloc, described)?;
             let line = format!(in alloc; "    -> {package}, {kind}\n")?;
-            text.push_str(line.as_str())?;
+            push(text, line.as_str())?;
         }
     }
     Ok(())
@@ -167,23 +167,23 @@ fn push_objects(
         push_package(text, alloc, graph, index)?;
         push_targets(text, alloc, TargetSet::none(), asked.targets)?;
         push_field(text, ", ", "path")?;
-        return text.push_str("null}\n");
+        return push(text, "null}\n");
     }
     for way in ways {
         push_package(text, alloc, graph, index)?;
         push_targets(text, alloc, way.targets, asked.targets)?;
         push_field(text, ", ", "path")?;
-        text.push_str("[")?;
+        push(text, "[")?;
         let mut is_first = true;
         for step in &way.steps {
             if let Some(edge) = edge_of(alloc, graph, step)? {
                 push_comma(text, is_first)?;
                 is_first = false;
                 push_edge(text, alloc, graph, &edge)?;
-                text.push_str("}")?;
+                push(text, "}")?;
             }
         }
-        text.push_str("]}\n")?;
+        push(text, "]}\n")?;
     }
     Ok(())
 }

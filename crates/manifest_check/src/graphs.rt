@@ -3,9 +3,10 @@
 use anyhow::Result;
 use cargo_platform::shown_text;
 use clap::ArgMatches;
-use graph_answers::answer_on;
 use graph_answers::asked::Words;
+use graph_answers::{Report, report_on};
 use key_answers::answer::Answer;
+use std::alloc::Global;
 use std::rt::Files;
 use std::{fs, io};
 
@@ -21,6 +22,13 @@ pub fn text_of<R: Files + Input + AllocGlobal>(rt: &R, file: &str) -> io::Result
     }
 }
 
+/// What is said of a file that can't be read or written.
+fn unusable(alloc: Global, file: &str, error: &io::Error) -> Result<Answer> {
+    let file = shown_text(alloc, file)?;
+    let text = format!(in alloc; "{file}: error: {error}\n")?;
+    Ok(Answer::unusable(alloc, text))
+}
+
 /// Answers `graph`.
 pub fn graph_answer<R: Files + Input + AllocGlobal>(
     rt: &R,
@@ -28,6 +36,23 @@ pub fn graph_answer<R: Files + Input + AllocGlobal>(
 ) -> Result<Answer> {
     let alloc = rt.alloc();
     let file = matches.get_str("metadata").unwrap_or(INPUT);
+    match matches.get_str("allow-file") {
+        Some(list) => match fs::read_to_string(rt, list) {
+            Ok(text) => answer_with(rt, matches, file, Some((list, text.as_str()))),
+            Err(error) => unusable(alloc, list, &error),
+        },
+        None => answer_with(rt, matches, file, None),
+    }
+}
+
+/// Answers `graph`, with the name and the text of a file of allowed licences.
+fn answer_with<R: Files + Input + AllocGlobal>(
+    rt: &R,
+    matches: &ArgMatches<'_>,
+    file: &str,
+    allow_file: Option<(&str, &str)>,
+) -> Result<Answer> {
+    let alloc = rt.alloc();
     let words = Words {
         targets: matches.get_strs("target").unwrap_or(&[]),
         edges: matches.get_str("edges"),
@@ -35,14 +60,28 @@ pub fn graph_answer<R: Files + Input + AllocGlobal>(
         packages: matches.get_strs("package").unwrap_or(&[]),
         show: matches.get_str("show"),
         of: matches.get_str("of"),
+        allow: matches.get_str("allow"),
+        allow_file,
+        except: matches.get_strs("except").unwrap_or(&[]),
         json: matches.get_flag("json"),
+        html: matches.get_str("html").is_some(),
     };
     match text_of(rt, file) {
-        Ok(text) => Ok(answer_on(alloc, file, text.as_str(), &words)?),
-        Err(error) => {
-            let file = shown_text(alloc, file)?;
-            let text = format!(in alloc; "{file}: error: {error}\n")?;
-            Ok(Answer::unusable(alloc, text))
+        Ok(text) => {
+            let report = report_on(alloc, file, text.as_str(), &words)?;
+            written(rt, report, matches.get_str("html"))
+        }
+        Err(error) => unusable(alloc, file, &error),
+    }
+}
+
+/// Writes the page of a report, where it has one, and answers what is printed.
+fn written<R: Files + AllocGlobal>(rt: &R, report: Report, file: Option<&str>) -> Result<Answer> {
+    let Report { answer, page } = report;
+    if let (Some(page), Some(file)) = (&page, file) {
+        if let Err(error) = fs::write(rt, file, page.as_str()) {
+            return unusable(rt.alloc(), file, &error);
         }
     }
+    Ok(answer)
 }

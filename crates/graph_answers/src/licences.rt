@@ -1,0 +1,312 @@
+//! `--allow`: of which packages a list of allowed licences does not satisfy the licence, and at which targets these are
+//! there.
+
+use crate::asked::{Asked, Words, unusable_words};
+use crate::faults::{fault_lines, fault_message};
+use crate::graph::Graph;
+use crate::json::{push_count, push_field, push_optional, push_targets, push_text};
+use crate::lines::{push, shown_package, shown_targets};
+use crate::packages::push_package;
+use crate::refused::unusable;
+use cargo_platform::{shown_start, shown_text};
+use key_answers::answer::{Answer, Status};
+use key_answers::printing::shown_name;
+use licence_audits::{Exception, Finding, Subject, audit};
+use spdx_expressions::{Licence, ParseError, ReadError};
+use std::alloc::{AllocError, Global};
+
+/// What an audit is asked by.
+#[derive(Drop)]
+pub struct Audit<'a> {
+    pub allowed: Vec<Licence>,
+    pub exceptions: Vec<Exception<'a>>,
+}
+
+/// Adds an entry to a list of allowed licences. The text that an `Err` has says why it is none.
+fn add_entry(
+    allowed: &mut Vec<Licence>,
+    alloc: Global,
+    place: &str,
+    entry: &str,
+) -> Result<Result<(), Answer>, AllocError> {
+    match Licence::from_str(alloc, entry) {
+        Ok(licence) => {
+            allowed.push(licence)?;
+            Ok(Ok(()))
+        }
+        Err(ReadError::Parse(error)) => {
+            let lines = fault_lines(alloc, &error)?;
+            let text = format!(in alloc; "{place}the entry spells no licence\n{lines}")?;
+            Ok(Err(Answer::unusable(alloc, text)))
+        }
+        Err(ReadError::Memory(error)) => Err(error),
+    }
+}
+
+/// Adds the entries of `--allow`, which commas part.
+fn add_list(
+    allowed: &mut Vec<Licence>,
+    alloc: Global,
+    list: &str,
+) -> Result<Result<(), Answer>, AllocError> {
+    for entry in list.split(',') {
+        if let Err(answer) = add_entry(allowed, alloc, "error: --allow: ", entry)? {
+            return Ok(Err(answer));
+        }
+    }
+    Ok(Ok(()))
+}
+
+/// Adds the entries of a file, one a line. Empty lines and those that begin with `#` are passed over.
+fn add_lines(
+    allowed: &mut Vec<Licence>,
+    alloc: Global,
+    file: &str,
+    text: &str,
+) -> Result<Result<(), Answer>, AllocError> {
+    let file = shown_text(alloc, file)?;
+    let mut number: usize = 0;
+    for line in text.lines() {
+        number = number.saturating_add(1);
+        let entry = line.trim();
+        if entry.is_empty() || entry.starts_with('#') {
+            continue;
+        }
+        let place = format!(in alloc; "{file}:{number}: error: ")?;
+        if let Err(answer) = add_entry(allowed, alloc, place.as_str(), entry)? {
+            return Ok(Err(answer));
+        }
+    }
+    Ok(Ok(()))
+}
+
+/// The exceptions of these words, each the name and the version of a package; or what is said of a word that is none.
+fn exceptions_of<'a>(
+    alloc: Global,
+    words: &[&'a str],
+) -> Result<Result<Vec<Exception<'a>>, Answer>, AllocError> {
+    let mut exceptions = Vec::new(alloc);
+    for word in words {
+        match word.split_once('@') {
+            Some((name, version)) => exceptions.push(Exception { name, version })?,
+            None => {
+                let shown = shown_name(alloc, word)?;
+                let text = format!(in alloc; "--except names NAME@VERSION, and not {shown}")?;
+                return Ok(Err(unusable_words(alloc, text.as_str())?));
+            }
+        }
+    }
+    Ok(Ok(exceptions))
+}
+
+impl<'a> Audit<'a> {
+    /// The audit that the words ask for, if they ask for one, or what is said of words that can't be used.
+    pub fn of(
+        alloc: Global,
+        words: &Words<'a>,
+    ) -> Result<Result<Option<Audit<'a>>, Answer>, AllocError> {
+        if words.allow.is_none() && words.allow_file.is_none() {
+            if words.except.is_empty() {
+                return Ok(Ok(None));
+            }
+            let text = "`--except` goes with `--allow` or `--allow-file`";
+            return Ok(Err(unusable_words(alloc, text)?));
+        }
+        if words.show.is_some() {
+            let text = "`--show` does not go with `--allow` and `--allow-file`";
+            return Ok(Err(unusable_words(alloc, text)?));
+        }
+        let mut allowed = Vec::new(alloc);
+        if let Some(list) = words.allow {
+            if let Err(answer) = add_list(&mut allowed, alloc, list)? {
+                return Ok(Err(answer));
+            }
+        }
+        if let Some((file, text)) = words.allow_file {
+            if let Err(answer) = add_lines(&mut allowed, alloc, file, text)? {
+                return Ok(Err(answer));
+            }
+        }
+        match exceptions_of(alloc, words.except)? {
+            Ok(exceptions) => Ok(Ok(Some(Audit {
+                allowed,
+                exceptions,
+            }))),
+            Err(answer) => Ok(Err(answer)),
+        }
+    }
+}
+
+/// The packages as an audit sees them, in the order of the graph.
+fn subjects_of<'a>(
+    alloc: Global,
+    graph: &Graph<'a>,
+    asked: &Asked<'_>,
+) -> Result<Vec<Subject<'a>>, AllocError> {
+    let mut subjects = Vec::new(alloc);
+    for i in &graph.order {
+        let is_present = !graph.at(*i, asked).is_empty();
+        let subject = match graph.described(*i) {
+            Some(described) => Subject {
+                name: described.name,
+                version: described.version,
+                license: described.license,
+                is_present,
+            },
+            None => Subject {
+                name: "",
+                version: "",
+                license: None,
+                is_present: false,
+            },
+        };
+        subjects.push(subject)?;
+    }
+    Ok(subjects)
+}
+
+/// The first exception that is no package's.
+fn unused<'a>(exceptions: &[Exception<'a>], subjects: &[Subject<'_>]) -> Option<Exception<'a>> {
+    for exception in exceptions {
+        if !subjects.iter().any(|subject| exception.names(subject)) {
+            return Some(*exception);
+        }
+    }
+    None
+}
+
+/// The answer to `--allow`: the status is that of findings where there is something to tell.
+pub fn show_licences(
+    alloc: Global,
+    file: &str,
+    graph: &Graph<'_>,
+    asked: &Asked<'_>,
+    by: &Audit<'_>,
+) -> Result<Answer, AllocError> {
+    let subjects = subjects_of(alloc, graph, asked)?;
+    if let Some(exception) = unused(&by.exceptions, &subjects) {
+        let name = shown_name(alloc, exception.name)?;
+        let version = shown_name(alloc, exception.version)?;
+        let reason = format!(in alloc; "--except: no package is {name}@{version}")?;
+        return unusable(alloc, file, reason.as_str());
+    }
+    let told = audit(alloc, &subjects, &by.exceptions, &by.allowed)?;
+    let mut answer = Answer::of(alloc, String::new(alloc), Status::Fine);
+    for one in &told {
+        let Some(index) = graph.order.get(one.place) else {
+            continue;
+        };
+        answer.raise(Status::Found);
+        if asked.json {
+            push_object(
+                &mut answer.output,
+                alloc,
+                graph,
+                *index,
+                &one.finding,
+                asked,
+            )?;
+        } else {
+            push_lines(
+                &mut answer.output,
+                alloc,
+                graph,
+                *index,
+                &one.finding,
+                asked,
+            )?;
+        }
+    }
+    if !asked.json {
+        let count = told.len();
+        let all = subjects.iter().filter(|subject| subject.is_present).count();
+        let line = format!(in alloc;
+            "{count} of {all} packages have a licence that is not allowed\n"
+        )?;
+        push(&mut answer.errors, line.as_str())?;
+    }
+    Ok(answer)
+}
+
+/// What is found, in words.
+fn shown_finding(alloc: Global, finding: &Finding) -> Result<String, AllocError> {
+    match finding {
+        Finding::NotAllowed(expression) => {
+            let text = format!(in alloc; "{expression}")?;
+            shown_start(alloc, text.as_str())
+        }
+        Finding::Missing => String::from_str(alloc, "no licence"),
+        Finding::Refused(_) => String::from_str(alloc, "refused licence"),
+    }
+}
+
+/// Appends the line of a package that is told, and where its licence is refused, indented.
+fn push_lines(
+    text: &mut String,
+    alloc: Global,
+    graph: &Graph<'_>,
+    index: usize,
+    finding: &Finding,
+    asked: &Asked<'_>,
+) -> Result<(), AllocError> {
+    let Some(described) = graph.described(index) else {
+        return Ok(());
+    };
+    let found = shown_finding(alloc, finding)?;
+    let package = shown_package(alloc, described)?;
+    let targets = shown_targets(alloc, graph.at(index, asked), asked)?;
+    let line = format!(in alloc; "{found}: {package}, {targets}\n")?;
+    push(text, line.as_str())?;
+    if let Finding::Refused(error) = finding {
+        let lines = fault_lines(alloc, error)?;
+        push(text, lines.as_str())?;
+    }
+    Ok(())
+}
+
+/// The word of a finding.
+fn finding_word(finding: &Finding) -> &'static str {
+    match finding {
+        Finding::NotAllowed(_) => "not-allowed",
+        Finding::Missing => "missing",
+        Finding::Refused(_) => "refused",
+    }
+}
+
+/// Appends the object of a package that is told, on a line of its own.
+fn push_object(
+    text: &mut String,
+    alloc: Global,
+    graph: &Graph<'_>,
+    index: usize,
+    finding: &Finding,
+    asked: &Asked<'_>,
+) -> Result<(), AllocError> {
+    let license = graph
+        .described(index)
+        .and_then(|described| described.license);
+    push_package(text, alloc, graph, index)?;
+    push_field(text, ", ", "license")?;
+    push_optional(text, alloc, license)?;
+    push_targets(text, alloc, graph.at(index, asked), asked.targets)?;
+    push_field(text, ", ", "finding")?;
+    push_text(text, alloc, finding_word(finding))?;
+    match finding {
+        Finding::Refused(error) => push_fault(text, alloc, error)?,
+        _ => push(text, ", \"message\": null, \"span\": null")?,
+    }
+    push(text, "}\n")
+}
+
+/// Appends the members `message` and `span` of a refused licence.
+fn push_fault(text: &mut String, alloc: Global, error: &ParseError) -> Result<(), AllocError> {
+    let message = fault_message(alloc, error)?;
+    push_field(text, ", ", "message")?;
+    push_text(text, alloc, message.as_str())?;
+    push_field(text, ", ", "span")?;
+    push(text, "[")?;
+    push_count(text, alloc, error.span.start)?;
+    push(text, ", ")?;
+    push_count(text, alloc, error.span.end)?;
+    push(text, "]")
+}
