@@ -20,6 +20,8 @@ pub mod Paths
 pub mod Runs
 -- CutTests: a test of cuts that computes, for worked rows
 mod CutTests
+-- OpenParens: how many parentheses are open, and the groups of a tree
+pub mod OpenParens
 -- ---- grammar
 -- Roles: what an identifier is in an expression
 pub mod Roles

@@ -28,6 +28,8 @@ pub mod Parts
 -- ---- grammar
 -- Spelling: which tokens spell which tree
 pub mod Spelling
+-- Nesting: how many groups of a text lie in one another
+pub mod Nesting
 -- ---- faults
 -- Faults: why a text is refused, what is expected, and the span of each fault but of a target name
 pub mod Faults

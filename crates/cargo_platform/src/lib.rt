@@ -18,6 +18,7 @@ mod in_key;
 mod json;
 pub mod laws;
 mod order;
+mod parentheses;
 mod parser;
 mod platforms;
 mod reader;
@@ -33,6 +34,7 @@ pub use cfg::{Cfg, CfgExpr, CfgExprParts, FactIndex, Facts, Ident, Listed};
 pub use error::{ParseError, ParseErrorKind, ReadError};
 pub use fact_lines::{FactsError, read_facts};
 pub use json::JsonError;
+pub use parentheses::{nesting, nesting_beyond};
 pub use snippet::{shown_start, shown_text};
 pub use tokens::{Looks, Spanned, Token, TokenFault, TokenFaultKind, Tokenizer};
 

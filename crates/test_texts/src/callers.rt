@@ -11,6 +11,7 @@ use test_rows::{Fault, facts};
 use uses::audit::{canonical, is_one_key, note, note_hashed};
 use uses::describe::describe;
 use uses::fixed_key::is_unix;
+use uses::limited::read_within;
 use uses::linter::lint;
 use uses::members::members_of_all;
 use uses::own_error::{ManifestError, read_key};
@@ -60,6 +61,14 @@ pub fn answer(alloc: Global, call: &str, fields: &mut Fields<'_>) -> Result<Stri
             None => Ok(word(alloc, "nothing")?),
         },
         "members" => members(alloc, &text),
+        "within" => {
+            let most = fields.number()?;
+            match unless_refused(read_within(alloc, &text, most as usize))? {
+                Some(Some(platform)) => Ok(barred(alloc, &platform.to_string(alloc)?)?),
+                Some(None) => Ok(word(alloc, "too deep")?),
+                None => Ok(word(alloc, "refused")?),
+            }
+        }
         "system" => of_system(alloc, &text, fields),
         _ => Err(Fault::Row("there is no such kind")),
     }

@@ -1,6 +1,8 @@
 //! Texts that are cut into tokens.
 
-use cargo_platform::{Spanned, Token, TokenFault, TokenFaultKind, Tokenizer};
+use cargo_platform::{
+    Spanned, Token, TokenFault, TokenFaultKind, Tokenizer, nesting, nesting_beyond,
+};
 use std::alloc::{AllocError, Global};
 use test_rows::Fault;
 use test_rows::bars::{add_text, barred};
@@ -13,6 +15,8 @@ pub fn answer(alloc: Global, call: &str, fields: &mut Fields<'_>) -> Result<Stri
         "tokens" => tokens(alloc, &text, false),
         "names" => tokens(alloc, &text, true),
         "left" => left(alloc, &text, fields.number()?),
+        "nesting" => Ok(nesting_of(alloc, &text)?),
+        "beyond" => beyond(alloc, &text, fields.number()?),
         _ => Err(Fault::Row("there is no such kind")),
     }
 }
@@ -128,5 +132,19 @@ fn left(alloc: Global, text: &str, count: u64) -> Result<String, Fault> {
     match tokens.rest() {
         Some(rest) => Ok(barred(alloc, rest)?),
         None => Ok(word(alloc, "nothing")?),
+    }
+}
+
+/// How deep a text is nested.
+fn nesting_of(alloc: Global, text: &str) -> Result<String, AllocError> {
+    let nested = nesting(text);
+    format!(in alloc; "{nested}")
+}
+
+/// Where a text is nested deeper than so.
+fn beyond(alloc: Global, text: &str, most: u64) -> Result<String, Fault> {
+    match nesting_beyond(text, most as usize) {
+        Some(at) => Ok(format!(in alloc; "@{at}")?),
+        None => Ok(word(alloc, "nowhere")?),
     }
 }

@@ -4,6 +4,7 @@
 pub mod audit;
 pub mod describe;
 pub mod fixed_key;
+pub mod limited;
 pub mod linter;
 pub mod members;
 pub mod own_error;
