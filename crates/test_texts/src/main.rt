@@ -1,7 +1,7 @@
 //! Runs rows on the library: what is read of texts, printed, matched, compared and warned about, also at each size.
 #![tactic(auto)]
 
-mod callers;
+mod caller_rows;
 mod calls;
 mod copies;
 mod cutting;
@@ -30,7 +30,7 @@ impl Kinds for OfTexts {
             "match" => matching::answer(alloc, call, fields),
             "order" => ordering::answer(alloc, call, fields),
             "warn" => warnings::answer(alloc, call, fields),
-            "uses" => callers::answer(alloc, call, fields),
+            "callers" => caller_rows::answer(alloc, call, fields),
             _ => Err(Fault::Row("there is no such kind")),
         }
     }
