@@ -14,11 +14,11 @@ use crate::no_tables::no_tables;
 use crate::readings::{ReadKey, Spelled};
 use cargo_platform::{Cfg, Platform};
 use declared_cfgs::Declared;
+use expression_folds::walk;
 use known_targets::{TargetSet, matching};
 use manifest_lints_standings::asked_facts::{AskedFact, asked_facts, has_sort};
 use manifest_lints_standings::key_spans::spans_of;
 use manifest_lints_standings::standing::{Sort, is_unknown_target};
-use manifest_lints_standings::walk;
 use std::alloc::{AllocError, Global};
 
 /// What is known of a key. A key that spells no condition asks for nothing.
