@@ -8,9 +8,9 @@ use crate::lines::{joined_names, shown_count, shown_package};
 use cargo_platform::Cfg;
 use expression_folds::values_of;
 use key_answers::answer::{Answer, Status};
+use known_targets::classes::{Simple, classes, covering};
 use known_targets::{KnownFact, TargetSet, having};
 use std::alloc::{AllocError, Global};
-use target_classes::{Simple, classes, covering};
 
 /// A class of targets, and a condition that holds at exactly these of all known targets, where one was found.
 #[derive(Drop)]

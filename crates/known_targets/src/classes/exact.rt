@@ -2,10 +2,10 @@
 
 ghost use Rattle.std.specs.Prelude.{◌≡◌, IfOk, IfSome};
 ghost use Rattle.cargo_platform.specs.Trees.{condition_of};
-ghost use Rattle.target_classes.specs.Exact.{HoldsExactly};
+ghost use Rattle.known_targets.specs.Exact.{HoldsExactly};
 
+use crate::{TargetSet, matching};
 use cargo_platform::Platform;
-use known_targets::{TargetSet, matching};
 use std::alloc::{AllocError, Global};
 
 /// The condition, where it holds at exactly the targets of the set. It refuses only where memory is refused.

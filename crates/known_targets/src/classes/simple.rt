@@ -2,11 +2,11 @@
 
 ghost use Rattle.std.specs.Prelude.{IfOk, IfSome};
 ghost use Rattle.cargo_platform.specs.Trees.{condition_of};
-ghost use Rattle.target_classes.specs.Exact.{HoldsExactly};
+ghost use Rattle.known_targets.specs.Exact.{HoldsExactly};
 
-use crate::exact::exactly;
+use super::exact::exactly;
+use crate::{KnownFact, KnownTarget, TargetSet, all_facts};
 use cargo_platform::{Cfg, CfgExpr, Platform};
-use known_targets::{KnownFact, KnownTarget, TargetSet, all_facts};
 use std::alloc::{AllocError, Global};
 
 /// The names and keys of the facts that are tried, in this order. No flag and no profile changes one of these facts.

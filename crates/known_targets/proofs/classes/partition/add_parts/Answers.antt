@@ -1,5 +1,5 @@
-use Rattle.target_classes.proofs.Parting.{both_parts}
-use Rattle.target_classes.proofs.partition.add_parts.Goals as goal
+use Rattle.known_targets.proofs.Parting.{both_parts}
+use Rattle.known_targets.proofs.classes.partition.add_parts.Goals as goal
 
 pub returns : goal.returns
 returns c =

@@ -2,11 +2,11 @@
 
 ghost use Rattle.std.specs.Prelude.{IfOk, IfSome};
 ghost use Rattle.cargo_platform.specs.Trees.{condition_of};
-ghost use Rattle.target_classes.specs.Exact.{HoldsExactly};
+ghost use Rattle.known_targets.specs.Exact.{HoldsExactly};
 
-use crate::exact::exactly;
+use super::exact::exactly;
+use crate::{KnownFact, TargetSet};
 use cargo_platform::{CfgExpr, Platform};
-use known_targets::{KnownFact, TargetSet};
 use std::alloc::{AllocError, Global};
 
 /// A fact by its place, or `not(..)` of it.

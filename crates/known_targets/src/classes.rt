@@ -1,5 +1,4 @@
 //! Classes of known targets that some sets do not tell apart, and conditions that hold at the targets of a set.
-#![tactic(auto)]
 
 mod covers;
 mod exact;

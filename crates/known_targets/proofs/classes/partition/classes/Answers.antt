@@ -1,5 +1,5 @@
-use Rattle.target_classes.proofs.Parting.{classes_more}
-use Rattle.target_classes.proofs.partition.classes.Goals as goal
+use Rattle.known_targets.proofs.Parting.{classes_more}
+use Rattle.known_targets.proofs.classes.partition.classes.Goals as goal
 
 pub sets-preserved : goal.sets-preserved
 sets-preserved c =

@@ -4,7 +4,7 @@ use Rattle.std.specs.List.{Any, slice_index_or}
 use Rattle.known_targets.specs.Sets.{is_member}
 use Rattle.known_targets.specs.declared.table.TheConstants.{COUNT}
 use Rattle.known_targets.specs.declared.target_set.TargetSet.{TargetSet}
-use Rattle.target_classes.specs.Classes.{IsInOne}
+use Rattle.known_targets.specs.Classes.{IsInOne}
 
 -- the targets of the class that are inside the set, or those outside
 pub record IsPart (set class part : TargetSet) : Type 0 where

@@ -1,10 +1,10 @@
 //! Targets that some sets do not tell apart.
 
 ghost use Rattle.std.specs.Prelude.{IfOk, OnOk};
-ghost use Rattle.target_classes.specs.Classes.{AreClasses};
-ghost use Rattle.target_classes.specs.Parts.{AddsPart, AddsParts, AreParts};
+ghost use Rattle.known_targets.specs.Classes.{AreClasses};
+ghost use Rattle.known_targets.specs.Parts.{AddsPart, AddsParts, AreParts};
 
-use known_targets::TargetSet;
+use crate::TargetSet;
 use std::alloc::{AllocError, Global};
 
 /// The known targets in classes: two are in one class exactly if each of the sets has both or neither. No class is

@@ -10,8 +10,8 @@ use Rattle.std.proofs.lemmas.List.Elements.{All-nil, All-push, All-pop, All-same
 use Rattle.known_targets.specs.Sets.{is_member}
 use Rattle.known_targets.specs.declared.table.TheConstants.{COUNT}
 use Rattle.known_targets.specs.declared.target_set.TargetSet.{TargetSet}
-use Rattle.target_classes.specs.Classes.{IsInOne, IsClass, AreClasses}
-use Rattle.target_classes.specs.Parts.{IsPart, IsPartOfOne, AddsPart, AddsParts, AreParts, ArePartsSoFar}
+use Rattle.known_targets.specs.Classes.{IsInOne, IsClass, AreClasses}
+use Rattle.known_targets.specs.Parts.{IsPart, IsPartOfOne, AddsPart, AddsParts, AreParts, ArePartsSoFar}
 
 -- ---- one part
 
