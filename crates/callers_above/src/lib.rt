@@ -1,5 +1,5 @@
-//! Callers of the crates above `cargo_platform`, as their users write them, and tests over public calls. A module has the
-//! callers of one crate. `README.md` says what each shows.
+//! Callers of the crates above `cargo_platform`, as their users write them, and tests over public calls. A module has
+//! the callers of one crate. `README.md` says what each shows.
 #![tactic(auto)]
 
 pub mod cargo_metadata;

@@ -1,3 +1,3 @@
 pub mod Stepping
-pub mod Reading
+pub mod Lexemes
 pub mod Texts

@@ -1,5 +1,5 @@
-//! What a text is as a licence expression: its print, and whether it is satisfied where `a` is allowed, where `b` is, and
-//! where both are; or where its fault lies, and what it is.
+//! What a text is as a licence expression: its print, and whether it is satisfied where `a` is allowed, where `b` is,
+//! and where both are; or where its fault lies, and what it is.
 
 use spdx_expressions::{Licence, LicenceExpression, ParseError, ReadError};
 use std::alloc::{AllocError, Global};

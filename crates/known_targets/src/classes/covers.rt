@@ -5,7 +5,7 @@ ghost use Rattle.cargo_platform.specs.Trees.{condition_of};
 ghost use Rattle.known_targets.specs.Exact.{HoldsExactly};
 
 use super::exact::exactly;
-use crate::{KnownFact, TargetSet};
+use crate::{COUNT, KnownFact, TargetSet};
 use cargo_platform::{CfgExpr, Platform};
 use std::alloc::{AllocError, Global};
 
@@ -55,7 +55,7 @@ pub fn covering(
 {
     let mut parts = Vec::new(alloc);
     let mut left = set;
-    for _ in 0..known_targets::COUNT {
+    for _ in 0..COUNT {
         if left.is_empty() {
             break;
         }

@@ -2,7 +2,7 @@ use Rattle.std.proofs.Common.{subst, Some, Result}
 use Rattle.cargo_platform.specs.declared.tokens.Spanned.{Spanned}
 use Rattle.cargo_platform.specs.declared.tokens.TokenFault.{TokenFault}
 use Rattle.cargo_platform.specs.Reading.{NextCall}
-use Rattle.manifest_documents.proofs.Reading.{one_read, all_read, fault_read}
+use Rattle.manifest_documents.proofs.Lexemes.{one_read, all_read, fault_read}
 use Rattle.manifest_documents.proofs.declared.tokens_of.Goals as goal
 
 pub tokens-preserved : goal.tokens-preserved

@@ -1,4 +1,4 @@
-use Rattle.manifest_documents.proofs.Reading.{HasRead}
+use Rattle.manifest_documents.proofs.Lexemes.{HasRead}
 use Rattle.manifest_documents.proofs.declared.tokens_of.Given as goal
 
 abbrev pub invariant-tokens : goal.invariant-tokens
