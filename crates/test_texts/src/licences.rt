@@ -27,7 +27,7 @@ fn entries(alloc: Global, texts: &[&str]) -> Result<Vec<Licence>, AllocError> {
         match Licence::from_str(alloc, text) {
             Ok(licence) => allowed.push(licence)?,
             Err(ReadError::Memory(refused)) => return Err(refused),
-            Err(ReadError::Parse(_)) => {}
+            Err(ReadError::Parse(_fault)) => {}
         }
     }
     Ok(allowed)
