@@ -1,8 +1,8 @@
 use Rattle.std.proofs.Common.{◌≡◌, ◌∙◌, sym, ap, true, false, ◌&&◌, codes, string_bytes, bytes_eq}
 use Rattle.cargo_platform.specs.Trees.{value_of}
 use Rattle.cargo_platform.proofs.Holders.{texts_compared, first_known, and_assoc, of_name, of_pair}
-use Rattle.test_values.proofs.holders.FlagsFacts.holds.Goals as goal
-use Rattle.test_values.proofs.holders.FlagsFacts.holds.Goals.{then-self-2, else-self-2}
+use Rattle.test_by_hand.proofs.holders.FlagsFacts.holds.Goals as goal
+use Rattle.test_by_hand.proofs.holders.FlagsFacts.holds.Goals.{then-self-2, else-self-2}
 
 pub returns-then-self : goal.returns-then-self
 returns-then-self c =

@@ -4,7 +4,7 @@ use Rattle.cargo_platform.specs.declared.cfg.Cfg.{Cfg}
 use Rattle.cargo_platform.specs.Trees.{value_of}
 use Rattle.cargo_platform.specs.Facts.{pair_of, fact_set}
 use Rattle.cargo_platform.proofs.FactSets.{pairs_total}
-use Rattle.test_values.proofs.holders.JoinedFacts.holds.Goals as goal
+use Rattle.test_by_hand.proofs.holders.JoinedFacts.holds.Goals as goal
 
 -- where the first set's answer is known
 in_either : (first second : List Cfg) (c : Cfg) (answer : Bool)
