@@ -3,3 +3,7 @@ pub mod Rows
 pub mod Packages
 pub mod Nodes
 pub mod Documents
+pub mod Ids
+pub mod Links
+pub mod Refusals
+pub mod Inside

@@ -1,7 +1,8 @@
-//! What `cargo metadata --format-version 1` prints, as far as a graph of packages needs it.
+//! What `cargo metadata --format-version 1` prints, as far as a graph of packages needs it, and that as a graph.
 #![tactic(auto)]
 
 mod fields;
+pub mod graphs;
 mod metadata;
 mod nodes;
 mod packages;

@@ -10,16 +10,16 @@
 //! - `describe`, `is_selected` or `lint`: that caller is asked about a key from standard input.
 #![tactic(auto)]
 
-mod callers;
 mod calls;
 mod drops;
 mod nests;
+mod printed_callers;
 mod shapes;
 
-use callers::Caller;
 use calls::{Call, Nest};
 use drops::PLACES;
 use nests::Form;
+use printed_callers::Caller;
 use shapes::{SHAPES, Shape};
 use std::process::ExitCode;
 use std::rt::Env;

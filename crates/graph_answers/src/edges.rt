@@ -8,8 +8,8 @@ use cargo_metadata::Kind;
 use cargo_platform::{CfgExpr, Platform, ReadError};
 use key_answers::answer::{Answer, Status};
 use known_targets::TargetSet;
+use known_targets::classes::Simple;
 use std::alloc::{AllocError, Global};
-use target_classes::Simple;
 
 /// A dependency of a package, by one of its kinds.
 #[derive(Drop)]

@@ -1,11 +1,11 @@
 //! What is said of a document that can't be used: the path in it, what is wrong there, and of which package.
 
 use crate::lines::{push, shown};
+use cargo_metadata::graphs::{InDependency, Refusal as Unlinked};
 use cargo_metadata::{InResolve, Metadata, Refusal};
 use cargo_platform::ParseError;
 use key_answers::answer::Answer;
 use key_answers::printing::refused_key;
-use metadata_graphs::{InDependency, Refusal as Unlinked};
 use serde_json::Value;
 use std::alloc::{AllocError, Global};
 

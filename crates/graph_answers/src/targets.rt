@@ -6,11 +6,11 @@ use crate::graph::Graph;
 use crate::json::{push_comma, push_count, push_field, push_optional, push_targets, push_text};
 use crate::lines::{joined_names, push, shown_count, shown_package};
 use cargo_platform::Cfg;
+use expression_folds::values_of;
 use key_answers::answer::{Answer, Status};
+use known_targets::classes::{Simple, classes, covering};
 use known_targets::{KnownFact, TargetSet, having};
-use manifest_lints_standings::values_of;
 use std::alloc::{AllocError, Global};
-use target_classes::{Simple, classes, covering};
 
 /// A class of targets, and a condition that holds at exactly these of all known targets, where one was found.
 #[derive(Drop)]

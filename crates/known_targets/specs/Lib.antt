@@ -5,3 +5,6 @@ pub mod Groups
 pub mod Open
 pub mod Sets
 pub mod Listed
+pub mod Exact
+pub mod Classes
+pub mod Parts

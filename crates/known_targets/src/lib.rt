@@ -4,6 +4,7 @@
 //! flags' defaults. `debug_assertions`, `panic` and `target_feature` are changed by profiles and flags.
 #![tactic(auto)]
 
+pub mod classes;
 mod conditions;
 mod known;
 mod known_facts;

@@ -3,9 +3,9 @@
 use cargo_platform::shown_start;
 use key_answers::answer::Status;
 use key_answers::printing::{push_indented, push_json, put, put_text, text_value};
-use manifest_files::reading::Manifest;
+use manifest_documents::TargetKey;
+use manifest_documents::reading::Manifest;
 use manifest_lints_findings::{Finding, Level, Report};
-use manifest_tables::TargetKey;
 use serde_json::{Map, Value, json};
 use std::alloc::{AllocError, Global};
 use std::ops::Range;

@@ -1,7 +1,7 @@
 //! What is asked of several manifests, one after the other.
 
 use key_answers::answer::{Answer, Status};
-use manifest_files::reading::{Manifest, ReadError, read_manifest};
+use manifest_documents::reading::{Manifest, ReadError, read_manifest};
 use std::alloc::{AllocError, Global};
 use std::rt::Files;
 

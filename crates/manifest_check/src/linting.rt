@@ -5,7 +5,7 @@ use manifest_answers::findings::{
     Counts, Style, place_of, push_finding, push_undecided, status_of,
 };
 use manifest_answers::in_turn::{Question, answer_each};
-use manifest_files::reading::Manifest;
+use manifest_documents::reading::Manifest;
 use manifest_lints::{Words, lint};
 use std::alloc::{AllocError, Global};
 use std::rt::Files;

@@ -5,7 +5,7 @@ use Rattle.std.specs.Prelude.{bytes_eq, string_bytes}
 use Rattle.cargo_platform.specs.Trees.{Condition, condition_of}
 use Rattle.cargo_platform.specs.declared.Platform.{Platform}
 use Rattle.exact_answers.specs.declared.known.Known.{Known}
-use Rattle.declared_cfgs.specs.Declarations.{DeclaredEntry}
+use Rattle.manifest_documents.specs.Declarations.{DeclaredEntry}
 use Rattle.manifest_lints_standings.specs.declared.standing.Sort.TheVariants as sort
 use Rattle.manifest_lints_standings.specs.Standings.{sorted_by, sorted_in, has_sort}
 use Rattle.manifest_lints_findings.specs.declared.codes.Code.{Code}
@@ -21,7 +21,7 @@ use Rattle.manifest_lints_findings.specs.Spells.{IsSpelledAs, SpellsNothing, IsR
 use Rattle.manifest_lints_questions.specs.Truths.{IsNever, IsAlways, CanHold, CanFail}
 use Rattle.manifest_lints_questions.specs.Earlier.{is_same, is_equivalent}
 use Rattle.manifest_lints_questions.specs.declared.earlier.Earlier.{Earlier}
-use Rattle.manifest_tables.specs.Entries.{Entry}
+use Rattle.manifest_documents.specs.Entries.{Entry}
 use Rattle.manifest_lints.specs.declared.found.Answers.{Answers}
 use Rattle.manifest_lints.specs.declared.found.Found.{Found}
 use Rattle.manifest_lints.specs.declared.found.TheConstants.{NONE}

@@ -8,7 +8,7 @@ use Rattle.cargo_platform.specs.Trees.{Condition, condition_of}
 use Rattle.cargo_platform.specs.Platforms.{IsConditionText}
 use Rattle.exact_answers.specs.declared.known.Known.{Known}
 use Rattle.manifest_lints_questions.specs.declared.earlier.Keys.{Keys}
-use Rattle.manifest_tables.specs.Entries.{Entry}
+use Rattle.manifest_documents.specs.Entries.{Entry}
 use Rattle.manifest_lints.proofs.MoreSames.{has_more, has_so}
 use Rattle.manifest_lints.specs.Sames.{HasSpelled, AreMembers, HasEquivalent}
 use Rattle.manifest_lints_questions.specs.Earlier.{AddsMember, AreEquivalent, HasEquivalentMember}

@@ -8,7 +8,7 @@ use Rattle.cargo_platform.specs.Key.{condition_key}
 use Rattle.cargo_platform.specs.Platforms.{IsConditionText}
 use Rattle.cargo_platform.proofs.Conditions.{one_condition}
 use Rattle.manifest_lints_questions.specs.declared.earlier.Keys.{Keys}
-use Rattle.manifest_tables.specs.Entries.{Entry}
+use Rattle.manifest_documents.specs.Entries.{Entry}
 use Rattle.manifest_lints_findings.specs.Spells.{SpellsNothing}
 use Rattle.manifest_lints_questions.specs.Earlier.{noted, NotesBy, Notes}
 use Rattle.manifest_lints.specs.Sames.{SpellsOne, HasOne, IsSameAs, HasSame, AreNoted}

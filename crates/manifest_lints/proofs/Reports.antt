@@ -11,7 +11,7 @@ use Rattle.manifest_lints_findings.specs.declared.findings.Finding.{Finding}
 use Rattle.manifest_lints_findings.specs.declared.readings.ReadKey.{ReadKey}
 use Rattle.manifest_lints_findings.specs.Codes.{CodeSet}
 use Rattle.manifest_lints_findings.specs.Spells.{entry_read}
-use Rattle.declared_cfgs.specs.Declarations.{DeclaredEntry}
+use Rattle.manifest_documents.specs.Declarations.{DeclaredEntry}
 use Rattle.manifest_lints.specs.Reports.{AreFindingsOn, on_more, IsFound}
 use Rattle.manifest_lints_findings.specs.Marks.{Mark, mark, marks}
 use Rattle.manifest_lints.specs.Reports.{told_marks, left_open}

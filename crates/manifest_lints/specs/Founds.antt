@@ -2,7 +2,7 @@
 use Rattle.std.specs.Prelude.{List}
 use Rattle.cargo_platform.specs.Trees.{Condition}
 use Rattle.exact_answers.specs.declared.known.Known.{Known}
-use Rattle.declared_cfgs.specs.Declarations.{DeclaredEntry}
+use Rattle.manifest_documents.specs.Declarations.{DeclaredEntry}
 use Rattle.manifest_lints_standings.specs.Standings.{sorted_in, open_in}
 use Rattle.manifest_lints_findings.specs.declared.codes.Code.TheVariants as code
 use Rattle.manifest_lints_findings.specs.Codes.{CodeSet}

@@ -11,8 +11,8 @@ use Rattle.exact_answers.specs.declared.known.Known.{Known}
 use Rattle.partial_facts.specs.declared.one_valued.TheConstants.{ONE_VALUED}
 use Rattle.exact_answers.specs.Possible.{HasOneValue, IsAllowed}
 use Rattle.exact_answers.specs.Families.{KeepsFamilyRule}
-use Rattle.declared_cfgs.specs.Declarations.{DeclaredEntry, IsDeclaredBy}
-pub use Rattle.manifest_tables.specs.Entries.{Entry, entry_of}
+use Rattle.manifest_documents.specs.Declarations.{DeclaredEntry, IsDeclaredBy}
+pub use Rattle.manifest_documents.specs.Entries.{Entry, entry_of}
 use Rattle.manifest_lints_standings.specs.declared.standing.Sort.TheVariants as sort
 use Rattle.manifest_lints_standings.specs.Standings.{has_sort, sorted_in, open_in, IsUnknownTarget}
 use Rattle.manifest_lints_findings.specs.declared.codes.Code.{Code}

@@ -9,7 +9,7 @@ use Rattle.cargo_platform.specs.Platforms.{IsConditionText}
 use Rattle.exact_answers.specs.declared.known.Known.{Known}
 use Rattle.manifest_lints_questions.specs.declared.earlier.Keys.{Keys}
 use Rattle.manifest_lints_questions.specs.Earlier.{noted, AreEquivalent}
-use Rattle.manifest_tables.specs.Entries.{Entry}
+use Rattle.manifest_documents.specs.Entries.{Entry}
 
 -- the text spells a condition of which something holds
 abbrev pub SpellsOne : (Condition → Type 0) → List ℕ → Type 0

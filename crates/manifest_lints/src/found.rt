@@ -2,8 +2,8 @@
 
 ghost use Rattle.std.specs.Prelude.{◌≡◌, ◌↔◌, ◌++◌, ◌∷◌, [], List, IsTrue, IsSome, IfOk, OnOk};
 ghost use Rattle.cargo_platform.specs.Trees.{condition_of};
-ghost use Rattle.declared_cfgs.specs.Declarations.{declarations_of};
-ghost use Rattle.manifest_tables.specs.Entries.{Entry};
+ghost use Rattle.manifest_documents.specs.Declarations.{declarations_of};
+ghost use Rattle.manifest_documents.specs.Entries.{Entry};
 ghost use Rattle.manifest_lints_findings.specs.Codes.{is_told};
 ghost use Rattle.manifest_lints_findings.specs.Known.{IsKnown};
 ghost use Rattle.manifest_lints_findings.specs.Spells.{IsRead, entry_read};
@@ -14,8 +14,8 @@ ghost use Rattle.manifest_lints.specs.Reports.{IsFound};
 ghost use Rattle.manifest_lints.specs.Sames.{AreNoted, AreMembers};
 
 use cargo_platform::Platform;
-use declared_cfgs::Declared;
 use exact_answers::Known;
+use manifest_documents::Declared;
 use manifest_lints_findings::Code;
 use manifest_lints_findings::known_keys::KnownKey;
 use manifest_lints_findings::readings::{ReadKey, Spelled};

@@ -4,9 +4,9 @@
 mod found;
 mod linting;
 
+pub use expression_folds::values_of;
 pub use linting::lint;
-pub use manifest_files::document::Document;
+pub use manifest_documents::document::Document;
 pub use manifest_lints_findings::{
     Code, Finding, Level, Report, Words, nearest_target, unknown_in,
 };
-pub use manifest_lints_standings::values_of;

@@ -2,25 +2,24 @@
 
 ghost use Rattle.std.specs.Prelude.{◌≡◌, ◌++◌, IfOk, OnOk, Some, List, [], map};
 ghost use Rattle.std.specs.List.{All};
-ghost use Rattle.declared_cfgs.specs.Declarations.{DeclaredEntry, IsDeclaredBy, declarations_of};
+ghost use Rattle.manifest_documents.specs.Declarations.{DeclaredEntry, IsDeclaredBy, declarations_of};
 ghost use Rattle.manifest_lints_findings.specs.Marks.{mark, marks};
 ghost use Rattle.manifest_lints_findings.specs.Spells.{IsRead, entry_read};
 ghost use Rattle.manifest_lints.specs.Founds.{found_codes};
 ghost use Rattle.manifest_lints.specs.Reports.{told_mark, told_marks, left_open};
 ghost use Rattle.toml.specs.View.{table_view};
 ghost use Rattle.manifest_lints.specs.Reports.{entry_of, AreFindingsOn, AreFindings, IsReport};
-ghost use Rattle.manifest_tables.specs.Tables.{target_of};
+ghost use Rattle.manifest_documents.specs.Tables.{target_of};
 
 use crate::found::{Asking, Found, found_of};
-use declared_cfgs::Declared;
 use exact_answers::{Known, ONE_VALUED, family_rule};
-use manifest_files::document::Document;
+use manifest_documents::document::Document;
+use manifest_documents::{Declared, TargetKey, Targets};
 use manifest_lints_findings::findings::target_is_no_table;
 use manifest_lints_findings::making::finding_on;
 use manifest_lints_findings::readings::ReadKey;
 use manifest_lints_findings::{CODES, Code, Finding, Report, Words};
 use manifest_lints_questions::earlier::{Earlier, Keys};
-use manifest_tables::{TargetKey, Targets};
 use std::alloc::{AllocError, Global};
 
 /// The earlier key that is the same or as true.

@@ -3,7 +3,7 @@
 ghost use Rattle.std.specs.Prelude.{◌≡◌, IfOk, not, string_bytes};
 ghost use Rattle.cargo_platform.specs.Trees.{value_of, condition_of};
 ghost use Rattle.cargo_platform.specs.Print.{print_condition};
-ghost use Rattle.declared_cfgs.specs.Declarations.{declarations_of};
+ghost use Rattle.manifest_documents.specs.Declarations.{declarations_of};
 ghost use Rattle.manifest_lints_standings.specs.Standings.{sorted_by};
 ghost use Rattle.manifest_lints_findings.specs.NoTables.{is_empty_list, is_no_table};
 ghost use Rattle.manifest_lints_findings.specs.Spells.{entry_read};
@@ -13,12 +13,12 @@ use crate::codes::Code;
 use crate::no_tables::no_tables;
 use crate::readings::{ReadKey, Spelled};
 use cargo_platform::{Cfg, Platform};
-use declared_cfgs::Declared;
+use expression_folds::walk;
 use known_targets::{TargetSet, matching};
+use manifest_documents::Declared;
 use manifest_lints_standings::asked_facts::{AskedFact, asked_facts, has_sort};
 use manifest_lints_standings::key_spans::spans_of;
 use manifest_lints_standings::standing::{Sort, is_unknown_target};
-use manifest_lints_standings::walk;
 use std::alloc::{AllocError, Global};
 
 /// What is known of a key. A key that spells no condition asks for nothing.

@@ -13,7 +13,7 @@ use crate::making::finding_on;
 use crate::readings::ReadKey;
 use crate::suggestions::Words;
 use cargo_platform::Platform;
-use declared_cfgs::Declared;
+use manifest_documents::Declared;
 use std::alloc::{AllocError, Global};
 
 /// The findings on a key that stands in no manifest, and spells this condition, that ask nothing over every set of

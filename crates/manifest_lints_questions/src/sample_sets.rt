@@ -5,23 +5,15 @@ ghost use Rattle.cargo_platform.specs.Trees.{value_of, condition_of};
 ghost use Rattle.cargo_platform.specs.Facts.{fact_set, truth_of_condition};
 
 use cargo_platform::{Cfg, CfgExpr, FactIndex, Platform};
+use expression_folds::{Fold, fold_expression, values_of};
 use known_targets::{KnownTarget, TargetSet, having, names};
 use manifest_lints_standings::rustc_names::{FLAGGED, PLAIN, VALUED, name_in};
-use manifest_lints_standings::values_of;
 use partial_facts::ONE_VALUED;
 use partial_facts::names::is_among;
 use std::alloc::{AllocError, Global};
 
 /// Each fifth known target stands in a set of facts that is tried.
 const STRIDE: usize = 5;
-
-/// A group that is gone through: its truths so far, and its members that are left.
-#[derive(Drop)]
-enum OpenTruths<'a> {
-    Not,
-    All(u64, &'a [CfgExpr]),
-    Any(u64, &'a [CfgExpr]),
-}
 
 /// Whether the condition holds over the facts, for a target whose name is empty.
 pub fn holds_over(alloc: Global, platform: &Platform, facts: &[Cfg]) -> Result<bool, AllocError>
@@ -74,73 +66,56 @@ fn facts_at(alloc: Global, platform: &Platform, place: u32) -> Result<Vec<Cfg>, 
 /// The truths of an expression over 64 sets of facts that are possible, one a bit. Each has the facts of a known target
 /// and some that are no fact of rustc's.
 pub fn truths(alloc: Global, e: &CfgExpr) -> Result<u64, AllocError> {
-    let mut open = Vec::new(alloc);
-    let mut e = e;
-    'parts: for _ in 0..u64::MAX {
-        let truth = match e {
-            CfgExpr::Not(inner) => {
-                open.push(OpenTruths::Not)?;
-                e = inner;
-                continue;
-            }
-            CfgExpr::All(members) => match members.split_first() {
-                Some((first, others)) => {
-                    open.push(OpenTruths::All(u64::MAX, others))?;
-                    e = first;
-                    continue;
-                }
-                None => u64::MAX,
-            },
-            CfgExpr::Any(members) => match members.split_first() {
-                Some((first, others)) => {
-                    open.push(OpenTruths::Any(0, others))?;
-                    e = first;
-                    continue;
-                }
-                None => 0,
-            },
-            CfgExpr::Value(c) => truths_of(c),
-            CfgExpr::True => u64::MAX,
-            CfgExpr::False => 0,
+    fold_expression(alloc, e, &OverSamples)
+}
+
+/// The 64 sets of facts, each a bit of what is made. Nothing is promised of the truths: what they show is asked again.
+#[derive(Clone, Copy, Drop)]
+struct OverSamples;
+
+impl Fold for OverSamples {
+    type Part = u64;
+
+    /// The truths of the group so far.
+    type Members = u64;
+
+    ghost makes = { λ _ _ _. Unit {0} };
+
+    ghost gathers = { λ _ _ _ _. Unit {0} };
+
+    fn value(&self, c: &Cfg) -> Result<u64, AllocError> {
+        Ok(truths_of(c))
+    }
+
+    fn literal(&self, truth: bool) -> u64 {
+        everywhere(truth)
+    }
+
+    fn negation(&self, part: u64) -> Result<u64, AllocError> {
+        Ok(!part)
+    }
+
+    fn no_members(&self, neutral: bool) -> u64 {
+        everywhere(neutral)
+    }
+
+    fn add(&self, neutral: bool, so_far: u64, part: u64) -> Result<Result<u64, u64>, AllocError> {
+        let truths = if neutral {
+            so_far & part
+        } else {
+            so_far | part
         };
-        match rise(&mut open, truth)? {
-            Next::Part(part) => e = part,
-            Next::Whole(truth) => return Ok(truth),
-        }
+        Ok(Ok(truths))
     }
-    Ok(0)
+
+    fn group(&self, _neutral: bool, members: u64) -> u64 {
+        members
+    }
 }
 
-/// What follows a part.
-enum Next<'a> {
-    Part(&'a CfgExpr),
-    Whole(u64),
-}
-
-/// Adds the truths of a part to the group around it, and closes the groups that it is the last part of.
-fn rise<'a>(open: &mut Vec<OpenTruths<'a>>, truth: u64) -> Result<Next<'a>, AllocError> {
-    let mut truth = truth;
-    'groups: for _ in 0..u64::MAX {
-        match open.pop() {
-            None => return Ok(Next::Whole(truth)),
-            Some(OpenTruths::Not) => truth = !truth,
-            Some(OpenTruths::All(so_far, members)) => {
-                truth &= so_far;
-                if let Some((first, others)) = members.split_first() {
-                    open.push(OpenTruths::All(truth, others))?;
-                    return Ok(Next::Part(first));
-                }
-            }
-            Some(OpenTruths::Any(so_far, members)) => {
-                truth |= so_far;
-                if let Some((first, others)) = members.split_first() {
-                    open.push(OpenTruths::Any(truth, others))?;
-                    return Ok(Next::Part(first));
-                }
-            }
-        }
-    }
-    Ok(Next::Whole(truth))
+/// The same truth over each of the sets.
+fn everywhere(truth: bool) -> u64 {
+    if truth { u64::MAX } else { 0 }
 }
 
 /// The truths of a name or pair.

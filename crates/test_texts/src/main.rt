@@ -1,10 +1,12 @@
-//! Runs rows on the library: what is read of texts, printed, matched, compared and warned about, also at each size.
+//! Runs rows on the library: what is read of texts, printed, matched, compared and warned about, also at each size; and
+//! on licence expressions.
 #![tactic(auto)]
 
-mod callers;
+mod caller_rows;
 mod calls;
 mod copies;
 mod cutting;
+mod licences;
 mod matching;
 mod ordering;
 mod reading;
@@ -30,7 +32,8 @@ impl Kinds for OfTexts {
             "match" => matching::answer(alloc, call, fields),
             "order" => ordering::answer(alloc, call, fields),
             "warn" => warnings::answer(alloc, call, fields),
-            "uses" => callers::answer(alloc, call, fields),
+            "licence" => licences::answer(alloc, call, fields),
+            "callers" => caller_rows::answer(alloc, call, fields),
             _ => Err(Fault::Row("there is no such kind")),
         }
     }

@@ -2,7 +2,7 @@ use Rattle.std.proofs.Common.{◌≡◌, ◌∙◌, ◌≤◌, sym, ap, subst, l
 use Rattle.std.proofs.lemmas.List.{length-map}
 use Rattle.cargo_platform.specs.Trees.{condition_of}
 use Rattle.partial_facts.specs.Partly.{names_of}
-use Rattle.declared_cfgs.specs.Declarations.{declarations_of}
+use Rattle.manifest_documents.specs.Declarations.{declarations_of}
 use Rattle.manifest_lints_standings.specs.Standings.{open_in, sorted_by, sorted_in}
 use Rattle.manifest_lints_findings.specs.Known.{sorted_of_spelled}
 use Rattle.manifest_lints_questions.specs.declared.deciding.TheConstants.{MANY}

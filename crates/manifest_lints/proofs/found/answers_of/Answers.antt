@@ -1,5 +1,5 @@
 use Rattle.cargo_platform.specs.Trees.{condition_of}
-use Rattle.declared_cfgs.specs.Declarations.{declarations_of}
+use Rattle.manifest_documents.specs.Declarations.{declarations_of}
 use Rattle.manifest_lints.proofs.Founds.{beside_others}
 use Rattle.manifest_lints.proofs.found.answers_of.Goals as goal
 

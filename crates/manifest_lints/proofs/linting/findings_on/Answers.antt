@@ -1,7 +1,7 @@
 use Rattle.std.proofs.Common.{◌≡◌, ◌∙◌, sym, ap, subst, ℕ, List, [], ◌∷◌, ◌++◌, take, map}
 use Rattle.std.specs.List.{All}
 use Rattle.exact_answers.specs.declared.known.Known.{Known}
-use Rattle.declared_cfgs.specs.Declarations.{DeclaredEntry, declarations_of}
+use Rattle.manifest_documents.specs.Declarations.{DeclaredEntry, declarations_of}
 use Rattle.manifest_lints_findings.specs.declared.findings.Finding.{Finding}
 use Rattle.manifest_lints_findings.specs.declared.readings.ReadKey.{ReadKey}
 use Rattle.manifest_lints_findings.specs.Marks.{marks}

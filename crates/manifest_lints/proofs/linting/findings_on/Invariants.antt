@@ -1,6 +1,6 @@
 use Rattle.std.proofs.Common.{map, take}
 use Rattle.std.specs.List.{All}
-use Rattle.declared_cfgs.specs.Declarations.{declarations_of}
+use Rattle.manifest_documents.specs.Declarations.{declarations_of}
 use Rattle.manifest_lints_findings.specs.Marks.{marks}
 use Rattle.manifest_lints_findings.specs.Spells.{IsRead, entry_read}
 use Rattle.manifest_lints.specs.Reports.{AreFindingsOn}

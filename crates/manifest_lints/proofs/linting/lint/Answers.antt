@@ -2,11 +2,11 @@ use Rattle.std.proofs.Common.{◌≡◌, sym, ap, subst, List, Option, Some, Non
 use Rattle.std.specs.List.Sorted.{IsPermutation}
 use Rattle.toml.specs.Data.{Members}
 use Rattle.toml.specs.View.{table_view}
-use Rattle.declared_cfgs.specs.Declarations.{DeclaredEntry, IsDeclaredBy}
-use Rattle.manifest_files.specs.Documents.{AreInSomeOrder}
-use Rattle.manifest_tables.specs.declared.tables.TargetKey.{TargetKey}
-use Rattle.manifest_tables.specs.declared.tables.Targets.{Targets}
-use Rattle.manifest_tables.specs.Tables.{target_of, target_told}
+use Rattle.manifest_documents.specs.Declarations.{DeclaredEntry, IsDeclaredBy}
+use Rattle.manifest_documents.specs.Documents.{AreInSomeOrder}
+use Rattle.manifest_documents.specs.declared.tables.TargetKey.{TargetKey}
+use Rattle.manifest_documents.specs.declared.tables.Targets.{Targets}
+use Rattle.manifest_documents.specs.Tables.{target_of, target_told}
 use Rattle.manifest_lints_findings.specs.declared.findings.Report.{Report}
 use Rattle.manifest_lints_findings.specs.Marks.{marks}
 use Rattle.manifest_lints.specs.Reports.{Entry, entry_of, AreFindings, IsReport}

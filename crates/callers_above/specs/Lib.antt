@@ -1,0 +1,4 @@
+pub mod Audits
+pub mod Counted
+pub mod Shipped
+pub mod Targets

@@ -1,0 +1,6 @@
+//! Callers of `exact_answers`, and their tests. The tests of the library are rows of `test_answers`.
+
+pub mod audit;
+pub mod linter;
+#[cfg(test)]
+mod tests;

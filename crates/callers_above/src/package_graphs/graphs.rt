@@ -1,0 +1,67 @@
+//! Graphs with cycles, several edges and none.
+
+use super::support::{assert_at, targets};
+use known_targets::TargetSet;
+use package_graphs::{Edge, Graph, present};
+use std::alloc::Global;
+use std::process::Abort;
+
+/// Adds an edge that holds where the condition does.
+fn edge(rt: &impl Abort, alloc: Global, graph: &mut Graph, from: usize, to: usize, text: &str) {
+    let holds = targets(rt, alloc, text);
+    if from < graph.len() {
+        let added = graph.add_edge(from, Edge { to, holds });
+        assert!(rt; added.is_ok());
+    }
+}
+
+/// The targets of each node.
+fn sets(rt: &impl Abort, alloc: Global, graph: &Graph, roots: &[usize]) -> Vec<TargetSet> {
+    present(alloc, graph, roots).expect(rt, "memory")
+}
+
+/// The set at a place.
+fn at(rt: &impl Abort, sets: &[TargetSet], index: usize) -> TargetSet {
+    *sets.get(index).expect(rt, "a node")
+}
+
+#[test]
+fn conditions_meet_along_a_path(rt: HostRuntime) {
+    let alloc = rt.alloc();
+    let mut graph = Graph::new(alloc, 5).expect(&rt, "memory");
+    edge(&rt, alloc, &mut graph, 0, 1, "cfg(unix)");
+    edge(&rt, alloc, &mut graph, 0, 1, "cfg(windows)");
+    edge(&rt, alloc, &mut graph, 1, 2, "cfg(target_env = \"gnu\")");
+    edge(&rt, alloc, &mut graph, 2, 0, "cfg(all())");
+    edge(&rt, alloc, &mut graph, 2, 3, "cfg(unix)");
+    let sets = sets(&rt, alloc, &graph, &[0]);
+    assert_at(&rt, alloc, at(&rt, &sets, 0), "cfg(all())");
+    assert_at(&rt, alloc, at(&rt, &sets, 1), "cfg(any(unix, windows))");
+    assert_at(
+        &rt,
+        alloc,
+        at(&rt, &sets, 2),
+        "cfg(all(any(unix, windows), target_env = \"gnu\"))",
+    );
+    assert_at(
+        &rt,
+        alloc,
+        at(&rt, &sets, 3),
+        "cfg(all(unix, target_env = \"gnu\"))",
+    );
+    assert_at(&rt, alloc, at(&rt, &sets, 4), "cfg(any())");
+}
+
+#[test]
+fn a_cycle_brings_targets_around(rt: HostRuntime) {
+    let alloc = rt.alloc();
+    let mut graph = Graph::new(alloc, 4).expect(&rt, "memory");
+    edge(&rt, alloc, &mut graph, 0, 1, "cfg(unix)");
+    edge(&rt, alloc, &mut graph, 1, 2, "cfg(all())");
+    edge(&rt, alloc, &mut graph, 2, 1, "cfg(all())");
+    edge(&rt, alloc, &mut graph, 3, 2, "cfg(windows)");
+    edge(&rt, alloc, &mut graph, 2, 9, "cfg(all())");
+    let sets = sets(&rt, alloc, &graph, &[3, 0, 7]);
+    assert_at(&rt, alloc, at(&rt, &sets, 1), "cfg(any(unix, windows))");
+    assert_at(&rt, alloc, at(&rt, &sets, 2), "cfg(any(unix, windows))");
+}

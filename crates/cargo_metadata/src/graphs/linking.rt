@@ -1,0 +1,140 @@
+//! A document as a graph of packages.
+
+ghost use Rattle.std.specs.Prelude.{MatchResult};
+ghost use Rattle.cargo_metadata.specs.Ids.{package_ids, node_ids};
+ghost use Rattle.cargo_metadata.specs.Links.{AreIds, IsLinked};
+ghost use Rattle.cargo_metadata.specs.Refusals.{IsUnlinked};
+ghost use Rattle.cargo_metadata.specs.Inside.Places.{AreFound};
+ghost use Rattle.cargo_metadata.specs.Inside.Finding.{AreNodesFound, AreMembersFound};
+
+use super::edges::edges_of;
+use super::places::Places;
+use super::refusals::Refusal;
+use crate::{Metadata, Package as Described};
+use package_graphs::Package;
+use std::alloc::{AllocError, Global};
+
+/// The packages of a graph, in the order of the document's nodes.
+#[derive(Drop)]
+pub struct Linked<'a> {
+    /// Each as the document describes it.
+    pub described: Vec<Described<'a>>,
+    /// Each with the places that its dependencies lead to and the targets at which they hold. The roots are the
+    /// workspace's members.
+    pub packages: Vec<Package>,
+}
+
+/// The graph that a document is, or the first fault: of the ids of packages, of nodes and of members, and then of the
+/// nodes' dependencies. It refuses for memory too.
+pub fn link<'a>(alloc: Global, metadata: &Metadata<'a>) -> Result<Linked<'a>, Refusal>
+    ensures { MatchResult result (λ linked. IsLinked metadata.now linked) (λ refusal. IsUnlinked metadata.now refusal) }
+{
+    let packages = package_places(alloc, metadata)?;
+    let (nodes, described) = node_places(alloc, &packages, metadata)?;
+    let members = member_places(alloc, &nodes, metadata)?;
+    graph_of(alloc, metadata, described, &nodes, &members)
+}
+
+/// The places of the packages' ids.
+fn package_places<'a>(alloc: Global, metadata: &Metadata<'a>) -> Result<Places<'a>, Refusal>
+    ensures { MatchResult result (λ places. AreFound places (package_ids metadata.now.packages.items))
+        (λ refusal. IsUnlinked metadata.now refusal) }
+{
+    let mut places = Places::new(alloc);
+    'packages: for i in 0..metadata.packages.len() {
+        match places.add(metadata.packages[i].id, i) {
+            Ok(None) => {}
+            Ok(Some(first)) => return Err(Refusal::SamePackage { first, again: i }),
+            Err(error) => return Err(Refusal::Memory(error)),
+        }
+    }
+    Ok(places)
+}
+
+/// The places of the nodes' ids, and the package of each.
+fn node_places<'a>(
+    alloc: Global,
+    packages: &Places<'a>,
+    metadata: &Metadata<'a>,
+) -> Result<(Places<'a>, Vec<Described<'a>>), Refusal>
+    requires { AreFound packages.now (package_ids metadata.now.packages.items) }
+    ensures { MatchResult result (λ found. AreNodesFound metadata.now found.0 found.1.items)
+        (λ refusal. IsUnlinked metadata.now refusal) }
+{
+    let mut places = Places::new(alloc);
+    let mut described = Vec::new(alloc);
+    'nodes: for i in 0..metadata.nodes.len() {
+        let id = metadata.nodes[i].id;
+        let Some(place) = packages.find(id) else {
+            return Err(Refusal::NoPackage(i));
+        };
+        match places.add(id, i) {
+            Ok(None) => {}
+            Ok(Some(first)) => return Err(Refusal::SameNode { first, again: i }),
+            Err(error) => return Err(Refusal::Memory(error)),
+        }
+        if let Err(error) = described.push(metadata.packages[place]) {
+            return Err(Refusal::Memory(AllocError::from(error)));
+        }
+    }
+    Ok((places, described))
+}
+
+/// The places of the members' ids.
+fn member_places<'a>(
+    alloc: Global,
+    nodes: &Places<'a>,
+    metadata: &Metadata<'a>,
+) -> Result<Places<'a>, Refusal>
+    requires ids { AreIds metadata.now }
+    requires nodes { AreFound nodes.now (node_ids metadata.now.nodes.items) }
+    ensures { MatchResult result (λ members. AreMembersFound metadata.now members)
+        (λ refusal. IsUnlinked metadata.now refusal) }
+{
+    let mut places = Places::new(alloc);
+    'members: for i in 0..metadata.members.len() {
+        let id = metadata.members[i];
+        if nodes.find(id).is_none() {
+            return Err(Refusal::NoMember(i));
+        }
+        if let Err(error) = places.add(id, i) {
+            return Err(Refusal::Memory(error));
+        }
+    }
+    Ok(places)
+}
+
+/// The graph, of packages that were found.
+fn graph_of<'a>(
+    alloc: Global,
+    metadata: &Metadata<'a>,
+    described: Vec<Described<'a>>,
+    nodes: &Places<'a>,
+    members: &Places<'a>,
+) -> Result<Linked<'a>, Refusal>
+    requires ids { AreIds metadata.now }
+    requires nodes { AreNodesFound metadata.now nodes.now described.items }
+    requires members { AreMembersFound metadata.now members.now }
+    ensures { MatchResult result (λ linked. IsLinked metadata.now linked) (λ refusal. IsUnlinked metadata.now refusal) }
+{
+    let mut packages = Vec::new(alloc);
+    'nodes: for i in 0..metadata.nodes.len() {
+        let node = &metadata.nodes[i];
+        let dependencies = match edges_of(alloc, nodes, node) {
+            Ok(dependencies) => dependencies,
+            Err((j, wrong)) => return Err(Refusal::Dependency(i, j, wrong)),
+        };
+        let unit = Package {
+            is_root: members.find(node.id).is_some(),
+            is_macro: described[i].is_macro,
+            dependencies,
+        };
+        if let Err(error) = packages.push(unit) {
+            return Err(Refusal::Memory(AllocError::from(error)));
+        }
+    }
+    Ok(Linked {
+        described,
+        packages,
+    })
+}

@@ -1,0 +1,36 @@
+//! Refusals, as people read them: the path in the document, and what is wrong there. No text of the document is shown.
+
+use super::refusals::{InDependency, Refusal};
+use std::fmt::{self, Display, Formatter, Write};
+
+impl Display for InDependency {
+    fn fmt<W: Write>(&self, f: &mut Formatter<W>) -> fmt::Result {
+        match self {
+            InDependency::NoNode => write!(f, ".pkg: no node has this id"),
+            InDependency::Condition(i, _) => {
+                write!(f, ".dep_kinds[{i}].target: the text spells no condition")
+            }
+            InDependency::Memory(error) => write!(f, ": {error}"),
+        }
+    }
+}
+
+impl Display for Refusal {
+    fn fmt<W: Write>(&self, f: &mut Formatter<W>) -> fmt::Result {
+        match self {
+            Refusal::SamePackage { first, again } => {
+                write!(f, "packages[{again}].id: packages[{first}] has this id too")
+            }
+            Refusal::NoPackage(i) => write!(f, "resolve.nodes[{i}].id: no package has this id"),
+            Refusal::SameNode { first, again } => {
+                write!(
+                    f,
+                    "resolve.nodes[{again}].id: resolve.nodes[{first}] has this id too"
+                )
+            }
+            Refusal::NoMember(i) => write!(f, "workspace_members[{i}]: no node has this id"),
+            Refusal::Dependency(i, j, wrong) => write!(f, "resolve.nodes[{i}].deps[{j}]{wrong}"),
+            Refusal::Memory(error) => write!(f, "{error}"),
+        }
+    }
+}

@@ -1,5 +1,0 @@
-use Rattle.declared_cfgs.proofs.Reading.{HasRead}
-use Rattle.declared_cfgs.proofs.declared.tokens_of.Given as goal
-
-abbrev pub invariant-tokens : goal.invariant-tokens
-invariant-tokens l = HasRead l.text l.item-iterator l.tokens.items

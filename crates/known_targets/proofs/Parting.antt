@@ -1,0 +1,161 @@
+-- Classes, and the parts that a set makes of them.
+use Rattle.std.proofs.Common.{◌≡◌, refl, sym, ◌∙◌, ap, subst, ℕ, ◌+◌, ◌<◌, ◌≤◌, Bool, true, false, not, ◌&&◌, cond, List, []}
+use Rattle.std.proofs.Common.{◌∷◌, ◌++◌, length, get_or, take, arith, inl, inr, Some, below_more}
+use Rattle.std.specs.Prelude.{IsTrue, All, Contains}
+use Rattle.std.proofs.lemmas.Bool.{and_parts, and_from, both_ways}
+use Rattle.std.proofs.lemmas.List.{length-append, take_more, get_or_default}
+use Rattle.std.proofs.Math.ListN.{get_or-append}
+use Rattle.std.proofs.lemmas.List.Quantifiers.{Any-push}
+use Rattle.std.proofs.lemmas.List.Elements.{All-nil, All-push, All-pop, All-same, Contains-get_or}
+use Rattle.known_targets.specs.Sets.{is_member}
+use Rattle.known_targets.specs.declared.table.TheConstants.{COUNT}
+use Rattle.known_targets.specs.declared.target_set.TargetSet.{TargetSet}
+use Rattle.known_targets.specs.Classes.{IsInOne, IsClass, AreClasses}
+use Rattle.known_targets.specs.Parts.{IsPart, IsPartOfOne, AddsPart, AddsParts, AreParts, ArePartsSoFar}
+
+-- ---- one part
+
+in_more : (sets : List TargetSet) (x : TargetSet) (k : ℕ) → IsInOne sets k → IsInOne (sets ++ x ∷ []) k
+in_more sets x k (i, m, below, at, holds) = (
+  i,
+  m,
+  omega (arith, below, length-append sets (x ∷ [])),
+  get_or-append sets (x ∷ []) m i below ∙ at,
+  holds,
+)
+
+pub part_kept : (old new : List TargetSet) (part : TargetSet) (k : ℕ) → AddsPart old new part → IsInOne old k
+    → IsInOne new k
+part_kept old new part k (inl is) here = subst (λ (xs : List TargetSet). IsInOne xs k) (sym is) (in_more old part k here)
+part_kept old new part k (inr none) here = subst (λ (xs : List TargetSet). IsInOne xs k) (sym none.0) here
+
+pub part_added : (old new : List TargetSet) (part : TargetSet) (k : ℕ) → k < COUNT → AddsPart old new part
+    → IsTrue (is_member part k) → IsInOne new k
+part_added old new part k known (inl is) here =
+    subst (λ (xs : List TargetSet). IsInOne xs k) (sym is) (Any-push (λ s. IsTrue (is_member s k)) old part here)
+part_added old new part k known (inr none) here = absurd (both_ways (is_member part k) (none.1 k known) here)
+
+pub part_sound : (set : TargetSet) (classes old new : List TargetSet) (part : TargetSet) → AddsPart old new part
+    → IsPartOfOne set classes part → All (λ p. IsPartOfOne set classes p) old → All (λ p. IsPartOfOne set classes p) new
+part_sound set classes old new part (inl is) this before =
+    All-same (λ p. IsPartOfOne set classes p) new (old ++ part ∷ []) is
+    (All-push (λ p. IsPartOfOne set classes p) old part before this)
+part_sound set classes old new part (inr none) this before =
+    All-same (λ p. IsPartOfOne set classes p) new old none.0 before
+
+-- ---- both parts of a class
+
+part_of : (set class part : TargetSet) (classes : List TargetSet) → Contains classes class → IsPart set class part
+    → IsPartOfOne set classes part
+part_of set class part classes (i, below, at) is = (i, class, below, at, is)
+
+either : (b : Bool) (P : Type 0) → (b ≡ true → P) → (b ≡ false → P) → P
+either true P first second = first refl
+either false P first second = second refl
+
+pub both_parts : (set class inside outside rest : TargetSet) (old between new : List TargetSet)
+    → ((k : ℕ) → k < COUNT → is_member inside k ≡ (is_member class k && is_member set k))
+    → ((k : ℕ) → k < COUNT → is_member rest k ≡ not (is_member set k))
+    → ((k : ℕ) → k < COUNT → is_member outside k ≡ (is_member class k && is_member rest k))
+    → AddsPart old between inside → AddsPart between new outside → AddsParts set class old new
+both_parts set class inside outside rest old between new ins complement outs first second =
+    let out : (k : ℕ) → k < COUNT → is_member outside k ≡ (is_member class k && not (is_member set k)) =
+    λ k known. outs k known ∙ ap (λ (b : Bool). is_member class k && b) (complement k known) in
+    record {
+      kept = λ k here. part_kept between new outside k second (part_kept old between inside k first here);
+      added = λ k known here.
+          either (is_member set k) (IsInOne new k)
+          (λ there.
+          part_kept between new outside k second
+          (part_added old between inside k known first
+          (ins k known ∙ and_from (is_member class k) (is_member set k) here there)))
+          (λ missing.
+          part_added between new outside k known second
+          (out k known ∙ and_from (is_member class k) (not (is_member set k)) here (ap not missing)));
+      sound = λ classes listed before.
+          part_sound set classes between new outside second
+          (part_of set class outside classes listed (record { is_inside = false; members = out }))
+          (part_sound set classes old between inside first
+          (part_of set class inside classes listed (record { is_inside = true; members = ins })) before);
+    }
+
+pub parts_more : (set : TargetSet) (classes old new : List TargetSet) (i : ℕ) (d : TargetSet) → i < length classes
+    → AddsParts set (get_or classes i d) old new → ArePartsSoFar set classes old i → ArePartsSoFar set classes new (i + 1)
+parts_more set classes old new i d below adds before = record {
+  sound = adds.sound classes (Contains-get_or classes i d below) before.sound;
+  complete = λ p class k less known here.
+      below_more (λ p. (class : TargetSet) → IsTrue (is_member (get_or classes p class) k) → IsInOne new k) i
+      (λ p less class h. adds.kept k (before.complete p class k less known h))
+      (λ class h.
+      adds.added k known (subst (λ (x : TargetSet). IsTrue (is_member x k)) (get_or_default classes i class d below) h))
+      p less class here;
+}
+
+pub no_parts : (set : TargetSet) (classes parts : List TargetSet) → parts ≡ [] → ArePartsSoFar set classes parts 0
+no_parts set classes parts none = record {
+  sound = All-same (λ p. IsPartOfOne set classes p) parts [] none (All-nil (λ p. IsPartOfOne set classes p));
+  complete = λ p class k less known here. absurd (omega arith);
+}
+
+pub all_parts : (set : TargetSet) (classes parts : List TargetSet) (n : ℕ) → length classes ≤ n
+    → ArePartsSoFar set classes parts n → AreParts set classes parts
+all_parts set classes parts n past so_far = record {
+  sound = so_far.sound;
+  complete = λ k known one.
+      so_far.complete one.0 one.1 k (omega (arith, one.2, past)) known
+      (subst (λ (x : TargetSet). IsTrue (is_member x k)) (sym one.3) one.4);
+}
+
+-- ---- all classes
+
+same_side : (b x y : Bool) → cond b x (not x) ≡ true → cond b y (not y) ≡ true → x ≡ y
+same_side true x y p q = p ∙ sym q
+same_side false true true p q = refl
+same_side false true false p q = absurd cc
+same_side false false true p q = absurd cc
+same_side false false false p q = refl
+
+part_class : (sets : List TargetSet) (set class part : TargetSet) → IsClass sets class → IsPart set class part
+    → IsClass (sets ++ set ∷ []) part
+part_class sets set class part is p j k known other here =
+    let side : Bool → Bool = λ x. cond p.is_inside x (not x) in
+    let at = and_parts (is_member class j) (side (is_member set j)) (sym (p.members j known) ∙ here) in
+    let beside = is j k known other at.0 in (
+      λ there.
+          let on = and_parts (is_member class k) (side (is_member set k)) (sym (p.members k other) ∙ there) in
+          All-push (λ s. is_member s j ≡ is_member s k) sets set (beside.0 on.0)
+          (same_side p.is_inside (is_member set j) (is_member set k) at.1 on.1),
+      λ alike.
+          let parts = All-pop (λ s. is_member s j ≡ is_member s k) (sets ++ set ∷ []) sets (Some set) refl alike in
+          p.members k other
+          ∙ and_from (is_member class k) (side (is_member set k)) (beside.1 parts.0)
+          (subst (λ (x : Bool). side x ≡ true) parts.1 at.1),
+    )
+
+pub parts_are_classes : (sets : List TargetSet) (set : TargetSet) (classes parts : List TargetSet)
+    → AreClasses sets classes → AreParts set classes parts → AreClasses (sets ++ set ∷ []) parts
+parts_are_classes sets set classes parts are made = record {
+  covering = λ k known. made.complete k known (are.covering k known);
+  each = λ i part below.
+      let of = made.sound i part below in
+      part_class sets set of.1 (get_or parts i part)
+      (subst (λ (c : TargetSet). IsClass sets c) of.3 (are.each of.0 of.1 of.2)) of.4;
+}
+
+pub first_class : (all : TargetSet) (classes : List TargetSet) → ((k : ℕ) → k < COUNT → is_member all k ≡ true)
+    → classes ≡ all ∷ [] → AreClasses [] classes
+first_class all classes has is =
+    subst (λ (cs : List TargetSet). AreClasses [] cs) (sym is)
+    (record {
+      covering = λ k known. Any-push (λ s. IsTrue (is_member s k)) [] all (has k known);
+      each =
+          All-push (λ c. IsClass [] c) [] all (All-nil (λ c. IsClass [] c))
+          (λ j k known other here. (λ there. All-nil (λ s. is_member s j ≡ is_member s k), λ alike. has k other));
+    })
+
+pub classes_more : (sets : List TargetSet) (i : ℕ) (set : TargetSet) (classes parts : List TargetSet) → i < length sets
+    → AreClasses (take i sets) classes → AreParts (get_or sets i set) classes parts
+    → AreClasses (take (i + 1) sets) parts
+classes_more sets i set classes parts below are made =
+    subst (λ (xs : List TargetSet). AreClasses xs parts) (sym (take_more sets i set below))
+    (parts_are_classes (take i sets) (get_or sets i set) classes parts are made)

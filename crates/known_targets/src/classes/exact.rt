@@ -1,0 +1,25 @@
+//! Conditions that hold at exactly the targets of a set.
+
+ghost use Rattle.std.specs.Prelude.{◌≡◌, IfOk, IfSome};
+ghost use Rattle.cargo_platform.specs.Trees.{condition_of};
+ghost use Rattle.known_targets.specs.Exact.{HoldsExactly};
+
+use crate::{TargetSet, matching};
+use cargo_platform::Platform;
+use std::alloc::{AllocError, Global};
+
+/// The condition, where it holds at exactly the targets of the set. It refuses only where memory is refused.
+pub fn exactly(
+    alloc: Global,
+    platform: Platform,
+    set: TargetSet,
+) -> Result<Option<Platform>, AllocError>
+    ensures { IfOk result (λ p. IfSome p (λ p. HoldsExactly set (condition_of p))) }
+{
+    let targets = matching(alloc, &platform)?;
+    if targets.equals(set) {
+        Ok(Some(platform))
+    } else {
+        Ok(None)
+    }
+}

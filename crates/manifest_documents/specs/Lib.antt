@@ -1,0 +1,5 @@
+pub mod Entries
+pub mod Tables
+pub mod Declarations
+pub mod Steps
+pub mod Documents

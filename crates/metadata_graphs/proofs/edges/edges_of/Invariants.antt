@@ -1,8 +1,0 @@
-use Rattle.std.proofs.Common.{ℕ, List}
-use Rattle.metadata_graphs.specs.Inside.Places.{AreFound}
-use Rattle.metadata_graphs.specs.Inside.Adding.{AreEdgesSoFar}
-use Rattle.metadata_graphs.proofs.edges.edges_of.Given as goal
-
-abbrev pub invariant-dependencies : goal.invariant-dependencies
-invariant-dependencies l =
-    (ids : List (List ℕ)) → AreFound l.nodes ids → AreEdgesSoFar ids l.node.dependencies.items l.j l.edges.items

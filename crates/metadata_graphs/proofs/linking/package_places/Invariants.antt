@@ -1,6 +1,0 @@
-use Rattle.metadata_graphs.specs.Ids.{package_ids}
-use Rattle.metadata_graphs.specs.Inside.Places.{place_at, IsIndex}
-use Rattle.metadata_graphs.proofs.linking.package_places.Given as goal
-
-abbrev pub invariant-packages : goal.invariant-packages
-invariant-packages l = IsIndex (place_at l.places) (package_ids l.metadata.packages.items) l.i

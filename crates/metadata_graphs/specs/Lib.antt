@@ -1,4 +1,0 @@
-pub mod Ids
-pub mod Links
-pub mod Refusals
-pub mod Inside

@@ -1,7 +1,0 @@
-use Rattle.target_classes.proofs.Parting.{classes_more}
-use Rattle.target_classes.proofs.partition.classes.Goals as goal
-
-pub sets-preserved : goal.sets-preserved
-sets-preserved c =
-    classes_more c.args.sets.now c.sets.set-index _ c.sets.classes.items c.in_ok-classes.classes.items c.sets-test.true
-    c.sets.invariant c.in_ok-classes.ensures
