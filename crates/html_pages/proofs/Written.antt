@@ -12,8 +12,8 @@ chosen : (P : List ℕ → Type 0) (b : Bool) (e f : List ℕ) → (b ≡ true �
     → P (if b then e else f)
 chosen P b e f =
     elim b as (λ v. (v ≡ true → P e) → (v ≡ false → P f) → P (if v then e else f)) [
-        true ↦ λ yes no. yes refl
-        | false ↦ λ yes no. no refl
+      | true ↦ λ yes no. yes refl
+      | false ↦ λ yes no. no refl
     ]
 
 -- what holds of each entity where the character is its mark, and of the character alone where it is no mark, holds of
@@ -53,7 +53,7 @@ more_written before page longer cs c is grown =
     let one = encode_utf8_all (escape c) in
     grown ∙ ap (λ (p : List ℕ). p ++ one) is ∙ append_assoc before first one
     ∙ ap (λ (p : List ℕ). before ++ p)
-        (sym (encodes-append (flat_map escape cs) (escape c)) ∙ ap encode_utf8_all (flat_map_more escape [] cs c))
+    (sym (encodes-append (flat_map escape cs) (escape c)) ∙ ap encode_utf8_all (flat_map_more escape [] cs c))
 
 same_items : (xs : List ℕ) → map (λ x. x) xs ≡ xs
 same_items [] = refl

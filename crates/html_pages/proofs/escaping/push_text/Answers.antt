@@ -11,5 +11,5 @@ loop-c-preserved c =
 pub returns : goal.returns
 returns c =
     let ended = YieldsList-end (YieldsList-from_chars c.args.text.now c.utf8.text cc) c.loop-c.yielded _
-        c.loop-c.yielded_by _ _ c.in-None.is c.next.ensures.steps in
+    c.loop-c.yielded_by _ _ c.in-None.is c.next.ensures.steps in
     all_written _ _ c.loop-c.yielded _ ended.0 c.loop-c.invariant
