@@ -4,8 +4,8 @@ use Rattle.cargo_platform.specs.Trees.{Trees, value_of}
 use Rattle.cargo_platform.specs.Facts.{FactSet}
 use Rattle.exact_answers.specs.Answers.{AreExample, OverEach}
 use Rattle.exact_answers.specs.declared.known.Known.{Known}
-use Rattle.callers_above.specs.declared.exact_answers.audit.Cover.{Cover}
-use Rattle.callers_above.specs.declared.exact_answers.audit.Cover.TheVariants as cover
+use Rattle.callers_above.specs.declared.relations.audit.Cover.{Cover}
+use Rattle.callers_above.specs.declared.relations.audit.Cover.TheVariants as cover
 
 -- on the expressions es: where it is covered, Q holds over each possible set; where it is not, P holds over the facts
 abbrev pub SaysCover : Cover → Known → Trees → (FactSet → Type 0) → (FactSet → Type 0) → Type 0

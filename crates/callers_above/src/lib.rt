@@ -2,12 +2,12 @@
 //! the callers of one crate. `README.md` says what each shows.
 #![tactic(auto)]
 
-pub mod cargo_metadata;
-pub mod exact_answers;
-pub mod known_targets;
-pub mod manifests;
-pub mod package_graphs;
-pub mod partial_facts;
-pub mod spdx_expressions;
+pub mod graphs;
+pub mod licences;
+pub mod manifest_keys;
+pub mod metadata;
+pub mod partial;
+pub mod relations;
+pub mod targets;
 #[cfg(test)]
 mod support;

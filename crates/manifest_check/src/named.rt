@@ -20,14 +20,9 @@ pub fn named_manifests<R: Files + Env + AllocGlobal + Clone + Drop>(
     matches: &ArgMatches<'_>,
 ) -> Result<Named, AllocError> {
     let alloc = rt.alloc();
-    let mut manifests = Vec::new(alloc);
-    for id in ["manifest-path", "manifest"] {
-        for path in matches.get_strs(id).unwrap_or(&[]) {
-            manifests.push(*path)?;
-        }
-    }
     let asked = Asked {
-        manifests: &manifests,
+        paths: matches.get_strs("manifest-path").unwrap_or(&[]),
+        manifests: matches.get_strs("manifest").unwrap_or(&[]),
         packages: matches.get_strs("package").unwrap_or(&[]),
         excluded: matches.get_strs("exclude").unwrap_or(&[]),
         whole: matches.get_flag("workspace"),

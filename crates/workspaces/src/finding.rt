@@ -19,7 +19,10 @@ const INPUT: &str = "-";
 /// What the words of a command line say of manifests.
 #[derive(Clone, Copy, Drop)]
 pub struct Asked<'a> {
-    /// Manifests, and folders that hold one. Without any it is the one of the folder at hand, or of the nearest above.
+    /// Manifests by `--manifest-path`.
+    pub paths: &'a [&'a str],
+    /// Manifests, and folders that hold one. Without any of both it is the one of the folder at hand, or of the nearest
+    /// above.
     pub manifests: &'a [&'a str],
     /// The names of packages that alone are meant.
     pub packages: &'a [&'a str],
@@ -342,6 +345,20 @@ fn choose<R: Files + AllocGlobal>(
     Ok(())
 }
 
+/// Adds the manifests that these stand for.
+fn add_all<R: Files + Env + AllocGlobal + Clone + Drop>(
+    rt: &R,
+    asked: &Asked<'_>,
+    named: &[&str],
+    found: &mut Found,
+) -> Result<(), AllocError> {
+    for path in named {
+        let file = file_of(rt, path)?;
+        add_meant(rt, asked, file.as_str(), found)?;
+    }
+    Ok(())
+}
+
 /// The manifests that are meant, in the order of the arguments: the root of a workspace before its members, and these
 /// in the order of their paths.
 pub fn find<R: Files + Env + AllocGlobal + Clone + Drop>(
@@ -353,7 +370,7 @@ pub fn find<R: Files + Env + AllocGlobal + Clone + Drop>(
         paths: Vec::new(alloc),
         errors: String::new(alloc),
     };
-    if asked.manifests.is_empty() {
+    if asked.paths.is_empty() && asked.manifests.is_empty() {
         match manifest_above(rt)? {
             Some(file) => add_meant(rt, asked, file.as_str(), &mut found)?,
             None => {
@@ -362,10 +379,8 @@ pub fn find<R: Files + Env + AllocGlobal + Clone + Drop>(
             }
         }
     }
-    for path in asked.manifests {
-        let file = file_of(rt, path)?;
-        add_meant(rt, asked, file.as_str(), &mut found)?;
-    }
+    add_all(rt, asked, asked.paths, &mut found)?;
+    add_all(rt, asked, asked.manifests, &mut found)?;
     if !asked.packages.is_empty() || !asked.excluded.is_empty() {
         choose(rt, asked, &mut found)?;
     }
