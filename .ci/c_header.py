@@ -1,6 +1,8 @@
-"""The header of the library for C, made of the exports' signatures and comments, and of the constants.
+"""The header of the library for C, made of the exports' signatures and comments, and of the constants; and the same
+for Rust.
 
-`include/nevgrasi.h` has to be this text: `.ci/c-library` compares them, and `.ci/c-library --header` writes it anew.
+`include/nevgrasi.h` and `rust/nevgrasi/src/raw.rs` have to be these texts: `.ci/c-library` compares them, and
+`.ci/c-library --header` writes them anew.
 """
 import re
 import textwrap
@@ -8,6 +10,7 @@ import textwrap
 from crates import ROOT
 
 HEADER = ROOT / "include" / "nevgrasi.h"
+RAW = ROOT / "rust" / "nevgrasi" / "src" / "raw.rs"
 EXPORTS = ROOT / "crates" / "nevgrasi_c" / "src" / "lib.rt"
 OUTCOME = ROOT / "crates" / "byte_answers" / "src" / "outcome.rt"
 DEPTH = ROOT / "crates" / "byte_answers" / "src" / "depth.rt"
@@ -24,6 +27,25 @@ PARAMETERS = {
     "Global": [],
 }
 FIELDS = {"u32": "uint32_t", "bool": "bool", "usize": "size_t"}
+
+# The same for Rust.
+RUST_PARAMETERS = {
+    "&[u8]": ["NAME: *const u8", "NAME_length: usize"],
+    "&mut [u8]": ["NAME: *mut u8", "NAME_length: usize"],
+    "&mut [u64; WORDS]": ["NAME: *mut [u64; WORDS]"],
+    "&mut Outcome": ["NAME: *mut Outcome"],
+    "usize": ["NAME: usize"],
+    "u64": ["NAME: u64"],
+    "Global": [],
+}
+RUST_FRONT = """\
+//! The calls of the library, as its header has them: made by `.ci/c-library --header` of the exports.
+#![allow(dead_code)]
+
+/// How a call ended.
+#[repr(C)]
+#[derive(Clone, Copy, Default)]
+pub struct Outcome {"""
 
 FRONT = """\
 /* Target conditions of Cargo manifests: read, printed, matched and compared by proved code.
@@ -79,12 +101,18 @@ def documented(text, pattern):
     return [([line.strip()[3:].strip() for line in it[1].splitlines()], it) for it in found]
 
 
+def stated():
+    """The codes and limits: the lines of their comments, their names and types, and what they are."""
+    for file in (OUTCOME, DEPTH, EXPORTS, TABLE):
+        for lines, it in documented(file.read_text(), r"pub const (\w+): (u32|usize) = ([\d_]+);"):
+            yield lines, "TARGETS" if it[2] == "COUNT" else it[2], it[3], it[4].replace("_", "")
+
+
 def constants():
     """The codes and limits, with their comments, as lines."""
-    for file in (OUTCOME, DEPTH, EXPORTS, TABLE):
-        for lines, it in documented(file.read_text(), r"pub const (\w+): (?:u32|usize) = ([\d_]+);"):
-            yield comment(lines)
-            yield f"#define NEVGRASI_{ 'TARGETS' if it[2] == 'COUNT' else it[2]} {it[3].replace('_', '')}"
+    for lines, name, _, value in stated():
+        yield comment(lines)
+        yield f"#define NEVGRASI_{name} {value}"
 
 
 def fields():
@@ -95,19 +123,41 @@ def fields():
         yield f"    {FIELDS[it[3]]} {it[2]};"
 
 
-def exports():
-    """Each export: the lines of its comment, its name, and its parameters for C."""
+def exports(kinds):
+    """Each export: the lines of its comment, its name, and its parameters, by what each type is."""
     pattern = r'pub extern "C" fn (\w+)\(([^)]*)\) -> u32'
     for lines, it in documented(EXPORTS.read_text(), pattern):
         words = [word.strip().partition(": ") for word in it[3].split(",") if word.strip()]
-        parameters = [part.replace("NAME", name) for name, _, kind in words for part in PARAMETERS[kind]]
+        parameters = [part.replace("NAME", name) for name, _, kind in words for part in kinds[kind]]
         yield lines, it[2], parameters
 
 
 def header():
     """The text of the header."""
     parts = [FRONT, *constants(), "\n/* How a call ended. */\ntypedef struct {", *fields(), "} nevgrasi_outcome;"]
-    for lines, name, parameters in exports():
+    for lines, name, parameters in exports(PARAMETERS):
         listed = ", ".join(part.replace(" ", "\N{NO-BREAK SPACE}") for part in parameters) or "void"
         parts.append(f"\n{comment(lines)}\n{wrapped(f'uint32_t {name}({listed});', '', '    ')}")
     return "\n".join(parts) + "\n" + END
+
+
+def documented_in_rust(lines, indent):
+    """A doc comment of Rust."""
+    return textwrap.fill(" ".join(lines), 120, initial_indent=f"{indent}/// ", subsequent_indent=f"{indent}/// ")
+
+
+def raw():
+    """The text of the declarations for Rust."""
+    body = OUTCOME.read_text().partition("pub struct Outcome {")[2].partition("\n}")[0]
+    parts = [RUST_FRONT]
+    for lines, it in documented(body, r"pub (\w+): (\w+),"):
+        parts += [documented_in_rust(lines, "    "), f"    pub {it[2]}: {it[3]},"]
+    parts.append("}\n")
+    for lines, name, kind, value in stated():
+        parts += [documented_in_rust(lines, ""), f"pub const {name}: {kind} = {value};"]
+    parts.append('\nextern "C" {')
+    for lines, name, parameters in exports(RUST_PARAMETERS):
+        listed = "".join(f"        {it},\n" for it in parameters)
+        listed = f"\n{listed}    " if listed else ""
+        parts += [documented_in_rust(lines, "    "), f"    pub fn {name}({listed}) -> u32;"]
+    return "\n".join(parts) + "\n}\n"

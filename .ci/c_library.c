@@ -2,7 +2,8 @@
    a byte written or read outside a buffer ends it.
 
    Each call is made with a buffer as long as its answer, one byte shorter, and of no bytes; malloc refuses each of its
-   allocations in turn; and eight threads ask at once. The last line is `N passed, M failed`. */
+   allocations in turn; and eight threads ask at once, of the texts of a file that `.ci/second-reader --texts` writes.
+   The last line is `N passed, M failed`. Usage: tests FILE */
 #include <ctype.h>
 #include <nevgrasi.h>
 #include <pthread.h>
@@ -38,6 +39,10 @@ typedef uint32_t call(const question *, uint8_t *, size_t, nevgrasi_outcome *);
     static uint32_t export(const question *q, uint8_t *out, size_t size, nevgrasi_outcome *o) { \
         return nevgrasi_##export(q->texts[0], q->lengths[0], q->texts[1], q->lengths[1], 1000, out, size, o); \
     }
+static uint32_t version(const question *q, uint8_t *out, size_t size, nevgrasi_outcome *o) {
+    (void)q;
+    return nevgrasi_version(out, size, o);
+}
 ONE(canonical)
 ONE(fault)
 ONE(facts)
@@ -157,6 +162,7 @@ static void try_call(call *made, question q, uint32_t code, const char *answer) 
 static const char KEY[] = "cfg( all(unix,not(target_os=\"macos\"),) )";
 
 static void try_answers(void) {
+    try_call(version, asked("version", "", "", ""), NEVGRASI_DONE, NULL);
     try_call(canonical, asked("canonical", KEY, "", ""), NEVGRASI_DONE, "cfg(all(unix, not(target_os = \"macos\")))");
     try_call(canonical, asked("canonical of nothing", "", "", ""), NEVGRASI_DONE, "");
     try_call(canonical, asked("canonical, refused", "cfg(all(a b))", "", ""), NEVGRASI_REFUSED,
@@ -324,19 +330,84 @@ static void try_deep_flat(void) {
     free(flat);
 }
 
-static void *ask_often(void *ignored) {
-    (void)ignored;
-    for (int k = 0; k < 200; k++) {
-        uint8_t out[512] = {0};
-        nevgrasi_outcome o;
-        nevgrasi_canonical((const uint8_t *)KEY, strlen(KEY), out, sizeof out, &o);
-        expect(!strcmp((char *)out, "cfg(all(unix, not(target_os = \"macos\")))"), "a thread", "another answer");
+/* The texts of rows, and one number for all that the calls answer on each of them. */
+enum { THREADS = 8, MOST_TEXTS = 20000, ROOM = 1 << 18 };
+static const uint8_t *texts[MOST_TEXTS];
+static size_t lengths[MOST_TEXTS], text_count;
+static uint64_t answers[MOST_TEXTS];
+
+static uint64_t mixed(uint64_t sum, const void *bytes, size_t size) {
+    for (size_t k = 0; k < size; k++) sum = (sum ^ ((const uint8_t *)bytes)[k]) * 0x100000001B3;
+    return sum;
+}
+
+/* FNV-1a over what a call answered. */
+static uint64_t with_outcome(uint64_t sum, const nevgrasi_outcome *o, const uint8_t *out) {
+    size_t numbers[] = {o->code, o->argument, o->holds, o->is_named, o->needed, o->start, o->end};
+    return mixed(mixed(sum, numbers, sizeof numbers), out, o->needed < ROOM ? o->needed : 0);
+}
+
+static uint64_t answer_on(const uint8_t *text, size_t size, uint8_t *out) {
+    uint64_t sum = 0xCBF29CE484222325, words[NEVGRASI_WORDS] = {0};
+    nevgrasi_outcome o;
+    nevgrasi_canonical(text, size, out, ROOM, &o);
+    sum = with_outcome(sum, &o, out);
+    nevgrasi_fault(text, size, out, ROOM, &o);
+    sum = with_outcome(sum, &o, out);
+    nevgrasi_targets(text, size, words, out, ROOM, &o);
+    sum = mixed(with_outcome(sum, &o, out), words, sizeof words);
+    nevgrasi_matches((const uint8_t *)"cfg(unix)", 9, NULL, 0, text, size, out, ROOM, &o);
+    sum = with_outcome(sum, &o, out);
+    nevgrasi_implies(text, size, (const uint8_t *)"cfg(unix)", 9, 100, out, ROOM, &o);
+    return with_outcome(sum, &o, out);
+}
+
+/* Each thread begins at another text, so that at any time they are at others. */
+static void *ask_all(void *which) {
+    uint8_t *out = calloc(ROOM, 1);
+    size_t first = *(size_t *)which * text_count / THREADS, others = 0;
+    for (size_t k = 0; k < text_count; k++) {
+        size_t at = (first + k) % text_count;
+        others += answer_on(texts[at], lengths[at], out) != answers[at];
     }
+    expect(others == 0, "a thread", "another answer than alone");
+    free(out);
     return NULL;
 }
 
-int main(void) {
-    expect(nevgrasi_interface() == NEVGRASI_INTERFACE, "interface", "another number");
+static void read_texts(const char *file) {
+    FILE *from = fopen(file, "rb");
+    uint8_t size[4];
+    while (from && text_count < MOST_TEXTS && fread(size, 1, 4, from) == 4) {
+        size_t length = size[0] | size[1] << 8 | size[2] << 16 | (size_t)size[3] << 24;
+        uint8_t *text = malloc(length);
+        if (fread(text, 1, length, from) != length) break;
+        texts[text_count] = text;
+        lengths[text_count++] = length;
+    }
+    expect(from && feof(from), "the texts", "the file is not read to its end");
+    if (from) fclose(from);
+}
+
+static void try_threads(const char *file) {
+    read_texts(file);
+    expect(text_count > 1000, "the texts", "there are few");
+    uint8_t *out = calloc(ROOM, 1);
+    for (size_t k = 0; k < text_count; k++) answers[k] = answer_on(texts[k], lengths[k], out);
+    free(out);
+    pthread_t threads[THREADS];
+    size_t places[THREADS];
+    for (size_t k = 0; k < THREADS; k++) {
+        places[k] = k;
+        pthread_create(&threads[k], NULL, ask_all, &places[k]);
+    }
+    for (size_t k = 0; k < THREADS; k++) pthread_join(threads[k], NULL);
+    for (size_t k = 0; k < text_count; k++) free((void *)texts[k]);
+}
+
+int main(int count, char **words) {
+    if (count != 2) return 2;
+    expect(nevgrasi_abi() == NEVGRASI_ABI, "abi", "another number");
     try_answers();
     try_places();
     question flat = asked("flat_matches", "", "x", "");
@@ -355,9 +426,7 @@ int main(void) {
     try_depth("all(", ", a)");
     try_limit();
     try_deep_flat();
-    pthread_t threads[8];
-    for (int k = 0; k < 8; k++) pthread_create(&threads[k], NULL, ask_often, NULL);
-    for (int k = 0; k < 8; k++) pthread_join(threads[k], NULL);
+    try_threads(words[1]);
     printf("%d passed, %d failed\n", passed, failed);
     return failed != 0;
 }

@@ -47,7 +47,7 @@ extern "C" {
 /* How many bytes a flat condition may have, since it may hold one group for each 17 of them. */
 #define NEVGRASI_MOST_FLAT_BYTES 680000
 /* The version of the interface: it rises whenever a caller of an earlier one may break. */
-#define NEVGRASI_INTERFACE 1
+#define NEVGRASI_ABI 1
 /* How many targets there are. */
 #define NEVGRASI_TARGETS 320
 /* The words of a set of targets. */
@@ -71,8 +71,11 @@ typedef struct {
     size_t end;
 } nevgrasi_outcome;
 
-/* The version of the interface. A caller that was compiled with another NEVGRASI_INTERFACE should not go on. */
-uint32_t nevgrasi_interface(void);
+/* Answers the version of the interface. A caller that was compiled with another NEVGRASI_ABI should not go on. */
+uint32_t nevgrasi_abi(void);
+
+/* Writes the version of the library, as three numbers with dots between them. */
+uint32_t nevgrasi_version(uint8_t *out, size_t out_length, nevgrasi_outcome *outcome);
 
 /* Writes the canonical text of the condition that a key spells: its print, which spells the same condition. */
 uint32_t nevgrasi_canonical(const uint8_t *key, size_t key_length, uint8_t *out, size_t out_length,

@@ -20,9 +20,9 @@ import pathlib
 import typing
 
 __all__ = ["Answer", "Condition", "Example", "Fault", "Key", "TooDeep", "Undecided", "UnknownTarget", "facts_of",
-           "known_targets"]  # fmt: skip
+           "known_targets", "version"]  # fmt: skip
 
-INTERFACE = 1
+ABI = 1
 DONE, REFUSED, NOT_UTF8, NOT_FLAT, NO_MEMORY, UNDECIDED, TOO_DEEP, UNKNOWN_TARGET = range(8)
 TARGETS, WORDS = 320, 5
 
@@ -97,8 +97,8 @@ def _load() -> ctypes.CDLL:
     """The shared library, of the interface that this file is written for."""
     beside = pathlib.Path(__file__).with_name("libnevgrasi.so")
     library = ctypes.CDLL(os.environ.get("NEVGRASI_LIBRARY") or str(beside))
-    if library.nevgrasi_interface() != INTERFACE:
-        raise ImportError(f"{library._name} has another interface than {INTERFACE}")
+    if library.nevgrasi_abi() != ABI:
+        raise ImportError(f"{library._name} has another interface than {ABI}")
     return library
 
 
@@ -249,6 +249,15 @@ class Condition:
 
     def __str__(self) -> str:
         return _answer("nevgrasi_flat_print", *_bytes(self.flat))[1].decode()
+
+
+def version() -> str:
+    """The version of the library.
+
+    >>> len(version().split("."))
+    3
+    """
+    return _answer("nevgrasi_version")[1].decode()
 
 
 _NAMES: list[str] = []

@@ -25,5 +25,9 @@ abbrev pub ends_flat_call : ℕ → Bool
 ends_flat_call code =
     code == DONE || code == NOT_UTF8 || code == NOT_FLAT || code == NO_MEMORY || code == TOO_DEEP
 
+-- a call on flat bytes alone
+abbrev pub ends_flat_print : ℕ → Bool
+ends_flat_print code = code == DONE || code == NOT_FLAT || code == NO_MEMORY || code == TOO_DEEP
+
 abbrev pub ends_target_call : ℕ → Bool
 ends_target_call code = code == DONE || code == NOT_UTF8 || code == NO_MEMORY || code == UNKNOWN_TARGET

@@ -1,14 +1,17 @@
 -- What a refused text is answered.
-use Rattle.std.specs.Prelude.{◌≡◌, ℕ, List, [], ◌++◌, codes, Option, Some, None, String, string_bytes}
+use Rattle.std.specs.Prelude.{◌≡◌, ⊤, ℕ, List, [], ◌++◌, codes, Option, Some, None, String, string_bytes}
 use Rattle.std.specs.Fmt.{decimal}
 use Rattle.std.specs.declared.alloc.Global.{Global}
 use Rattle.std.specs.declared.ops.Range.{Range}
-use Rattle.cargo_platform.specs.Faults.{Fault, IsRefused}
+use Rattle.cargo_platform.specs.Faults.{Fault, IsRefusedAt}
 use Rattle.cargo_platform.specs.Spelling.{Values}
 use Rattle.cargo_platform.specs.Lines.{lines_of, line_at}
-use Rattle.cargo_platform.specs.FactLines.{IsFirstNoFact}
+use Rattle.cargo_platform.specs.FactLines.{IsFirstNoFact, BeginsLine}
+use Rattle.cargo_platform.specs.Errors.{orig_of, fault_in, span_in}
+use Rattle.cargo_platform.specs.declared.fact_lines.FactsError.{FactsError}
+use Rattle.cargo_platform.specs.declared.fact_lines.FactsError.TheVariants.{Line, Memory}
 use Rattle.cargo_platform.specs.Platforms.{IsRefusedConditionAt}
-use Rattle.cargo_platform.specs.KeySpans.{IsSpanInKey, IsSnippetOfKey}
+use Rattle.cargo_platform.specs.KeySpans.{IsSpanBy, IsSpanInKey, IsSnippetOfKey}
 use Rattle.cargo_platform.specs.Print.{print_error}
 use Rattle.byte_answers.specs.declared.outcome.Outcome.{Outcome}
 use Rattle.byte_answers.specs.Outcomes.{IsWritten}
@@ -41,8 +44,18 @@ IsShownRefusal key o old new =
 abbrev pub print_refused_line : ℕ → List ℕ → Fault → List ℕ
 print_refused_line n line fault = codes "line " ++ decimal n ++ codes ": " ++ print_error line fault
 
--- a line spells no fact: the buffer is given the message on the first such line
+-- a line spells no fact: the buffer is given the message on the first such line, with its number, and the outcome has
+-- the ends of the fault's span in all lines
 abbrev pub IsRefusedLine : List ℕ → Outcome → List ℕ → List ℕ → Type 0
 IsRefusedLine lines o old new =
-    (n : ℕ) × ((fault : Fault) × (IsFirstNoFact (lines_of lines) n × IsRefused Values (line_at (lines_of lines) n) fault
-    × IsWritten (print_refused_line n (line_at (lines_of lines) n) fault) o.needed old new))
+    (n : ℕ) × ((line : List ℕ) × ((fault : Fault) × ((span at : Option (Range ℕ)) × (IsFirstNoFact (lines_of lines) n
+    × (line ≡ line_at (lines_of lines) n) × IsRefusedAt Values line fault span
+    × IsSpanBy (BeginsLine lines n line) line span at × AreEnds at o.start o.end
+    × IsWritten (print_refused_line n line fault) o.needed old new))))
+
+-- the error is of these lines: it has the number of the first that spells no fact, with its fault and span
+abbrev pub IsErrorOfLines : List ℕ → FactsError → Type 0
+IsErrorOfLines lines (Line n e) =
+    IsFirstNoFact (lines_of lines) n × (orig_of e ≡ line_at (lines_of lines) n)
+    × IsRefusedAt Values (line_at (lines_of lines) n) (fault_in e) (span_in e)
+IsErrorOfLines lines (Memory e) = ⊤

@@ -1,6 +1,6 @@
 //! Questions on one key.
 
-ghost use Rattle.std.specs.Prelude.{◌≡◌, ℕ, IsTrue, true, ◌||◌, ◌==◌};
+ghost use Rattle.std.specs.Prelude.{◌≡◌, ◌↔◌, ℕ, IsTrue, true, ◌||◌, ◌==◌};
 ghost use Rattle.std.specs.Str.{IsUtf8};
 ghost use Rattle.cargo_platform.specs.Trees.{Condition};
 ghost use Rattle.cargo_platform.specs.Platforms.{IsConditionText, IsRefusedConditionAt};
@@ -25,8 +25,8 @@ pub fn canonical(alloc: Global, key: &[u8], out: &mut [u8]) -> Outcome
     ensures done { result.code ≡ DONE → IsCanonical key.now result.needed out.old out.new }
     ensures refused { result.code ≡ REFUSED → IsRefusal key.now result out.old out.new }
     ensures spelled { result.code ≡ REFUSED → (p : Condition) → IsConditionText key.now p → ⊥ }
-    ensures not_utf8 { result.code ≡ NOT_UTF8 → IsUtf8 key.now → ⊥ }
-    ensures too_deep { result.code ≡ TOO_DEEP → is_too_deep key.now ≡ true }
+    ensures not_utf8 { result.code ≡ NOT_UTF8 ↔ (IsUtf8 key.now → ⊥) }
+    ensures too_deep { result.code ≡ TOO_DEEP ↔ (IsUtf8 key.now × is_too_deep key.now ≡ true) }
     ensures codes { IsTrue (ends_key_call result.code) }
 {
     match read_condition(alloc, 0, key, out) {
@@ -45,8 +45,8 @@ pub fn read_key(alloc: Global, key: &[u8], out: &mut [u8]) -> Outcome
     ensures done { result.code ≡ DONE → IsFlatOf key.now result.needed out.old out.new }
     ensures refused { result.code ≡ REFUSED → IsRefusal key.now result out.old out.new }
     ensures spelled { result.code ≡ REFUSED → (p : Condition) → IsConditionText key.now p → ⊥ }
-    ensures not_utf8 { result.code ≡ NOT_UTF8 → IsUtf8 key.now → ⊥ }
-    ensures too_deep { result.code ≡ TOO_DEEP → is_too_deep key.now ≡ true }
+    ensures not_utf8 { result.code ≡ NOT_UTF8 ↔ (IsUtf8 key.now → ⊥) }
+    ensures too_deep { result.code ≡ TOO_DEEP ↔ (IsUtf8 key.now × is_too_deep key.now ≡ true) }
     ensures codes { IsTrue (ends_key_call result.code) }
 {
     match read_condition(alloc, 0, key, out) {
@@ -89,8 +89,8 @@ pub fn fault(alloc: Global, key: &[u8], out: &mut [u8]) -> Outcome
     ensures done { result.code ≡ DONE → (p : Condition) × IsConditionText key.now p }
     ensures refused { result.code ≡ REFUSED → IsShownRefusal key.now result out.old out.new }
     ensures spelled { result.code ≡ REFUSED → (p : Condition) → IsConditionText key.now p → ⊥ }
-    ensures not_utf8 { result.code ≡ NOT_UTF8 → IsUtf8 key.now → ⊥ }
-    ensures too_deep { result.code ≡ TOO_DEEP → is_too_deep key.now ≡ true }
+    ensures not_utf8 { result.code ≡ NOT_UTF8 ↔ (IsUtf8 key.now → ⊥) }
+    ensures too_deep { result.code ≡ TOO_DEEP ↔ (IsUtf8 key.now × is_too_deep key.now ≡ true) }
     ensures codes { IsTrue (ends_key_call result.code) }
 {
     let key = match read_text(0, key) {

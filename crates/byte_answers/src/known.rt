@@ -1,6 +1,6 @@
 //! Known targets.
 
-ghost use Rattle.std.specs.Prelude.{◌≡◌, ◌≢◌, ◌≤◌, ◌<◌, ℕ, IfOk, IsTrue, true, string_bytes};
+ghost use Rattle.std.specs.Prelude.{◌≡◌, ◌↔◌, ◌≢◌, ◌≤◌, ◌<◌, ℕ, IfOk, IsTrue, true, string_bytes};
 ghost use Rattle.std.specs.Str.{IsUtf8};
 ghost use Rattle.cargo_platform.specs.Trees.{Condition};
 ghost use Rattle.cargo_platform.specs.Platforms.{IsConditionText};
@@ -27,8 +27,8 @@ pub fn targets(alloc: Global, key: &[u8], words: &mut [u64; WORDS], out: &mut [u
     ensures done { result.code ≡ DONE → AreTargets key.now words.new }
     ensures refused { result.code ≡ REFUSED → IsRefusal key.now result out.old out.new }
     ensures spelled { result.code ≡ REFUSED → (p : Condition) → IsConditionText key.now p → ⊥ }
-    ensures not_utf8 { result.code ≡ NOT_UTF8 → IsUtf8 key.now → ⊥ }
-    ensures too_deep { result.code ≡ TOO_DEEP → is_too_deep key.now ≡ true }
+    ensures not_utf8 { result.code ≡ NOT_UTF8 ↔ (IsUtf8 key.now → ⊥) }
+    ensures too_deep { result.code ≡ TOO_DEEP ↔ (IsUtf8 key.now × is_too_deep key.now ≡ true) }
     ensures codes { IsTrue (ends_key_call result.code) }
 {
     match read_condition(alloc, 0, key, out) {
@@ -75,7 +75,7 @@ fn facts_text(alloc: Global, target: KnownTarget) -> Result<String, AllocError>
 pub fn facts(alloc: Global, name: &[u8], out: &mut [u8]) -> Outcome
     ensures done { result.code ≡ DONE → AreFactsOf name.now result.needed out.old out.new }
     ensures unknown { result.code ≡ UNKNOWN_TARGET → (k : ℕ) → k < COUNT → target_name k ≢ name.now }
-    ensures not_utf8 { result.code ≡ NOT_UTF8 → IsUtf8 name.now → ⊥ }
+    ensures not_utf8 { result.code ≡ NOT_UTF8 ↔ (IsUtf8 name.now → ⊥) }
     ensures codes { IsTrue (ends_target_call result.code) }
 {
     let name = match read_text(0, name) {

@@ -13,6 +13,7 @@ mod matching;
 mod outcome;
 mod reading;
 mod relations;
+mod release;
 mod trees;
 mod unflat;
 
@@ -24,4 +25,5 @@ pub use outcome::{
     DONE, NO_MEMORY, NOT_FLAT, NOT_UTF8, Outcome, REFUSED, TOO_DEEP, UNDECIDED, UNKNOWN_TARGET,
 };
 pub use relations::{Relation, can_hold, relates};
+pub use release::{VERSION, version};
 pub use trees::{flat_matches, flat_print};

@@ -1,34 +1,48 @@
 //! Whether a key applies to a target.
 
-ghost use Rattle.std.specs.Prelude.{◌≡◌, ◌≢◌, ℕ, List, IsTrue, true, map, ◌||◌, ◌==◌};
+ghost use Rattle.std.specs.Prelude.{◌≡◌, ◌↔◌, ◌≢◌, ℕ, List, Option, IsTrue, true, map, ◌||◌, ◌==◌};
+ghost use Rattle.std.specs.declared.ops.Range.{Range};
 ghost use Rattle.std.specs.Str.{IsUtf8};
 ghost use Rattle.cargo_platform.specs.Trees.{CfgValue, Condition, condition_of};
 ghost use Rattle.cargo_platform.specs.Facts.{fact_set, truth_of_condition};
 ghost use Rattle.cargo_platform.specs.Lines.{lines_of};
-ghost use Rattle.cargo_platform.specs.FactLines.{SpellFacts};
+ghost use Rattle.cargo_platform.specs.FactLines.{SpellFacts, IsSpanInFacts};
 ghost use Rattle.cargo_platform.specs.Platforms.{IsConditionText};
 ghost use Rattle.byte_answers.specs.Answers.{IsMatch};
 ghost use Rattle.byte_answers.specs.Depths.{is_too_deep};
 ghost use Rattle.byte_answers.specs.Outcomes.{ends_key_call, is_failure};
-ghost use Rattle.byte_answers.specs.Refusals.{IsRefusal, IsRefusedLine};
+ghost use Rattle.byte_answers.specs.Refusals.{AreEnds, IsRefusal, IsRefusedLine, IsErrorOfLines};
 
 use crate::outcome::{DONE, NO_MEMORY, NOT_UTF8, Outcome, REFUSED, TOO_DEEP, write};
 use crate::reading::{read_condition, read_text};
 use cargo_platform::{FactsError, Platform, read_facts};
 use std::alloc::Global;
+use std::ops::Range;
 
 /// The place of the lines of facts among the texts of `matches`.
 const LINES: u32 = 2;
 
+/// Where the fault of refused facts lies in their lines, and the empty span where it lies nowhere.
+fn span_in_lines(error: &FactsError, lines: &str) -> Range<usize>
+    ensures { (at : Option (Range ℕ)) × IsSpanInFacts lines.now error.now at × AreEnds at result.start result.end }
+{
+    match error.span_in(lines) {
+        Some(span) => span,
+        None => 0..0,
+    }
+}
+
 /// The message of refused facts, and where the fault lies in their text.
 fn refused_facts(alloc: Global, error: &FactsError, lines: &str, out: &mut [u8]) -> Outcome
+    requires { IsErrorOfLines lines.now error.now }
+    ensures refused { result.code ≡ REFUSED → IsRefusedLine lines.now result out.old out.new }
     ensures argument { result.argument ≡ LINES }
     ensures codes { IsTrue (result.code == REFUSED || result.code == NO_MEMORY) }
 {
     if let FactsError::Memory(_) = error {
         return Outcome::ended(NO_MEMORY, LINES);
     }
-    let span = error.span_in(lines).unwrap_or(0..0);
+    let span = span_in_lines(error, lines);
     match error.to_string(alloc) {
         Ok(message) => Outcome {
             code: REFUSED,
@@ -53,8 +67,10 @@ fn match_lines(
 ) -> Outcome
     ensures done { result.code ≡ DONE → (facts : List CfgValue) × (SpellFacts (lines_of lines.now) facts
         × (result.holds ≡ truth_of_condition name.now (fact_set facts) (condition_of platform.now))) }
+    ensures refused { result.code ≡ REFUSED → IsRefusedLine lines.now result out.old out.new }
     ensures codes { IsTrue (result.code == DONE || result.code == REFUSED || result.code == NO_MEMORY) }
     ensures argument { result.code ≡ REFUSED → result.argument ≡ LINES }
+    ensures place { IsTrue (result.argument == 0 || result.argument == 1 || result.argument == 2) }
 {
     match read_facts(alloc, lines) {
         Ok(facts) => Outcome::answered(platform.matches(name, &facts)),
@@ -72,8 +88,15 @@ pub fn matches(alloc: Global, key: &[u8], name: &[u8], lines: &[u8], out: &mut [
     ensures refused { result.code ≡ REFUSED → result.argument ≡ 0 → IsRefusal key.now result out.old out.new }
     ensures spelled { result.code ≡ REFUSED → result.argument ≡ 0
         → (p : Condition) → IsConditionText key.now p → ⊥ }
+    ensures line { result.code ≡ REFUSED → result.argument ≡ 2 → IsRefusedLine lines.now result out.old out.new }
+    ensures refused_text { result.code ≡ REFUSED → IsTrue (result.argument == 0 || result.argument == 2) }
     ensures not_utf8 { result.code ≡ NOT_UTF8 → IsUtf8 key.now → IsUtf8 name.now → IsUtf8 lines.now → ⊥ }
-    ensures too_deep { result.code ≡ TOO_DEEP → is_too_deep key.now ≡ true }
+    ensures utf8 { result.code ≡ DONE → IsUtf8 key.now × IsUtf8 name.now × IsUtf8 lines.now }
+    ensures argument { IsTrue (result.argument == 0 || result.argument == 1 || result.argument == 2) }
+    ensures not_utf8_key { result.code ≡ NOT_UTF8 → result.argument ≡ 0 → IsUtf8 key.now → ⊥ }
+    ensures not_utf8_name { result.code ≡ NOT_UTF8 → result.argument ≡ 1 → IsUtf8 name.now → ⊥ }
+    ensures not_utf8_lines { result.code ≡ NOT_UTF8 → result.argument ≡ 2 → IsUtf8 lines.now → ⊥ }
+    ensures too_deep { result.code ≡ TOO_DEEP ↔ (IsUtf8 key.now × is_too_deep key.now ≡ true) }
     ensures codes { IsTrue (ends_key_call result.code) }
 {
     let platform = match read_condition(alloc, 0, key, out) {

@@ -1,6 +1,6 @@
 //! Keys as bytes, and what is said of those that spell no condition.
 
-ghost use Rattle.std.specs.Prelude.{◌≡◌, ◌≢◌, ℕ, Option, IfOk, IfErr, IsTrue, true, false};
+ghost use Rattle.std.specs.Prelude.{◌≡◌, ◌≢◌, ◌↔◌, ℕ, Option, IfOk, IfErr, IsTrue, true, false};
 ghost use Rattle.std.specs.Str.{IsUtf8};
 ghost use Rattle.std.specs.declared.ops.Range.{Range};
 ghost use Rattle.cargo_platform.specs.Trees.{Condition, condition_of};
@@ -24,6 +24,7 @@ pub(crate) fn read_text(argument: u32, bytes: &[u8]) -> Result<&str, Outcome>
     ensures code { IfErr result (λ o. o.code ≡ NOT_UTF8) }
     ensures argument { IfErr result (λ o. o.argument ≡ argument) }
     ensures not_utf8 { IfErr result (λ _. IsUtf8 bytes.now → ⊥) }
+    ensures utf8 { IfOk result (λ _. IsUtf8 bytes.now) }
 {
     match str::from_utf8(bytes) {
         Ok(text) => Ok(text),
@@ -76,10 +77,13 @@ pub(crate) fn read_condition(
 ) -> Result<Platform, Outcome>
     ensures condition { IfOk result (λ p. IsConditionText key.now (condition_of p)) }
     ensures unwritten { IfOk result (λ _. out.new ≡ out.old) }
+    ensures utf8 { IfOk result (λ _. IsUtf8 key.now) }
+    ensures shallow { IfOk result (λ _. is_too_deep key.now ≡ false) }
     ensures argument { IfErr result (λ o. o.argument ≡ argument) }
     ensures refused { IfErr result (λ o. o.code ≡ REFUSED → IsRefusal key.now o out.old out.new) }
-    ensures not_utf8 { IfErr result (λ o. o.code ≡ NOT_UTF8 → IsUtf8 key.now → ⊥) }
-    ensures too_deep { IfErr result (λ o. o.code ≡ TOO_DEEP → is_too_deep key.now ≡ true) }
+    ensures not_utf8 { IfErr result (λ o. o.code ≡ NOT_UTF8 ↔ (IsUtf8 key.now → ⊥)) }
+    ensures too_deep { IfErr result
+        (λ o. o.code ≡ TOO_DEEP ↔ (IsUtf8 key.now × is_too_deep key.now ≡ true)) }
     ensures codes { IfErr result (λ o. IsTrue (is_failure o.code)) }
     ensures spelled { IfErr result (λ o. o.code ≡ REFUSED → (p : Condition) → IsConditionText key.now p → ⊥) }
 {

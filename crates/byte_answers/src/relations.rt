@@ -1,6 +1,6 @@
 //! What a key says of another, and whether it can hold, over every set of facts that rustc's rules allow.
 
-ghost use Rattle.std.specs.Prelude.{◌≡◌, ◌++◌, [], ◌∷◌, ℕ, IfOk, IsTrue, true, false, map, string_bytes, ◌||◌, ◌==◌};
+ghost use Rattle.std.specs.Prelude.{◌≡◌, ◌↔◌, ◌++◌, [], ◌∷◌, ℕ, IfOk, IsTrue, true, false, map, string_bytes, ◌||◌, ◌==◌};
 ghost use Rattle.std.specs.Str.{IsUtf8};
 ghost use Rattle.cargo_platform.specs.Trees.{Condition, value_of, condition_of};
 ghost use Rattle.cargo_platform.specs.Facts.{IsTrueCondition};
@@ -11,7 +11,7 @@ ghost use Rattle.byte_answers.specs.Answers.{fact_lines};
 ghost use Rattle.byte_answers.specs.Comparisons.{Stands, Fails, name_line, IsWrittenExample, HasExample};
 ghost use Rattle.byte_answers.specs.Comparisons.{SaysRelated, AreRelated, SaysPossible, IsPossibleKey};
 ghost use Rattle.byte_answers.specs.Comparisons.{NeedsLarger, AreUndecided, IsUndecided};
-ghost use Rattle.byte_answers.specs.Depths.{is_too_deep};
+ghost use Rattle.byte_answers.specs.Depths.{is_too_deep, IsReadable};
 ghost use Rattle.byte_answers.specs.Outcomes.{ends_comparison};
 ghost use Rattle.byte_answers.specs.Refusals.{IsRefusal};
 
@@ -54,6 +54,7 @@ fn example_text(alloc: Global, target: &PossibleTarget) -> Result<String, AllocE
 fn with_example(alloc: Global, holds: bool, target: &PossibleTarget, out: &mut [u8]) -> Outcome
     ensures example { result.code ≡ DONE → IsWrittenExample target.now result out.old out.new }
     ensures holds { result.code ≡ DONE → result.holds ≡ holds }
+    ensures argument { result.argument ≡ 0 }
     ensures codes { IsTrue (result.code == DONE || result.code == NO_MEMORY) }
 {
     match example_text(alloc, target) {
@@ -111,6 +112,7 @@ fn related_by<'a>(
         result out.old out.new }
     ensures undecided { result.code ≡ UNDECIDED
         → NeedsMore known.now (asked_trees (condition_of a.now ∷ condition_of b.now ∷ [])) budget }
+    ensures argument { result.argument ≡ 0 }
     ensures codes { IsTrue (result.code == DONE || result.code == UNDECIDED || result.code == NO_MEMORY) }
 {
     match ask(alloc, relation, a, b, known, budget) {
@@ -133,6 +135,7 @@ fn related(
     ensures done { result.code ≡ DONE
         → SaysRelated relation (condition_of a.now) (condition_of b.now) result out.old out.new }
     ensures undecided { result.code ≡ UNDECIDED → NeedsLarger (condition_of a.now ∷ condition_of b.now ∷ []) budget }
+    ensures argument { result.argument ≡ 0 }
     ensures codes { IsTrue (result.code == DONE || result.code == UNDECIDED || result.code == NO_MEMORY) }
 {
     let rule = match family_rule(alloc) {
@@ -179,6 +182,13 @@ pub fn relates(
         → (p q : Condition) → IsConditionText a.now p → IsConditionText b.now q → ⊥ }
     ensures not_utf8 { result.code ≡ NOT_UTF8 → IsUtf8 a.now → IsUtf8 b.now → ⊥ }
     ensures too_deep { result.code ≡ TOO_DEEP → is_too_deep a.now ≡ false → is_too_deep b.now ≡ true }
+    ensures argument { IsTrue (result.argument == 0 || result.argument == 1) }
+    ensures not_utf8_first { result.code ≡ NOT_UTF8 → result.argument ≡ 0 → IsUtf8 a.now → ⊥ }
+    ensures not_utf8_second { result.code ≡ NOT_UTF8 → result.argument ≡ 1 → IsUtf8 b.now → ⊥ }
+    ensures too_deep_first { result.code ≡ TOO_DEEP → result.argument ≡ 0 → is_too_deep a.now ≡ true }
+    ensures too_deep_second { result.code ≡ TOO_DEEP → result.argument ≡ 1 → is_too_deep b.now ≡ true }
+    ensures read { result.code ≡ DONE → IsReadable a.now × IsReadable b.now }
+    ensures read_undecided { result.code ≡ UNDECIDED → IsReadable a.now × IsReadable b.now }
     ensures codes { IsTrue (ends_comparison result.code) }
 {
     let first = match read_condition(alloc, 0, a, out) {
@@ -240,8 +250,8 @@ pub fn can_hold(alloc: Global, key: &[u8], budget: u64, out: &mut [u8]) -> Outco
     ensures undecided { result.code ≡ UNDECIDED → IsUndecided key.now budget }
     ensures refused { result.code ≡ REFUSED → IsRefusal key.now result out.old out.new }
     ensures spelled { result.code ≡ REFUSED → (p : Condition) → IsConditionText key.now p → ⊥ }
-    ensures not_utf8 { result.code ≡ NOT_UTF8 → IsUtf8 key.now → ⊥ }
-    ensures too_deep { result.code ≡ TOO_DEEP → is_too_deep key.now ≡ true }
+    ensures not_utf8 { result.code ≡ NOT_UTF8 ↔ (IsUtf8 key.now → ⊥) }
+    ensures too_deep { result.code ≡ TOO_DEEP ↔ (IsUtf8 key.now × is_too_deep key.now ≡ true) }
     ensures codes { IsTrue (ends_comparison result.code) }
 {
     match read_condition(alloc, 0, key, out) {

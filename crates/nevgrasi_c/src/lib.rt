@@ -4,7 +4,7 @@
 //! these signatures and comments by `.ci/c-library --header`.
 #![tactic(auto)]
 
-ghost use Rattle.std.specs.Prelude.{◌≡◌, ◌≢◌, ◌≤◌, ◌<◌, ℕ, length, IsTrue, true, false};
+ghost use Rattle.std.specs.Prelude.{◌≡◌, ◌↔◌, ◌≢◌, ◌≤◌, ◌<◌, ℕ, length, IsTrue, true, false, ◌||◌, ◌==◌};
 ghost use Rattle.std.specs.Str.{IsUtf8};
 ghost use Rattle.cargo_platform.specs.Trees.{Condition};
 ghost use Rattle.cargo_platform.specs.Platforms.{IsConditionText};
@@ -12,27 +12,37 @@ ghost use Rattle.known_targets.specs.Table.{target_name};
 ghost use Rattle.byte_answers.specs.Answers.{AreFactsOf, AreTargets, IsCanonical, IsFlatMatch, IsFlatOf, IsMatch};
 ghost use Rattle.byte_answers.specs.Answers.{IsPrint};
 ghost use Rattle.byte_answers.specs.Comparisons.{AreRelated, AreUndecided, IsPossibleKey, IsUndecided};
-ghost use Rattle.byte_answers.specs.Depths.{is_too_deep};
-ghost use Rattle.byte_answers.specs.Outcomes.{IsWritten, ends_comparison, ends_flat_call, ends_key_call};
+ghost use Rattle.byte_answers.specs.Depths.{is_too_deep, IsReadable};
+ghost use Rattle.byte_answers.specs.Outcomes.{IsWritten, ends_comparison, ends_flat_call, ends_flat_print, ends_key_call};
 ghost use Rattle.byte_answers.specs.Outcomes.{ends_target_call};
-ghost use Rattle.byte_answers.specs.Refusals.{IsRefusal, IsShownRefusal};
+ghost use Rattle.byte_answers.specs.Refusals.{IsRefusal, IsRefusedLine, IsShownRefusal};
 
 use byte_answers::{
-    DONE, MOST_FLAT_BYTES, NOT_UTF8, Outcome, REFUSED, Relation, TOO_DEEP, UNDECIDED,
-    UNKNOWN_TARGET,
+    DONE, MOST_FLAT_BYTES, NOT_FLAT, NOT_UTF8, Outcome, REFUSED, Relation, TOO_DEEP, UNDECIDED,
+    UNKNOWN_TARGET, VERSION,
 };
 use known_targets::{COUNT, WORDS};
 use std::alloc::Global;
 
 /// The version of the interface: it rises whenever a caller of an earlier one may break.
-pub const INTERFACE: u32 = 1;
+pub const ABI: u32 = 1;
 
-/// The version of the interface. A caller that was compiled with another `NEVGRASI_INTERFACE` should not go on.
+/// Answers the version of the interface. A caller that was compiled with another `NEVGRASI_ABI` should not go on.
 #[unsafe(no_mangle)]
-pub extern "C" fn nevgrasi_interface() -> u32
-    ensures { result ≡ INTERFACE }
+pub extern "C" fn nevgrasi_abi() -> u32
+    ensures { result ≡ ABI }
 {
-    INTERFACE
+    ABI
+}
+
+/// Writes the version of the library, as three numbers with dots between them.
+#[unsafe(no_mangle)]
+pub extern "C" fn nevgrasi_version(out: &mut [u8], outcome: &mut Outcome) -> u32
+    ensures written { IsWritten VERSION.now outcome.new.needed out.old out.new }
+    ensures done { result ≡ DONE }
+{
+    *outcome = byte_answers::version(out);
+    outcome.code
 }
 
 /// Writes the canonical text of the condition that a key spells: its print, which spells the same condition.
@@ -46,8 +56,8 @@ pub extern "C" fn nevgrasi_canonical(
     ensures done { result ≡ DONE → IsCanonical key.now outcome.new.needed out.old out.new }
     ensures refused { result ≡ REFUSED → IsRefusal key.now outcome.new out.old out.new }
     ensures spelled { result ≡ REFUSED → (p : Condition) → IsConditionText key.now p → ⊥ }
-    ensures not_utf8 { result ≡ NOT_UTF8 → IsUtf8 key.now → ⊥ }
-    ensures too_deep { result ≡ TOO_DEEP → is_too_deep key.now ≡ true }
+    ensures not_utf8 { result ≡ NOT_UTF8 ↔ (IsUtf8 key.now → ⊥) }
+    ensures too_deep { result ≡ TOO_DEEP ↔ (IsUtf8 key.now × is_too_deep key.now ≡ true) }
     ensures codes { IsTrue (ends_key_call result) }
 {
     *outcome = byte_answers::canonical(alloc, key, out);
@@ -66,8 +76,8 @@ pub extern "C" fn nevgrasi_fault(
     ensures done { result ≡ DONE → (p : Condition) × IsConditionText key.now p }
     ensures refused { result ≡ REFUSED → IsShownRefusal key.now outcome.new out.old out.new }
     ensures spelled { result ≡ REFUSED → (p : Condition) → IsConditionText key.now p → ⊥ }
-    ensures not_utf8 { result ≡ NOT_UTF8 → IsUtf8 key.now → ⊥ }
-    ensures too_deep { result ≡ TOO_DEEP → is_too_deep key.now ≡ true }
+    ensures not_utf8 { result ≡ NOT_UTF8 ↔ (IsUtf8 key.now → ⊥) }
+    ensures too_deep { result ≡ TOO_DEEP ↔ (IsUtf8 key.now × is_too_deep key.now ≡ true) }
     ensures codes { IsTrue (ends_key_call result) }
 {
     *outcome = byte_answers::fault(alloc, key, out);
@@ -89,8 +99,16 @@ pub extern "C" fn nevgrasi_matches(
     ensures refused { result ≡ REFUSED → outcome.new.argument ≡ 0 → IsRefusal key.now outcome.new out.old out.new }
     ensures spelled { result ≡ REFUSED → outcome.new.argument ≡ 0
         → (p : Condition) → IsConditionText key.now p → ⊥ }
+    ensures line { result ≡ REFUSED → outcome.new.argument ≡ 2
+        → IsRefusedLine lines.now outcome.new out.old out.new }
+    ensures refused_text { result ≡ REFUSED → IsTrue (outcome.new.argument == 0 || outcome.new.argument == 2) }
     ensures not_utf8 { result ≡ NOT_UTF8 → IsUtf8 key.now → IsUtf8 name.now → IsUtf8 lines.now → ⊥ }
-    ensures too_deep { result ≡ TOO_DEEP → is_too_deep key.now ≡ true }
+    ensures utf8 { result ≡ DONE → IsUtf8 key.now × IsUtf8 name.now × IsUtf8 lines.now }
+    ensures argument { IsTrue (outcome.new.argument == 0 || outcome.new.argument == 1 || outcome.new.argument == 2) }
+    ensures not_utf8_key { result ≡ NOT_UTF8 → outcome.new.argument ≡ 0 → IsUtf8 key.now → ⊥ }
+    ensures not_utf8_name { result ≡ NOT_UTF8 → outcome.new.argument ≡ 1 → IsUtf8 name.now → ⊥ }
+    ensures not_utf8_lines { result ≡ NOT_UTF8 → outcome.new.argument ≡ 2 → IsUtf8 lines.now → ⊥ }
+    ensures too_deep { result ≡ TOO_DEEP ↔ (IsUtf8 key.now × is_too_deep key.now ≡ true) }
     ensures codes { IsTrue (ends_key_call result) }
 {
     *outcome = byte_answers::matches(alloc, key, name, lines, out);
@@ -109,8 +127,8 @@ pub extern "C" fn nevgrasi_targets(
     ensures done { result ≡ DONE → AreTargets key.now words.new }
     ensures refused { result ≡ REFUSED → IsRefusal key.now outcome.new out.old out.new }
     ensures spelled { result ≡ REFUSED → (p : Condition) → IsConditionText key.now p → ⊥ }
-    ensures not_utf8 { result ≡ NOT_UTF8 → IsUtf8 key.now → ⊥ }
-    ensures too_deep { result ≡ TOO_DEEP → is_too_deep key.now ≡ true }
+    ensures not_utf8 { result ≡ NOT_UTF8 ↔ (IsUtf8 key.now → ⊥) }
+    ensures too_deep { result ≡ TOO_DEEP ↔ (IsUtf8 key.now × is_too_deep key.now ≡ true) }
     ensures codes { IsTrue (ends_key_call result) }
 {
     *outcome = byte_answers::targets(alloc, key, words, out);
@@ -139,7 +157,7 @@ pub extern "C" fn nevgrasi_facts(
 ) -> u32
     ensures done { result ≡ DONE → AreFactsOf name.now outcome.new.needed out.old out.new }
     ensures unknown { result ≡ UNKNOWN_TARGET → (k : ℕ) → k < COUNT → target_name k ≢ name.now }
-    ensures not_utf8 { result ≡ NOT_UTF8 → IsUtf8 name.now → ⊥ }
+    ensures not_utf8 { result ≡ NOT_UTF8 ↔ (IsUtf8 name.now → ⊥) }
     ensures codes { IsTrue (ends_target_call result) }
 {
     *outcome = byte_answers::facts(alloc, name, out);
@@ -165,6 +183,13 @@ pub extern "C" fn nevgrasi_implies(
     ensures second { result ≡ REFUSED → outcome.new.argument ≡ 1 → IsRefusal second.now outcome.new out.old out.new }
     ensures not_utf8 { result ≡ NOT_UTF8 → IsUtf8 first.now → IsUtf8 second.now → ⊥ }
     ensures too_deep { result ≡ TOO_DEEP → is_too_deep first.now ≡ false → is_too_deep second.now ≡ true }
+    ensures argument { IsTrue (outcome.new.argument == 0 || outcome.new.argument == 1) }
+    ensures not_utf8_first { result ≡ NOT_UTF8 → outcome.new.argument ≡ 0 → IsUtf8 first.now → ⊥ }
+    ensures not_utf8_second { result ≡ NOT_UTF8 → outcome.new.argument ≡ 1 → IsUtf8 second.now → ⊥ }
+    ensures too_deep_first { result ≡ TOO_DEEP → outcome.new.argument ≡ 0 → is_too_deep first.now ≡ true }
+    ensures too_deep_second { result ≡ TOO_DEEP → outcome.new.argument ≡ 1 → is_too_deep second.now ≡ true }
+    ensures read { result ≡ DONE → IsReadable first.now × IsReadable second.now }
+    ensures read_undecided { result ≡ UNDECIDED → IsReadable first.now × IsReadable second.now }
     ensures codes { IsTrue (ends_comparison result) }
 {
     *outcome = byte_answers::relates(alloc, Relation::Implies, first, second, budget, out);
@@ -189,6 +214,13 @@ pub extern "C" fn nevgrasi_equivalent(
     ensures second { result ≡ REFUSED → outcome.new.argument ≡ 1 → IsRefusal second.now outcome.new out.old out.new }
     ensures not_utf8 { result ≡ NOT_UTF8 → IsUtf8 first.now → IsUtf8 second.now → ⊥ }
     ensures too_deep { result ≡ TOO_DEEP → is_too_deep first.now ≡ false → is_too_deep second.now ≡ true }
+    ensures argument { IsTrue (outcome.new.argument == 0 || outcome.new.argument == 1) }
+    ensures not_utf8_first { result ≡ NOT_UTF8 → outcome.new.argument ≡ 0 → IsUtf8 first.now → ⊥ }
+    ensures not_utf8_second { result ≡ NOT_UTF8 → outcome.new.argument ≡ 1 → IsUtf8 second.now → ⊥ }
+    ensures too_deep_first { result ≡ TOO_DEEP → outcome.new.argument ≡ 0 → is_too_deep first.now ≡ true }
+    ensures too_deep_second { result ≡ TOO_DEEP → outcome.new.argument ≡ 1 → is_too_deep second.now ≡ true }
+    ensures read { result ≡ DONE → IsReadable first.now × IsReadable second.now }
+    ensures read_undecided { result ≡ UNDECIDED → IsReadable first.now × IsReadable second.now }
     ensures codes { IsTrue (ends_comparison result) }
 {
     *outcome = byte_answers::relates(alloc, Relation::Equivalent, first, second, budget, out);
@@ -213,6 +245,13 @@ pub extern "C" fn nevgrasi_excludes(
     ensures second { result ≡ REFUSED → outcome.new.argument ≡ 1 → IsRefusal second.now outcome.new out.old out.new }
     ensures not_utf8 { result ≡ NOT_UTF8 → IsUtf8 first.now → IsUtf8 second.now → ⊥ }
     ensures too_deep { result ≡ TOO_DEEP → is_too_deep first.now ≡ false → is_too_deep second.now ≡ true }
+    ensures argument { IsTrue (outcome.new.argument == 0 || outcome.new.argument == 1) }
+    ensures not_utf8_first { result ≡ NOT_UTF8 → outcome.new.argument ≡ 0 → IsUtf8 first.now → ⊥ }
+    ensures not_utf8_second { result ≡ NOT_UTF8 → outcome.new.argument ≡ 1 → IsUtf8 second.now → ⊥ }
+    ensures too_deep_first { result ≡ TOO_DEEP → outcome.new.argument ≡ 0 → is_too_deep first.now ≡ true }
+    ensures too_deep_second { result ≡ TOO_DEEP → outcome.new.argument ≡ 1 → is_too_deep second.now ≡ true }
+    ensures read { result ≡ DONE → IsReadable first.now × IsReadable second.now }
+    ensures read_undecided { result ≡ UNDECIDED → IsReadable first.now × IsReadable second.now }
     ensures codes { IsTrue (ends_comparison result) }
 {
     *outcome = byte_answers::relates(alloc, Relation::Excludes, first, second, budget, out);
@@ -233,8 +272,8 @@ pub extern "C" fn nevgrasi_can_hold(
     ensures undecided { result ≡ UNDECIDED → IsUndecided key.now budget }
     ensures refused { result ≡ REFUSED → IsRefusal key.now outcome.new out.old out.new }
     ensures spelled { result ≡ REFUSED → (p : Condition) → IsConditionText key.now p → ⊥ }
-    ensures not_utf8 { result ≡ NOT_UTF8 → IsUtf8 key.now → ⊥ }
-    ensures too_deep { result ≡ TOO_DEEP → is_too_deep key.now ≡ true }
+    ensures not_utf8 { result ≡ NOT_UTF8 ↔ (IsUtf8 key.now → ⊥) }
+    ensures too_deep { result ≡ TOO_DEEP ↔ (IsUtf8 key.now × is_too_deep key.now ≡ true) }
     ensures codes { IsTrue (ends_comparison result) }
 {
     *outcome = byte_answers::can_hold(alloc, key, budget, out);
@@ -252,8 +291,8 @@ pub extern "C" fn nevgrasi_read_key(
     ensures done { result ≡ DONE → IsFlatOf key.now outcome.new.needed out.old out.new }
     ensures refused { result ≡ REFUSED → IsRefusal key.now outcome.new out.old out.new }
     ensures spelled { result ≡ REFUSED → (p : Condition) → IsConditionText key.now p → ⊥ }
-    ensures not_utf8 { result ≡ NOT_UTF8 → IsUtf8 key.now → ⊥ }
-    ensures too_deep { result ≡ TOO_DEEP → is_too_deep key.now ≡ true }
+    ensures not_utf8 { result ≡ NOT_UTF8 ↔ (IsUtf8 key.now → ⊥) }
+    ensures too_deep { result ≡ TOO_DEEP ↔ (IsUtf8 key.now × is_too_deep key.now ≡ true) }
     ensures codes { IsTrue (ends_key_call result) }
 {
     *outcome = byte_answers::read_key(alloc, key, out);
@@ -269,8 +308,8 @@ pub extern "C" fn nevgrasi_flat_print(
     outcome: &mut Outcome,
 ) -> u32
     ensures done { result ≡ DONE → IsPrint flat.now outcome.new.needed out.old out.new }
-    ensures too_deep { result ≡ TOO_DEEP → MOST_FLAT_BYTES < length flat.now }
-    ensures codes { IsTrue (ends_flat_call result) }
+    ensures too_deep { result ≡ TOO_DEEP ↔ MOST_FLAT_BYTES < length flat.now }
+    ensures codes { IsTrue (ends_flat_print result) }
 {
     *outcome = byte_answers::flat_print(alloc, flat, out);
     outcome.code
@@ -286,8 +325,10 @@ pub extern "C" fn nevgrasi_flat_matches(
     outcome: &mut Outcome,
 ) -> u32
     ensures done { result ≡ DONE → IsFlatMatch flat.now name.now flat_facts.now outcome.new.holds }
+    ensures refused_bytes { result ≡ NOT_FLAT → IsTrue (outcome.new.argument == 0 || outcome.new.argument == 2) }
     ensures not_utf8 { result ≡ NOT_UTF8 → IsUtf8 name.now → ⊥ }
-    ensures too_deep { result ≡ TOO_DEEP → MOST_FLAT_BYTES < length flat.now }
+    ensures utf8 { result ≡ DONE → IsUtf8 name.now }
+    ensures too_deep { result ≡ TOO_DEEP ↔ MOST_FLAT_BYTES < length flat.now }
     ensures codes { IsTrue (ends_flat_call result) }
 {
     *outcome = byte_answers::flat_matches(alloc, flat, name, flat_facts);

@@ -1,16 +1,12 @@
+use Rattle.byte_answers.proofs.Rules.{only_rules}
 use Rattle.byte_answers.proofs.relations.related.Goals as goal
 
 pub returns-clause-done : goal.returns-clause-done
 returns-clause-done c = λ done.
-    let known = c.rules_alone-known.ensures in (
-      c.rules_alone-known.result,
+    let k = c.rules_alone-known in (
+      k.result,
       (
-        record {
-          facts = known.facts;
-          complete = known.complete;
-          single = known.single;
-          families = λ s. rw known.assumed (c.in-Ok.ensures.sets s);
-        },
+        only_rules k.result _ k.ensures.facts k.ensures.complete k.ensures.single k.ensures.assumed c.in-Ok.ensures.sets,
         c.related_by.ensures.yes done,
         c.related_by.ensures.no done,
       ),
@@ -18,15 +14,10 @@ returns-clause-done c = λ done.
 
 pub returns-clause-undecided : goal.returns-clause-undecided
 returns-clause-undecided c = λ is.
-    let known = c.rules_alone-known.ensures in (
-      c.rules_alone-known.result,
+    let k = c.rules_alone-known in (
+      k.result,
       (
-        record {
-          facts = known.facts;
-          complete = known.complete;
-          single = known.single;
-          families = λ s. rw known.assumed (c.in-Ok.ensures.sets s);
-        },
+        only_rules k.result _ k.ensures.facts k.ensures.complete k.ensures.single k.ensures.assumed c.in-Ok.ensures.sets,
         c.related_by.ensures.undecided is,
       ),
     )

@@ -1,0 +1,17 @@
+//! The version of the library.
+
+ghost use Rattle.std.specs.Prelude.{◌≡◌};
+ghost use Rattle.byte_answers.specs.Outcomes.{IsWritten};
+
+use crate::outcome::{DONE, Outcome, write};
+
+/// The version, which is one for all crates and programs of this repository.
+pub const VERSION: &str = "0.1.0";
+
+/// Writes the version of the library, as three numbers with dots between them.
+pub fn version(out: &mut [u8]) -> Outcome
+    ensures written { IsWritten VERSION.now result.needed out.old out.new }
+    ensures done { result.code ≡ DONE }
+{
+    Outcome::done(write(VERSION.as_bytes(), out))
+}
