@@ -6,7 +6,7 @@
 # make c-library  proves and builds the library for C, and says where it is
 # make install-c PREFIX=..  puts the library for C, its header, a file for pkg-config and the Python package in place
 # make wheel  builds a wheel of the Python package, with the shared library in it, into out/wheel
-# make dist   one archive of the programs, the library for C and the wheel, into out/dist, from what it proves and builds
+# make dist   one archive of the programs, the library for C and the wheel, of what it proves and builds, into out/dist
 # make take INTO=FOLDER CRATES=".."  copies crates into another repository, with those that they stand on
 # make test   THE GATE: proves everything from nothing, tries wrong bodies, and runs all tests and programs
 # make quick  the proofs alone, over what earlier checks kept
