@@ -8,6 +8,6 @@ pub mod manifest_keys;
 pub mod metadata;
 pub mod partial;
 pub mod relations;
-pub mod targets;
 #[cfg(test)]
 mod support;
+pub mod targets;
