@@ -25,10 +25,10 @@ line_refused lines old new text message o error n e at is of stands ends prints 
     let printed : message ≡ print_refused_line n (orig_of e) (fault_in e) =
     subst (λ (z : FactsError). IfSome (print_facts_error z) (λ bs. message ≡ bs)) is prints in
     let placed : IsRefusedAt Values (orig_of e) (fault_in e) (span_in e) =
-    subst (λ (z : List ℕ). IsRefusedAt Values z (fault_in e) (span_in e)) (sym known.1.0) known.1.1 in
+    subst (λ (z : List ℕ). IsRefusedAt Values z (fault_in e) (span_in e)) (sym known.1) known.2 in
     let shown : IsWritten (print_refused_line n (orig_of e) (fault_in e)) o.needed old new =
     subst (λ (z : List ℕ). IsWritten z o.needed old new) (same ∙ printed) written in
-    (n, (orig_of e, (fault_in e, (span_in e, at, (known.0, known.1.0, placed, there, ends, shown)))))
+    (n, (orig_of e, (fault_in e, (span_in e, at, (known.0, known.1, placed, there, ends, shown)))))
 
 pub returns-in-Ok-clause-refused : goal.returns-in-Ok-clause-refused
 returns-in-Ok-clause-refused c = λ refused.
@@ -43,5 +43,5 @@ returns-in-Ok-clause-refused c = λ refused.
       end = c.span_in_lines-span.result.end;
     })
     c.args.error.now c.in_default.field-0 c.in_default.field-1 c.span_in_lines-span.ensures.0 c.in_default.is c.requires
-    c.span_in_lines-span.ensures.1.0 c.span_in_lines-span.ensures.1.1 c.in-Ok.ensures.ok c.as_bytes.ensures.value
+    c.span_in_lines-span.ensures.1 c.span_in_lines-span.ensures.2 c.in-Ok.ensures.ok c.as_bytes.ensures.value
     c.write.ensures
