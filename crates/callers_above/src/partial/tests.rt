@@ -6,7 +6,7 @@ use super::planner::{ask, plan};
 use super::steps::left_in_two_steps;
 use super::targets::{OneOf, for_all};
 use crate::support::expression;
-use cargo_platform::{Cfg, Platform};
+use cargo_platform::{Cfg, CfgExpr, Platform};
 use partial_facts::{ONE_VALUED, Partial};
 use std::alloc::Global;
 use std::process::Abort;
