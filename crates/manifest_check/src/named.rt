@@ -2,7 +2,7 @@
 
 use clap::ArgMatches;
 use key_answers::answer::{Answer, Status};
-use std::alloc::AllocError;
+use std::alloc::{AllocError, Global};
 use std::rt::{Env, Files};
 use workspaces::{Asked, find};
 
@@ -13,6 +13,15 @@ pub struct Named {
     pub answer: Answer,
 }
 
+/// The values of an argument.
+fn values(alloc: Global, matches: &ArgMatches<'_>, id: &str) -> Result<Vec<String>, AllocError> {
+    let mut found = Vec::new(alloc);
+    for value in matches.get_strs(id).unwrap_or(&[]) {
+        found.push(String::from_str(alloc, value)?)?;
+    }
+    Ok(found)
+}
+
 /// The manifests that are meant: those of the words, or the one of the folder at hand or of the nearest above. The root
 /// of a workspace stands for its members too.
 pub fn named_manifests<R: Files + Env + AllocGlobal + Clone + Drop>(
@@ -21,10 +30,10 @@ pub fn named_manifests<R: Files + Env + AllocGlobal + Clone + Drop>(
 ) -> Result<Named, AllocError> {
     let alloc = rt.alloc();
     let asked = Asked {
-        paths: matches.get_strs("manifest-path").unwrap_or(&[]),
-        manifests: matches.get_strs("manifest").unwrap_or(&[]),
-        packages: matches.get_strs("package").unwrap_or(&[]),
-        excluded: matches.get_strs("exclude").unwrap_or(&[]),
+        paths: values(alloc, matches, "manifest-path")?,
+        manifests: values(alloc, matches, "manifest")?,
+        packages: values(alloc, matches, "package")?,
+        excluded: values(alloc, matches, "exclude")?,
         whole: matches.get_flag("workspace"),
     };
     let found = find(rt, &asked)?;

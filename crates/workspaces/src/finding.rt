@@ -17,17 +17,17 @@ use workspace_members::{Fault, Pattern, PatternError, Rules, names_of, plain_com
 const INPUT: &str = "-";
 
 /// What the words of a command line say of manifests.
-#[derive(Clone, Copy, Drop)]
-pub struct Asked<'a> {
+#[derive(Drop)]
+pub struct Asked {
     /// Manifests by `--manifest-path`.
-    pub paths: &'a [&'a str],
+    pub paths: Vec<String>,
     /// Manifests, and folders that hold one. Without any of both it is the one of the folder at hand, or of the nearest
     /// above.
-    pub manifests: &'a [&'a str],
+    pub manifests: Vec<String>,
     /// The names of packages that alone are meant.
-    pub packages: &'a [&'a str],
+    pub packages: Vec<String>,
     /// The names of packages that are left out.
-    pub excluded: &'a [&'a str],
+    pub excluded: Vec<String>,
     /// All members of the workspace, from a member too.
     pub whole: bool,
 }
@@ -266,7 +266,7 @@ fn members_of<R: Files + Env + AllocGlobal + Clone + Drop>(
 /// Adds the manifests that one stands for: of the root of a workspace those of its members too.
 fn add_meant<R: Files + Env + AllocGlobal + Clone + Drop>(
     rt: &R,
-    asked: &Asked<'_>,
+    asked: &Asked,
     file: &str,
     found: &mut Found,
 ) -> Result<(), AllocError> {
@@ -308,15 +308,10 @@ fn name_at<R: Files + AllocGlobal>(rt: &R, file: &str) -> Result<String, AllocEr
     }
 }
 
-/// Whether a name is among some.
-fn is_among(names: &[&str], name: &str) -> bool {
-    names.iter().any(|other| *other == name)
-}
-
 /// Leaves the packages that are asked for. A name that no package has is told.
 fn choose<R: Files + AllocGlobal>(
     rt: &R,
-    asked: &Asked<'_>,
+    asked: &Asked,
     found: &mut Found,
 ) -> Result<(), AllocError> {
     let alloc = rt.alloc();
@@ -324,36 +319,44 @@ fn choose<R: Files + AllocGlobal>(
     let mut chosen: Vec<String> = Vec::new(alloc);
     for path in &found.paths {
         let name = name_at(rt, path.as_str())?;
-        let is_asked = asked.packages.is_empty() || is_among(asked.packages, name.as_str());
-        if is_asked && !is_among(asked.excluded, name.as_str()) {
+        let is_asked = asked.packages.is_empty() || has(&asked.packages, name.as_str());
+        if is_asked && !has(&asked.excluded, name.as_str()) {
             chosen.push(path.clone()?)?;
         }
         names.push(name)?;
     }
-    for list in &[asked.packages, asked.excluded] {
-        for name in *list {
-            if !has(&names, name) {
-                let name = shown_text(alloc, name)?;
-                let line = format!(in alloc;
-                    "error: no package of the workspace is named {name}\n"
-                )?;
-                found.errors.push_str(line.as_str())?;
-            }
+    tell_unknown(alloc, &asked.packages, &names, found)?;
+    tell_unknown(alloc, &asked.excluded, &names, found)?;
+    found.paths = chosen;
+    Ok(())
+}
+
+/// Tells those of the asked names that no package has.
+fn tell_unknown(
+    alloc: Global,
+    asked: &[String],
+    names: &[String],
+    found: &mut Found,
+) -> Result<(), AllocError> {
+    for name in asked {
+        if !has(names, name.as_str()) {
+            let name = shown_text(alloc, name.as_str())?;
+            let line = format!(in alloc; "error: no package of the workspace is named {name}\n")?;
+            found.errors.push_str(line.as_str())?;
         }
     }
-    found.paths = chosen;
     Ok(())
 }
 
 /// Adds the manifests that these stand for.
 fn add_all<R: Files + Env + AllocGlobal + Clone + Drop>(
     rt: &R,
-    asked: &Asked<'_>,
-    named: &[&str],
+    asked: &Asked,
+    named: &[String],
     found: &mut Found,
 ) -> Result<(), AllocError> {
     for path in named {
-        let file = file_of(rt, path)?;
+        let file = file_of(rt, path.as_str())?;
         add_meant(rt, asked, file.as_str(), found)?;
     }
     Ok(())
@@ -363,7 +366,7 @@ fn add_all<R: Files + Env + AllocGlobal + Clone + Drop>(
 /// in the order of their paths.
 pub fn find<R: Files + Env + AllocGlobal + Clone + Drop>(
     rt: &R,
-    asked: &Asked<'_>,
+    asked: &Asked,
 ) -> Result<Found, AllocError> {
     let alloc = rt.alloc();
     let mut found = Found {
@@ -379,8 +382,8 @@ pub fn find<R: Files + Env + AllocGlobal + Clone + Drop>(
             }
         }
     }
-    add_all(rt, asked, asked.paths, &mut found)?;
-    add_all(rt, asked, asked.manifests, &mut found)?;
+    add_all(rt, asked, &asked.paths, &mut found)?;
+    add_all(rt, asked, &asked.manifests, &mut found)?;
     if !asked.packages.is_empty() || !asked.excluded.is_empty() {
         choose(rt, asked, &mut found)?;
     }
