@@ -9,7 +9,7 @@
 //!
 //! let key = Key::new(r#"cfg(all(target_os = "ios", target_env = "macabi"))"#)?;
 //! assert_eq!(key.targets()?, ["aarch64-apple-ios-macabi", "x86_64-apple-ios-macabi"]);
-//! assert!(key.implies(&Key::new("cfg(unix)")?)?.holds);
+//! assert!(key.implies(&Key::new(r#"cfg(target_os = "ios")"#)?)?.holds);
 //! # Ok::<(), nevgrasi::Error>(())
 //! ```
 
