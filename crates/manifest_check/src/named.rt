@@ -4,7 +4,7 @@ use clap::ArgMatches;
 use key_answers::answer::{Answer, Status};
 use std::alloc::{AllocError, Global};
 use std::rt::{Env, Files};
-use workspaces::{Asked, find};
+use workspaces::{Asked, Found, find};
 
 /// Paths of manifests, and the answer so far: what can't be found.
 #[derive(Drop)]
@@ -36,13 +36,11 @@ pub fn named_manifests<R: Files + Env + AllocGlobal + Clone + Drop>(
         excluded: values(alloc, matches, "exclude")?,
         whole: matches.get_flag("workspace"),
     };
-    let found = find(rt, &asked)?;
-    let mut answer = Answer::of(alloc, String::new(alloc), Status::Fine);
-    if !found.errors.is_empty() {
-        answer = Answer::unusable(alloc, found.errors);
-    }
-    Ok(Named {
-        paths: found.paths,
-        answer,
-    })
+    let Found { paths, errors } = find(rt, &asked)?;
+    let answer = if errors.is_empty() {
+        Answer::of(alloc, String::new(alloc), Status::Fine)
+    } else {
+        Answer::unusable(alloc, errors)
+    };
+    Ok(Named { paths, answer })
 }
