@@ -12,7 +12,7 @@ import shutil
 import subprocess
 import threading
 
-from crates import ROOT, lay_out, stands_on, with_those_below
+from crates import ROOT, lay_out, lines_of_crates, stands_on, with_those_below
 
 RT = os.environ.get("RT", "rt")
 
@@ -33,6 +33,11 @@ def kit():
     return pathlib.Path(doc.strip()).parent
 
 
+def static_libraries():
+    """The crates that are libraries for C, by the lines of crates.txt."""
+    return {words[0] for words, _ in lines_of_crates() if "staticlib" in words}
+
+
 def library_in(folder, crate):
     return folder / "rlib" / f"{crate}.rlib"
 
@@ -49,8 +54,9 @@ def words(crate, folder_of):
         given += ["--extern", f"{name}={library_in(folder_of(name), name)}"]
     for name in with_those_below(own, below):
         given += ["-L", f"dependency={folder_of(name)}/rlib"]
+    kind = ["--crate-type", "staticlib"] if crate in static_libraries() else []
     logic = ["--antt-project", f"{kit()}/rattle/logic/antt-project.json", "--logic-built", f"{kit()}/logic_built"]
-    return [*given, *logic, "--jobs", "1", "--links", f"{crate}="]
+    return [*given, *kind, *logic, "--jobs", "1", "--links", f"{crate}="]
 
 
 def rattle(verb, *given, **how):
@@ -60,8 +66,10 @@ def rattle(verb, *given, **how):
 
 
 def functions(crate, folder):
-    """The names of a proved library's functions, as a check prints them, without the crate's own."""
-    code = json.loads((library_in(folder, crate) / "toolchain" / "mir.json").read_text(encoding="utf-8"))
+    """The names of a proved library's functions, as a check prints them, without the crate's own. Of a static library
+    they are not known."""
+    file = library_in(folder, crate) / "toolchain" / "mir.json"
+    code = json.loads(file.read_text(encoding="utf-8")) if file.exists() else []
     return [name.removeprefix(f"{crate}::") for name, *_ in code]
 
 
