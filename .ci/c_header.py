@@ -64,8 +64,10 @@ FRONT = """\
    it begins with them, and where it is shorter, none is written, and the call may be made again with more room.
 
    With NEVGRASI_REFUSED, `out` has the message, and the bytes from `start` to `end` of the text are the fault. The text
-   is the one of the call's texts that `argument` counts from 0. An example is lines: with `is_named` the first is the
-   name of the target, and each other one is a fact. */
+   is the one of the call's texts that `argument` counts from 0.
+
+   An example is texts, one after the other, each behind its length: 8 bytes, the low one first. With `is_named` the
+   first is the name of the target, and each other one is a fact. */
 #ifndef NEVGRASI_H
 #define NEVGRASI_H
 #include <stdbool.h>

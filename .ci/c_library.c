@@ -159,6 +159,23 @@ static void try_call(call *made, question q, uint32_t code, const char *answer) 
     let_go(&q);
 }
 
+/* An answer with an example: these texts, each behind its length, and the first of them is a name or not. */
+static void try_example(call *made, question q, int is_named, const char *first, const char *second) {
+    const char *texts[2] = {first, second};
+    uint8_t out[512] = {0}, wanted[512];
+    size_t size = 0;
+    for (int k = 0; k < 2 && texts[k]; k++) {
+        size_t length = strlen(texts[k]);
+        for (int byte = 0; byte < 8; byte++) wanted[size++] = (uint8_t)(length >> 8 * byte);
+        memcpy(wanted + size, texts[k], length);
+        size += length;
+    }
+    nevgrasi_outcome o;
+    expect(made(&q, out, sizeof out, &o) == NEVGRASI_DONE && o.is_named == is_named, "no example", q.name);
+    expect(o.needed == size && !memcmp(out, wanted, size), "another example", q.name);
+    try_call(made, q, NEVGRASI_DONE, NULL);
+}
+
 static const char KEY[] = "cfg( all(unix,not(target_os=\"macos\"),) )";
 
 static void try_answers(void) {
@@ -180,12 +197,16 @@ static void try_answers(void) {
     try_call(facts, asked("facts", "x86_64-unknown-linux-gnu", "", ""), NEVGRASI_DONE, NULL);
     try_call(facts, asked("facts of none", "x86", "", ""), NEVGRASI_UNKNOWN_TARGET, "");
     try_call(implies, asked("implies", "cfg(all(a, b))", "cfg(a)", ""), NEVGRASI_DONE, "");
-    try_call(implies, asked("implies, an example", "cfg(a)", "cfg(b)", ""), NEVGRASI_DONE, "a\n");
-    try_call(implies, asked("implies, a name", "x", "y", ""), NEVGRASI_DONE, "x\n");
+    try_example(implies, asked("implies, an example", "cfg(a)", "cfg(b)", ""), 0, "a", NULL);
+    try_example(implies, asked("implies, a name", "x", "y", ""), 1, "x", NULL);
+    try_example(implies, asked("implies, a name and a fact", "x", "cfg(not(a))", ""), 1, "x", "a");
+    try_example(implies, asked("implies, a value of two lines", "cfg(a = \"\nb\n\")", "cfg(b)", ""), 0,
+                "a = \"\nb\n\"", NULL);
     try_call(implies, asked("implies, the second refused", "cfg(a)", "cfg(", ""), NEVGRASI_REFUSED, NULL);
     try_call(equivalent, asked("equivalent", "cfg(a)", "cfg(all(a))", ""), NEVGRASI_DONE, "");
     try_call(excludes, asked("excludes", "cfg(a)", "cfg(not(a))", ""), NEVGRASI_DONE, "");
-    try_call(can_hold, asked("can_hold", "cfg(a)", "", ""), NEVGRASI_DONE, "a\n");
+    try_example(can_hold, asked("can_hold", "cfg(a)", "", ""), 0, "a", NULL);
+    try_example(can_hold, asked("can_hold, no name", "cfg(not(a))", "", ""), 0, NULL, NULL);
     try_call(read_key, asked("read_key", KEY, "", ""), NEVGRASI_DONE, NULL);
     try_call(flat_print, asked("flat_print of no tree", "x", "", ""), NEVGRASI_NOT_FLAT, "");
 }

@@ -14,8 +14,10 @@
    it begins with them, and where it is shorter, none is written, and the call may be made again with more room.
 
    With NEVGRASI_REFUSED, `out` has the message, and the bytes from `start` to `end` of the text are the fault. The text
-   is the one of the call's texts that `argument` counts from 0. An example is lines: with `is_named` the first is the
-   name of the target, and each other one is a fact. */
+   is the one of the call's texts that `argument` counts from 0.
+
+   An example is texts, one after the other, each behind its length: 8 bytes, the low one first. With `is_named` the
+   first is the name of the target, and each other one is a fact. */
 #ifndef NEVGRASI_H
 #define NEVGRASI_H
 #include <stdbool.h>
@@ -47,7 +49,7 @@ extern "C" {
 /* How many bytes a flat condition may have, since it may hold one group for each 17 of them. */
 #define NEVGRASI_MOST_FLAT_BYTES 680000
 /* The version of the interface: it rises whenever a caller of an earlier one may break. */
-#define NEVGRASI_ABI 1
+#define NEVGRASI_ABI 2
 /* How many targets there are. */
 #define NEVGRASI_TARGETS 320
 /* The words of a set of targets. */
@@ -61,7 +63,7 @@ typedef struct {
     uint32_t argument;
     /* The answer of a call that answers yes or no. */
     bool holds;
-    /* Whether an example begins with the line of its name. */
+    /* Whether the first text of an example is its name. */
     bool is_named;
     /* How many bytes the answer or the message has. The buffer is written where it has as many. */
     size_t needed;

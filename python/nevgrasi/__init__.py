@@ -22,7 +22,7 @@ import typing
 __all__ = ["Answer", "Condition", "Example", "Fault", "Key", "TooDeep", "Undecided", "UnknownTarget", "facts_of",
            "known_targets", "version"]  # fmt: skip
 
-ABI = 1
+ABI = 2
 DONE, REFUSED, NOT_UTF8, NOT_FLAT, NO_MEMORY, UNDECIDED, TOO_DEEP, UNKNOWN_TARGET = range(8)
 TARGETS, WORDS = 320, 5
 
@@ -73,7 +73,11 @@ class UnknownTarget(LookupError):
 
 
 class Example(typing.NamedTuple):
-    """A target that is possible: its name, where it matters, and its facts, sorted."""
+    """A target that is possible: its name, where it matters, and its facts, sorted.
+
+    >>> Key('cfg(a = "two\\nlines")').can_hold().example.facts
+    ['a = "two\\nlines"']
+    """
 
     name: str | None
     facts: list[str]
@@ -142,16 +146,31 @@ def _answer(name: str, *before: object) -> tuple[Outcome, bytes]:
 
 def _lines(facts: typing.Iterable[str] | str) -> str:
     """The lines of facts."""
-    return facts if isinstance(facts, str) else "".join(f"{fact}\n" for fact in facts)
+    if isinstance(facts, str):
+        return facts
+    lines = list(facts)
+    if any("\n" in fact for fact in lines):
+        raise ValueError("a fact has more than one line")
+    return "".join(f"{fact}\n" for fact in lines)
+
+
+def _texts(written: bytes) -> list[str]:
+    """Texts, each behind its length."""
+    texts = []
+    while written:
+        end = 8 + int.from_bytes(written[:8], "little")
+        texts.append(written[8:end].decode())
+        written = written[end:]
+    return texts
 
 
 def _compared(outcome: Outcome, written: bytes, has_example: bool) -> Answer:
     """An answer, with its example where it has one."""
     if outcome.holds != has_example:
         return Answer(outcome.holds, None)
-    lines = written.decode().split("\n")[:-1]
-    name = lines.pop(0) if outcome.is_named else None
-    return Answer(outcome.holds, Example(name, sorted(lines)))
+    texts = _texts(written)
+    name = texts.pop(0) if outcome.is_named else None
+    return Answer(outcome.holds, Example(name, sorted(texts)))
 
 
 class Key:
@@ -175,6 +194,8 @@ class Key:
 
     def matches(self, name: str, facts: typing.Iterable[str] | str) -> bool:
         """Whether the key applies to the target of this name, with facts as `rustc --print cfg` prints them.
+
+        The facts are one text of lines, or texts of one line each; `ValueError` where one has more.
 
         >>> Key("cfg(unix)").matches("x86_64-unknown-linux-gnu", ["unix", 'target_os="linux"'])
         True

@@ -1,5 +1,5 @@
 -- What is known where only rustc's rules are.
-use Rattle.std.proofs.Common.{◌≡◌, ◌↔◌, true, List, [], map}
+use Rattle.std.proofs.Common.{◌≡◌, ◌↔◌, true, [], map}
 use Rattle.cargo_platform.specs.declared.cfg.CfgExpr.{CfgExpr}
 use Rattle.cargo_platform.specs.Trees.{tree_of}
 use Rattle.cargo_platform.specs.Facts.{FactSet, truth}

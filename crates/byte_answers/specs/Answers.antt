@@ -1,19 +1,17 @@
 -- What is answered on texts, and on flat bytes.
-use Rattle.std.specs.Prelude.{◌≡◌, ℕ, Bool, true, false, IsTrue, ◌↔◌, ◌<◌, List, [], ◌∷◌, ◌++◌, Option, Some, None, map}
-use Rattle.std.specs.Prelude.{String, string_bytes, codes}
-use Rattle.std.specs.declared.alloc.Global.{Global}
-use Rattle.cargo_platform.specs.Trees.{Condition, CfgValue, value_of, tree_of}
+use Rattle.std.specs.Prelude.{◌≡◌, ℕ, Bool, IsTrue, ◌↔◌, ◌<◌, List, map}
+use Rattle.cargo_platform.specs.Trees.{Condition, CfgValue}
 use Rattle.cargo_platform.specs.Platforms.{IsConditionText}
 use Rattle.cargo_platform.specs.Print.{print_condition, print_value}
-use Rattle.cargo_platform.specs.Facts.{fact_set, truth_of_condition, IsTrueCondition, FactSet, truth}
-use Rattle.cargo_platform.specs.Lines.{lines_of, line, ended}
+use Rattle.cargo_platform.specs.Facts.{fact_set, truth_of_condition, IsTrueCondition}
+use Rattle.cargo_platform.specs.Lines.{lines_of, ended}
 use Rattle.cargo_platform.specs.FactLines.{SpellFacts}
 use Rattle.known_targets.specs.Bits.{has}
 use Rattle.known_targets.specs.Rows.{facts_in}
 use Rattle.known_targets.specs.Table.{target_name, target_facts, table_keys}
 use Rattle.known_targets.specs.declared.table.TheConstants.{COUNT}
 use Rattle.byte_answers.specs.Outcomes.{IsWritten}
-use Rattle.byte_answers.specs.Flat.{flat_condition, flat_values}
+use Rattle.byte_answers.specs.Flat.{flat_condition, flat_values, IsOfTexts, AreOfTexts}
 
 -- the buffer is given the canonical text of the condition that the key spells
 abbrev pub IsCanonical : List ℕ → ℕ → List ℕ → List ℕ → Type 0
@@ -22,7 +20,8 @@ IsCanonical key needed old new =
 
 -- it is given the flat form of that condition
 abbrev pub IsFlatOf : List ℕ → ℕ → List ℕ → List ℕ → Type 0
-IsFlatOf key needed old new = (p : Condition) × IsConditionText key p × IsWritten (flat_condition p) needed old new
+IsFlatOf key needed old new =
+    (p : Condition) × (IsConditionText key p × IsOfTexts p × IsWritten (flat_condition p) needed old new)
 
 -- whether the condition that the key spells holds for a target of this name, with the facts that the lines spell
 abbrev pub IsMatch : List ℕ → List ℕ → List ℕ → Bool → Type 0
@@ -33,8 +32,8 @@ IsMatch key name lines holds =
 -- the same of flat bytes
 abbrev pub IsFlatMatch : List ℕ → List ℕ → List ℕ → Bool → Type 0
 IsFlatMatch flat name flat_facts holds =
-    (p : Condition) × ((facts : List CfgValue) × ((flat_condition p ≡ flat) × (flat_values facts ≡ flat_facts)
-    × (holds ≡ truth_of_condition name (fact_set facts) p)))
+    (p : Condition) × ((facts : List CfgValue) × (IsOfTexts p × (flat_condition p ≡ flat)
+    × AreOfTexts facts × (flat_values facts ≡ flat_facts) × (holds ≡ truth_of_condition name (fact_set facts) p)))
 
 -- the bits of the known targets at which the condition that the key spells holds
 abbrev pub AreTargets : List ℕ → List ℕ → Type 0
@@ -45,7 +44,7 @@ AreTargets key words =
 -- the buffer is given the text of the condition of these bytes
 abbrev pub IsPrint : List ℕ → ℕ → List ℕ → List ℕ → Type 0
 IsPrint flat needed old new =
-    (p : Condition) × ((flat_condition p ≡ flat) × IsWritten (print_condition p) needed old new)
+    (p : Condition) × (IsOfTexts p × (flat_condition p ≡ flat) × IsWritten (print_condition p) needed old new)
 
 -- facts as they are printed, one a line
 abbrev pub fact_lines : List CfgValue → List ℕ

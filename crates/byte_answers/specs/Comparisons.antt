@@ -5,7 +5,6 @@ use Rattle.std.specs.declared.alloc.Global.{Global}
 use Rattle.cargo_platform.specs.Trees.{Condition, value_of, tree_of}
 use Rattle.cargo_platform.specs.Platforms.{IsConditionText}
 use Rattle.cargo_platform.specs.Facts.{IsTrueCondition, FactSet, truth}
-use Rattle.cargo_platform.specs.Lines.{line}
 use Rattle.partial_facts.specs.declared.one_valued.TheConstants.{ONE_VALUED}
 use Rattle.exact_answers.specs.declared.known.Known.{Known}
 use Rattle.exact_answers.specs.declared.platforms.PossibleTarget.{PossibleTarget}
@@ -15,7 +14,7 @@ use Rattle.exact_answers.specs.Targets.{ForEach, IsExample, asked_trees}
 use Rattle.byte_answers.specs.declared.outcome.Outcome.{Outcome}
 use Rattle.byte_answers.specs.declared.relations.Relation.{Relation}
 use Rattle.byte_answers.specs.declared.relations.Relation.TheVariants.{Implies, Equivalent, Excludes}
-use Rattle.byte_answers.specs.Answers.{fact_lines}
+use Rattle.byte_answers.specs.Counted.{counted, counted_facts}
 use Rattle.byte_answers.specs.Outcomes.{IsWritten}
 
 -- no fact is known, and what is possible keeps rustc's rules: one value of the keys that have one, and families
@@ -37,20 +36,20 @@ Fails Implies A B = A × (B → ⊥)
 Fails Equivalent A B = (A ↔ B) → ⊥
 Fails Excludes A B = A × B
 
--- the line of a name, where there is one
-abbrev pub name_line : Option (String Global) → List ℕ
-name_line None = []
-name_line (Some name) = line (string_bytes name)
+-- a name behind its length, where there is one
+abbrev pub counted_name : Option (String Global) → List ℕ
+counted_name None = []
+counted_name (Some name) = counted (string_bytes name)
 
 abbrev pub has_name : Option (String Global) → Bool
 has_name None = false
 has_name (Some name) = true
 
--- the buffer is given the example: the line of its name, where it has one, and the lines of its facts
+-- the buffer is given the example: its name, where it has one, and its facts, each behind its length
 abbrev pub IsWrittenExample : PossibleTarget → Outcome → List ℕ → List ℕ → Type 0
 IsWrittenExample t o old new =
     (o.is_named ≡ has_name t.name)
-    × IsWritten (name_line t.name ++ fact_lines (map value_of t.facts.items)) o.needed old new
+    × IsWritten (counted_name t.name ++ counted_facts (map value_of t.facts.items)) o.needed old new
 
 -- P holds for a target that is possible, and the buffer is given it
 abbrev pub HasExample : Known → List Condition → (List ℕ → FactSet → Type 0) → Outcome → List ℕ → List ℕ → Type 0

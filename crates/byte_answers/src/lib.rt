@@ -4,6 +4,7 @@
 //! own to the start of a buffer, where it fits. Nothing that a call makes is left to be released.
 #![tactic(auto)]
 
+mod counted;
 mod depth;
 mod fact_lines;
 mod flat;

@@ -30,7 +30,7 @@ pub struct Outcome {
     pub argument: u32,
     /// The answer of a call that answers yes or no.
     pub holds: bool,
-    /// Whether an example begins with the line of its name.
+    /// Whether the first text of an example is its name.
     pub is_named: bool,
     /// How many bytes the answer or the message has. The buffer is written where it has as many.
     pub needed: usize,

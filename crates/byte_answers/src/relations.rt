@@ -1,21 +1,21 @@
 //! What a key says of another, and whether it can hold, over every set of facts that rustc's rules allow.
 
-ghost use Rattle.std.specs.Prelude.{◌≡◌, ◌↔◌, ◌++◌, [], ◌∷◌, ℕ, IfOk, IsTrue, true, false, map, string_bytes, ◌||◌, ◌==◌};
+ghost use Rattle.std.specs.Prelude.{◌≡◌, ◌↔◌, ◌++◌, [], ◌∷◌, ℕ, IfOk, IsTrue, true, false, map, ◌||◌, ◌==◌};
 ghost use Rattle.std.specs.Str.{IsUtf8};
 ghost use Rattle.cargo_platform.specs.Trees.{Condition, value_of, condition_of};
 ghost use Rattle.cargo_platform.specs.Facts.{IsTrueCondition};
 ghost use Rattle.cargo_platform.specs.Platforms.{IsConditionText};
 ghost use Rattle.exact_answers.specs.Asking.{NeedsMore};
 ghost use Rattle.exact_answers.specs.Targets.{SaysMustSelect, SaysCanSelect, ForEach, asked_trees};
-ghost use Rattle.byte_answers.specs.Answers.{fact_lines};
-ghost use Rattle.byte_answers.specs.Comparisons.{Stands, Fails, name_line, IsWrittenExample, HasExample};
+ghost use Rattle.byte_answers.specs.Counted.{counted_facts};
+ghost use Rattle.byte_answers.specs.Comparisons.{Stands, Fails, counted_name, IsWrittenExample, HasExample};
 ghost use Rattle.byte_answers.specs.Comparisons.{SaysRelated, AreRelated, SaysPossible, IsPossibleKey};
 ghost use Rattle.byte_answers.specs.Comparisons.{NeedsLarger, AreUndecided, IsUndecided};
 ghost use Rattle.byte_answers.specs.Depths.{is_too_deep, IsReadable};
 ghost use Rattle.byte_answers.specs.Outcomes.{ends_comparison};
 ghost use Rattle.byte_answers.specs.Refusals.{IsRefusal};
 
-use crate::fact_lines::push_fact_lines;
+use crate::counted::{push_counted, push_facts};
 use crate::outcome::{DONE, NO_MEMORY, NOT_UTF8, Outcome, REFUSED, TOO_DEEP, UNDECIDED, write};
 use crate::reading::read_condition;
 use cargo_platform::{CfgExpr, Platform};
@@ -36,18 +36,17 @@ pub enum Relation {
     Excludes,
 }
 
-/// The text of an example: the line of its name, where it has one, and a line for each of its facts.
-fn example_text(alloc: Global, target: &PossibleTarget) -> Result<String, AllocError>
-    ensures { IfOk result (λ text. string_bytes text
-        ≡ name_line target.now.name ++ fact_lines (map value_of target.now.facts.items)) }
+/// The texts of an example, each behind its length: its name, where it has one, and its facts.
+fn example_texts(alloc: Global, target: &PossibleTarget) -> Result<Vec<u8>, AllocError>
+    ensures { IfOk result (λ texts. texts.items
+        ≡ counted_name target.now.name ++ counted_facts (map value_of target.now.facts.items)) }
 {
-    let mut text = String::new(alloc);
+    let mut texts = Vec::new(alloc);
     if let Some(name) = &target.name {
-        text.push_str(name.as_str())?;
-        text.push_str("\n")?;
+        push_counted(&mut texts, name.as_str())?;
     }
-    push_fact_lines(alloc, &mut text, &target.facts)?;
-    Ok(text)
+    push_facts(alloc, &mut texts, &target.facts)?;
+    Ok(texts)
 }
 
 /// An answer with an example.
@@ -57,13 +56,13 @@ fn with_example(alloc: Global, holds: bool, target: &PossibleTarget, out: &mut [
     ensures argument { result.argument ≡ 0 }
     ensures codes { IsTrue (result.code == DONE || result.code == NO_MEMORY) }
 {
-    match example_text(alloc, target) {
-        Ok(text) => Outcome {
+    match example_texts(alloc, target) {
+        Ok(texts) => Outcome {
             code: DONE,
             argument: 0,
             holds,
             is_named: target.name.is_some(),
-            needed: write(text.as_bytes(), out),
+            needed: write(&texts, out),
             start: 0,
             end: 0,
         },
@@ -163,9 +162,9 @@ fn rules_alone(rule: &CfgExpr) -> Known<'_>
 
 /// Answers whether two keys stand so to each other, over every set of facts that rustc's rules allow.
 ///
-/// `holds` is the answer. Of a no the buffer is given an example, as lines: with `is_named` the first is its name, and
-/// each other one a fact. `UNDECIDED` where the search took more splits than the budget. `REFUSED`, `NOT_UTF8` and
-/// `TOO_DEEP` tell by `argument` of which key.
+/// `holds` is the answer. Of a no the buffer is given an example, as texts behind their lengths of 8 bytes, the low one
+/// first: with `is_named` the first is its name, and each other one a fact. `UNDECIDED` where the search took more
+/// splits than the budget. `REFUSED`, `NOT_UTF8` and `TOO_DEEP` tell by `argument` of which key.
 pub fn relates(
     alloc: Global,
     relation: Relation,
@@ -242,9 +241,9 @@ fn possible(alloc: Global, platform: &Platform, budget: u64, out: &mut [u8]) -> 
 
 /// Answers whether a key can hold, over some set of facts that rustc's rules allow.
 ///
-/// `holds` is the answer. Of a yes the buffer is given an example, as lines: with `is_named` the first is its name, and
-/// each other one a fact. `UNDECIDED` where the search took more splits than the budget. It refuses as `canonical`
-/// does.
+/// `holds` is the answer. Of a yes the buffer is given an example, as texts behind their lengths of 8 bytes, the low
+/// one first: with `is_named` the first is its name, and each other one a fact. `UNDECIDED` where the search took more
+/// splits than the budget. It refuses as `canonical` does.
 pub fn can_hold(alloc: Global, key: &[u8], budget: u64, out: &mut [u8]) -> Outcome
     ensures done { result.code ≡ DONE → IsPossibleKey key.now result out.old out.new }
     ensures undecided { result.code ≡ UNDECIDED → IsUndecided key.now budget }

@@ -3,7 +3,7 @@
 ghost use Rattle.std.specs.Prelude.{◌≡◌, ◌↔◌, ◌≤◌, ◌<◌, length, IfOk, IfErr, IsTrue, ◌||◌, ◌==◌};
 ghost use Rattle.std.specs.Str.{IsUtf8};
 ghost use Rattle.cargo_platform.specs.Trees.{condition_of};
-ghost use Rattle.byte_answers.specs.Flat.{flat_condition};
+ghost use Rattle.byte_answers.specs.Flat.{flat_condition, IsFlatForm, AreFlatFacts};
 ghost use Rattle.byte_answers.specs.Answers.{IsFlatMatch, IsPrint};
 ghost use Rattle.byte_answers.specs.Outcomes.{ends_flat_call, ends_flat_print};
 
@@ -17,6 +17,7 @@ use std::alloc::Global;
 /// The condition of flat bytes, or how a call ends that is given others.
 fn read_flat(alloc: Global, flat: &[u8]) -> Result<Platform, Outcome>
     ensures condition { IfOk result (λ p. flat_condition (condition_of p) ≡ flat.now) }
+    ensures not_flat { IfErr result (λ o. o.code ≡ NOT_FLAT → IsFlatForm flat.now → ⊥) }
     ensures fits { IfOk result (λ _. length flat.now ≤ MOST_FLAT_BYTES) }
     ensures too_deep { IfErr result (λ o. o.code ≡ TOO_DEEP ↔ MOST_FLAT_BYTES < length flat.now) }
     ensures argument { IfErr result (λ o. o.argument ≡ 0) }
@@ -38,6 +39,7 @@ fn read_flat(alloc: Global, flat: &[u8]) -> Result<Platform, Outcome>
 /// `NOT_FLAT` where the bytes are the flat form of no condition. `TOO_DEEP` where they are more than `MOST_FLAT_BYTES`.
 pub fn flat_print(alloc: Global, flat: &[u8], out: &mut [u8]) -> Outcome
     ensures done { result.code ≡ DONE → IsPrint flat.now result.needed out.old out.new }
+    ensures not_flat { result.code ≡ NOT_FLAT → IsFlatForm flat.now → ⊥ }
     ensures too_deep { result.code ≡ TOO_DEEP ↔ MOST_FLAT_BYTES < length flat.now }
     ensures codes { IsTrue (ends_flat_print result.code) }
 {
@@ -56,6 +58,8 @@ pub fn flat_print(alloc: Global, flat: &[u8], out: &mut [u8]) -> Outcome
 /// (`argument` 2). `TOO_DEEP` where the condition has more bytes than `MOST_FLAT_BYTES`.
 pub fn flat_matches(alloc: Global, flat: &[u8], name: &[u8], flat_facts: &[u8]) -> Outcome
     ensures done { result.code ≡ DONE → IsFlatMatch flat.now name.now flat_facts.now result.holds }
+    ensures not_flat { result.code ≡ NOT_FLAT → result.argument ≡ 0 → IsFlatForm flat.now → ⊥ }
+    ensures not_flat_facts { result.code ≡ NOT_FLAT → result.argument ≡ 2 → AreFlatFacts flat_facts.now → ⊥ }
     ensures refused_bytes { result.code ≡ NOT_FLAT → IsTrue (result.argument == 0 || result.argument == 2) }
     ensures not_utf8 { result.code ≡ NOT_UTF8 → IsUtf8 name.now → ⊥ }
     ensures utf8 { result.code ≡ DONE → IsUtf8 name.now }

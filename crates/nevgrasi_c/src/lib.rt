@@ -13,7 +13,9 @@ ghost use Rattle.byte_answers.specs.Answers.{AreFactsOf, AreTargets, IsCanonical
 ghost use Rattle.byte_answers.specs.Answers.{IsPrint};
 ghost use Rattle.byte_answers.specs.Comparisons.{AreRelated, AreUndecided, IsPossibleKey, IsUndecided};
 ghost use Rattle.byte_answers.specs.Depths.{is_too_deep, IsReadable};
-ghost use Rattle.byte_answers.specs.Outcomes.{IsWritten, ends_comparison, ends_flat_call, ends_flat_print, ends_key_call};
+ghost use Rattle.byte_answers.specs.Flat.{IsFlatForm, AreFlatFacts};
+ghost use Rattle.byte_answers.specs.Outcomes.{IsWritten, ends_comparison, ends_flat_call, ends_flat_print};
+ghost use Rattle.byte_answers.specs.Outcomes.{ends_key_call};
 ghost use Rattle.byte_answers.specs.Outcomes.{ends_target_call};
 ghost use Rattle.byte_answers.specs.Refusals.{IsRefusal, IsRefusedLine, IsShownRefusal};
 
@@ -25,7 +27,7 @@ use known_targets::{COUNT, WORDS};
 use std::alloc::Global;
 
 /// The version of the interface: it rises whenever a caller of an earlier one may break.
-pub const ABI: u32 = 1;
+pub const ABI: u32 = 2;
 
 /// Answers the version of the interface. A caller that was compiled with another `NEVGRASI_ABI` should not go on.
 #[unsafe(no_mangle)]
@@ -308,6 +310,7 @@ pub extern "C" fn nevgrasi_flat_print(
     outcome: &mut Outcome,
 ) -> u32
     ensures done { result ≡ DONE → IsPrint flat.now outcome.new.needed out.old out.new }
+    ensures not_flat { result ≡ NOT_FLAT → IsFlatForm flat.now → ⊥ }
     ensures too_deep { result ≡ TOO_DEEP ↔ MOST_FLAT_BYTES < length flat.now }
     ensures codes { IsTrue (ends_flat_print result) }
 {
@@ -325,6 +328,8 @@ pub extern "C" fn nevgrasi_flat_matches(
     outcome: &mut Outcome,
 ) -> u32
     ensures done { result ≡ DONE → IsFlatMatch flat.now name.now flat_facts.now outcome.new.holds }
+    ensures not_flat { result ≡ NOT_FLAT → outcome.new.argument ≡ 0 → IsFlatForm flat.now → ⊥ }
+    ensures not_flat_facts { result ≡ NOT_FLAT → outcome.new.argument ≡ 2 → AreFlatFacts flat_facts.now → ⊥ }
     ensures refused_bytes { result ≡ NOT_FLAT → IsTrue (outcome.new.argument == 0 || outcome.new.argument == 2) }
     ensures not_utf8 { result ≡ NOT_UTF8 → IsUtf8 name.now → ⊥ }
     ensures utf8 { result ≡ DONE → IsUtf8 name.now }

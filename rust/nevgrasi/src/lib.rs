@@ -82,7 +82,7 @@ fn expect_same_interface() {
 }
 
 /// Makes a call that writes to a buffer, again where the buffer was too short. Answers what it wrote.
-fn written(call: impl Fn(*mut u8, usize, *mut raw::Outcome) -> u32) -> (raw::Outcome, String) {
+fn written(call: impl Fn(*mut u8, usize, *mut raw::Outcome) -> u32) -> (raw::Outcome, Vec<u8>) {
     expect_same_interface();
     let mut out = vec![0; 512];
     loop {
@@ -90,29 +90,48 @@ fn written(call: impl Fn(*mut u8, usize, *mut raw::Outcome) -> u32) -> (raw::Out
         call(out.as_mut_ptr(), out.len(), &mut outcome);
         if outcome.needed <= out.len() {
             out.truncate(outcome.needed);
-            return (outcome, String::from_utf8_lossy(&out).into_owned());
+            return (outcome, out);
         }
         out.resize(outcome.needed, 0);
     }
 }
 
+/// The text that bytes are.
+fn text_of(bytes: &[u8]) -> String {
+    String::from_utf8_lossy(bytes).into_owned()
+}
+
 /// What a call wrote, or why there is no answer.
-fn answered(call: impl Fn(*mut u8, usize, *mut raw::Outcome) -> u32) -> Result<(raw::Outcome, String), Error> {
-    let (outcome, text) = written(call);
+fn answered(call: impl Fn(*mut u8, usize, *mut raw::Outcome) -> u32) -> Result<(raw::Outcome, Vec<u8>), Error> {
+    let (outcome, out) = written(call);
     match outcome.code {
-        raw::DONE => Ok((outcome, text)),
+        raw::DONE => Ok((outcome, out)),
         raw::TOO_DEEP => Err(Error::TooDeep),
         raw::UNDECIDED => Err(Error::Undecided),
-        raw::REFUSED => Err(Error::Refused(Fault { message: text, span: outcome.start..outcome.end, snippet: None })),
+        raw::REFUSED => {
+            let span = outcome.start..outcome.end;
+            Err(Error::Refused(Fault { message: text_of(&out), span, snippet: None }))
+        }
         _ => Err(Error::NoMemory),
     }
 }
 
+/// Texts, each behind its length.
+fn texts_of(mut bytes: &[u8]) -> Vec<String> {
+    let mut texts = Vec::new();
+    while let Some((length, rest)) = bytes.split_first_chunk() {
+        let (text, others) = rest.split_at(u64::from_le_bytes(*length) as usize);
+        texts.push(text_of(text));
+        bytes = others;
+    }
+    texts
+}
+
 /// The answer of a comparison, with its example where `holds` is this.
-fn compared(outcome: raw::Outcome, text: &str, with_example: bool) -> Answer {
-    let mut lines = text.split_terminator('\n').map(String::from);
+fn compared(outcome: raw::Outcome, written: &[u8], with_example: bool) -> Answer {
+    let mut texts = texts_of(written).into_iter();
     let example = (outcome.holds == with_example)
-        .then(|| Example { name: if outcome.is_named { lines.next() } else { None }, facts: lines.collect() });
+        .then(|| Example { name: if outcome.is_named { texts.next() } else { None }, facts: texts.collect() });
     Answer { holds: outcome.holds, example }
 }
 
@@ -143,12 +162,12 @@ impl Key {
             raw::nevgrasi_canonical(text.as_ptr(), text.len(), out, room, outcome)
         });
         match read {
-            Ok((_, canonical)) => Ok(Key { text: text.to_string(), canonical }),
+            Ok((_, canonical)) => Ok(Key { text: text.to_string(), canonical: text_of(&canonical) }),
             Err(Error::Refused(fault)) => {
                 let (_, snippet) = written(|out, room, outcome| unsafe {
                     raw::nevgrasi_fault(text.as_ptr(), text.len(), out, room, outcome)
                 });
-                Err(Error::Refused(Fault { snippet: Some(snippet), ..fault }))
+                Err(Error::Refused(Fault { snippet: Some(text_of(&snippet)), ..fault }))
             }
             Err(other) => Err(other),
         }
@@ -181,10 +200,10 @@ impl Key {
     fn relates(&self, call: Comparison, other: &Key, budget: u64) -> Result<Answer, Error> {
         let (a, b) = (&self.text, &other.text);
         // SAFETY: as in `new`.
-        let (outcome, text) = answered(|out, room, outcome| unsafe {
+        let (outcome, written) = answered(|out, room, outcome| unsafe {
             call(a.as_ptr(), a.len(), b.as_ptr(), b.len(), budget, out, room, outcome)
         })?;
-        Ok(compared(outcome, &text, false))
+        Ok(compared(outcome, &written, false))
     }
 
     /// Whether the other key holds wherever this one does, over every set of facts that rustc's rules allow. Of a no
@@ -226,22 +245,22 @@ impl Key {
     pub fn can_hold(&self) -> Result<Answer, Error> {
         let key = &self.text;
         // SAFETY: as in `new`.
-        let (outcome, text) = answered(|out, room, outcome| unsafe {
+        let (outcome, written) = answered(|out, room, outcome| unsafe {
             raw::nevgrasi_can_hold(key.as_ptr(), key.len(), BUDGET, out, room, outcome)
         })?;
-        Ok(compared(outcome, &text, true))
+        Ok(compared(outcome, &written, true))
     }
 }
 
 /// The version of the shared library.
 pub fn version() -> String {
     // SAFETY: as in `Key::new`.
-    written(|out, room, outcome| unsafe { raw::nevgrasi_version(out, room, outcome) }).1
+    text_of(&written(|out, room, outcome| unsafe { raw::nevgrasi_version(out, room, outcome) }).1)
 }
 
 /// The name of the known target at a place.
 fn target_name(place: usize) -> Result<String, Error> {
     // SAFETY: as in `new`.
     let named = answered(|out, room, outcome| unsafe { raw::nevgrasi_target_name(place, out, room, outcome) });
-    named.map(|(_, name)| name)
+    named.map(|(_, name)| text_of(&name))
 }

@@ -11,7 +11,7 @@ pub struct Outcome {
     pub argument: u32,
     /// The answer of a call that answers yes or no.
     pub holds: bool,
-    /// Whether an example begins with the line of its name.
+    /// Whether the first text of an example is its name.
     pub is_named: bool,
     /// How many bytes the answer or the message has. The buffer is written where it has as many.
     pub needed: usize,
@@ -43,7 +43,7 @@ pub const MOST_OPEN: usize = 10000;
 /// How many bytes a flat condition may have, since it may hold one group for each 17 of them.
 pub const MOST_FLAT_BYTES: usize = 680000;
 /// The version of the interface: it rises whenever a caller of an earlier one may break.
-pub const ABI: u32 = 1;
+pub const ABI: u32 = 2;
 /// How many targets there are.
 pub const TARGETS: usize = 320;
 /// The words of a set of targets.

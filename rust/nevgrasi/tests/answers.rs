@@ -54,6 +54,8 @@ fn keys_are_compared_over_each_set_of_facts() {
 fn what_can_hold_has_an_example() {
     assert_eq!(key("cfg(a)").can_hold().expect("an answer").example.expect("an example").facts, ["a"]);
     assert!(!key("cfg(all(unix, not(unix)))").can_hold().expect("an answer").holds);
+    let broken = key("cfg(a = \"two\nlines\")").can_hold().expect("an answer").example.expect("an example");
+    assert_eq!(broken.facts, ["a = \"two\nlines\""]);
 }
 
 #[test]

@@ -5,7 +5,6 @@ use Rattle.cargo_platform.specs.declared.fact_lines.FactsError.{FactsError}
 use Rattle.cargo_platform.specs.declared.fact_lines.FactsError.TheVariants.{Line}
 use Rattle.cargo_platform.specs.Spelling.{Values}
 use Rattle.cargo_platform.specs.Faults.{IsRefusedAt}
-use Rattle.cargo_platform.specs.Lines.{lines_of, line_at}
 use Rattle.cargo_platform.specs.FactLines.{BeginsLine, IsSpanInFacts, print_facts_error}
 use Rattle.cargo_platform.specs.KeySpans.{IsSpanBy}
 use Rattle.cargo_platform.specs.Errors.{orig_of, fault_in, span_in}

@@ -1,0 +1,29 @@
+//! Texts behind their lengths, so that any text may be one.
+
+ghost use Rattle.std.specs.Prelude.{◌≡◌, ◌++◌, OnOk, map};
+ghost use Rattle.cargo_platform.specs.Trees.{value_of};
+ghost use Rattle.byte_answers.specs.Counted.{counted, counted_facts};
+
+use cargo_platform::Cfg;
+use std::alloc::{AllocError, Global};
+
+/// Appends a text behind its length.
+#[tactic(auto, unfolding(crate::specs::Counted::counted))]
+pub(crate) fn push_counted(out: &mut Vec<u8>, text: &str) -> Result<(), AllocError>
+    ensures { OnOk result (out.new.items ≡ out.old.items ++ counted text.now) }
+{
+    out.extend_from_slice(&text.len().to_le_bytes())?;
+    out.extend_from_slice(text.as_bytes())
+}
+
+/// Appends each fact as `Cfg` prints it, behind its length.
+pub(crate) fn push_facts(alloc: Global, out: &mut Vec<u8>, facts: &[Cfg]) -> Result<(), AllocError>
+    ensures { OnOk result
+        (out.new.items ≡ out.old.items ++ counted_facts (map value_of facts.now)) }
+{
+    for fact in facts {
+        let text = fact.to_string(alloc)?;
+        push_counted(out, text.as_str())?;
+    }
+    Ok(())
+}
