@@ -28,7 +28,8 @@ const HEAD: &str = "<!doctype html>\n\
     th, td { border-bottom: 1px solid var(--line); padding: .2rem .6rem; text-align: left; vertical-align: top; }\n\
     th.class, td.class { min-width: 1.2rem; padding: .2rem .3rem; text-align: center; }\n\
     td.there { background: var(--there); }\n\
-    code { font-family: ui-monospace, monospace; overflow-wrap: anywhere; }\n\
+    td:nth-child(2):has(code) { min-width: 18rem; }\n\
+    code { font-family: ui-monospace, monospace; overflow-wrap: break-word; }\n\
     tbody tr:hover { background: #7f7f7f22; }\n\
     @media print {\n\
     body { font-size: 9pt; margin: 0; max-width: none; }\n\
