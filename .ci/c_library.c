@@ -445,6 +445,7 @@ int main(int count, char **words) {
     change_each();
     try_depth("not(", ")");
     try_depth("all(", ", a)");
+    try_depth("all(a = \")\", ", ", a)");
     try_limit();
     try_deep_flat();
     try_threads(words[1]);

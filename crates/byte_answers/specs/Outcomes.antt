@@ -1,5 +1,6 @@
 -- What stands in a caller's buffer, and with which codes calls end.
 use Rattle.std.specs.Prelude.{◌≡◌, ◌≤◌, ◌<◌, ℕ, Bool, ◌||◌, ◌==◌, List, ◌++◌, length, drop}
+use Rattle.byte_answers.specs.declared.outcome.Outcome.{Outcome}
 use Rattle.byte_answers.specs.declared.outcome.TheConstants.{DONE, REFUSED, NOT_UTF8, NOT_FLAT, NO_MEMORY, UNDECIDED}
 use Rattle.byte_answers.specs.declared.outcome.TheConstants.{TOO_DEEP, UNKNOWN_TARGET}
 
@@ -9,6 +10,10 @@ IsWritten text needed old new =
     (needed ≡ length text)
     × (length text ≤ length old → new ≡ text ++ drop (length text) old)
     × (length old < length text → new ≡ old)
+
+-- no text is written: none is needed, and the buffer is as it was
+abbrev pub IsSilent : Outcome → List ℕ → List ℕ → Type 0
+IsSilent o old new = (o.needed ≡ 0) × (new ≡ old)
 
 -- a code of a call that has no answer since a text spells no condition, or memory was refused
 abbrev pub is_failure : ℕ → Bool

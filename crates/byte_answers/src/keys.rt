@@ -1,13 +1,13 @@
 //! Questions on one key.
 
-ghost use Rattle.std.specs.Prelude.{◌≡◌, ◌↔◌, ℕ, IsTrue, true, ◌||◌, ◌==◌};
+ghost use Rattle.std.specs.Prelude.{◌≡◌, ◌≢◌, ◌↔◌, ℕ, IsTrue, ◌||◌, ◌==◌};
 ghost use Rattle.std.specs.Str.{IsUtf8};
 ghost use Rattle.cargo_platform.specs.Trees.{Condition};
 ghost use Rattle.cargo_platform.specs.Platforms.{IsConditionText, IsRefusedConditionAt};
 ghost use Rattle.cargo_platform.specs.Errors.{orig_of, fault_in, span_in};
 ghost use Rattle.byte_answers.specs.Answers.{IsCanonical, IsFlatOf};
-ghost use Rattle.byte_answers.specs.Depths.{is_too_deep};
-ghost use Rattle.byte_answers.specs.Outcomes.{ends_key_call};
+ghost use Rattle.byte_answers.specs.Depths.{IsTooDeep};
+ghost use Rattle.byte_answers.specs.Outcomes.{ends_key_call, IsSilent};
 ghost use Rattle.byte_answers.specs.Refusals.{IsRefusal, IsShownRefusal};
 
 use crate::depth::is_too_deep;
@@ -26,7 +26,9 @@ pub fn canonical(alloc: Global, key: &[u8], out: &mut [u8]) -> Outcome
     ensures refused { result.code ≡ REFUSED → IsRefusal key.now result out.old out.new }
     ensures spelled { result.code ≡ REFUSED → (p : Condition) → IsConditionText key.now p → ⊥ }
     ensures not_utf8 { result.code ≡ NOT_UTF8 ↔ (IsUtf8 key.now → ⊥) }
-    ensures too_deep { result.code ≡ TOO_DEEP ↔ (IsUtf8 key.now × is_too_deep key.now ≡ true) }
+    ensures too_deep { result.code ≡ TOO_DEEP ↔ (IsUtf8 key.now × IsTooDeep key.now) }
+    ensures silent { result.code ≢ DONE → result.code ≢ REFUSED → IsSilent result out.old out.new }
+    ensures argument { result.argument ≡ 0 }
     ensures codes { IsTrue (ends_key_call result.code) }
 {
     match read_condition(alloc, 0, key, out) {
@@ -46,7 +48,9 @@ pub fn read_key(alloc: Global, key: &[u8], out: &mut [u8]) -> Outcome
     ensures refused { result.code ≡ REFUSED → IsRefusal key.now result out.old out.new }
     ensures spelled { result.code ≡ REFUSED → (p : Condition) → IsConditionText key.now p → ⊥ }
     ensures not_utf8 { result.code ≡ NOT_UTF8 ↔ (IsUtf8 key.now → ⊥) }
-    ensures too_deep { result.code ≡ TOO_DEEP ↔ (IsUtf8 key.now × is_too_deep key.now ≡ true) }
+    ensures too_deep { result.code ≡ TOO_DEEP ↔ (IsUtf8 key.now × IsTooDeep key.now) }
+    ensures silent { result.code ≢ DONE → result.code ≢ REFUSED → IsSilent result out.old out.new }
+    ensures argument { result.argument ≡ 0 }
     ensures codes { IsTrue (ends_key_call result.code) }
 {
     match read_condition(alloc, 0, key, out) {
@@ -62,6 +66,8 @@ pub fn read_key(alloc: Global, key: &[u8], out: &mut [u8]) -> Outcome
 fn shown(alloc: Global, error: &ParseError, key: &str, out: &mut [u8]) -> Outcome
     requires { IsRefusedConditionAt key.now (orig_of error.now) (fault_in error.now) (span_in error.now) }
     ensures refused { result.code ≡ REFUSED → IsShownRefusal key.now result out.old out.new }
+    ensures silent { result.code ≢ REFUSED → IsSilent result out.old out.new }
+    ensures argument { result.argument ≡ 0 }
     ensures codes { IsTrue (result.code == REFUSED || result.code == NO_MEMORY) }
 {
     let span = span_of(error, key);
@@ -90,14 +96,16 @@ pub fn fault(alloc: Global, key: &[u8], out: &mut [u8]) -> Outcome
     ensures refused { result.code ≡ REFUSED → IsShownRefusal key.now result out.old out.new }
     ensures spelled { result.code ≡ REFUSED → (p : Condition) → IsConditionText key.now p → ⊥ }
     ensures not_utf8 { result.code ≡ NOT_UTF8 ↔ (IsUtf8 key.now → ⊥) }
-    ensures too_deep { result.code ≡ TOO_DEEP ↔ (IsUtf8 key.now × is_too_deep key.now ≡ true) }
+    ensures too_deep { result.code ≡ TOO_DEEP ↔ (IsUtf8 key.now × IsTooDeep key.now) }
+    ensures silent { result.code ≢ REFUSED → IsSilent result out.old out.new }
+    ensures argument { result.argument ≡ 0 }
     ensures codes { IsTrue (ends_key_call result.code) }
 {
     let key = match read_text(0, key) {
         Ok(key) => key,
         Err(outcome) => return outcome,
     };
-    if is_too_deep(key.as_bytes()) {
+    if is_too_deep(key) {
         return Outcome::ended(TOO_DEEP, 0);
     }
     match Platform::from_str(alloc, key) {

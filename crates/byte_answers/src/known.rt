@@ -1,6 +1,6 @@
 //! Known targets.
 
-ghost use Rattle.std.specs.Prelude.{◌≡◌, ◌↔◌, ◌≢◌, ◌≤◌, ◌<◌, ℕ, IfOk, IsTrue, true, string_bytes};
+ghost use Rattle.std.specs.Prelude.{◌≡◌, ◌↔◌, ◌≢◌, ◌≤◌, ◌<◌, ℕ, IfOk, IsTrue, string_bytes};
 ghost use Rattle.std.specs.Str.{IsUtf8};
 ghost use Rattle.cargo_platform.specs.Trees.{Condition};
 ghost use Rattle.cargo_platform.specs.Platforms.{IsConditionText};
@@ -8,8 +8,8 @@ ghost use Rattle.known_targets.specs.Rows.{facts_in};
 ghost use Rattle.known_targets.specs.Sets.{place};
 ghost use Rattle.known_targets.specs.Table.{target_name, table_keys};
 ghost use Rattle.byte_answers.specs.Answers.{AreFactsOf, AreTargets, fact_lines};
-ghost use Rattle.byte_answers.specs.Depths.{is_too_deep};
-ghost use Rattle.byte_answers.specs.Outcomes.{IsWritten, ends_key_call, ends_target_call};
+ghost use Rattle.byte_answers.specs.Depths.{IsTooDeep};
+ghost use Rattle.byte_answers.specs.Outcomes.{IsSilent, IsWritten, ends_key_call, ends_target_call};
 ghost use Rattle.byte_answers.specs.Refusals.{IsRefusal};
 
 use crate::fact_lines::push_fact_lines;
@@ -28,7 +28,10 @@ pub fn targets(alloc: Global, key: &[u8], words: &mut [u64; WORDS], out: &mut [u
     ensures refused { result.code ≡ REFUSED → IsRefusal key.now result out.old out.new }
     ensures spelled { result.code ≡ REFUSED → (p : Condition) → IsConditionText key.now p → ⊥ }
     ensures not_utf8 { result.code ≡ NOT_UTF8 ↔ (IsUtf8 key.now → ⊥) }
-    ensures too_deep { result.code ≡ TOO_DEEP ↔ (IsUtf8 key.now × is_too_deep key.now ≡ true) }
+    ensures too_deep { result.code ≡ TOO_DEEP ↔ (IsUtf8 key.now × IsTooDeep key.now) }
+    ensures silent { result.code ≢ REFUSED → IsSilent result out.old out.new }
+    ensures words_kept { result.code ≢ DONE → words.new ≡ words.old }
+    ensures argument { result.argument ≡ 0 }
     ensures codes { IsTrue (ends_key_call result.code) }
 {
     match read_condition(alloc, 0, key, out) {
@@ -50,6 +53,8 @@ pub fn target_name(place: usize, out: &mut [u8]) -> Outcome
     ensures done { result.code ≡ DONE → IsWritten (target_name place) result.needed out.old out.new }
     ensures known { place < COUNT → result.code ≡ DONE }
     ensures unknown { COUNT ≤ place → result.code ≡ UNKNOWN_TARGET }
+    ensures silent { COUNT ≤ place → IsSilent result out.old out.new }
+    ensures argument { result.argument ≡ 0 }
 {
     let names = names();
     if place < names.len() {
@@ -76,6 +81,8 @@ pub fn facts(alloc: Global, name: &[u8], out: &mut [u8]) -> Outcome
     ensures done { result.code ≡ DONE → AreFactsOf name.now result.needed out.old out.new }
     ensures unknown { result.code ≡ UNKNOWN_TARGET → (k : ℕ) → k < COUNT → target_name k ≢ name.now }
     ensures not_utf8 { result.code ≡ NOT_UTF8 ↔ (IsUtf8 name.now → ⊥) }
+    ensures silent { result.code ≢ DONE → IsSilent result out.old out.new }
+    ensures argument { result.argument ≡ 0 }
     ensures codes { IsTrue (ends_target_call result.code) }
 {
     let name = match read_text(0, name) {

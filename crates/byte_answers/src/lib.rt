@@ -24,6 +24,7 @@ pub use known::{facts, target_name, targets};
 pub use matching::matches;
 pub use outcome::{
     DONE, NO_MEMORY, NOT_FLAT, NOT_UTF8, Outcome, REFUSED, TOO_DEEP, UNDECIDED, UNKNOWN_TARGET,
+    write,
 };
 pub use relations::{Relation, can_hold, relates};
 pub use release::{VERSION, version};

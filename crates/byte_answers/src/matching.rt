@@ -1,6 +1,6 @@
 //! Whether a key applies to a target.
 
-ghost use Rattle.std.specs.Prelude.{◌≡◌, ◌↔◌, ◌≢◌, ℕ, List, Option, IsTrue, true, map, ◌||◌, ◌==◌};
+ghost use Rattle.std.specs.Prelude.{◌≡◌, ◌↔◌, ◌≢◌, ℕ, List, Option, IsTrue, map, ◌||◌, ◌==◌};
 ghost use Rattle.std.specs.declared.ops.Range.{Range};
 ghost use Rattle.std.specs.Str.{IsUtf8};
 ghost use Rattle.cargo_platform.specs.Trees.{CfgValue, Condition, condition_of};
@@ -9,8 +9,8 @@ ghost use Rattle.cargo_platform.specs.Lines.{lines_of};
 ghost use Rattle.cargo_platform.specs.FactLines.{SpellFacts, IsSpanInFacts};
 ghost use Rattle.cargo_platform.specs.Platforms.{IsConditionText};
 ghost use Rattle.byte_answers.specs.Answers.{IsMatch};
-ghost use Rattle.byte_answers.specs.Depths.{is_too_deep};
-ghost use Rattle.byte_answers.specs.Outcomes.{ends_key_call, is_failure};
+ghost use Rattle.byte_answers.specs.Depths.{IsTooDeep};
+ghost use Rattle.byte_answers.specs.Outcomes.{IsSilent, ends_key_call};
 ghost use Rattle.byte_answers.specs.Refusals.{AreEnds, IsRefusal, IsRefusedLine, IsErrorOfLines};
 
 use crate::outcome::{DONE, NO_MEMORY, NOT_UTF8, Outcome, REFUSED, TOO_DEEP, write};
@@ -36,6 +36,7 @@ fn span_in_lines(error: &FactsError, lines: &str) -> Range<usize>
 fn refused_facts(alloc: Global, error: &FactsError, lines: &str, out: &mut [u8]) -> Outcome
     requires { IsErrorOfLines lines.now error.now }
     ensures refused { result.code ≡ REFUSED → IsRefusedLine lines.now result out.old out.new }
+    ensures silent { result.code ≢ REFUSED → IsSilent result out.old out.new }
     ensures argument { result.argument ≡ LINES }
     ensures codes { IsTrue (result.code == REFUSED || result.code == NO_MEMORY) }
 {
@@ -69,6 +70,7 @@ fn match_lines(
         × (result.holds ≡ truth_of_condition name.now (fact_set facts) (condition_of platform.now))) }
     ensures refused { result.code ≡ REFUSED → IsRefusedLine lines.now result out.old out.new }
     ensures codes { IsTrue (result.code == DONE || result.code == REFUSED || result.code == NO_MEMORY) }
+    ensures silent { result.code ≢ REFUSED → IsSilent result out.old out.new }
     ensures argument { result.code ≡ REFUSED → result.argument ≡ LINES }
     ensures place { IsTrue (result.argument == 0 || result.argument == 1 || result.argument == 2) }
 {
@@ -96,7 +98,9 @@ pub fn matches(alloc: Global, key: &[u8], name: &[u8], lines: &[u8], out: &mut [
     ensures not_utf8_key { result.code ≡ NOT_UTF8 → result.argument ≡ 0 → IsUtf8 key.now → ⊥ }
     ensures not_utf8_name { result.code ≡ NOT_UTF8 → result.argument ≡ 1 → IsUtf8 name.now → ⊥ }
     ensures not_utf8_lines { result.code ≡ NOT_UTF8 → result.argument ≡ 2 → IsUtf8 lines.now → ⊥ }
-    ensures too_deep { result.code ≡ TOO_DEEP ↔ (IsUtf8 key.now × is_too_deep key.now ≡ true) }
+    ensures too_deep { result.code ≡ TOO_DEEP ↔ (IsUtf8 key.now × IsTooDeep key.now) }
+    ensures too_deep_key { result.code ≡ TOO_DEEP → result.argument ≡ 0 }
+    ensures silent { result.code ≢ REFUSED → IsSilent result out.old out.new }
     ensures codes { IsTrue (ends_key_call result.code) }
 {
     let platform = match read_condition(alloc, 0, key, out) {

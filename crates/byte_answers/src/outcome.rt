@@ -42,7 +42,7 @@ pub struct Outcome {
 
 impl Outcome {
     /// A call that ends with no answer, because of this text.
-    pub(crate) fn ended(code: u32, argument: u32) -> Outcome
+    pub fn ended(code: u32, argument: u32) -> Outcome
         ensures { result ≡ record {
           code = code;
           argument = argument;
@@ -65,7 +65,7 @@ impl Outcome {
     }
 
     /// An answer of so many bytes.
-    pub(crate) fn done(needed: usize) -> Outcome
+    pub fn done(needed: usize) -> Outcome
         ensures { result ≡ record {
           code = DONE;
           argument = 0;
@@ -112,7 +112,7 @@ impl Outcome {
 }
 
 /// Writes the text to the start of the buffer, where it fits. Answers how many bytes it has.
-pub(crate) fn write(text: &[u8], out: &mut [u8]) -> usize
+pub fn write(text: &[u8], out: &mut [u8]) -> usize
     ensures { IsWritten text.now result out.old out.new }
 {
     let needed = text.len();

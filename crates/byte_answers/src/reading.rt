@@ -1,14 +1,14 @@
 //! Keys as bytes, and what is said of those that spell no condition.
 
-ghost use Rattle.std.specs.Prelude.{◌≡◌, ◌≢◌, ◌↔◌, ℕ, Option, IfOk, IfErr, IsTrue, true, false};
+ghost use Rattle.std.specs.Prelude.{◌≡◌, ◌≢◌, ◌↔◌, ℕ, Option, IfOk, IfErr, IsTrue};
 ghost use Rattle.std.specs.Str.{IsUtf8};
 ghost use Rattle.std.specs.declared.ops.Range.{Range};
 ghost use Rattle.cargo_platform.specs.Trees.{Condition, condition_of};
 ghost use Rattle.cargo_platform.specs.Errors.{orig_of, fault_in, span_in};
 ghost use Rattle.cargo_platform.specs.KeySpans.{IsSpanInKey};
 ghost use Rattle.cargo_platform.specs.Platforms.{IsConditionText, IsRefusedConditionAt};
-ghost use Rattle.byte_answers.specs.Depths.{is_too_deep};
-ghost use Rattle.byte_answers.specs.Outcomes.{is_failure};
+ghost use Rattle.byte_answers.specs.Depths.{IsTooDeep};
+ghost use Rattle.byte_answers.specs.Outcomes.{is_failure, IsSilent};
 ghost use Rattle.byte_answers.specs.Refusals.{AreEnds, IsRefusal};
 
 use crate::depth::is_too_deep;
@@ -25,6 +25,7 @@ pub(crate) fn read_text(argument: u32, bytes: &[u8]) -> Result<&str, Outcome>
     ensures argument { IfErr result (λ o. o.argument ≡ argument) }
     ensures not_utf8 { IfErr result (λ _. IsUtf8 bytes.now → ⊥) }
     ensures utf8 { IfOk result (λ _. IsUtf8 bytes.now) }
+    ensures silent { IfErr result (λ o. o.needed ≡ 0) }
 {
     match str::from_utf8(bytes) {
         Ok(text) => Ok(text),
@@ -51,6 +52,7 @@ fn refused(alloc: Global, argument: u32, error: &ParseError, key: &str, out: &mu
     ensures refused { result.code ≡ REFUSED → IsRefusal key.now result out.old out.new }
     ensures not_utf8 { result.code ≢ NOT_UTF8 }
     ensures too_deep { result.code ≢ TOO_DEEP }
+    ensures silent { result.code ≢ REFUSED → IsSilent result out.old out.new }
     ensures codes { IsTrue (is_failure result.code) }
 {
     let span = span_of(error, key);
@@ -78,17 +80,18 @@ pub(crate) fn read_condition(
     ensures condition { IfOk result (λ p. IsConditionText key.now (condition_of p)) }
     ensures unwritten { IfOk result (λ _. out.new ≡ out.old) }
     ensures utf8 { IfOk result (λ _. IsUtf8 key.now) }
-    ensures shallow { IfOk result (λ _. is_too_deep key.now ≡ false) }
+    ensures shallow { IfOk result (λ _. IsTooDeep key.now → ⊥) }
     ensures argument { IfErr result (λ o. o.argument ≡ argument) }
     ensures refused { IfErr result (λ o. o.code ≡ REFUSED → IsRefusal key.now o out.old out.new) }
     ensures not_utf8 { IfErr result (λ o. o.code ≡ NOT_UTF8 ↔ (IsUtf8 key.now → ⊥)) }
     ensures too_deep { IfErr result
-        (λ o. o.code ≡ TOO_DEEP ↔ (IsUtf8 key.now × is_too_deep key.now ≡ true)) }
+        (λ o. o.code ≡ TOO_DEEP ↔ (IsUtf8 key.now × IsTooDeep key.now)) }
+    ensures silent { IfErr result (λ o. o.code ≢ REFUSED → IsSilent o out.old out.new) }
     ensures codes { IfErr result (λ o. IsTrue (is_failure o.code)) }
     ensures spelled { IfErr result (λ o. o.code ≡ REFUSED → (p : Condition) → IsConditionText key.now p → ⊥) }
 {
     let key = read_text(argument, key)?;
-    if is_too_deep(key.as_bytes()) {
+    if is_too_deep(key) {
         return Err(Outcome::ended(TOO_DEEP, argument));
     }
     match Platform::from_str(alloc, key) {

@@ -1,6 +1,6 @@
 //! What a key says of another, and whether it can hold, over every set of facts that rustc's rules allow.
 
-ghost use Rattle.std.specs.Prelude.{◌≡◌, ◌↔◌, ◌++◌, [], ◌∷◌, ℕ, IfOk, IsTrue, true, false, map, ◌||◌, ◌==◌};
+ghost use Rattle.std.specs.Prelude.{◌≡◌, ◌≢◌, ◌↔◌, ◌++◌, [], ◌∷◌, ℕ, IfOk, IsTrue, true, false, map, ◌||◌, ◌==◌};
 ghost use Rattle.std.specs.Str.{IsUtf8};
 ghost use Rattle.cargo_platform.specs.Trees.{Condition, value_of, condition_of};
 ghost use Rattle.cargo_platform.specs.Facts.{IsTrueCondition};
@@ -11,8 +11,8 @@ ghost use Rattle.byte_answers.specs.Counted.{counted_facts};
 ghost use Rattle.byte_answers.specs.Comparisons.{Stands, Fails, counted_name, IsWrittenExample, HasExample};
 ghost use Rattle.byte_answers.specs.Comparisons.{SaysRelated, AreRelated, SaysPossible, IsPossibleKey};
 ghost use Rattle.byte_answers.specs.Comparisons.{NeedsLarger, AreUndecided, IsUndecided};
-ghost use Rattle.byte_answers.specs.Depths.{is_too_deep, IsReadable};
-ghost use Rattle.byte_answers.specs.Outcomes.{ends_comparison};
+ghost use Rattle.byte_answers.specs.Depths.{IsReadable, IsTooDeep};
+ghost use Rattle.byte_answers.specs.Outcomes.{IsSilent, ends_comparison};
 ghost use Rattle.byte_answers.specs.Refusals.{IsRefusal};
 
 use crate::counted::{push_counted, push_facts};
@@ -53,6 +53,7 @@ fn example_texts(alloc: Global, target: &PossibleTarget) -> Result<Vec<u8>, Allo
 fn with_example(alloc: Global, holds: bool, target: &PossibleTarget, out: &mut [u8]) -> Outcome
     ensures example { result.code ≡ DONE → IsWrittenExample target.now result out.old out.new }
     ensures holds { result.code ≡ DONE → result.holds ≡ holds }
+    ensures silent { result.code ≢ DONE → IsSilent result out.old out.new }
     ensures argument { result.argument ≡ 0 }
     ensures codes { IsTrue (result.code == DONE || result.code == NO_MEMORY) }
 {
@@ -112,6 +113,8 @@ fn related_by<'a>(
     ensures undecided { result.code ≡ UNDECIDED
         → NeedsMore known.now (asked_trees (condition_of a.now ∷ condition_of b.now ∷ [])) budget }
     ensures argument { result.argument ≡ 0 }
+    ensures silent { result.code ≢ DONE → IsSilent result out.old out.new }
+    ensures silent_yes { result.code ≡ DONE → result.holds ≡ true → IsSilent result out.old out.new }
     ensures codes { IsTrue (result.code == DONE || result.code == UNDECIDED || result.code == NO_MEMORY) }
 {
     match ask(alloc, relation, a, b, known, budget) {
@@ -135,6 +138,8 @@ fn related(
         → SaysRelated relation (condition_of a.now) (condition_of b.now) result out.old out.new }
     ensures undecided { result.code ≡ UNDECIDED → NeedsLarger (condition_of a.now ∷ condition_of b.now ∷ []) budget }
     ensures argument { result.argument ≡ 0 }
+    ensures silent { result.code ≢ DONE → IsSilent result out.old out.new }
+    ensures silent_yes { result.code ≡ DONE → result.holds ≡ true → IsSilent result out.old out.new }
     ensures codes { IsTrue (result.code == DONE || result.code == UNDECIDED || result.code == NO_MEMORY) }
 {
     let rule = match family_rule(alloc) {
@@ -180,14 +185,16 @@ pub fn relates(
     ensures spelled { result.code ≡ REFUSED
         → (p q : Condition) → IsConditionText a.now p → IsConditionText b.now q → ⊥ }
     ensures not_utf8 { result.code ≡ NOT_UTF8 → IsUtf8 a.now → IsUtf8 b.now → ⊥ }
-    ensures too_deep { result.code ≡ TOO_DEEP → is_too_deep a.now ≡ false → is_too_deep b.now ≡ true }
+    ensures too_deep { result.code ≡ TOO_DEEP → (IsTooDeep a.now → ⊥) → IsTooDeep b.now }
     ensures argument { IsTrue (result.argument == 0 || result.argument == 1) }
     ensures not_utf8_first { result.code ≡ NOT_UTF8 → result.argument ≡ 0 → IsUtf8 a.now → ⊥ }
     ensures not_utf8_second { result.code ≡ NOT_UTF8 → result.argument ≡ 1 → IsUtf8 b.now → ⊥ }
-    ensures too_deep_first { result.code ≡ TOO_DEEP → result.argument ≡ 0 → is_too_deep a.now ≡ true }
-    ensures too_deep_second { result.code ≡ TOO_DEEP → result.argument ≡ 1 → is_too_deep b.now ≡ true }
+    ensures too_deep_first { result.code ≡ TOO_DEEP → result.argument ≡ 0 → IsTooDeep a.now }
+    ensures too_deep_second { result.code ≡ TOO_DEEP → result.argument ≡ 1 → IsTooDeep b.now }
     ensures read { result.code ≡ DONE → IsReadable a.now × IsReadable b.now }
     ensures read_undecided { result.code ≡ UNDECIDED → IsReadable a.now × IsReadable b.now }
+    ensures silent { result.code ≢ DONE → result.code ≢ REFUSED → IsSilent result out.old out.new }
+    ensures silent_yes { result.code ≡ DONE → result.holds ≡ true → IsSilent result out.old out.new }
     ensures codes { IsTrue (ends_comparison result.code) }
 {
     let first = match read_condition(alloc, 0, a, out) {
@@ -215,6 +222,9 @@ fn possible_by<'a>(
         → ForEach known.now (λ name s. IsTrueCondition name s (condition_of platform.now) → ⊥) }
     ensures undecided { result.code ≡ UNDECIDED
         → NeedsMore known.now (asked_trees (condition_of platform.now ∷ [])) budget }
+    ensures silent { result.code ≢ DONE → IsSilent result out.old out.new }
+    ensures silent_no { result.code ≡ DONE → result.holds ≡ false → IsSilent result out.old out.new }
+    ensures argument { result.argument ≡ 0 }
     ensures codes { IsTrue (result.code == DONE || result.code == UNDECIDED || result.code == NO_MEMORY) }
 {
     match can_hold_platform(alloc, platform, known, budget) {
@@ -229,6 +239,9 @@ fn possible_by<'a>(
 fn possible(alloc: Global, platform: &Platform, budget: u64, out: &mut [u8]) -> Outcome
     ensures done { result.code ≡ DONE → SaysPossible (condition_of platform.now) result out.old out.new }
     ensures undecided { result.code ≡ UNDECIDED → NeedsLarger (condition_of platform.now ∷ []) budget }
+    ensures silent { result.code ≢ DONE → IsSilent result out.old out.new }
+    ensures silent_no { result.code ≡ DONE → result.holds ≡ false → IsSilent result out.old out.new }
+    ensures argument { result.argument ≡ 0 }
     ensures codes { IsTrue (result.code == DONE || result.code == UNDECIDED || result.code == NO_MEMORY) }
 {
     let rule = match family_rule(alloc) {
@@ -250,7 +263,10 @@ pub fn can_hold(alloc: Global, key: &[u8], budget: u64, out: &mut [u8]) -> Outco
     ensures refused { result.code ≡ REFUSED → IsRefusal key.now result out.old out.new }
     ensures spelled { result.code ≡ REFUSED → (p : Condition) → IsConditionText key.now p → ⊥ }
     ensures not_utf8 { result.code ≡ NOT_UTF8 ↔ (IsUtf8 key.now → ⊥) }
-    ensures too_deep { result.code ≡ TOO_DEEP ↔ (IsUtf8 key.now × is_too_deep key.now ≡ true) }
+    ensures too_deep { result.code ≡ TOO_DEEP ↔ (IsUtf8 key.now × IsTooDeep key.now) }
+    ensures silent { result.code ≢ DONE → result.code ≢ REFUSED → IsSilent result out.old out.new }
+    ensures silent_no { result.code ≡ DONE → result.holds ≡ false → IsSilent result out.old out.new }
+    ensures argument { result.argument ≡ 0 }
     ensures codes { IsTrue (ends_comparison result.code) }
 {
     match read_condition(alloc, 0, key, out) {

@@ -1,11 +1,11 @@
 //! Questions on flat conditions.
 
-ghost use Rattle.std.specs.Prelude.{◌≡◌, ◌↔◌, ◌≤◌, ◌<◌, length, IfOk, IfErr, IsTrue, ◌||◌, ◌==◌};
+ghost use Rattle.std.specs.Prelude.{◌≡◌, ◌≢◌, ◌↔◌, ◌≤◌, ◌<◌, length, IfOk, IfErr, IsTrue, ◌||◌, ◌==◌};
 ghost use Rattle.std.specs.Str.{IsUtf8};
 ghost use Rattle.cargo_platform.specs.Trees.{condition_of};
 ghost use Rattle.byte_answers.specs.Flat.{flat_condition, IsFlatForm, AreFlatFacts};
 ghost use Rattle.byte_answers.specs.Answers.{IsFlatMatch, IsPrint};
-ghost use Rattle.byte_answers.specs.Outcomes.{ends_flat_call, ends_flat_print};
+ghost use Rattle.byte_answers.specs.Outcomes.{IsSilent, ends_flat_call, ends_flat_print};
 
 use crate::depth::MOST_FLAT_BYTES;
 use crate::outcome::{DONE, NO_MEMORY, NOT_FLAT, NOT_UTF8, Outcome, TOO_DEEP, write};
@@ -21,6 +21,7 @@ fn read_flat(alloc: Global, flat: &[u8]) -> Result<Platform, Outcome>
     ensures fits { IfOk result (λ _. length flat.now ≤ MOST_FLAT_BYTES) }
     ensures too_deep { IfErr result (λ o. o.code ≡ TOO_DEEP ↔ MOST_FLAT_BYTES < length flat.now) }
     ensures argument { IfErr result (λ o. o.argument ≡ 0) }
+    ensures silent { IfErr result (λ o. o.needed ≡ 0) }
     ensures codes { IfErr result
         (λ o. IsTrue (o.code == TOO_DEEP || o.code == NOT_FLAT || o.code == NO_MEMORY)) }
 {
@@ -41,6 +42,8 @@ pub fn flat_print(alloc: Global, flat: &[u8], out: &mut [u8]) -> Outcome
     ensures done { result.code ≡ DONE → IsPrint flat.now result.needed out.old out.new }
     ensures not_flat { result.code ≡ NOT_FLAT → IsFlatForm flat.now → ⊥ }
     ensures too_deep { result.code ≡ TOO_DEEP ↔ MOST_FLAT_BYTES < length flat.now }
+    ensures silent { result.code ≢ DONE → IsSilent result out.old out.new }
+    ensures argument { result.argument ≡ 0 }
     ensures codes { IsTrue (ends_flat_print result.code) }
 {
     match read_flat(alloc, flat) {
@@ -62,6 +65,9 @@ pub fn flat_matches(alloc: Global, flat: &[u8], name: &[u8], flat_facts: &[u8]) 
     ensures not_flat_facts { result.code ≡ NOT_FLAT → result.argument ≡ 2 → AreFlatFacts flat_facts.now → ⊥ }
     ensures refused_bytes { result.code ≡ NOT_FLAT → IsTrue (result.argument == 0 || result.argument == 2) }
     ensures not_utf8 { result.code ≡ NOT_UTF8 → IsUtf8 name.now → ⊥ }
+    ensures not_utf8_name { result.code ≡ NOT_UTF8 → result.argument ≡ 1 }
+    ensures too_deep_flat { result.code ≡ TOO_DEEP → result.argument ≡ 0 }
+    ensures silent { result.needed ≡ 0 }
     ensures utf8 { result.code ≡ DONE → IsUtf8 name.now }
     ensures too_deep { result.code ≡ TOO_DEEP ↔ MOST_FLAT_BYTES < length flat.now }
     ensures codes { IsTrue (ends_flat_call result.code) }

@@ -12,9 +12,9 @@ ghost use Rattle.known_targets.specs.Table.{target_name};
 ghost use Rattle.byte_answers.specs.Answers.{AreFactsOf, AreTargets, IsCanonical, IsFlatMatch, IsFlatOf, IsMatch};
 ghost use Rattle.byte_answers.specs.Answers.{IsPrint};
 ghost use Rattle.byte_answers.specs.Comparisons.{AreRelated, AreUndecided, IsPossibleKey, IsUndecided};
-ghost use Rattle.byte_answers.specs.Depths.{is_too_deep, IsReadable};
+ghost use Rattle.byte_answers.specs.Depths.{IsReadable, IsTooDeep};
 ghost use Rattle.byte_answers.specs.Flat.{IsFlatForm, AreFlatFacts};
-ghost use Rattle.byte_answers.specs.Outcomes.{IsWritten, ends_comparison, ends_flat_call, ends_flat_print};
+ghost use Rattle.byte_answers.specs.Outcomes.{IsSilent, IsWritten, ends_comparison, ends_flat_call, ends_flat_print};
 ghost use Rattle.byte_answers.specs.Outcomes.{ends_key_call};
 ghost use Rattle.byte_answers.specs.Outcomes.{ends_target_call};
 ghost use Rattle.byte_answers.specs.Refusals.{IsRefusal, IsRefusedLine, IsShownRefusal};
@@ -42,6 +42,7 @@ pub extern "C" fn nevgrasi_abi() -> u32
 pub extern "C" fn nevgrasi_version(out: &mut [u8], outcome: &mut Outcome) -> u32
     ensures written { IsWritten VERSION.now outcome.new.needed out.old out.new }
     ensures done { result ≡ DONE }
+    ensures outcome { outcome.new.code ≡ result }
 {
     *outcome = byte_answers::version(out);
     outcome.code
@@ -59,8 +60,11 @@ pub extern "C" fn nevgrasi_canonical(
     ensures refused { result ≡ REFUSED → IsRefusal key.now outcome.new out.old out.new }
     ensures spelled { result ≡ REFUSED → (p : Condition) → IsConditionText key.now p → ⊥ }
     ensures not_utf8 { result ≡ NOT_UTF8 ↔ (IsUtf8 key.now → ⊥) }
-    ensures too_deep { result ≡ TOO_DEEP ↔ (IsUtf8 key.now × is_too_deep key.now ≡ true) }
+    ensures too_deep { result ≡ TOO_DEEP ↔ (IsUtf8 key.now × IsTooDeep key.now) }
+    ensures silent { result ≢ DONE → result ≢ REFUSED → IsSilent outcome.new out.old out.new }
+    ensures argument { outcome.new.argument ≡ 0 }
     ensures codes { IsTrue (ends_key_call result) }
+    ensures outcome { outcome.new.code ≡ result }
 {
     *outcome = byte_answers::canonical(alloc, key, out);
     outcome.code
@@ -79,8 +83,11 @@ pub extern "C" fn nevgrasi_fault(
     ensures refused { result ≡ REFUSED → IsShownRefusal key.now outcome.new out.old out.new }
     ensures spelled { result ≡ REFUSED → (p : Condition) → IsConditionText key.now p → ⊥ }
     ensures not_utf8 { result ≡ NOT_UTF8 ↔ (IsUtf8 key.now → ⊥) }
-    ensures too_deep { result ≡ TOO_DEEP ↔ (IsUtf8 key.now × is_too_deep key.now ≡ true) }
+    ensures too_deep { result ≡ TOO_DEEP ↔ (IsUtf8 key.now × IsTooDeep key.now) }
+    ensures silent { result ≢ REFUSED → IsSilent outcome.new out.old out.new }
+    ensures argument { outcome.new.argument ≡ 0 }
     ensures codes { IsTrue (ends_key_call result) }
+    ensures outcome { outcome.new.code ≡ result }
 {
     *outcome = byte_answers::fault(alloc, key, out);
     outcome.code
@@ -110,8 +117,11 @@ pub extern "C" fn nevgrasi_matches(
     ensures not_utf8_key { result ≡ NOT_UTF8 → outcome.new.argument ≡ 0 → IsUtf8 key.now → ⊥ }
     ensures not_utf8_name { result ≡ NOT_UTF8 → outcome.new.argument ≡ 1 → IsUtf8 name.now → ⊥ }
     ensures not_utf8_lines { result ≡ NOT_UTF8 → outcome.new.argument ≡ 2 → IsUtf8 lines.now → ⊥ }
-    ensures too_deep { result ≡ TOO_DEEP ↔ (IsUtf8 key.now × is_too_deep key.now ≡ true) }
+    ensures too_deep { result ≡ TOO_DEEP ↔ (IsUtf8 key.now × IsTooDeep key.now) }
+    ensures too_deep_key { result ≡ TOO_DEEP → outcome.new.argument ≡ 0 }
+    ensures silent { result ≢ REFUSED → IsSilent outcome.new out.old out.new }
     ensures codes { IsTrue (ends_key_call result) }
+    ensures outcome { outcome.new.code ≡ result }
 {
     *outcome = byte_answers::matches(alloc, key, name, lines, out);
     outcome.code
@@ -130,8 +140,12 @@ pub extern "C" fn nevgrasi_targets(
     ensures refused { result ≡ REFUSED → IsRefusal key.now outcome.new out.old out.new }
     ensures spelled { result ≡ REFUSED → (p : Condition) → IsConditionText key.now p → ⊥ }
     ensures not_utf8 { result ≡ NOT_UTF8 ↔ (IsUtf8 key.now → ⊥) }
-    ensures too_deep { result ≡ TOO_DEEP ↔ (IsUtf8 key.now × is_too_deep key.now ≡ true) }
+    ensures too_deep { result ≡ TOO_DEEP ↔ (IsUtf8 key.now × IsTooDeep key.now) }
+    ensures silent { result ≢ REFUSED → IsSilent outcome.new out.old out.new }
+    ensures words_kept { result ≢ DONE → words.new ≡ words.old }
+    ensures argument { outcome.new.argument ≡ 0 }
     ensures codes { IsTrue (ends_key_call result) }
+    ensures outcome { outcome.new.code ≡ result }
 {
     *outcome = byte_answers::targets(alloc, key, words, out);
     outcome.code
@@ -143,6 +157,9 @@ pub extern "C" fn nevgrasi_target_name(place: usize, out: &mut [u8], outcome: &m
     ensures done { result ≡ DONE → IsWritten (target_name place) outcome.new.needed out.old out.new }
     ensures known { place < COUNT → result ≡ DONE }
     ensures unknown { COUNT ≤ place → result ≡ UNKNOWN_TARGET }
+    ensures silent { COUNT ≤ place → IsSilent outcome.new out.old out.new }
+    ensures argument { outcome.new.argument ≡ 0 }
+    ensures outcome { outcome.new.code ≡ result }
 {
     *outcome = byte_answers::target_name(place, out);
     outcome.code
@@ -160,7 +177,10 @@ pub extern "C" fn nevgrasi_facts(
     ensures done { result ≡ DONE → AreFactsOf name.now outcome.new.needed out.old out.new }
     ensures unknown { result ≡ UNKNOWN_TARGET → (k : ℕ) → k < COUNT → target_name k ≢ name.now }
     ensures not_utf8 { result ≡ NOT_UTF8 ↔ (IsUtf8 name.now → ⊥) }
+    ensures silent { result ≢ DONE → IsSilent outcome.new out.old out.new }
+    ensures argument { outcome.new.argument ≡ 0 }
     ensures codes { IsTrue (ends_target_call result) }
+    ensures outcome { outcome.new.code ≡ result }
 {
     *outcome = byte_answers::facts(alloc, name, out);
     outcome.code
@@ -184,15 +204,18 @@ pub extern "C" fn nevgrasi_implies(
     ensures first { result ≡ REFUSED → outcome.new.argument ≡ 0 → IsRefusal first.now outcome.new out.old out.new }
     ensures second { result ≡ REFUSED → outcome.new.argument ≡ 1 → IsRefusal second.now outcome.new out.old out.new }
     ensures not_utf8 { result ≡ NOT_UTF8 → IsUtf8 first.now → IsUtf8 second.now → ⊥ }
-    ensures too_deep { result ≡ TOO_DEEP → is_too_deep first.now ≡ false → is_too_deep second.now ≡ true }
+    ensures too_deep { result ≡ TOO_DEEP → (IsTooDeep first.now → ⊥) → IsTooDeep second.now }
     ensures argument { IsTrue (outcome.new.argument == 0 || outcome.new.argument == 1) }
     ensures not_utf8_first { result ≡ NOT_UTF8 → outcome.new.argument ≡ 0 → IsUtf8 first.now → ⊥ }
     ensures not_utf8_second { result ≡ NOT_UTF8 → outcome.new.argument ≡ 1 → IsUtf8 second.now → ⊥ }
-    ensures too_deep_first { result ≡ TOO_DEEP → outcome.new.argument ≡ 0 → is_too_deep first.now ≡ true }
-    ensures too_deep_second { result ≡ TOO_DEEP → outcome.new.argument ≡ 1 → is_too_deep second.now ≡ true }
+    ensures too_deep_first { result ≡ TOO_DEEP → outcome.new.argument ≡ 0 → IsTooDeep first.now }
+    ensures too_deep_second { result ≡ TOO_DEEP → outcome.new.argument ≡ 1 → IsTooDeep second.now }
     ensures read { result ≡ DONE → IsReadable first.now × IsReadable second.now }
     ensures read_undecided { result ≡ UNDECIDED → IsReadable first.now × IsReadable second.now }
+    ensures silent { result ≢ DONE → result ≢ REFUSED → IsSilent outcome.new out.old out.new }
+    ensures silent_yes { result ≡ DONE → outcome.new.holds ≡ true → IsSilent outcome.new out.old out.new }
     ensures codes { IsTrue (ends_comparison result) }
+    ensures outcome { outcome.new.code ≡ result }
 {
     *outcome = byte_answers::relates(alloc, Relation::Implies, first, second, budget, out);
     outcome.code
@@ -215,15 +238,18 @@ pub extern "C" fn nevgrasi_equivalent(
     ensures first { result ≡ REFUSED → outcome.new.argument ≡ 0 → IsRefusal first.now outcome.new out.old out.new }
     ensures second { result ≡ REFUSED → outcome.new.argument ≡ 1 → IsRefusal second.now outcome.new out.old out.new }
     ensures not_utf8 { result ≡ NOT_UTF8 → IsUtf8 first.now → IsUtf8 second.now → ⊥ }
-    ensures too_deep { result ≡ TOO_DEEP → is_too_deep first.now ≡ false → is_too_deep second.now ≡ true }
+    ensures too_deep { result ≡ TOO_DEEP → (IsTooDeep first.now → ⊥) → IsTooDeep second.now }
     ensures argument { IsTrue (outcome.new.argument == 0 || outcome.new.argument == 1) }
     ensures not_utf8_first { result ≡ NOT_UTF8 → outcome.new.argument ≡ 0 → IsUtf8 first.now → ⊥ }
     ensures not_utf8_second { result ≡ NOT_UTF8 → outcome.new.argument ≡ 1 → IsUtf8 second.now → ⊥ }
-    ensures too_deep_first { result ≡ TOO_DEEP → outcome.new.argument ≡ 0 → is_too_deep first.now ≡ true }
-    ensures too_deep_second { result ≡ TOO_DEEP → outcome.new.argument ≡ 1 → is_too_deep second.now ≡ true }
+    ensures too_deep_first { result ≡ TOO_DEEP → outcome.new.argument ≡ 0 → IsTooDeep first.now }
+    ensures too_deep_second { result ≡ TOO_DEEP → outcome.new.argument ≡ 1 → IsTooDeep second.now }
     ensures read { result ≡ DONE → IsReadable first.now × IsReadable second.now }
     ensures read_undecided { result ≡ UNDECIDED → IsReadable first.now × IsReadable second.now }
+    ensures silent { result ≢ DONE → result ≢ REFUSED → IsSilent outcome.new out.old out.new }
+    ensures silent_yes { result ≡ DONE → outcome.new.holds ≡ true → IsSilent outcome.new out.old out.new }
     ensures codes { IsTrue (ends_comparison result) }
+    ensures outcome { outcome.new.code ≡ result }
 {
     *outcome = byte_answers::relates(alloc, Relation::Equivalent, first, second, budget, out);
     outcome.code
@@ -246,15 +272,18 @@ pub extern "C" fn nevgrasi_excludes(
     ensures first { result ≡ REFUSED → outcome.new.argument ≡ 0 → IsRefusal first.now outcome.new out.old out.new }
     ensures second { result ≡ REFUSED → outcome.new.argument ≡ 1 → IsRefusal second.now outcome.new out.old out.new }
     ensures not_utf8 { result ≡ NOT_UTF8 → IsUtf8 first.now → IsUtf8 second.now → ⊥ }
-    ensures too_deep { result ≡ TOO_DEEP → is_too_deep first.now ≡ false → is_too_deep second.now ≡ true }
+    ensures too_deep { result ≡ TOO_DEEP → (IsTooDeep first.now → ⊥) → IsTooDeep second.now }
     ensures argument { IsTrue (outcome.new.argument == 0 || outcome.new.argument == 1) }
     ensures not_utf8_first { result ≡ NOT_UTF8 → outcome.new.argument ≡ 0 → IsUtf8 first.now → ⊥ }
     ensures not_utf8_second { result ≡ NOT_UTF8 → outcome.new.argument ≡ 1 → IsUtf8 second.now → ⊥ }
-    ensures too_deep_first { result ≡ TOO_DEEP → outcome.new.argument ≡ 0 → is_too_deep first.now ≡ true }
-    ensures too_deep_second { result ≡ TOO_DEEP → outcome.new.argument ≡ 1 → is_too_deep second.now ≡ true }
+    ensures too_deep_first { result ≡ TOO_DEEP → outcome.new.argument ≡ 0 → IsTooDeep first.now }
+    ensures too_deep_second { result ≡ TOO_DEEP → outcome.new.argument ≡ 1 → IsTooDeep second.now }
     ensures read { result ≡ DONE → IsReadable first.now × IsReadable second.now }
     ensures read_undecided { result ≡ UNDECIDED → IsReadable first.now × IsReadable second.now }
+    ensures silent { result ≢ DONE → result ≢ REFUSED → IsSilent outcome.new out.old out.new }
+    ensures silent_yes { result ≡ DONE → outcome.new.holds ≡ true → IsSilent outcome.new out.old out.new }
     ensures codes { IsTrue (ends_comparison result) }
+    ensures outcome { outcome.new.code ≡ result }
 {
     *outcome = byte_answers::relates(alloc, Relation::Excludes, first, second, budget, out);
     outcome.code
@@ -275,8 +304,12 @@ pub extern "C" fn nevgrasi_can_hold(
     ensures refused { result ≡ REFUSED → IsRefusal key.now outcome.new out.old out.new }
     ensures spelled { result ≡ REFUSED → (p : Condition) → IsConditionText key.now p → ⊥ }
     ensures not_utf8 { result ≡ NOT_UTF8 ↔ (IsUtf8 key.now → ⊥) }
-    ensures too_deep { result ≡ TOO_DEEP ↔ (IsUtf8 key.now × is_too_deep key.now ≡ true) }
+    ensures too_deep { result ≡ TOO_DEEP ↔ (IsUtf8 key.now × IsTooDeep key.now) }
+    ensures silent { result ≢ DONE → result ≢ REFUSED → IsSilent outcome.new out.old out.new }
+    ensures silent_no { result ≡ DONE → outcome.new.holds ≡ false → IsSilent outcome.new out.old out.new }
+    ensures argument { outcome.new.argument ≡ 0 }
     ensures codes { IsTrue (ends_comparison result) }
+    ensures outcome { outcome.new.code ≡ result }
 {
     *outcome = byte_answers::can_hold(alloc, key, budget, out);
     outcome.code
@@ -294,8 +327,11 @@ pub extern "C" fn nevgrasi_read_key(
     ensures refused { result ≡ REFUSED → IsRefusal key.now outcome.new out.old out.new }
     ensures spelled { result ≡ REFUSED → (p : Condition) → IsConditionText key.now p → ⊥ }
     ensures not_utf8 { result ≡ NOT_UTF8 ↔ (IsUtf8 key.now → ⊥) }
-    ensures too_deep { result ≡ TOO_DEEP ↔ (IsUtf8 key.now × is_too_deep key.now ≡ true) }
+    ensures too_deep { result ≡ TOO_DEEP ↔ (IsUtf8 key.now × IsTooDeep key.now) }
+    ensures silent { result ≢ DONE → result ≢ REFUSED → IsSilent outcome.new out.old out.new }
+    ensures argument { outcome.new.argument ≡ 0 }
     ensures codes { IsTrue (ends_key_call result) }
+    ensures outcome { outcome.new.code ≡ result }
 {
     *outcome = byte_answers::read_key(alloc, key, out);
     outcome.code
@@ -312,7 +348,10 @@ pub extern "C" fn nevgrasi_flat_print(
     ensures done { result ≡ DONE → IsPrint flat.now outcome.new.needed out.old out.new }
     ensures not_flat { result ≡ NOT_FLAT → IsFlatForm flat.now → ⊥ }
     ensures too_deep { result ≡ TOO_DEEP ↔ MOST_FLAT_BYTES < length flat.now }
+    ensures silent { result ≢ DONE → IsSilent outcome.new out.old out.new }
+    ensures argument { outcome.new.argument ≡ 0 }
     ensures codes { IsTrue (ends_flat_print result) }
+    ensures outcome { outcome.new.code ≡ result }
 {
     *outcome = byte_answers::flat_print(alloc, flat, out);
     outcome.code
@@ -334,7 +373,11 @@ pub extern "C" fn nevgrasi_flat_matches(
     ensures not_utf8 { result ≡ NOT_UTF8 → IsUtf8 name.now → ⊥ }
     ensures utf8 { result ≡ DONE → IsUtf8 name.now }
     ensures too_deep { result ≡ TOO_DEEP ↔ MOST_FLAT_BYTES < length flat.now }
+    ensures not_utf8_name { result ≡ NOT_UTF8 → outcome.new.argument ≡ 1 }
+    ensures too_deep_flat { result ≡ TOO_DEEP → outcome.new.argument ≡ 0 }
+    ensures silent { outcome.new.needed ≡ 0 }
     ensures codes { IsTrue (ends_flat_call result) }
+    ensures outcome { outcome.new.code ≡ result }
 {
     *outcome = byte_answers::flat_matches(alloc, flat, name, flat_facts);
     outcome.code
