@@ -3,5 +3,6 @@
 
 pub mod asked_facts;
 pub mod key_spans;
+pub mod laws;
 pub mod rustc_names;
 pub mod standing;
