@@ -1,0 +1,4 @@
+pub mod Each
+pub mod Numbering
+pub mod Exact
+pub mod Pushing

@@ -1,0 +1,9 @@
+use Rattle.std.proofs.Common.{◌≡◌, ◌++◌, take}
+use Rattle.cargo_features.specs.Steps.{at_each, feature_steps}
+use Rattle.cargo_features.proofs.build.Build.features.Given as goal
+
+abbrev pub invariant-features : goal.invariant-features
+invariant-features l =
+    l.steps.items ≡ l.fn.steps.items
+    ++ at_each 0 (λ f members. feature_steps l.self l.packages l.at l.unit f members.items)
+    (take l.i l.unit.features.items)

@@ -1,0 +1,6 @@
+pub mod Claims
+pub mod Ways
+pub mod Steps
+pub mod Holding
+pub mod Inside
+pub mod Resolved

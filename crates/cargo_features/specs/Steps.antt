@@ -1,0 +1,160 @@
+-- Cargo's rules: which claims lead to which. They are those of the pages "Features" and "Dependency Resolution" of the
+-- Cargo book, as its feature resolver has them (`core/resolver/features.rs`), and then those of `cargo tree`.
+use Rattle.std.specs.Prelude.{ℕ, zero, suc, ◌+◌, Bool, true, false, not, ◌&&◌, cond, List, [], ◌∷◌, ◌++◌, Option}
+use Rattle.std.specs.Prelude.{Some, None, flat_map, slice_get}
+use Rattle.package_graphs.specs.Kinds.{is_followed}
+use Rattle.package_graphs.specs.declared.packages.Side.{Side}
+use Rattle.package_graphs.specs.declared.packages.Side.TheVariants.{Target, Host}
+use Rattle.cargo_features.specs.Ways.{way, feature_way, feature_side, is_counted, begins_on}
+use Rattle.cargo_features.specs.declared.build.Build.{Build}
+use Rattle.cargo_features.specs.declared.build.Way.{Way}
+use Rattle.cargo_features.specs.declared.claims.Claim.{Claim}
+use Rattle.cargo_features.specs.declared.claims.Claim.TheVariants as claim
+use Rattle.cargo_features.specs.declared.claims.Condition.{Condition}
+use Rattle.cargo_features.specs.declared.claims.Condition.TheVariants.{Always}
+use Rattle.cargo_features.specs.declared.claims.Place.{Place}
+use Rattle.cargo_features.specs.declared.claims.Step.{Step}
+use Rattle.cargo_features.specs.declared.packages.Dependency.{Dependency}
+use Rattle.cargo_features.specs.declared.packages.Member.{Member}
+use Rattle.cargo_features.specs.declared.packages.Member.TheVariants as listed
+use Rattle.cargo_features.specs.declared.packages.Package.{Package}
+
+-- a step from one claim
+abbrev pub one : Claim → Claim → Condition → Step
+one first to condition = record { first = first; second = first; to = to; condition = condition }
+
+abbrev pub both : Claim → Claim → Claim → Condition → Step
+both first second to condition = record { first = first; second = second; to = to; condition = condition }
+
+-- a step, where it is one
+abbrev pub when : Bool → Step → List Step
+when is_there step = cond is_there (step ∷ []) []
+
+-- of each element of a list, by its place, counted from k on
+abbrev pub at_each : {X : Type 0} → ℕ → (ℕ → X → List Step) → List X → List Step
+at_each k f [] = []
+at_each k f (x ∷ xs) = f k x ++ at_each (k + 1) f xs
+
+-- an optional dependency is followed where it is on; another one wherever what follows it is
+abbrev pub gate : Place → ℕ → Dependency → Claim → Claim
+gate at i d otherwise = cond d.is_optional (claim.Dependency at.index at.side i) otherwise
+
+-- to a feature of a package
+abbrev pub to_feature : Bool → Claim → Place → Condition → ℕ → List Step
+to_feature is_there first on condition f =
+    when is_there (one first (claim.Feature on.index on.side f) condition)
+
+-- ---- a root
+
+abbrev pub is_first_side : Side → Package → Bool
+is_first_side Target unit = unit.is_root && not unit.is_macro
+is_first_side Host unit = unit.is_root && unit.is_macro
+
+-- is active, with the features that are asked of it, and is used
+abbrev pub root_steps : Build → Place → Package → List Step
+root_steps build at unit =
+    when (begins_on build at.side unit) (one claim.Asked (claim.Active at.index at.side) Always)
+    ++ flat_map (to_feature (begins_on build at.side unit) claim.Asked at Always) unit.asked.items
+    ++ when (is_first_side at.side unit) (one claim.Asked (claim.Used at.index at.side) Always)
+
+-- ---- a dependency
+
+-- where it leads to for the feature resolver
+abbrev pub led_to : Build → List Package → Place → Dependency → Place
+led_to build packages at d = record { index = d.to; side = (feature_way build packages at.side d).side }
+
+abbrev pub led_where : Build → List Package → Place → Dependency → Condition
+led_where build packages at d = (feature_way build packages at.side d).condition
+
+-- makes its package active, with the features that it asks for
+abbrev pub active_steps : Build → List Package → Place → Package → ℕ → Dependency → List Step
+active_steps build packages at unit i d =
+    when (is_counted build unit d)
+    (one (gate at i d (claim.Active at.index at.side))
+    (claim.Active (led_to build packages at d).index (led_to build packages at d).side)
+    (led_where build packages at d))
+    ++ flat_map (to_feature (is_counted build unit d) (gate at i d (claim.Active at.index at.side))
+    (led_to build packages at d) (led_where build packages at d)) d.features.items
+
+-- and its package is used; that it is on is told on the side of the features
+abbrev pub used_steps : Build → List Package → Place → Package → ℕ → Dependency → List Step
+used_steps build packages at unit i d =
+    when (is_followed build.kinds unit.is_root d.kind)
+    (both (claim.Used at.index at.side)
+    (gate (record { index = at.index; side = feature_side build at.side }) i d (claim.Used at.index at.side))
+    (claim.Used d.to (way packages at.side d).side)
+    (way packages at.side d).condition)
+
+abbrev pub dependency_steps : Build → List Package → Place → Package → List Step
+dependency_steps build packages at unit =
+    at_each 0 (λ i d. active_steps build packages at unit i d ++ used_steps build packages at unit i d)
+    unit.dependencies.items
+
+-- ---- what a feature lists
+
+-- an optional dependency can be turned on
+abbrev pub turns_on : Build → Package → Dependency → Bool
+turns_on build unit d = is_counted build unit d && d.is_optional
+
+-- the feature of the dependency's name, if there is one
+abbrev pub named_steps : Bool → Place → Claim → Condition → Option ℕ → List Step
+named_steps is_on at from condition None = []
+named_steps is_on at from condition (Some f) = to_feature is_on from at condition f
+
+-- `d/g`: the feature g of the package of d; and where d is optional, d itself and the feature of its name
+abbrev pub strong_at : Build → List Package → Place → Package → Claim → ℕ → ℕ → Option Dependency → List Step
+strong_at build packages at unit from i g None = []
+strong_at build packages at unit from i g (Some d) =
+    to_feature (is_counted build unit d) from (led_to build packages at d) (led_where build packages at d) g
+    ++ when (turns_on build unit d)
+    (one from (claim.Dependency at.index at.side i) (led_where build packages at d))
+    ++ named_steps (turns_on build unit d) at from (led_where build packages at d) d.named
+
+abbrev pub strong_steps : Build → List Package → Place → Package → Claim → ℕ → ℕ → List Step
+strong_steps build packages at unit from i g =
+    strong_at build packages at unit from i g (slice_get unit.dependencies.items i)
+
+-- `d?/g`: the feature g of the package of d, where d is on if it is optional
+abbrev pub weak_at : Build → List Package → Place → Package → Claim → ℕ → ℕ → Option Dependency → List Step
+weak_at build packages at unit from i g None = []
+weak_at build packages at unit from i g (Some d) =
+    when (is_counted build unit d)
+    (both from (gate at i d from)
+    (claim.Feature (led_to build packages at d).index (led_to build packages at d).side g)
+    (led_where build packages at d))
+
+abbrev pub weak_steps : Build → List Package → Place → Package → Claim → ℕ → ℕ → List Step
+weak_steps build packages at unit from i g =
+    weak_at build packages at unit from i g (slice_get unit.dependencies.items i)
+
+-- a feature, `dep:d`, `d/g`, or `d?/g`
+abbrev pub member_steps : Build → List Package → Place → Package → Claim → Member → List Step
+member_steps build packages at unit from (listed.Feature f) =
+    when true (one from (claim.Feature at.index at.side f) Always)
+member_steps build packages at unit from (listed.Dependency i) =
+    when true (one from (claim.Dependency at.index at.side i) Always)
+member_steps build packages at unit from (listed.Strong i g) = strong_steps build packages at unit from i g
+member_steps build packages at unit from (listed.Weak i g) = weak_steps build packages at unit from i g
+
+-- a feature turns on what it lists
+abbrev pub feature_steps : Build → List Package → Place → Package → ℕ → List Member → List Step
+feature_steps build packages at unit f members =
+    flat_map (member_steps build packages at unit (claim.Feature at.index at.side f)) members
+
+abbrev pub all_features : Build → List Package → Place → Package → List Step
+all_features build packages at unit =
+    at_each 0 (λ f members. feature_steps build packages at unit f members.items) unit.features.items
+
+-- ---- a package on a side, and all of them
+
+abbrev pub steps_of : Build → List Package → Place → Package → List Step
+steps_of build packages at unit =
+    root_steps build at unit ++ dependency_steps build packages at unit ++ all_features build packages at unit
+
+abbrev pub steps_on_both : Build → List Package → ℕ → Package → List Step
+steps_on_both build packages p unit =
+    steps_of build packages (record { index = p; side = Target }) unit
+    ++ steps_of build packages (record { index = p; side = Host }) unit
+
+abbrev pub all_steps : Build → List Package → List Step
+all_steps build packages = at_each 0 (λ p unit. steps_on_both build packages p unit) packages

@@ -1,0 +1,56 @@
+-- Where a dependency leads to, and which the feature resolver looks at.
+use Rattle.std.specs.Prelude.{ℕ, Bool, true, false, ◌&&◌, ◌||◌, cond, List, map}
+use Rattle.std.specs.List.{slice_index_or}
+use Rattle.known_targets.specs.declared.target_set.TargetSet.{TargetSet}
+use Rattle.package_graphs.specs.Packages.{is_of_host, side}
+use Rattle.package_graphs.specs.declared.packages.Kind.{Kind}
+use Rattle.package_graphs.specs.declared.packages.Kind.TheVariants as kinds
+use Rattle.package_graphs.specs.declared.packages.Side.{Side}
+use Rattle.package_graphs.specs.declared.packages.Side.TheVariants.{Target, Host}
+use Rattle.cargo_features.specs.declared.build.Build.{Build}
+use Rattle.cargo_features.specs.declared.build.Way.{Way}
+use Rattle.cargo_features.specs.declared.claims.Condition.{Condition}
+use Rattle.cargo_features.specs.declared.claims.Condition.TheVariants.{Always, OfTarget, OfHost}
+use Rattle.cargo_features.specs.declared.packages.Dependency.{Dependency}
+use Rattle.cargo_features.specs.declared.packages.Package.{Package}
+
+abbrev pub is_macro : List Package → ℕ → Bool
+is_macro packages p = slice_index_or (map (λ p. p.is_macro) packages) p false
+
+-- what a build script and what the host needs is asked of the host
+abbrev pub condition : Bool → TargetSet → Condition
+condition true set = OfHost set
+condition false set = OfTarget set
+
+-- what is built for the host leads to what is built for it too, as do build-dependencies; a procedural macro is built
+-- for the host
+abbrev pub way : List Package → Side → Dependency → Way
+way packages from d = record {
+  side = side (is_of_host from d.kind || is_macro packages d.to);
+  condition = condition (is_of_host from d.kind) d.holds;
+}
+
+-- where features are not told apart by side, they are those of the target's side
+abbrev pub feature_side : Build → Side → Side
+feature_side build from = cond build.by_side from Target
+
+-- and where they are not told apart by target, no condition counts
+abbrev pub feature_way : Build → List Package → Side → Dependency → Way
+feature_way build packages from d = record {
+  side = feature_side build (way packages from d).side;
+  condition = cond build.by_target (way packages from d).condition Always;
+}
+
+-- dev-dependencies are those of roots alone
+abbrev pub counts_kind : Build → Bool → Kind → Bool
+counts_kind build is_root kinds.Normal = true
+counts_kind build is_root kinds.Build = true
+counts_kind build is_root kinds.Dev = build.with_dev && is_root
+
+abbrev pub is_counted : Build → Package → Dependency → Bool
+is_counted build unit d = counts_kind build unit.is_root d.kind
+
+-- it begins with roots; with one that is a procedural macro on both sides
+abbrev pub begins_on : Build → Side → Package → Bool
+begins_on build Target unit = unit.is_root
+begins_on build Host unit = unit.is_root && (build.by_side && unit.is_macro)

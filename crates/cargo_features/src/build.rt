@@ -1,0 +1,149 @@
+//! What is built, and where a dependency leads to.
+
+ghost use Rattle.std.specs.Prelude.{◌≡◌, true, false};
+ghost use Rattle.package_graphs.specs.Packages.{is_of_host, side};
+ghost use Rattle.cargo_features.specs.Ways.{is_macro, way, feature_way, feature_side, is_counted, begins_on};
+
+use crate::claims::Condition;
+use crate::packages::{Dependency, Package};
+use known_targets::KnownTarget;
+use package_graphs::{Kind, Kinds, Side};
+
+/// What is built, and how far features are told apart.
+#[derive(Clone, Copy, Drop)]
+pub struct Build {
+    /// The kinds of dependencies that are followed.
+    pub kinds: Kinds,
+    pub host: KnownTarget,
+    /// Whether a dependency asks for features only at the targets at which it holds.
+    pub by_target: bool,
+    /// Whether what is built for the host has features of its own.
+    pub by_side: bool,
+    /// Whether the dev-dependencies of roots ask for features.
+    pub with_dev: bool,
+}
+
+/// Where a dependency leads to: the side of its package, and under which condition.
+#[derive(Clone, Copy, Drop)]
+pub struct Way {
+    pub side: Side,
+    pub condition: Condition,
+}
+
+/// Whether a dependency is one of the host: what the host needs, and what a build script does.
+fn is_of_host(from: Side, kind: Kind) -> bool
+    ensures { result ≡ is_of_host from kind }
+{
+    match from {
+        Side::Host => true,
+        Side::Target => matches!(kind, Kind::Build),
+    }
+}
+
+/// The side of what is built for the host, or is not.
+fn side(is_for_host: bool) -> Side
+    ensures { result ≡ side is_for_host }
+{
+    if is_for_host {
+        Side::Host
+    } else {
+        Side::Target
+    }
+}
+
+/// Whether the package at this place is a procedural macro; there is none past the end.
+fn is_macro(packages: &[Package], index: usize) -> bool
+    ensures { result ≡ is_macro packages.now index }
+{
+    match packages.get(index) {
+        Some(found) => found.is_macro,
+        None => false,
+    }
+}
+
+impl Build {
+    /// What Cargo's resolver 1 builds: a package has the same features everywhere.
+    pub fn by_resolver_1(kinds: Kinds, host: KnownTarget) -> Build
+        ensures { result ≡ record { kinds = kinds; host = host; by_target = false; by_side = false; with_dev = true } }
+    {
+        Build {
+            kinds,
+            host,
+            by_target: false,
+            by_side: false,
+            with_dev: true,
+        }
+    }
+
+    /// What Cargo's resolvers 2 and 3 build, which tell features apart alike.
+    pub fn by_resolver_2(kinds: Kinds, host: KnownTarget) -> Build
+        ensures { result
+            ≡ record { kinds = kinds; host = host; by_target = true; by_side = true; with_dev = kinds.dev } }
+    {
+        Build {
+            kinds,
+            host,
+            by_target: true,
+            by_side: true,
+            with_dev: kinds.dev,
+        }
+    }
+
+    /// Where a dependency leads to from a package on a side that uses it.
+    pub fn way(self, packages: &[Package], from: Side, dependency: &Dependency) -> Way
+        ensures { result ≡ way packages.now from dependency.now }
+    {
+        let is_for_host = is_of_host(from, dependency.kind) || is_macro(packages, dependency.to);
+        Way {
+            side: side(is_for_host),
+            condition: if is_of_host(from, dependency.kind) {
+                Condition::OfHost(dependency.holds)
+            } else {
+                Condition::OfTarget(dependency.holds)
+            },
+        }
+    }
+
+    /// Where it leads to for the feature resolver.
+    pub fn feature_way(self, packages: &[Package], from: Side, dependency: &Dependency) -> Way
+        ensures { result ≡ feature_way self packages.now from dependency.now }
+    {
+        let way = self.way(packages, from, dependency);
+        Way {
+            side: self.feature_side(way.side),
+            condition: if self.by_target {
+                way.condition
+            } else {
+                Condition::Always
+            },
+        }
+    }
+
+    /// On which side the features of a package on a side are resolved.
+    pub fn feature_side(self, side: Side) -> Side
+        ensures { result ≡ feature_side self side }
+    {
+        if self.by_side { side } else { Side::Target }
+    }
+
+    /// Whether the feature resolver looks at a dependency of a package.
+    pub fn counts(self, unit: &Package, dependency: &Dependency) -> bool
+        ensures { result ≡ is_counted self unit.now dependency.now }
+    {
+        match dependency.kind {
+            Kind::Normal => true,
+            Kind::Build => true,
+            Kind::Dev => self.with_dev && unit.is_root,
+        }
+    }
+
+    /// Whether the feature resolver begins with a package on this side.
+    pub fn begins_on(self, side: Side, unit: &Package) -> bool
+        ensures { result ≡ begins_on self side unit.now }
+    {
+        match side {
+            Side::Target => unit.is_root,
+            Side::Host => unit.is_root && (self.by_side && unit.is_macro),
+        }
+    }
+}

@@ -1,0 +1,114 @@
+//! What is claimed of packages, and which claims lead to which.
+
+ghost use Rattle.std.specs.Prelude.{◌≡◌, ◌<◌, ◌++◌, ℕ, OnOk, flat_map};
+ghost use Rattle.known_targets.specs.Sets.{is_member};
+ghost use Rattle.known_targets.specs.declared.table.TheConstants.{COUNT};
+ghost use Rattle.cargo_features.specs.Claims.{holds_at};
+ghost use Rattle.cargo_features.specs.Steps.{one, when, to_feature};
+
+use known_targets::{KnownTarget, TargetSet};
+use package_graphs::Side;
+use std::alloc::AllocError;
+
+/// What is claimed of a package, by its place, on a side.
+#[derive(Clone, Copy, Drop)]
+pub enum Claim {
+    /// The build is asked for.
+    Asked,
+    /// The feature resolver comes to the package.
+    Active(usize, Side),
+    /// The build uses the package.
+    Used(usize, Side),
+    /// The package's feature at this place is on.
+    Feature(usize, Side, usize),
+    /// The package's optional dependency at this place is on.
+    Dependency(usize, Side, usize),
+}
+
+/// A package at its place, on a side.
+#[derive(Clone, Copy, Drop)]
+pub struct Place {
+    pub index: usize,
+    pub side: Side,
+}
+
+/// At which targets a step leads on.
+#[derive(Clone, Copy, Drop)]
+pub enum Condition {
+    Always,
+    /// At the targets of the set.
+    OfTarget(TargetSet),
+    /// Everywhere if the host is in the set, and else nowhere.
+    OfHost(TargetSet),
+}
+
+/// Two claims lead to another, under a condition. A step from one claim names it twice.
+#[derive(Clone, Copy, Drop)]
+pub struct Step {
+    pub first: Claim,
+    pub second: Claim,
+    pub to: Claim,
+    pub condition: Condition,
+}
+
+impl Step {
+    /// A step from one claim.
+    pub fn from_one(first: Claim, to: Claim, condition: Condition) -> Step
+        ensures { result ≡ one first to condition }
+    {
+        Step {
+            first,
+            second: first,
+            to,
+            condition,
+        }
+    }
+}
+
+impl Condition {
+    /// The targets at which it leads on.
+    pub fn targets(self, host: KnownTarget) -> TargetSet
+        ensures { (k : ℕ) → k < COUNT → is_member result k ≡ holds_at host k self }
+    {
+        match self {
+            Condition::Always => TargetSet::all(),
+            Condition::OfTarget(set) => set,
+            Condition::OfHost(set) => {
+                if set.contains(host) {
+                    TargetSet::all()
+                } else {
+                    TargetSet::none()
+                }
+            }
+        }
+    }
+}
+
+/// Appends a step where it is one.
+pub fn add(steps: &mut Vec<Step>, is_there: bool, step: Step) -> Result<(), AllocError>
+    ensures { OnOk result (steps.new.items ≡ steps.old.items ++ when is_there step) }
+{
+    if is_there {
+        steps.push(step)?;
+    }
+    Ok(())
+}
+
+/// Appends a step from a claim to each of some features of a package, where these are steps.
+pub fn add_features(
+    steps: &mut Vec<Step>,
+    is_there: bool,
+    first: Claim,
+    on: Place,
+    features: &[usize],
+    condition: Condition,
+) -> Result<(), AllocError>
+    ensures { OnOk result (steps.new.items
+        ≡ steps.old.items ++ flat_map (to_feature is_there first on condition) features.now) }
+{
+    'features: for feature in features {
+        let to = Claim::Feature(on.index, on.side, *feature);
+        add(steps, is_there, Step::from_one(first, to, condition))?;
+    }
+    Ok(())
+}

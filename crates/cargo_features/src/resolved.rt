@@ -1,0 +1,245 @@
+//! The targets at which each claim holds.
+
+ghost use Rattle.std.specs.Prelude.{◌≡◌, ◌<◌, ◌↔◌, ◌++◌, ℕ, true, IsTrue, IfOk, OnOk, List, length, vec_len};
+ghost use Rattle.known_targets.specs.Sets.{is_member};
+ghost use Rattle.known_targets.specs.declared.table.TheConstants.{COUNT};
+ghost use Rattle.package_graphs.specs.Graphs.{is_in};
+ghost use Rattle.cargo_features.specs.Holding.{is_known, Holds, IsUsed};
+ghost use Rattle.cargo_features.specs.Steps.{all_steps, steps_on_both};
+ghost use Rattle.cargo_features.specs.Inside.Numbered.{AreNumbers, IsNumbered, AreNumbered};
+ghost use Rattle.cargo_features.specs.Inside.Exact.{has, is_used, IsExact};
+ghost use Rattle.cargo_features.specs.Resolved.{holds_in, IsResolved};
+ghost use Rattle.cargo_features.specs.declared.claims.Claim.{Claim};
+ghost use Rattle.cargo_features.specs.declared.claims.Step.{Step};
+
+use crate::build::Build;
+use crate::claims::{Claim, Place, Step};
+use crate::numbers::Numbers;
+use crate::packages::Package;
+use known_targets::TargetSet;
+use package_graphs::Side;
+use std::alloc::{AllocError, Global};
+use target_rules::{Rule, derived};
+
+/// The targets at which each claim holds, by its number.
+#[derive(Drop)]
+pub struct Numbered {
+    numbers: Numbers,
+    sets: Vec<TargetSet>,
+}
+
+/// The rule of a step.
+fn rule_of(numbers: &Numbers, packages: &[Package], build: Build, step: Step) -> Rule
+    requires { AreNumbers packages.now numbers.now }
+    ensures { IsNumbered packages.now build.host step result }
+{
+    Rule {
+        first: numbers.of(packages, step.first),
+        second: numbers.of(packages, step.second),
+        to: numbers.of(packages, step.to),
+        holds: step.condition.targets(build.host),
+    }
+}
+
+/// Appends the rules of steps.
+fn add_rules(
+    numbers: &Numbers,
+    packages: &[Package],
+    build: Build,
+    steps: &[Step],
+    rules: &mut Vec<Rule>,
+) -> Result<(), AllocError>
+    requires { AreNumbers packages.now numbers.now }
+    ensures { OnOk result ((before : List Step) → AreNumbered packages.now build.host before rules.old.items
+        → AreNumbered packages.now build.host (before ++ steps.now) rules.new.items) }
+{
+    'steps: for step in steps {
+        rules.push(rule_of(numbers, packages, build, *step))?;
+    }
+    Ok(())
+}
+
+/// The rules of all steps.
+fn all_rules(
+    alloc: Global,
+    numbers: &Numbers,
+    packages: &[Package],
+    build: Build,
+) -> Result<Vec<Rule>, AllocError>
+    requires { AreNumbers packages.now numbers.now }
+    ensures { IfOk result (λ rules. AreNumbered packages.now build.host (all_steps build packages.now) rules.items) }
+{
+    let mut rules = Vec::new(alloc);
+    'packages: for i in 0..packages.len() {
+        let steps = steps_on_both(alloc, packages, build, i, &packages[i])?;
+        add_rules(numbers, packages, build, &steps, &mut rules)?;
+    }
+    Ok(rules)
+}
+
+/// The steps of the claims on a package.
+fn steps_on_both(
+    alloc: Global,
+    packages: &[Package],
+    build: Build,
+    index: usize,
+    unit: &Package,
+) -> Result<Vec<Step>, AllocError>
+    ensures { IfOk result (λ steps. steps.items ≡ steps_on_both build packages.now index unit.now) }
+{
+    let mut steps = Vec::new(alloc);
+    let target = Place {
+        index,
+        side: Side::Target,
+    };
+    build.steps_of(packages, target, unit, &mut steps)?;
+    let host = Place {
+        index,
+        side: Side::Host,
+    };
+    build.steps_of(packages, host, unit, &mut steps)?;
+    Ok(steps)
+}
+
+/// The targets at which each claim on the packages holds.
+fn exact_sets(alloc: Global, packages: &[Package], build: Build) -> Result<Numbered, AllocError>
+    ensures { IfOk result (λ found. IsExact build packages.now found) }
+{
+    let numbers = Numbers::new(alloc, packages)?;
+    let rules = all_rules(alloc, &numbers, packages, build)?;
+    let mut given = vec![in alloc; TargetSet::none(); numbers.count()]?;
+    given[0] = TargetSet::all();
+    let sets = derived(alloc, given, &rules)?;
+    Ok(Numbered { numbers, sets })
+}
+
+impl Numbered {
+    /// The targets at which a claim on the packages holds.
+    fn at(&self, packages: &[Package], claim: Claim) -> TargetSet
+        ensures { AreNumbers packages.now self.now.numbers
+            → (k : ℕ) → k < COUNT → is_member result k ≡ has packages.now self.now claim k }
+    {
+        let number = self.numbers.of(packages, claim);
+        if number >= self.sets.len() {
+            return TargetSet::none();
+        }
+        self.sets[number]
+    }
+
+    /// The targets at which the build uses a package, for either side.
+    fn used(&self, packages: &[Package], index: usize) -> TargetSet
+        ensures { AreNumbers packages.now self.now.numbers → (k : ℕ) → k < COUNT
+            → is_member result k ≡ is_used packages.now self.now index k }
+    {
+        let target = self.at(packages, Claim::Used(index, Side::Target));
+        target.union(self.at(packages, Claim::Used(index, Side::Host)))
+    }
+}
+
+/// The targets at which a build uses each package, for the target or for the host. It refuses only where memory is
+/// refused. What is on no package, feature or dependency is passed over.
+pub fn used_packages(
+    alloc: Global,
+    packages: &[Package],
+    build: Build,
+) -> Result<Vec<TargetSet>, AllocError>
+    ensures count { IfOk result (λ sets. vec_len sets ≡ length packages.now) }
+    ensures exact { IfOk result (λ sets. (p k : ℕ) → p < length packages.now → k < COUNT
+        → IsTrue (is_in sets.items p k) ↔ IsUsed build packages.now k p) }
+{
+    let found = exact_sets(alloc, packages, build)?;
+    let mut sets = Vec::new(alloc);
+    'packages: for i in 0..packages.len() {
+        sets.push(found.used(packages, i))?;
+    }
+    Ok(sets)
+}
+
+/// What is built of some packages, with the targets at which each claim on them holds.
+#[derive(Drop)]
+pub struct Resolved {
+    packages: Vec<Package>,
+    build: Build,
+    found: Numbered,
+}
+
+/// The targets at which each claim on the packages holds. It refuses only where memory is refused. What is on no
+/// package, feature or dependency is passed over.
+pub fn resolve(alloc: Global, packages: Vec<Package>, build: Build) -> Result<Resolved, AllocError>
+    ensures same { IfOk result (λ resolved. IsResolved packages.items build resolved) }
+    ensures exact { IfOk result (λ resolved. (c : Claim) (k : ℕ) → is_known packages.items c ≡ true → k < COUNT
+        → IsTrue (holds_in resolved c k) ↔ Holds build packages.items k c) }
+{
+    let found = exact_sets(alloc, &packages, build)?;
+    Ok(Resolved {
+        packages,
+        build,
+        found,
+    })
+}
+
+impl Resolved {
+    /// The packages, in their order.
+    pub fn packages(&self) -> &[Package]
+        ensures { result.now ≡ self.now.packages.items }
+    {
+        &self.packages
+    }
+
+    /// What is built.
+    pub fn build(&self) -> Build
+        ensures { result ≡ self.now.build }
+    {
+        self.build
+    }
+
+    /// The targets at which a claim holds.
+    pub fn at(&self, claim: Claim) -> TargetSet
+        ensures { AreNumbers self.now.packages.items self.now.found.numbers
+            → (k : ℕ) → k < COUNT → is_member result k ≡ holds_in self.now claim k }
+    {
+        self.found.at(&self.packages, claim)
+    }
+
+    /// The targets at which the build uses a package, for either side.
+    pub fn used(&self, index: usize) -> TargetSet
+        ensures { AreNumbers self.now.packages.items self.now.found.numbers → (k : ℕ) → k < COUNT
+            → is_member result k ≡ is_used self.now.packages.items self.now.found index k }
+    {
+        self.found.used(&self.packages, index)
+    }
+
+    /// The targets at which a package that is used on a side is built with a feature of its own.
+    pub fn with_feature(&self, index: usize, side: Side, feature: usize) -> TargetSet {
+        let on = Claim::Feature(index, self.build.feature_side(side), feature);
+        let used = self.at(Claim::Used(index, side));
+        used.intersection(self.at(on))
+    }
+
+    /// The targets at which a package that is used on a side uses a dependency of its own.
+    fn using_on(&self, index: usize, side: Side, place: usize) -> TargetSet {
+        let Some(unit) = self.packages.get(index) else {
+            return TargetSet::none();
+        };
+        let Some(dependency) = unit.dependencies.get(place) else {
+            return TargetSet::none();
+        };
+        if !self.build.kinds.follow(unit.is_root, dependency.kind) {
+            return TargetSet::none();
+        }
+        let way = self.build.way(&self.packages, side, dependency);
+        let used = self.at(Claim::Used(index, side));
+        let targets = used.intersection(way.condition.targets(self.build.host));
+        if !dependency.is_optional {
+            return targets;
+        }
+        let side = self.build.feature_side(side);
+        targets.intersection(self.at(Claim::Dependency(index, side, place)))
+    }
+
+    /// The targets at which a package uses a dependency of its own, built for either side.
+    pub fn using(&self, index: usize, place: usize) -> TargetSet {
+        let target = self.using_on(index, Side::Target, place);
+        target.union(self.using_on(index, Side::Host, place))
+    }
+}

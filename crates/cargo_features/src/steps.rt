@@ -1,0 +1,344 @@
+//! The steps that lead from claim to claim: Cargo's rules.
+
+ghost use Rattle.std.specs.Prelude.{◌≡◌, ◌++◌, OnOk, Some};
+ghost use Rattle.cargo_features.specs.Steps.{gate, is_first_side, root_steps, active_steps, used_steps, turns_on};
+ghost use Rattle.cargo_features.specs.Steps.{strong_steps, weak_steps, member_steps, dependency_steps, feature_steps};
+ghost use Rattle.cargo_features.specs.Steps.{all_features, steps_of, strong_at, weak_at, named_steps};
+
+use crate::build::Build;
+use crate::claims::{Claim, Condition, Place, Step, add, add_features};
+use crate::packages::{Dependency, Member, Package};
+use package_graphs::Side;
+use std::alloc::AllocError;
+
+impl Place {
+    /// What has to hold for a dependency to be followed, beside what follows it: an optional one has to be on.
+    fn gate(self, place: usize, dependency: &Dependency, otherwise: Claim) -> Claim
+        ensures { result ≡ gate self place dependency.now otherwise }
+    {
+        if dependency.is_optional {
+            Claim::Dependency(self.index, self.side, place)
+        } else {
+            otherwise
+        }
+    }
+}
+
+/// Whether a package is a root that is built for this side.
+fn is_first_side(side: Side, unit: &Package) -> bool
+    ensures { result ≡ is_first_side side unit.now }
+{
+    match side {
+        Side::Target => unit.is_root && !unit.is_macro,
+        Side::Host => unit.is_root && unit.is_macro,
+    }
+}
+
+/// Appends a step to the feature of a dependency's name, if there is one.
+fn add_named(
+    steps: &mut Vec<Step>,
+    is_there: bool,
+    from: Claim,
+    at: Place,
+    named: Option<usize>,
+    condition: Condition,
+) -> Result<(), AllocError>
+    ensures { OnOk result (steps.new.items ≡ steps.old.items ++ named_steps is_there at from condition named) }
+{
+    match named {
+        Some(named) => {
+            let own = Claim::Feature(at.index, at.side, named);
+            add(steps, is_there, Step::from_one(from, own, condition))
+        }
+        None => Ok(()),
+    }
+}
+
+impl Build {
+    /// A root is active, with the features that are asked of it, and is used.
+    fn root(self, at: Place, unit: &Package, steps: &mut Vec<Step>) -> Result<(), AllocError>
+        ensures { OnOk result (steps.new.items ≡ steps.old.items ++ root_steps self at unit.now) }
+    {
+        let begins = self.begins_on(at.side, unit);
+        let active = Claim::Active(at.index, at.side);
+        add(
+            steps,
+            begins,
+            Step::from_one(Claim::Asked, active, Condition::Always),
+        )?;
+        add_features(
+            steps,
+            begins,
+            Claim::Asked,
+            at,
+            &unit.asked,
+            Condition::Always,
+        )?;
+        let used = Claim::Used(at.index, at.side);
+        let step = Step::from_one(Claim::Asked, used, Condition::Always);
+        add(steps, is_first_side(at.side, unit), step)?;
+        Ok(())
+    }
+
+    /// An active package makes the packages of its dependencies active, with the features that these ask for.
+    fn active(
+        self,
+        packages: &[Package],
+        at: Place,
+        unit: &Package,
+        place: usize,
+        dependency: &Dependency,
+        steps: &mut Vec<Step>,
+    ) -> Result<(), AllocError>
+        ensures { OnOk result (steps.new.items
+            ≡ steps.old.items ++ active_steps self packages.now at unit.now place dependency.now) }
+    {
+        let counts = self.counts(unit, dependency);
+        let from = at.gate(place, dependency, Claim::Active(at.index, at.side));
+        let way = self.feature_way(packages, at.side, dependency);
+        let active = Claim::Active(dependency.to, way.side);
+        add(steps, counts, Step::from_one(from, active, way.condition))?;
+        let on = Place {
+            index: dependency.to,
+            side: way.side,
+        };
+        add_features(steps, counts, from, on, &dependency.features, way.condition)?;
+        Ok(())
+    }
+
+    /// A package that is used uses the packages of its dependencies.
+    fn used(
+        self,
+        packages: &[Package],
+        at: Place,
+        unit: &Package,
+        place: usize,
+        dependency: &Dependency,
+        steps: &mut Vec<Step>,
+    ) -> Result<(), AllocError>
+        ensures { OnOk result (steps.new.items
+            ≡ steps.old.items ++ used_steps self packages.now at unit.now place dependency.now) }
+    {
+        let is_followed = self.kinds.follow(unit.is_root, dependency.kind);
+        let used = Claim::Used(at.index, at.side);
+        let resolved = Place {
+            index: at.index,
+            side: self.feature_side(at.side),
+        };
+        let way = self.way(packages, at.side, dependency);
+        let step = Step {
+            first: used,
+            second: resolved.gate(place, dependency, used),
+            to: Claim::Used(dependency.to, way.side),
+            condition: way.condition,
+        };
+        add(steps, is_followed, step)
+    }
+
+    /// Whether a dependency can be turned on.
+    fn turns_on(self, unit: &Package, dependency: &Dependency) -> bool
+        ensures { result ≡ turns_on self unit.now dependency.now }
+    {
+        self.counts(unit, dependency) && dependency.is_optional
+    }
+
+    /// `d/g`, in the list of a feature, turns on the feature `g` of the dependency's package, and an optional dependency
+    /// itself, with the feature of its name.
+    fn strong_at(
+        self,
+        packages: &[Package],
+        at: Place,
+        unit: &Package,
+        from: Claim,
+        place: usize,
+        feature: usize,
+        dependency: &Dependency,
+        steps: &mut Vec<Step>,
+    ) -> Result<(), AllocError>
+        ensures { OnOk result (steps.new.items ≡ steps.old.items
+            ++ strong_at self packages.now at unit.now from place feature (Some dependency.now)) }
+    {
+        let counts = self.counts(unit, dependency);
+        let way = self.feature_way(packages, at.side, dependency);
+        let theirs = Claim::Feature(dependency.to, way.side, feature);
+        add(steps, counts, Step::from_one(from, theirs, way.condition))?;
+        let turns_on = self.turns_on(unit, dependency);
+        let on = Claim::Dependency(at.index, at.side, place);
+        add(steps, turns_on, Step::from_one(from, on, way.condition))?;
+        add_named(steps, turns_on, from, at, dependency.named, way.condition)?;
+        Ok(())
+    }
+
+    /// The same of the dependency at a place; nothing where there is none.
+    fn strong(
+        self,
+        packages: &[Package],
+        at: Place,
+        unit: &Package,
+        from: Claim,
+        place: usize,
+        feature: usize,
+        steps: &mut Vec<Step>,
+    ) -> Result<(), AllocError>
+        ensures { OnOk result (steps.new.items
+            ≡ steps.old.items ++ strong_steps self packages.now at unit.now from place feature) }
+    {
+        if place >= unit.dependencies.len() {
+            return Ok(());
+        }
+        let dependency = &unit.dependencies[place];
+        self.strong_at(packages, at, unit, from, place, feature, dependency, steps)?;
+        Ok(())
+    }
+
+    /// `d?/g` turns on the feature `g` of the dependency's package, where an optional dependency is on.
+    fn weak_at(
+        self,
+        packages: &[Package],
+        at: Place,
+        unit: &Package,
+        from: Claim,
+        place: usize,
+        feature: usize,
+        dependency: &Dependency,
+        steps: &mut Vec<Step>,
+    ) -> Result<(), AllocError>
+        ensures { OnOk result (steps.new.items ≡ steps.old.items
+            ++ weak_at self packages.now at unit.now from place feature (Some dependency.now)) }
+    {
+        let counts = self.counts(unit, dependency);
+        let way = self.feature_way(packages, at.side, dependency);
+        let step = Step {
+            first: from,
+            second: at.gate(place, dependency, from),
+            to: Claim::Feature(dependency.to, way.side, feature),
+            condition: way.condition,
+        };
+        add(steps, counts, step)?;
+        Ok(())
+    }
+
+    /// The same of the dependency at a place; nothing where there is none.
+    fn weak(
+        self,
+        packages: &[Package],
+        at: Place,
+        unit: &Package,
+        from: Claim,
+        place: usize,
+        feature: usize,
+        steps: &mut Vec<Step>,
+    ) -> Result<(), AllocError>
+        ensures { OnOk result (steps.new.items
+            ≡ steps.old.items ++ weak_steps self packages.now at unit.now from place feature) }
+    {
+        if place >= unit.dependencies.len() {
+            return Ok(());
+        }
+        let dependency = &unit.dependencies[place];
+        self.weak_at(packages, at, unit, from, place, feature, dependency, steps)?;
+        Ok(())
+    }
+
+    /// A feature that is on turns on what it lists.
+    fn member(
+        self,
+        packages: &[Package],
+        at: Place,
+        unit: &Package,
+        from: Claim,
+        member: Member,
+        steps: &mut Vec<Step>,
+    ) -> Result<(), AllocError>
+        ensures { OnOk result (steps.new.items
+            ≡ steps.old.items ++ member_steps self packages.now at unit.now from member) }
+    {
+        match member {
+            Member::Feature(feature) => {
+                let to = Claim::Feature(at.index, at.side, feature);
+                add(steps, true, Step::from_one(from, to, Condition::Always))
+            }
+            Member::Dependency(place) => {
+                let to = Claim::Dependency(at.index, at.side, place);
+                add(steps, true, Step::from_one(from, to, Condition::Always))
+            }
+            Member::Strong(place, feature) => {
+                self.strong(packages, at, unit, from, place, feature, steps)
+            }
+            Member::Weak(place, feature) => {
+                self.weak(packages, at, unit, from, place, feature, steps)
+            }
+        }
+    }
+
+    /// The steps of a package's dependencies.
+    fn dependencies(
+        self,
+        packages: &[Package],
+        at: Place,
+        unit: &Package,
+        steps: &mut Vec<Step>,
+    ) -> Result<(), AllocError>
+        ensures { OnOk result (steps.new.items ≡ steps.old.items ++ dependency_steps self packages.now at unit.now) }
+    {
+        'dependencies: for i in 0..unit.dependencies.len() {
+            let dependency = &unit.dependencies[i];
+            self.active(packages, at, unit, i, dependency, steps)?;
+            self.used(packages, at, unit, i, dependency, steps)?;
+        }
+        Ok(())
+    }
+
+    /// The steps of one feature, by its place and what it lists.
+    fn feature(
+        self,
+        packages: &[Package],
+        at: Place,
+        unit: &Package,
+        place: usize,
+        members: &[Member],
+        steps: &mut Vec<Step>,
+    ) -> Result<(), AllocError>
+        ensures { OnOk result (steps.new.items
+            ≡ steps.old.items ++ feature_steps self packages.now at unit.now place members.now) }
+    {
+        let from = Claim::Feature(at.index, at.side, place);
+        'members: for member in members {
+            self.member(packages, at, unit, from, *member, steps)?;
+        }
+        Ok(())
+    }
+
+    /// The steps of all features of a package.
+    fn features(
+        self,
+        packages: &[Package],
+        at: Place,
+        unit: &Package,
+        steps: &mut Vec<Step>,
+    ) -> Result<(), AllocError>
+        ensures { OnOk result (steps.new.items ≡ steps.old.items ++ all_features self packages.now at unit.now) }
+    {
+        'features: for i in 0..unit.features.len() {
+            let members = &unit.features[i];
+            self.feature(packages, at, unit, i, members, steps)?;
+        }
+        Ok(())
+    }
+
+    /// All steps of the claims on a package on a side.
+    pub fn steps_of(
+        self,
+        packages: &[Package],
+        at: Place,
+        unit: &Package,
+        steps: &mut Vec<Step>,
+    ) -> Result<(), AllocError>
+        ensures { OnOk result (steps.new.items ≡ steps.old.items ++ steps_of self packages.now at unit.now) }
+    {
+        self.root(at, unit, steps)?;
+        self.dependencies(packages, at, unit, steps)?;
+        self.features(packages, at, unit, steps)?;
+        Ok(())
+    }
+}

@@ -1,0 +1,3 @@
+pub mod Deriving
+pub mod Derivations
+pub mod Inside
