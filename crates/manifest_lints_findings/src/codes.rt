@@ -1,6 +1,6 @@
 //! The codes of findings, as one table.
 
-ghost use Rattle.manifest_lints_findings.specs.Codes.{hiders};
+ghost use Rattle.manifest_lints_findings.specs.Codes.{hiders, code_word, code_level, level_word};
 ghost use Rattle.std.specs.Prelude.{◌≡◌};
 
 /// How much a finding weighs.
@@ -67,7 +67,9 @@ pub const CODES: [Code; 14] = [
 
 impl Level {
     /// The word for it.
-    pub fn word(self) -> &'static str {
+    pub fn word(self) -> &'static str
+        ensures { result.now ≡ level_word self }
+    {
         match self {
             Level::Error => "error",
             Level::Warning => "warning",
@@ -98,7 +100,9 @@ const EVERYWHERE_HIDERS: [Code; 1] = [Code::Always];
 
 impl Row {
     const fn of(word: &'static str, level: Level, hidden_by: &'static [Code]) -> Row
-        ensures { result.hidden_by.now ≡ hidden_by.now }
+        ensures word { result.word.now ≡ word.now }
+        ensures level { result.level ≡ level }
+        ensures hidden_by { result.hidden_by.now ≡ hidden_by.now }
     {
         Row {
             word,
@@ -111,7 +115,9 @@ impl Row {
 impl Code {
     /// Its row of the table.
     pub fn row(self) -> Row
-        ensures { result.hidden_by.now ≡ hiders self }
+        ensures word { result.word.now ≡ code_word self }
+        ensures level { result.level ≡ code_level self }
+        ensures hidden_by { result.hidden_by.now ≡ hiders self }
     {
         match self {
             Code::Refused => Row::of("refused", Level::Error, &[]),
@@ -132,7 +138,9 @@ impl Code {
     }
 
     /// The word for it.
-    pub fn word(self) -> &'static str {
+    pub fn word(self) -> &'static str
+        ensures { result.now ≡ code_word self }
+    {
         self.row().word
     }
 }

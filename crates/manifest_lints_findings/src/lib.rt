@@ -4,6 +4,7 @@
 pub mod codes;
 pub mod findings;
 pub mod known_keys;
+pub mod laws;
 pub mod making;
 mod messages;
 mod no_tables;

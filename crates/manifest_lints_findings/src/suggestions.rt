@@ -1,10 +1,15 @@
 //! What may be meant by a name, key or value that no known target has, and a key with its mistakes replaced.
 
+ghost use Rattle.std.specs.Prelude.{IsTrue, IfOk, IfSome, string_bytes};
+ghost use Rattle.cargo_platform.specs.Trees.{condition_of};
+ghost use Rattle.manifest_lints_findings.specs.Shown.{IsRidOf, IsMended};
+
 use crate::codes::Code;
 use crate::known_keys::KnownKey;
-use crate::readings::Spelled;
-use cargo_platform::{Cfg, CfgExpr, Platform};
+use crate::readings::{ReadKey, Spelled};
+use cargo_platform::{Cfg, CfgExpr, Platform, ReadError};
 use known_targets::{KnownFact, KnownTarget, all_facts, names};
+use manifest_documents::Declared;
 use manifest_lints_standings::asked_facts::AskedFact;
 use manifest_lints_standings::standing::{Sort, Standing, is_value_of};
 use std::alloc::{AllocError, Global};
@@ -207,8 +212,49 @@ fn repaired(
     Ok(Some(repaired))
 }
 
-/// What may stand in the place of the whole key, by the finding of this code.
+/// What may stand in the place of the whole key, by the finding of this code. It spells a condition, of which no such
+/// finding is told.
 pub fn suggestion_of(
+    alloc: Global,
+    words: &Words,
+    key: &KnownKey<'_>,
+    code: Code,
+) -> Result<Option<String>, AllocError>
+    ensures { IfOk result (λ s. IfSome s (λ text. IsMended code (string_bytes text))) }
+{
+    match text_instead(alloc, words, key, code)? {
+        Some(text) if is_mended(alloc, text.as_str(), code)? => Ok(Some(text)),
+        _ => Ok(None),
+    }
+}
+
+/// Whether the text spells a condition of which a finding of this code is not told.
+fn is_mended(alloc: Global, text: &str, code: Code) -> Result<bool, AllocError>
+    ensures { IfOk result (λ b. IsTrue b → IsMended code text.now) }
+{
+    match Platform::from_str(alloc, text) {
+        Ok(condition) => is_rid_of(alloc, text, condition, code),
+        Err(ReadError::Parse(_)) => Ok(false),
+        Err(ReadError::Memory(refused)) => Err(refused),
+    }
+}
+
+/// Whether a finding of this code is not told of the text, which spells this condition.
+fn is_rid_of(alloc: Global, text: &str, condition: Platform, code: Code) -> Result<bool, AllocError>
+    ensures { IfOk result (λ b. IsTrue b → IsRidOf code text.now (condition_of condition)) }
+{
+    let read = ReadKey::alone(text, condition);
+    let known = KnownKey::of(alloc, &read, 0, &Declared::none(alloc))?;
+    match code {
+        Code::ReadOtherwise | Code::UnknownTarget | Code::UnknownFact | Code::NotCanonical => {
+            Ok(!known.holds(code))
+        }
+        _ => Ok(false),
+    }
+}
+
+/// A text that may be meant in the place of the whole key, by the finding of this code.
+fn text_instead(
     alloc: Global,
     words: &Words,
     key: &KnownKey<'_>,
