@@ -105,14 +105,17 @@ const MANIFESTS: Argument = Argument {
 };
 
 /// What a key is, for the help.
-const KEY: &str = "The key of a table under `target`: the name of a target, or cfg(..)";
+const KEY: &str =
+    "The key of a table under `target`: the name of a target, or cfg(..), with 100,000 groups in one another \
+                   at most";
 
 const LINT: Subcommand = Subcommand {
     name: "lint",
     about: "Tells what is wrong or odd about the keys of `target` in manifests",
     end: "Example: manifest_check lint Cargo.toml\n\n\
           The root of a workspace stands for its members too. The status is 0 where nothing is found but notes, 1 \
-          where an error or a warning is, and 2 where the input can't be used.",
+          where an error or a warning is, and 2 where the input can't be used, as a manifest with a key that has \
+          more than 100,000 groups in one another.",
     arguments: &[
         JSON,
         Argument {
@@ -143,7 +146,7 @@ const SELECT: Subcommand = Subcommand {
     about: "Tells which dependencies of manifests are selected for a target",
     end: "Example: manifest_check select --target x86_64-pc-windows-msvc Cargo.toml\n\n\
           The root of a workspace stands for its members too. Features are not resolved: an optional dependency is \
-          told as optional.",
+          told as optional. A manifest with a key that has more than 100,000 groups in one another is refused.",
     arguments: &[
         TARGET,
         Argument {
@@ -239,7 +242,8 @@ const GRAPH: Subcommand = Subcommand {
     end: "Example: cargo metadata --format-version 1 | manifest_check graph --show why --of libc\n\n\
           Without --metadata standard input is read. A file that was made with --filter-platform can't be told from \
           a whole one. Features are not resolved: what `cargo metadata` turned on is on.\n\n\
-          With --allow or --allow-file the status is 1 where something is told.",
+          With --allow or --allow-file the status is 1 where something is told. A document with a condition that has \
+          more than 100,000 groups in one another is refused.",
     arguments: &[
         Argument {
             name: "metadata",

@@ -5,7 +5,7 @@ use crate::edges::show_edges;
 use crate::licences::{Audit, show_licences};
 use crate::packages::show_packages;
 use crate::page::page_of;
-use crate::refused::{refused_document, refused_graph, unusable};
+use crate::refused::{refused_depth, refused_document, refused_graph, unusable};
 use crate::targets::show_targets;
 use crate::why::show_why;
 use cargo_metadata::graphs::{Linked, link};
@@ -94,6 +94,9 @@ fn graph_of<'a>(
         Ok(metadata) => metadata,
         Err(refusal) => return Ok(Err(refused_document(alloc, file, document, &refusal)?)),
     };
+    if let Some(answer) = refused_depth(alloc, file, &metadata)? {
+        return Ok(Err(answer));
+    }
     let mut linked = match link(alloc, &metadata) {
         Ok(linked) => linked,
         Err(refusal) => return Ok(Err(refused_graph(alloc, file, &metadata, &refusal)?)),
