@@ -115,13 +115,44 @@ const LINT: Subcommand = Subcommand {
     end: "Example: manifest_check lint Cargo.toml\n\n\
           The root of a workspace stands for its members too. The status is 0 where nothing is found but notes, 1 \
           where an error or a warning is, and 2 where the input can't be used, as a manifest with a key that has \
-          more than 100,000 groups in one another.",
+          more than 100,000 groups in one another. Tables `manifest-check` in the metadata of the package and of the \
+          workspace have lists `allow`, `warn` and `deny` too; the options win.",
     arguments: &[
         JSON,
         Argument {
+            name: "message-format",
+            given: Given::OneOf("FORMAT", &["human", "short", "json", "github", "sarif"]),
+            help: "How findings are printed; human without it",
+        },
+        Argument {
+            name: "color",
+            given: Given::OneOf("WHEN", &["auto", "always", "never"]),
+            help: "Whether words have colours; auto, where a terminal shows them, without it",
+        },
+        Argument {
+            name: "allow",
+            given: Given::Values("CODE"),
+            help: "Does not tell findings of this code, or of warnings or notes; the last option that fits counts",
+        },
+        Argument {
+            name: "warn",
+            given: Given::Values("CODE"),
+            help: "Makes these findings warnings",
+        },
+        Argument {
             name: "deny",
-            given: Given::OneOf("LEVEL", &["notes"]),
-            help: "With notes: notes count for the status too",
+            given: Given::Values("CODE"),
+            help: "Makes these findings errors",
+        },
+        Argument {
+            name: "list-codes",
+            given: Given::Flag,
+            help: "Prints the codes of findings",
+        },
+        Argument {
+            name: "explain",
+            given: Given::Value("CODE"),
+            help: "Says what findings of this code mean",
         },
         Argument {
             name: "quiet",
@@ -307,11 +338,17 @@ const GRAPH: Subcommand = Subcommand {
 /// The subcommands, in the order of the help.
 const SUBCOMMANDS: &[Subcommand] = &[LINT, SELECT, MATCH, TARGETS, FACTS_OF, COMPARE, GRAPH];
 
-/// The words without the name that Cargo hands over before those of its user.
-pub fn without_cargo_name(words: &mut Vec<String>) {
+/// How its users call the program as a command of Cargo's.
+const CARGO_COMMAND: &str = "cargo manifest-check";
+
+/// Lets go of the name that Cargo hands over before the words of its user, and takes what they typed for the name of the
+/// program, which lines of usage have.
+pub fn without_cargo_name(alloc: Global, words: &mut Vec<String>) -> Result<(), AllocError> {
     if words.len() > 1 && words[1].as_str() == CARGO_NAME {
         let _name = words.remove(1);
+        words[0] = String::from_str(alloc, CARGO_COMMAND)?;
     }
+    Ok(())
 }
 
 /// The program's command, of which `version` is the version.

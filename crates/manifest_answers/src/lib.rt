@@ -2,7 +2,6 @@
 #![tactic(auto)]
 
 pub mod deep;
-pub mod findings;
 pub mod in_turn;
 pub mod questions;
 pub mod selecting;
