@@ -272,7 +272,8 @@ const GRAPH: Subcommand = Subcommand {
     about: "Tells which packages are in a build at which targets, and why",
     end: "Example: cargo metadata --format-version 1 | manifest_check graph --show why --of libc\n\n\
           Without --metadata standard input is read. A file that was made with --filter-platform can't be told from \
-          a whole one. Features are not resolved: what `cargo metadata` turned on is on.\n\n\
+          a whole one. What `cargo metadata` turned on is on, unless features are resolved: with --resolver or any \
+          word on features, for a host.\n\n\
           With --allow or --allow-file the status is 1 where something is told. A document with a condition that has \
           more than 100,000 groups in one another is refused.",
     arguments: &[
@@ -303,8 +304,31 @@ const GRAPH: Subcommand = Subcommand {
         },
         Argument {
             name: "show",
-            given: Given::OneOf("WHAT", &["packages", "edges", "targets", "why"]),
+            given: Given::OneOf(
+                "WHAT",
+                &["packages", "edges", "targets", "why", "features", "unified"],
+            ),
             help: "What is told; packages without it",
+        },
+        Argument {
+            name: "resolver",
+            given: Given::OneOf("WHICH", &["1", "2", "3", "edition"]),
+            help: "Resolves features as this resolver of Cargo, or as that of the root package's edition",
+        },
+        Argument {
+            name: "features",
+            given: Given::Values("NAMES"),
+            help: "Asks these features of the roots, joined by commas",
+        },
+        Argument {
+            name: "no-default-features",
+            given: Given::Flag,
+            help: "Does not ask the feature `default` of the roots",
+        },
+        Argument {
+            name: "all-features",
+            given: Given::Flag,
+            help: "Asks all features of the roots",
         },
         Argument {
             name: "of",
