@@ -53,6 +53,7 @@ code_level code.NotCanonical = level.Note
 -- the same on a condition with so many names and pairs
 abbrev pub finding_level : Code → ℕ → Level
 finding_level code.Never count = cond (count == 0) level.Note level.Warning
+finding_level code.Always count = cond (count == 0) level.Note level.Warning
 finding_level c count = code_level c
 
 -- those that hide a finding of the same key, whatever names it tells of
@@ -60,6 +61,7 @@ abbrev pub hiders : Code → List Code
 hiders code.Nowhere = code.UnknownTarget ∷ code.UnknownFact ∷ code.Never ∷ []
 hiders code.Equivalent = code.Never ∷ code.Always ∷ code.Same ∷ []
 hiders code.Everywhere = code.Always ∷ []
+hiders code.NotCanonical = code.ReadOtherwise ∷ code.UnknownTarget ∷ code.UnknownFact ∷ []
 hiders _ = []
 
 -- whether a finding is told: it holds, and none hides it

@@ -83,7 +83,8 @@ impl Level {
 pub struct Row {
     /// The word for it.
     pub word: &'static str,
-    /// How much a finding of it weighs. `never` of a key without names and pairs is a note.
+    /// How much a finding of it weighs. `never` of a key without names and pairs is a note, and `always` of one with
+    /// names and pairs a warning.
     pub level: Level,
     /// The codes that hide it on the same key, whatever names they tell of.
     pub hidden_by: &'static [Code],
@@ -97,6 +98,13 @@ const EQUIVALENT_HIDERS: [Code; 3] = [Code::Never, Code::Always, Code::Same];
 
 /// What hides `everywhere`.
 const EVERYWHERE_HIDERS: [Code; 1] = [Code::Always];
+
+/// What hides `not-canonical`: what changes the key.
+const NOT_CANONICAL_HIDERS: [Code; 3] = [
+    Code::ReadOtherwise,
+    Code::UnknownTarget,
+    Code::UnknownFact,
+];
 
 impl Row {
     const fn of(word: &'static str, level: Level, hidden_by: &'static [Code]) -> Row
@@ -133,7 +141,7 @@ impl Code {
             Code::Always => Row::of("always", Level::Note, &[]),
             Code::Everywhere => Row::of("everywhere", Level::Note, &EVERYWHERE_HIDERS),
             Code::Custom => Row::of("custom", Level::Note, &[]),
-            Code::NotCanonical => Row::of("not-canonical", Level::Note, &[]),
+            Code::NotCanonical => Row::of("not-canonical", Level::Note, &NOT_CANONICAL_HIDERS),
         }
     }
 

@@ -6,6 +6,7 @@ pub mod findings;
 pub mod known_keys;
 pub mod laws;
 pub mod making;
+mod meant;
 mod messages;
 mod no_tables;
 pub mod readings;
@@ -15,5 +16,6 @@ mod wording;
 
 pub use codes::{CODES, Code, Level};
 pub use findings::{Finding, Report};
-pub use suggestions::{Words, nearest_target};
+pub use meant::{near, nearest_target};
+pub use suggestions::Words;
 pub use unknown::unknown_in;

@@ -25,6 +25,13 @@ fn level_of(code: Code, count: usize) -> Level
                 Level::Warning
             }
         }
+        Code::Always => {
+            if count > 0 {
+                Level::Warning
+            } else {
+                Level::Note
+            }
+        }
         _ => code.row().level,
     }
 }
