@@ -4,4 +4,3 @@ pub mod Steps
 pub mod Holding
 pub mod Inside
 pub mod Resolved
-pub mod Graphs

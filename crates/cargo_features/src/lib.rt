@@ -4,7 +4,6 @@
 
 mod build;
 mod claims;
-pub mod laws;
 mod numbers;
 mod packages;
 mod resolved;

@@ -4,7 +4,6 @@ use crate::asked::Asked;
 use crate::graph::Graph;
 use crate::json::{push_comma, push_field, push_optional, push_targets, push_text};
 use crate::lines::{push, shown_package, shown_targets};
-use crate::reasons::{Reasons, push_reasons, shown_reasons};
 use key_answers::answer::{Answer, Status};
 use known_targets::TargetSet;
 use package_graphs::Kind;
@@ -66,12 +65,13 @@ pub fn kinds_reached(
     let packages = &graph.linked.packages;
     let mut reached = vec![in alloc; none; packages.len()]?;
     for i in 0..packages.len() {
-        for j in 0..packages[i].dependencies.len() {
-            let dependency = packages[i].dependencies[j];
+        for dependency in &packages[i].dependencies {
             let Some(to) = reached.get_mut(dependency.to) else {
                 continue;
             };
-            let targets = graph.following(i, j, asked);
+            let targets = graph
+                .sets
+                .following(packages, asked.kinds, asked.host, i, dependency);
             if targets.intersection(asked.targets).is_empty() {
                 continue;
             }
@@ -92,7 +92,6 @@ pub fn show_packages(
     asked: &Asked<'_>,
 ) -> Result<Answer, AllocError> {
     let reached = kinds_reached(alloc, graph, asked)?;
-    let reasons = Reasons::of(alloc, graph)?;
     let mut answer = Answer::of(alloc, String::new(alloc), Status::Fine);
     let mut count: usize = 0;
     for i in &graph.order {
@@ -110,19 +109,10 @@ pub fn show_packages(
                     targets,
                     *reached,
                     asked,
-                    &reasons,
                 )?;
             }
         } else {
-            push_line(
-                &mut answer.output,
-                alloc,
-                graph,
-                *i,
-                targets,
-                asked,
-                &reasons,
-            )?;
+            push_line(&mut answer.output, alloc, graph, *i, targets, asked)?;
         }
     }
     if !asked.json {
@@ -141,15 +131,13 @@ fn push_line(
     index: usize,
     targets: TargetSet,
     asked: &Asked<'_>,
-    reasons: &Option<Reasons>,
 ) -> Result<(), AllocError> {
     let Some(described) = graph.described(index) else {
         return Ok(());
     };
     let package = shown_package(alloc, described)?;
     let targets = shown_targets(alloc, targets, asked)?;
-    let reasons = shown_reasons(alloc, reasons, index, asked)?;
-    let line = format!(in alloc; "{package}: {targets}{reasons}\n")?;
+    let line = format!(in alloc; "{package}: {targets}\n")?;
     push(text, line.as_str())
 }
 
@@ -181,7 +169,6 @@ fn push_object(
     targets: TargetSet,
     reached: Reached,
     asked: &Asked<'_>,
-    reasons: &Option<Reasons>,
 ) -> Result<(), AllocError> {
     let Some(described) = graph.described(index) else {
         return Ok(());
@@ -192,6 +179,5 @@ fn push_object(
     push_targets(text, alloc, targets, asked.targets)?;
     push_field(text, ", ", "kinds")?;
     reached.push(text)?;
-    push_reasons(text, alloc, reasons, index, asked)?;
     push(text, "}\n")
 }

@@ -1,4 +1,3 @@
 pub mod Sames
 pub mod Reports
-pub mod Laws
 pub mod Founds

@@ -2,7 +2,6 @@
 #![tactic(auto)]
 
 mod found;
-pub mod laws;
 mod linting;
 
 pub use expression_folds::values_of;

@@ -61,8 +61,7 @@ impl<'a> ReadKey<'a> {
 
     /// A key that stands in no manifest, and spells this condition.
     pub fn alone(text: &'a str, condition: Platform) -> ReadKey<'a>
-        ensures spelled { result.spelled ≡ Spelled.Condition condition }
-        ensures text { result.text.now ≡ text.now }
+        ensures { result.spelled ≡ Spelled.Condition condition }
     {
         ReadKey {
             text,
