@@ -114,6 +114,7 @@ def made(kind, fields):
 def subcommands():
     """The subcommands, in the order of the help."""
     constants = {}
-    for name, value in re.findall(r"^const (\w+): [^=]+ =\s+(.*?);\n\n", SOURCE.read_text(encoding="utf-8"), re.S | re.M):
+    text = SOURCE.read_text(encoding="utf-8")
+    for name, value in re.findall(r"^const (\w+): [^=]+ =\s+(.*?);\n\n", text, re.S | re.M):
         constants[name] = Reader(value, constants).value()
     return constants["SUBCOMMANDS"]
