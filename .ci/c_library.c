@@ -62,6 +62,9 @@ static uint32_t targets(const question *q, uint8_t *out, size_t size, nevgrasi_o
     uint64_t words[NEVGRASI_WORDS] = {0};
     return nevgrasi_targets(q->texts[0], q->lengths[0], words, out, size, o);
 }
+static uint32_t graph(const question *q, uint8_t *out, size_t size, nevgrasi_outcome *o) {
+    return nevgrasi_graph(q->texts[0], q->lengths[0], q->texts[1], q->lengths[1], out, size, o);
+}
 static uint32_t target_name(const question *q, uint8_t *out, size_t size, nevgrasi_outcome *o) {
     return nevgrasi_target_name(q->lengths[1], out, size, o);
 }
@@ -178,6 +181,51 @@ static void try_example(call *made, question q, int is_named, const char *first,
 
 static const char KEY[] = "cfg( all(unix,not(target_os=\"macos\"),) )";
 
+/* Two packages, of which one is there at one target. */
+static const char DOCUMENT[] =
+    "{\"version\": 1, \"workspace_members\": [\"a\"], \"packages\": ["
+    "{\"id\": \"a\", \"name\": \"a\", \"version\": \"1.0.0\", \"license\": \"MIT\", \"targets\": []}, "
+    "{\"id\": \"b\", \"name\": \"b\", \"version\": \"0.1.0\", \"targets\": []}], "
+    "\"resolve\": {\"nodes\": [{\"id\": \"b\", \"deps\": []}, {\"id\": \"a\", \"deps\": [{\"pkg\": \"b\", "
+    "\"dep_kinds\": [{\"kind\": null, \"target\": \"x86_64-apple-darwin\"}]}]}]}}";
+static const char PACKAGES[] =
+    "{\"package\": \"a 1.0.0\", \"id\": \"a\", \"license\": \"MIT\", \"targets\": 320, \"at\": \"all\", "
+    "\"kinds\": []}\n"
+    "{\"package\": \"b 0.1.0\", \"id\": \"b\", \"license\": null, \"targets\": 1, "
+    "\"at\": [\"x86_64-apple-darwin\"], \"kinds\": [\"normal\"]}\n";
+
+/* A document whose one condition has so many levels. */
+static void try_deep_graph(size_t levels, uint32_t code) {
+    char *key = malloc(levels * 5 + 6), *document = malloc(levels * 5 + 400);
+    size_t at = (size_t)sprintf(key, "cfg(");
+    for (size_t k = 0; k < levels; k++) at += (size_t)sprintf(key + at, "not(");
+    key[at++] = 'a';
+    memset(key + at, ')', levels + 1);
+    key[at + levels + 1] = 0;
+    sprintf(document, "{\"version\": 1, \"workspace_members\": [\"a\"], \"packages\": [{\"id\": \"a\", \"name\": "
+            "\"a\", \"version\": \"1.0.0\", \"targets\": []}], \"resolve\": {\"nodes\": [{\"id\": \"a\", \"deps\": "
+            "[{\"pkg\": \"a\", \"dep_kinds\": [{\"kind\": null, \"target\": \"%s\"}]}]}]}}", key);
+    nevgrasi_outcome o;
+    uint32_t found = nevgrasi_graph((uint8_t *)document, strlen(document), NULL, 0, NULL, 0, &o);
+    expect(found == code, "graph of a deep condition", code == NEVGRASI_DONE ? "refused" : "another code");
+    free(key);
+    free(document);
+}
+
+static void try_graph(void) {
+    try_call(graph, asked("graph", DOCUMENT, "", ""), NEVGRASI_DONE, PACKAGES);
+    try_call(graph, asked("graph on a host", DOCUMENT, "x86_64-unknown-linux-gnu", ""), NEVGRASI_DONE, PACKAGES);
+    try_call(graph, asked("graph on no target", DOCUMENT, "x", ""), NEVGRASI_UNKNOWN_TARGET, "");
+    try_call(graph, asked("graph of no text", "\xFF", "", ""), NEVGRASI_NOT_UTF8, "");
+    try_call(graph, asked("graph of no JSON", "[", "", ""), NEVGRASI_REFUSED, NULL);
+    try_call(graph, asked("graph of nothing", "", "", ""), NEVGRASI_REFUSED, NULL);
+    try_call(graph, asked("graph of another document", "{\"version\": 1}", "", ""), NEVGRASI_REFUSED,
+             "packages: a list is wanted");
+    try_deep_graph(NEVGRASI_MOST_OPEN - 1, NEVGRASI_DONE);
+    try_deep_graph(NEVGRASI_MOST_OPEN, NEVGRASI_TOO_DEEP);
+    try_deep_graph(100 * NEVGRASI_MOST_OPEN, NEVGRASI_TOO_DEEP);
+}
+
 static void try_answers(void) {
     try_call(version, asked("version", "", "", ""), NEVGRASI_DONE, NULL);
     try_call(canonical, asked("canonical", KEY, "", ""), NEVGRASI_DONE, "cfg(all(unix, not(target_os = \"macos\")))");
@@ -229,6 +277,8 @@ static void try_places(void) {
     try_place(implies, asked("a first key", "a b", "a b", ""), NEVGRASI_REFUSED, 0, 1, 2);
     try_place(implies, asked("a second key", "a", "cfg(a b)", ""), NEVGRASI_REFUSED, 1, 6, 7);
     try_place(excludes, asked("a second key, no text", "a", "\xC3", ""), NEVGRASI_NOT_UTF8, 1, 0, 0);
+    try_place(graph, asked("a host", DOCUMENT, "\xFF", ""), NEVGRASI_NOT_UTF8, 1, 0, 0);
+    try_place(graph, asked("a host, unknown", DOCUMENT, "x", ""), NEVGRASI_UNKNOWN_TARGET, 1, 0, 0);
     try_place(flat_matches, asked("flat bytes", "x", "", ""), NEVGRASI_NOT_FLAT, 0, 0, 0);
 }
 
@@ -430,6 +480,7 @@ int main(int count, char **words) {
     if (count != 2) return 2;
     expect(nevgrasi_abi() == NEVGRASI_ABI, "abi", "another number");
     try_answers();
+    try_graph();
     try_places();
     question flat = asked("flat_matches", "", "x", "");
     size_t size;

@@ -135,6 +135,13 @@ uint32_t nevgrasi_flat_print(const uint8_t *flat, size_t flat_length, uint8_t *o
 uint32_t nevgrasi_flat_matches(const uint8_t *flat, size_t flat_length, const uint8_t *name, size_t name_length,
     const uint8_t *flat_facts, size_t flat_facts_length, nevgrasi_outcome *outcome);
 
+/* Writes at which known targets each package of a graph is in the build: a line of JSON for each package, as the
+   program `manifest_check graph --json` prints them. The document is what `cargo metadata --format-version 1`
+   printed. Builds run on the host, a known target of this name, and with an empty name on the target itself. With
+   NEVGRASI_REFUSED it writes why the document can't be used, and tells no span. */
+uint32_t nevgrasi_graph(const uint8_t *document, size_t document_length, const uint8_t *host, size_t host_length,
+    uint8_t *out, size_t out_length, nevgrasi_outcome *outcome);
+
 #ifdef __cplusplus
 }
 #endif

@@ -15,12 +15,13 @@ environment names. A call makes no other system call than for memory, and thread
 from __future__ import annotations
 
 import ctypes
+import json
 import os
 import pathlib
 import typing
 
 __all__ = ["Answer", "Condition", "Example", "Fault", "Key", "TooDeep", "Undecided", "UnknownTarget", "facts_of",
-           "known_targets", "version"]  # fmt: skip
+           "graph", "known_targets", "version"]  # fmt: skip
 
 ABI = 2
 DONE, REFUSED, NOT_UTF8, NOT_FLAT, NO_MEMORY, UNDECIDED, TOO_DEEP, UNKNOWN_TARGET = range(8)
@@ -270,6 +271,22 @@ class Condition:
 
     def __str__(self) -> str:
         return _answer("nevgrasi_flat_print", *_bytes(self.flat))[1].decode()
+
+
+def graph(document: str | bytes, host: str | None = None) -> list[dict]:
+    """At which known targets each package is in the build, of what `cargo metadata --format-version 1` printed.
+
+    An object for each package, as `manifest_check graph --json` prints them: `at` is "all", or names of targets. With a
+    host, a known target, builds run there; without one on the target itself. A document that can't be used raises
+    `Fault`.
+
+    >>> nodes = [{"id": "a", "deps": []}]
+    >>> packages = [{"id": "a", "name": "a", "version": "1.0.0", "targets": []}]
+    >>> graph(json.dumps({"version": 1, "packages": packages, "workspace_members": ["a"], "resolve": {"nodes": nodes}}))
+    [{'package': 'a 1.0.0', 'id': 'a', 'license': None, 'targets': 320, 'at': 'all', 'kinds': []}]
+    """
+    _, written = _answer("nevgrasi_graph", *_bytes(document), *_bytes(host or ""))
+    return [json.loads(line) for line in written.split(b"\n")[:-1]]
 
 
 def version() -> str:

@@ -1,5 +1,6 @@
 -- The rules lead to the number of a claim exactly where steps lead to the claim.
-use Rattle.std.proofs.Common.{◌≡◌, ◌<◌, ◌≤◌, ◌↔◌, ℕ, zero, suc, Bool, true, false, List, [], length, get_or, map, refl, sym, ◌∙◌}
+use Rattle.std.proofs.Common.{◌≡◌, ◌<◌, ◌≤◌, ◌↔◌, ℕ, zero, suc, Bool, true, false, List, [], length, get_or, map}
+use Rattle.std.proofs.Common.{refl, sym, ◌∙◌}
 use Rattle.std.proofs.Common.{ap, subst, inl, inr, arith}
 use Rattle.std.specs.Prelude.{Contains, IsTrue}
 use Rattle.std.proofs.lemmas.List.{get_or_default}

@@ -1,5 +1,6 @@
 -- Claims and their numbers.
-use Rattle.std.proofs.Common.{◌≡◌, ◌<◌, ◌≤◌, ◌⊎◌, ℕ, zero, suc, ◌+◌, ◌*◌, Bool, true, false, cond, List, [], ◌∷◌, length, take}
+use Rattle.std.proofs.Common.{◌≡◌, ◌<◌, ◌≤◌, ◌⊎◌, ℕ, zero, suc, ◌+◌, ◌*◌, Bool, true, false, cond, List, [], ◌∷◌}
+use Rattle.std.proofs.Common.{length, take}
 use Rattle.std.proofs.Common.{get_or, map, refl, sym, ◌∙◌, ap, subst, inl, inr, arith}
 use Rattle.std.specs.Prelude.{sum_by}
 use borrow.Author.Tests.{ltb-true}
@@ -311,7 +312,8 @@ injective packages (claim.Dependency p from i) (claim.Dependency q to j) h k e =
     let b_low : j < dependency_count packages q = ltb-true j (dependency_count packages q) k in
     let b_in : q < length packages = has_dependency packages q j b_low in
     let b_fact : ((feature_count packages q + j) + 2) < facts_of packages q = omega (arith, b_low) in
-    let s = same_fact packages p q ((feature_count packages p + i) + 2) ((feature_count packages q + j) + 2) from to a_in b_in a_fact b_fact e in
+    let s = same_fact packages p q ((feature_count packages p + i) + 2) ((feature_count packages q + j) + 2)
+    from to a_in b_in a_fact b_fact e in
     let p_is : p ≡ q = s.0 in
     let side_is : from ≡ to = s.2 in
     let same = ap (λ (x : ℕ). feature_count packages x) p_is in

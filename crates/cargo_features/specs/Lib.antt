@@ -4,3 +4,4 @@ pub mod Steps
 pub mod Holding
 pub mod Inside
 pub mod Resolved
+pub mod Graphs

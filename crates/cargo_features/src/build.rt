@@ -1,7 +1,8 @@
 //! What is built, and where a dependency leads to.
 
-ghost use Rattle.std.specs.Prelude.{◌≡◌, true, false};
+ghost use Rattle.std.specs.Prelude.{◌≡◌};
 ghost use Rattle.package_graphs.specs.Packages.{is_of_host, side};
+ghost use Rattle.cargo_features.specs.Graphs.{resolver_1, resolver_2};
 ghost use Rattle.cargo_features.specs.Ways.{is_macro, way, feature_way, feature_side, is_counted, begins_on};
 
 use crate::claims::Condition;
@@ -64,7 +65,7 @@ fn is_macro(packages: &[Package], index: usize) -> bool
 impl Build {
     /// What Cargo's resolver 1 builds: a package has the same features everywhere.
     pub fn by_resolver_1(kinds: Kinds, host: KnownTarget) -> Build
-        ensures { result ≡ record { kinds = kinds; host = host; by_target = false; by_side = false; with_dev = true } }
+        ensures { result ≡ resolver_1 kinds host }
     {
         Build {
             kinds,
@@ -77,8 +78,7 @@ impl Build {
 
     /// What Cargo's resolvers 2 and 3 build, which tell features apart alike.
     pub fn by_resolver_2(kinds: Kinds, host: KnownTarget) -> Build
-        ensures { result
-            ≡ record { kinds = kinds; host = host; by_target = true; by_side = true; with_dev = kinds.dev } }
+        ensures { result ≡ resolver_2 kinds host }
     {
         Build {
             kinds,

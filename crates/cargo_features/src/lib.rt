@@ -4,6 +4,7 @@
 
 mod build;
 mod claims;
+pub mod laws;
 mod numbers;
 mod packages;
 mod resolved;

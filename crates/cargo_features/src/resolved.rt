@@ -8,7 +8,7 @@ ghost use Rattle.cargo_features.specs.Holding.{is_known, Holds, IsUsed};
 ghost use Rattle.cargo_features.specs.Steps.{all_steps, steps_on_both};
 ghost use Rattle.cargo_features.specs.Inside.Numbered.{AreNumbers, IsNumbered, AreNumbered};
 ghost use Rattle.cargo_features.specs.Inside.Exact.{has, is_used, IsExact};
-ghost use Rattle.cargo_features.specs.Resolved.{holds_in, IsResolved};
+ghost use Rattle.cargo_features.specs.Resolved.{holds_in, is_built_with, IsResolved};
 ghost use Rattle.cargo_features.specs.declared.claims.Claim.{Claim};
 ghost use Rattle.cargo_features.specs.declared.claims.Step.{Step};
 
@@ -210,7 +210,10 @@ impl Resolved {
     }
 
     /// The targets at which a package that is used on a side is built with a feature of its own.
-    pub fn with_feature(&self, index: usize, side: Side, feature: usize) -> TargetSet {
+    pub fn with_feature(&self, index: usize, side: Side, feature: usize) -> TargetSet
+        ensures { AreNumbers self.now.packages.items self.now.found.numbers → (k : ℕ) → k < COUNT
+            → is_member result k ≡ is_built_with self.now index side feature k }
+    {
         let on = Claim::Feature(index, self.build.feature_side(side), feature);
         let used = self.at(Claim::Used(index, side));
         used.intersection(self.at(on))

@@ -142,8 +142,8 @@ impl Build {
         self.counts(unit, dependency) && dependency.is_optional
     }
 
-    /// `d/g`, in the list of a feature, turns on the feature `g` of the dependency's package, and an optional dependency
-    /// itself, with the feature of its name.
+    /// `d/g`, in the list of a feature, turns on the feature `g` of the dependency's package, and an optional
+    /// dependency itself, with the feature of its name.
     fn strong_at(
         self,
         packages: &[Package],

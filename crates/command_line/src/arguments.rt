@@ -105,20 +105,54 @@ const MANIFESTS: Argument = Argument {
 };
 
 /// What a key is, for the help.
-const KEY: &str = "The key of a table under `target`: the name of a target, or cfg(..)";
+const KEY: &str =
+    "The key of a table under `target`: the name of a target, or cfg(..), with 100,000 groups in one another \
+                   at most";
 
 const LINT: Subcommand = Subcommand {
     name: "lint",
     about: "Tells what is wrong or odd about the keys of `target` in manifests",
     end: "Example: manifest_check lint Cargo.toml\n\n\
           The root of a workspace stands for its members too. The status is 0 where nothing is found but notes, 1 \
-          where an error or a warning is, and 2 where the input can't be used.",
+          where an error or a warning is, and 2 where the input can't be used, as a manifest with a key that has \
+          more than 100,000 groups in one another. Tables `manifest-check` in the metadata of the package and of the \
+          workspace have lists `allow`, `warn` and `deny` too; the options win.",
     arguments: &[
         JSON,
         Argument {
+            name: "message-format",
+            given: Given::OneOf("FORMAT", &["human", "short", "json", "github", "sarif"]),
+            help: "How findings are printed; human without it",
+        },
+        Argument {
+            name: "color",
+            given: Given::OneOf("WHEN", &["auto", "always", "never"]),
+            help: "Whether words have colours; auto, where a terminal shows them, without it",
+        },
+        Argument {
+            name: "allow",
+            given: Given::Values("CODE"),
+            help: "Does not tell findings of this code, or of warnings or notes; the last option that fits counts",
+        },
+        Argument {
+            name: "warn",
+            given: Given::Values("CODE"),
+            help: "Makes these findings warnings",
+        },
+        Argument {
             name: "deny",
-            given: Given::OneOf("LEVEL", &["notes"]),
-            help: "With notes: notes count for the status too",
+            given: Given::Values("CODE"),
+            help: "Makes these findings errors",
+        },
+        Argument {
+            name: "list-codes",
+            given: Given::Flag,
+            help: "Prints the codes of findings",
+        },
+        Argument {
+            name: "explain",
+            given: Given::Value("CODE"),
+            help: "Says what findings of this code mean",
         },
         Argument {
             name: "quiet",
@@ -143,7 +177,7 @@ const SELECT: Subcommand = Subcommand {
     about: "Tells which dependencies of manifests are selected for a target",
     end: "Example: manifest_check select --target x86_64-pc-windows-msvc Cargo.toml\n\n\
           The root of a workspace stands for its members too. Features are not resolved: an optional dependency is \
-          told as optional.",
+          told as optional. A manifest with a key that has more than 100,000 groups in one another is refused.",
     arguments: &[
         TARGET,
         Argument {
@@ -238,8 +272,10 @@ const GRAPH: Subcommand = Subcommand {
     about: "Tells which packages are in a build at which targets, and why",
     end: "Example: cargo metadata --format-version 1 | manifest_check graph --show why --of libc\n\n\
           Without --metadata standard input is read. A file that was made with --filter-platform can't be told from \
-          a whole one. Features are not resolved: what `cargo metadata` turned on is on.\n\n\
-          With --allow or --allow-file the status is 1 where something is told.",
+          a whole one. What `cargo metadata` turned on is on, unless features are resolved: with --resolver or any \
+          word on features, for a host.\n\n\
+          With --allow or --allow-file the status is 1 where something is told. A document with a condition that has \
+          more than 100,000 groups in one another is refused.",
     arguments: &[
         Argument {
             name: "metadata",
@@ -268,8 +304,31 @@ const GRAPH: Subcommand = Subcommand {
         },
         Argument {
             name: "show",
-            given: Given::OneOf("WHAT", &["packages", "edges", "targets", "why"]),
+            given: Given::OneOf(
+                "WHAT",
+                &["packages", "edges", "targets", "why", "features", "unified"],
+            ),
             help: "What is told; packages without it",
+        },
+        Argument {
+            name: "resolver",
+            given: Given::OneOf("WHICH", &["1", "2", "3", "edition"]),
+            help: "Resolves features as this resolver of Cargo, or as that of the root package's edition",
+        },
+        Argument {
+            name: "features",
+            given: Given::Values("NAMES"),
+            help: "Asks these features of the roots, joined by commas",
+        },
+        Argument {
+            name: "no-default-features",
+            given: Given::Flag,
+            help: "Does not ask the feature `default` of the roots",
+        },
+        Argument {
+            name: "all-features",
+            given: Given::Flag,
+            help: "Asks all features of the roots",
         },
         Argument {
             name: "of",
@@ -303,11 +362,17 @@ const GRAPH: Subcommand = Subcommand {
 /// The subcommands, in the order of the help.
 const SUBCOMMANDS: &[Subcommand] = &[LINT, SELECT, MATCH, TARGETS, FACTS_OF, COMPARE, GRAPH];
 
-/// The words without the name that Cargo hands over before those of its user.
-pub fn without_cargo_name(words: &mut Vec<String>) {
+/// How its users call the program as a command of Cargo's.
+const CARGO_COMMAND: &str = "cargo manifest-check";
+
+/// Lets go of the name that Cargo hands over before the words of its user, and takes what they typed for the name of the
+/// program, which lines of usage have.
+pub fn without_cargo_name(alloc: Global, words: &mut Vec<String>) -> Result<(), AllocError> {
     if words.len() > 1 && words[1].as_str() == CARGO_NAME {
         let _name = words.remove(1);
+        words[0] = String::from_str(alloc, CARGO_COMMAND)?;
     }
+    Ok(())
 }
 
 /// The program's command, of which `version` is the version.

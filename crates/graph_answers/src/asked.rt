@@ -13,6 +13,8 @@ pub enum Show {
     Edges,
     Targets,
     Why,
+    Features,
+    Unified,
 }
 
 /// The words of the command line, as they are.
@@ -130,6 +132,8 @@ fn show_of(word: Option<&str>) -> Option<Show> {
         Some("edges") => Some(Show::Edges),
         Some("targets") => Some(Show::Targets),
         Some("why") => Some(Show::Why),
+        Some("features") => Some(Show::Features),
+        Some("unified") => Some(Show::Unified),
         Some(_) => None,
     }
 }
@@ -138,7 +142,7 @@ impl<'a> Asked<'a> {
     /// What the words ask, or what is said of words that can't be used.
     pub fn of(alloc: Global, words: &Words<'a>) -> Result<Result<Asked<'a>, Answer>, AllocError> {
         let Some(show) = show_of(words.show) else {
-            let text = "--show names packages, edges, targets or why";
+            let text = "--show names packages, edges, targets, why, features or unified";
             return Ok(Err(unusable_words(alloc, text)?));
         };
         if words.of.is_some() != (show == Show::Why) {

@@ -84,17 +84,9 @@ fn is_asked(graph: &Graph<'_>, edge: &Edge<'_>, asked: &Asked<'_>) -> bool {
 
 /// The targets that are asked for at which the edge is followed.
 fn followed(graph: &Graph<'_>, edge: &Edge<'_>, asked: &Asked<'_>) -> TargetSet {
-    let packages = &graph.linked.packages;
-    let Some(unit) = packages.get(edge.from) else {
-        return TargetSet::none();
-    };
-    match unit.dependencies.get(edge.place) {
-        Some(dependency) => graph
-            .sets
-            .following(packages, asked.kinds, asked.host, edge.from, dependency)
-            .intersection(asked.targets),
-        None => TargetSet::none(),
-    }
+    graph
+        .following(edge.from, edge.place, asked)
+        .intersection(asked.targets)
 }
 
 /// The answer to `--show edges`.

@@ -2,11 +2,14 @@
 
 use crate::asked::{Asked, Show, Words};
 use crate::edges::show_edges;
+use crate::features::show_features;
 use crate::licences::{Audit, show_licences};
 use crate::packages::show_packages;
 use crate::page::page_of;
-use crate::refused::{refused_document, refused_graph, unusable};
+use crate::refused::{refused_depth, refused_document, refused_graph, unusable};
+use crate::resolving::{FeatureWords, Features, features_of};
 use crate::targets::show_targets;
+use crate::unified::show_unified;
 use crate::why::show_why;
 use cargo_metadata::graphs::{Linked, link};
 use cargo_metadata::{Metadata, Package as Described, read};
@@ -26,12 +29,40 @@ pub struct Graph<'a> {
     pub sets: PackageSets,
     /// The packages' places, in order of name, version and id.
     pub order: Vec<usize>,
+    /// What features turn on, where that is asked for.
+    pub features: Option<Features<'a>>,
 }
 
 impl<'a> Graph<'a> {
     /// The targets that are asked for at which a package is there.
     pub fn at(&self, index: usize, asked: &Asked<'_>) -> TargetSet {
-        self.sets.at(index).intersection(asked.targets)
+        self.present(index).intersection(asked.targets)
+    }
+
+    /// The targets at which a package is there.
+    pub fn present(&self, index: usize) -> TargetSet {
+        match &self.features {
+            Some(features) => features.resolved.used(index),
+            None => self.sets.at(index),
+        }
+    }
+
+    /// The targets at which a dependency is followed, by its place among those of a package.
+    pub fn following(&self, index: usize, place: usize, asked: &Asked<'_>) -> TargetSet {
+        if let Some(features) = &self.features {
+            return features.using(index, place);
+        }
+        let packages = &self.linked.packages;
+        let Some(unit) = packages.get(index) else {
+            return TargetSet::none();
+        };
+        match unit.dependencies.get(place) {
+            Some(dependency) => {
+                self.sets
+                    .following(packages, asked.kinds, asked.host, index, dependency)
+            }
+            None => TargetSet::none(),
+        }
     }
 
     /// The package at a place, as the document describes it.
@@ -89,11 +120,15 @@ fn graph_of<'a>(
     file: &str,
     document: &'a Value,
     asked: &Asked<'_>,
+    words: &FeatureWords<'_>,
 ) -> Result<Result<Graph<'a>, Answer>, AllocError> {
     let metadata = match read(alloc, document) {
         Ok(metadata) => metadata,
         Err(refusal) => return Ok(Err(refused_document(alloc, file, document, &refusal)?)),
     };
+    if let Some(answer) = refused_depth(alloc, file, &metadata)? {
+        return Ok(Err(answer));
+    }
     let mut linked = match link(alloc, &metadata) {
         Ok(linked) => linked,
         Err(refusal) => return Ok(Err(refused_graph(alloc, file, &metadata, &refusal)?)),
@@ -105,11 +140,16 @@ fn graph_of<'a>(
     }
     let sets = present_packages(alloc, &linked.packages, asked.kinds, asked.host)?;
     let order = in_order(alloc, &linked.described)?;
+    let features = match features_of(alloc, file, document, &metadata, &linked, asked, words)? {
+        Ok(features) => features,
+        Err(answer) => return Ok(Err(answer)),
+    };
     Ok(Ok(Graph {
         metadata,
         linked,
         sets,
         order,
+        features,
     }))
 }
 
@@ -129,6 +169,8 @@ fn answer_of(
         Show::Edges => show_edges(alloc, graph, asked),
         Show::Targets => show_targets(alloc, graph, asked),
         Show::Why => show_why(alloc, file, graph, asked),
+        Show::Features => show_features(alloc, graph, asked),
+        Show::Unified => show_unified(alloc, graph, asked),
     }
 }
 
@@ -153,8 +195,9 @@ fn report_on_document(
     document: &Value,
     asked: &Asked<'_>,
     audit: &Option<Audit<'_>>,
+    words: &FeatureWords<'_>,
 ) -> Result<Report, AllocError> {
-    let graph = match graph_of(alloc, file, document, asked)? {
+    let graph = match graph_of(alloc, file, document, asked, words)? {
         Ok(graph) => graph,
         Err(answer) => return Ok(Report::without_page(answer)),
     };
@@ -176,6 +219,17 @@ pub fn report_on(
     text: &str,
     words: &Words<'_>,
 ) -> Result<Report, AllocError> {
+    report_with(alloc, file, text, words, &FeatureWords::none())
+}
+
+/// The same, with the words on features.
+pub fn report_with(
+    alloc: Global,
+    file: &str,
+    text: &str,
+    words: &Words<'_>,
+    features: &FeatureWords<'_>,
+) -> Result<Report, AllocError> {
     let asked = match Asked::of(alloc, words)? {
         Ok(asked) => asked,
         Err(answer) => return Ok(Report::without_page(answer)),
@@ -186,7 +240,14 @@ pub fn report_on(
     };
     let file = shown_text(alloc, file)?;
     match Value::from_str(alloc, text) {
-        Ok(document) => report_on_document(alloc, file.as_str(), &document, &asked, &audit),
+        Ok(document) => report_on_document(
+            alloc,
+            file.as_str(),
+            &document,
+            &asked,
+            &audit,
+            features,
+        ),
         Err(error) => {
             let reason = format!(in alloc; "{error}")?;
             let reason = shown_text(alloc, reason.as_str())?;

@@ -5,14 +5,19 @@
 pub mod asked;
 mod edges;
 mod faults;
+mod features;
 mod graph;
 mod json;
 mod licences;
 mod lines;
 mod packages;
 mod page;
+mod reasons;
 mod refused;
+mod resolving;
 mod targets;
+mod unified;
 mod why;
 
-pub use graph::{Report, report_on};
+pub use graph::{Report, report_on, report_with};
+pub use resolving::FeatureWords;

@@ -4,6 +4,7 @@ use crate::asked::Asked;
 use crate::graph::Graph;
 use crate::json::{push_comma, push_field, push_optional, push_targets, push_text};
 use crate::lines::{push, shown_package, shown_targets};
+use crate::reasons::{Reasons, push_reasons, shown_reasons};
 use key_answers::answer::{Answer, Status};
 use known_targets::TargetSet;
 use package_graphs::Kind;
@@ -65,13 +66,12 @@ pub fn kinds_reached(
     let packages = &graph.linked.packages;
     let mut reached = vec![in alloc; none; packages.len()]?;
     for i in 0..packages.len() {
-        for dependency in &packages[i].dependencies {
+        for j in 0..packages[i].dependencies.len() {
+            let dependency = packages[i].dependencies[j];
             let Some(to) = reached.get_mut(dependency.to) else {
                 continue;
             };
-            let targets = graph
-                .sets
-                .following(packages, asked.kinds, asked.host, i, dependency);
+            let targets = graph.following(i, j, asked);
             if targets.intersection(asked.targets).is_empty() {
                 continue;
             }
@@ -92,6 +92,7 @@ pub fn show_packages(
     asked: &Asked<'_>,
 ) -> Result<Answer, AllocError> {
     let reached = kinds_reached(alloc, graph, asked)?;
+    let reasons = Reasons::of(alloc, graph)?;
     let mut answer = Answer::of(alloc, String::new(alloc), Status::Fine);
     let mut count: usize = 0;
     for i in &graph.order {
@@ -109,10 +110,19 @@ pub fn show_packages(
                     targets,
                     *reached,
                     asked,
+                    &reasons,
                 )?;
             }
         } else {
-            push_line(&mut answer.output, alloc, graph, *i, targets, asked)?;
+            push_line(
+                &mut answer.output,
+                alloc,
+                graph,
+                *i,
+                targets,
+                asked,
+                &reasons,
+            )?;
         }
     }
     if !asked.json {
@@ -131,13 +141,15 @@ fn push_line(
     index: usize,
     targets: TargetSet,
     asked: &Asked<'_>,
+    reasons: &Option<Reasons>,
 ) -> Result<(), AllocError> {
     let Some(described) = graph.described(index) else {
         return Ok(());
     };
     let package = shown_package(alloc, described)?;
     let targets = shown_targets(alloc, targets, asked)?;
-    let line = format!(in alloc; "{package}: {targets}\n")?;
+    let reasons = shown_reasons(alloc, reasons, index, asked)?;
+    let line = format!(in alloc; "{package}: {targets}{reasons}\n")?;
     push(text, line.as_str())
 }
 
@@ -169,6 +181,7 @@ fn push_object(
     targets: TargetSet,
     reached: Reached,
     asked: &Asked<'_>,
+    reasons: &Option<Reasons>,
 ) -> Result<(), AllocError> {
     let Some(described) = graph.described(index) else {
         return Ok(());
@@ -179,5 +192,6 @@ fn push_object(
     push_targets(text, alloc, targets, asked.targets)?;
     push_field(text, ", ", "kinds")?;
     reached.push(text)?;
+    push_reasons(text, alloc, reasons, index, asked)?;
     push(text, "}\n")
 }

@@ -192,7 +192,7 @@ fn push_package(
         None => add_markup(page, "<em>no licence</em>")?,
     }
     add_markup(page, "</td>")?;
-    let targets = graph.sets.at(index);
+    let targets = graph.present(index);
     for class in classes {
         if class.targets.intersection(targets).is_empty() {
             add_markup(page, "<td class=\"class\"></td>")?;

@@ -6,6 +6,7 @@ use cargo_metadata::{InResolve, Metadata, Refusal};
 use cargo_platform::ParseError;
 use key_answers::answer::Answer;
 use key_answers::printing::refused_key;
+use key_limits::{deep_at, deep_text};
 use serde_json::Value;
 use std::alloc::{AllocError, Global};
 
@@ -83,6 +84,40 @@ fn id_of<'a>(metadata: &Metadata<'a>, refusal: &Unlinked) -> Option<&'a str> {
 fn condition_at<'a>(metadata: &Metadata<'a>, i: usize, j: usize, k: usize) -> Option<&'a str> {
     let dependency = metadata.nodes.get(i)?.dependencies.get(j)?;
     dependency.kinds.get(k)?.condition
+}
+
+/// The first condition of a document that is nested too deep: its places, and the byte from which on it is.
+fn first_deep(metadata: &Metadata<'_>) -> Option<((usize, usize, usize), usize)> {
+    for (i, node) in metadata.nodes.iter().enumerate() {
+        for (j, dependency) in node.dependencies.iter().enumerate() {
+            for (k, row) in dependency.kinds.iter().enumerate() {
+                let Some(condition) = row.condition else {
+                    continue;
+                };
+                if let Some(at) = deep_at(condition) {
+                    return Some(((i, j, k), at));
+                }
+            }
+        }
+    }
+    None
+}
+
+/// What is said of a document with a condition that is nested too deep; of others there is nothing.
+pub fn refused_depth(
+    alloc: Global,
+    file: &str,
+    metadata: &Metadata<'_>,
+) -> Result<Option<Answer>, AllocError> {
+    let Some(((i, j, k), at)) = first_deep(metadata) else {
+        return Ok(None);
+    };
+    let reason = deep_text(alloc, at)?;
+    let reason = format!(in alloc;
+        "resolve.nodes[{i}].deps[{j}].dep_kinds[{k}].target: the text is {reason}"
+    )?;
+    let subject = metadata.nodes.get(i).map(|node| node.id);
+    Ok(Some(about(alloc, file, reason.as_str(), subject)?))
 }
 
 /// Where a condition is refused and why, indented, as `targets` shows it.

@@ -23,7 +23,7 @@ pub struct Class {
 fn different_sets(alloc: Global, graph: &Graph<'_>) -> Result<Vec<TargetSet>, AllocError> {
     let mut different: Vec<TargetSet> = Vec::new(alloc);
     for i in 0..graph.linked.packages.len() {
-        let set = graph.sets.at(i);
+        let set = graph.present(i);
         if !different.contains(&set) {
             different.push(set)?;
         }
@@ -166,7 +166,7 @@ fn push_table(
         };
         let package = shown_package(alloc, described)?;
         push(text, package.as_str())?;
-        push_classes(text, alloc, graph.sets.at(*i), classes)?;
+        push_classes(text, alloc, graph.present(*i), classes)?;
     }
     Ok(())
 }
@@ -226,7 +226,7 @@ fn push_object(
     push(text, "[")?;
     let mut is_first = true;
     for i in &graph.order {
-        if graph.sets.at(*i).intersection(class.targets).is_empty() {
+        if graph.present(*i).intersection(class.targets).is_empty() {
             continue;
         }
         if let Some(described) = graph.described(*i) {

@@ -1,6 +1,7 @@
 -- How facts and statuses are printed.
 use Rattle.std.specs.Prelude.{ℕ, List, ◌++◌, codes}
 use Rattle.cargo_platform.specs.Trees.{CfgValue, Alone, KeyPair}
+use Rattle.key_limits.specs.Limits.{deep_text}
 use Rattle.key_answers.specs.declared.answer.Status.{Status}
 use Rattle.key_answers.specs.declared.answer.Status.TheVariants as status
 
@@ -13,3 +14,7 @@ abbrev pub code_of : Status → ℕ
 code_of status.Fine = 0
 code_of status.Found = 1
 code_of status.Unusable = 2
+
+-- what is said of a key that is too deep
+abbrev pub deep_key : ℕ → List ℕ
+deep_key at = codes "error: the key is " ++ deep_text at ++ codes "\n"

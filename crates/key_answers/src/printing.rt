@@ -2,10 +2,11 @@
 
 ghost use Rattle.std.specs.Prelude.{◌≡◌, ◌++◌, IfOk, OnOk, flat_map, map, string_bytes};
 ghost use Rattle.cargo_platform.specs.Trees.{value_of};
-ghost use Rattle.key_answers.specs.Printing.{fact_line};
+ghost use Rattle.key_answers.specs.Printing.{fact_line, deep_key};
 
 use cargo_platform::{Cfg, ParseError, shown_start};
 use exact_answers::PossibleTarget;
+use key_limits::deep_text;
 use serde_json::{Map, Value};
 use std::alloc::{AllocError, Global};
 
@@ -152,6 +153,14 @@ pub fn refused_key(alloc: Global, key: &str, error: &ParseError) -> Result<Strin
     let snippet = error.snippet_in(alloc, key)?;
     push_fault(&mut text, alloc, error, snippet)?;
     Ok(text)
+}
+
+/// What is said of a key that is nested too deep from this byte on.
+pub fn deep_key(alloc: Global, at: usize) -> Result<String, AllocError>
+    ensures { IfOk result (λ text. string_bytes text ≡ deep_key at) }
+{
+    let reason = deep_text(alloc, at)?;
+    format!(in alloc; "error: the key is {reason}\n")
 }
 
 /// What is said of a line that spells no fact.

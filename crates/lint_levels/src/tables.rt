@@ -10,6 +10,14 @@ pub const TOOL: &str = "manifest-check";
 /// The settings in the order in which their rules stand: where a code is in several lists, the last one counts.
 const SETTINGS: [Setting; 3] = [Setting::Allow, Setting::Warn, Setting::Deny];
 
+/// The list of targets that a project has beside those of rustc, and the code of a name that none has.
+const KNOWN_TARGETS: &str = "known-targets";
+
+const UNKNOWN_TARGET: &str = "unknown-target";
+
+/// The list of facts that a project sets by flags of its own.
+const KNOWN_FACTS: &str = "known-facts";
+
 /// What can't be used of a table of rules.
 #[derive(Drop)]
 pub enum Fault {
@@ -19,6 +27,8 @@ pub enum Fault {
     NoList(&'static str),
     /// An entry of this list is neither a code nor a table with the texts `key` and `code`.
     NoEntry(&'static str),
+    /// An entry of this list is no text.
+    NoText(&'static str),
     /// No code has this word.
     UnknownCode(String),
     /// Nothing is set by this word.
@@ -28,8 +38,11 @@ pub enum Fault {
 /// What a table of rules says.
 #[derive(Drop)]
 pub struct Settings {
-    /// The rules of all keys, and behind them those of one key: of each those of `allow`, of `warn` and of `deny`.
+    /// The rules of targets that are known, those of all keys, and behind them those of one key: of each those of
+    /// `allow`, of `warn` and of `deny`.
     pub rules: Vec<Rule>,
+    /// The facts that are known, as `rustc --print cfg` prints them.
+    pub facts: Vec<String>,
     /// What can't be used.
     pub faults: Vec<Fault>,
 }
@@ -71,6 +84,14 @@ pub fn settings_at<'a>(manifest: &'a Table, part: &str) -> Option<&'a Value> {
 /// The text at a member of an entry.
 fn text_at<'a>(entry: &'a Table, member: &str) -> Option<&'a str> {
     entry.get(member)?.as_str()
+}
+
+/// Whether something is set by a word.
+fn is_word(word: &str) -> bool {
+    matches!(
+        word,
+        "allow" | "warn" | "deny" | KNOWN_TARGETS | KNOWN_FACTS
+    )
 }
 
 /// The code that an entry of a list names, and the key where it has one.
@@ -144,6 +165,41 @@ impl Settings {
         Ok(())
     }
 
+    /// Adds the rules of the targets that are known: their names as keys are allowed.
+    fn add_targets(&mut self, alloc: Global, table: &Table) -> Result<(), AllocError> {
+        for name in self.texts(alloc, table, KNOWN_TARGETS)? {
+            self.rules.push(Rule {
+                setting: Setting::Allow,
+                subject: Subject::Code(String::from_str(alloc, UNKNOWN_TARGET)?),
+                key: Some(name),
+            })?;
+        }
+        Ok(())
+    }
+
+    /// The texts of a list.
+    fn texts(
+        &mut self,
+        alloc: Global,
+        table: &Table,
+        word: &'static str,
+    ) -> Result<Vec<String>, AllocError> {
+        let mut texts = Vec::new(alloc);
+        match table.get(word) {
+            Some(Value::Array(entries)) => {
+                for entry in entries {
+                    match entry.as_str() {
+                        Some(text) => texts.push(String::from_str(alloc, text)?)?,
+                        None => self.faults.push(Fault::NoText(word))?,
+                    }
+                }
+            }
+            Some(_) => self.faults.push(Fault::NoList(word))?,
+            None => {}
+        }
+        Ok(texts)
+    }
+
     /// What stands at a place for rules, whose codes are these.
     pub fn of(
         alloc: Global,
@@ -152,14 +208,17 @@ impl Settings {
     ) -> Result<Settings, AllocError> {
         let mut settings = Settings {
             rules: Vec::new(alloc),
+            facts: Vec::new(alloc),
             faults: Vec::new(alloc),
         };
         match value {
             Some(Value::Table(table)) => {
+                settings.add_targets(alloc, table)?;
+                settings.facts = settings.texts(alloc, table, KNOWN_FACTS)?;
                 settings.add_lists(alloc, table, false, codes)?;
                 settings.add_lists(alloc, table, true, codes)?;
                 for (word, _) in table.iter() {
-                    if !SETTINGS.iter().any(|known| known.word() == word.as_str()) {
+                    if !is_word(word.as_str()) {
                         settings.faults.push(Fault::UnknownWord(word.clone()?))?;
                     }
                 }

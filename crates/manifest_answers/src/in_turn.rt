@@ -1,5 +1,10 @@
 //! What is asked of several manifests, one after the other.
 
+ghost use Rattle.toml.specs.View.{table_view};
+ghost use Rattle.manifest_documents.specs.Tables.{target_of};
+ghost use Rattle.manifest_answers.specs.Deep.{HasNoDeepKey};
+
+use crate::deep::first_deep;
 use key_answers::answer::{Answer, Status};
 use manifest_documents::reading::{Manifest, ReadError, read_manifest};
 use std::alloc::{AllocError, Global};
@@ -7,8 +12,9 @@ use std::rt::Files;
 
 /// A question about a manifest.
 pub trait Question {
-    /// The answer on a manifest.
-    fn answer(&mut self, alloc: Global, manifest: &Manifest) -> Result<Answer, AllocError>;
+    /// The answer on a manifest, no key of which is nested too deep.
+    fn answer(&mut self, alloc: Global, manifest: &Manifest) -> Result<Answer, AllocError>
+        requires { HasNoDeepKey (target_of (table_view manifest.now.document.table)) };
 }
 
 /// The answers on the manifests that are named, in their order. One that can't be used does not stop the others.
@@ -34,7 +40,10 @@ fn answer_on<R: Files + Input + AllocGlobal, Q: Question>(
 ) -> Result<Answer, AllocError> {
     let alloc = rt.alloc();
     match read_manifest(rt, path) {
-        Ok(manifest) => question.answer(alloc, &manifest),
+        Ok(manifest) => match first_deep(alloc, &manifest)? {
+            Some(line) => Ok(Answer::unusable(alloc, line)),
+            None => question.answer(alloc, &manifest),
+        },
         Err(ReadError::Unusable(line)) => Ok(Answer::unusable(alloc, line)),
         Err(ReadError::Memory(refused)) => Err(refused),
     }

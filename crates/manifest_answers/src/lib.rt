@@ -1,7 +1,7 @@
 //! Answers about manifests and targets, as they are printed.
 #![tactic(auto)]
 
-pub mod findings;
+pub mod deep;
 pub mod in_turn;
 pub mod questions;
 pub mod selecting;

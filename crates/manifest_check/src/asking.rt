@@ -1,17 +1,19 @@
 //! The subcommands, asked by the words that `clap` read.
 
+use crate::explaining::{explained_code, listed_codes};
 use crate::graphs::{graph_answer, text_of};
-use crate::linting::{Loudness, lint_each};
+use crate::levels::command_rules;
+use crate::linting::{Asked, lint_each};
 use crate::named::{Named, named_manifests};
+use crate::styles::{Shown, style_of};
 use anyhow::{Context, Result};
 use clap::ArgMatches;
 use key_answers::answer::{Answer, answered};
 use key_answers::comparing::compare;
-use manifest_answers::findings::Style;
+use lint_reports::codes::words;
 use manifest_answers::questions;
 use manifest_answers::selecting::{Target, select_each};
 use std::alloc::Global;
-use std::env;
 use std::rt::{Env, Files};
 
 /// The text of a word that its subcommand requires.
@@ -74,34 +76,32 @@ fn select_answer<R: Files + Input + Env + AllocGlobal + Clone + Drop>(
     Ok(answer)
 }
 
-/// Whether `NO_COLOR` is set to anything.
-fn has_no_color<R: Env + AllocGlobal>(rt: &R) -> bool {
-    match env::var(rt, "NO_COLOR") {
-        Ok(value) => !value.is_empty(),
-        Err(env::VarError::NotPresent) => false,
-        Err(_) => true,
-    }
-}
-
 /// Answers `lint`.
 fn lint_answer<R: Files + Input + Env + AllocGlobal + Clone + Drop>(
     rt: &R,
     matches: &ArgMatches<'_>,
-    on_terminal: bool,
+    shown: &Shown<'_>,
 ) -> Result<Answer> {
-    let json = matches.get_flag("json");
-    let style = Style {
-        json,
-        colours: on_terminal && !json && !has_no_color(rt),
-        deny_notes: matches.get_str("deny").is_some(),
-    };
-    let loudness = Loudness {
+    let alloc = rt.alloc();
+    if matches.get_flag("list-codes") {
+        return Ok(listed_codes(alloc)?);
+    }
+    if let Some(word) = matches.get_str("explain") {
+        return explained_code(alloc, word);
+    }
+    let codes = words(alloc)?;
+    let asked = Asked {
+        style: style_of(rt, matches, shown.on_terminal),
+        version: String::from_str(alloc, shown.version)?,
+        rules: command_rules(alloc, matches, &codes)?,
+        codes,
         is_verbose: matches.get_flag("verbose"),
         is_quiet: matches.get_flag("quiet"),
+        is_whole: !matches.contains_id("package") && !matches.contains_id("exclude"),
     };
     let Named { paths, mut answer } = named_manifests(rt, matches)?;
-    let paths: Vec<&str> = paths.iter().map(|path| path.as_str()).collect(rt.alloc())?;
-    answer.append(lint_each(rt, &paths, style, loudness)?)?;
+    let paths: Vec<&str> = paths.iter().map(|path| path.as_str()).collect(alloc)?;
+    answer.append(lint_each(rt, &paths, &asked)?)?;
     Ok(answer)
 }
 
@@ -137,10 +137,10 @@ fn question_answer(alloc: Global, matches: &ArgMatches<'_>) -> Result<Answer> {
 pub fn answer_to<R: Files + Input + Env + AllocGlobal + Clone + Drop>(
     rt: &R,
     matches: &ArgMatches<'_>,
-    on_terminal: bool,
+    shown: &Shown<'_>,
 ) -> Result<Answer> {
     if let Some(m) = matches.subcommand_matches("lint") {
-        return lint_answer(rt, m, on_terminal);
+        return lint_answer(rt, m, shown);
     }
     if let Some(m) = matches.subcommand_matches("select") {
         return select_answer(rt, m);

@@ -1,73 +1,332 @@
 //! `lint`: what there is to tell of the keys of a manifest.
 
+use crate::declaring::declare;
+use crate::roots::{Root, inherit_lints, is_unneeded};
+use cargo_platform::{shown_start, shown_text};
 use key_answers::answer::{Answer, Status};
-use manifest_answers::findings::{
-    Counts, Style, place_of, push_finding, push_undecided, status_of,
+use lint_levels::{Rule, Settings, Weighed, Weight, settings_at, weight_by_each};
+use lint_reports::{
+    Counts, Printed, Style, Told, WrongPlace, fault_message, own_weight, place_of, status_of,
+    told_of, told_of_fault, told_of_unneeded, told_of_wrong, unneeded_message, wrong_places,
 };
-use manifest_answers::in_turn::{Question, answer_each};
-use manifest_documents::reading::Manifest;
-use manifest_lints::{Words, lint};
+use manifest_documents::reading::{Manifest, ReadError, read_manifest};
+use manifest_lints::{Code, Report, Words, lint};
 use std::alloc::{AllocError, Global};
-use std::rt::Files;
+use std::rt::{Env, Files};
 
-/// `lint`, with what it found so far.
+/// What is asked of manifests.
 #[derive(Drop)]
-struct Linting<'a> {
-    words: &'a Words,
-    style: Style,
-    is_verbose: bool,
-    counts: Counts,
+pub struct Asked {
+    pub style: Style,
+    /// The version of the program.
+    pub version: String,
+    /// The rules of the command line.
+    pub rules: Vec<Rule>,
+    /// The words for all codes.
+    pub codes: Vec<&'static str>,
+    /// Each manifest without a key is named.
+    pub is_verbose: bool,
+    /// No last line sums up.
+    pub is_quiet: bool,
+    /// No package is left out.
+    pub is_whole: bool,
 }
 
-impl<'a> Question for Linting<'a> {
-    fn answer(&mut self, alloc: Global, manifest: &Manifest) -> Result<Answer, AllocError> {
-        let report = lint(alloc, &manifest.document, self.words)?;
-        let mut answer = Answer::of(alloc, String::new(alloc), Status::Fine);
-        for finding in &report.findings {
-            let place = place_of(manifest, &report, finding);
-            push_finding(&mut answer.output, alloc, &place, finding, self.style)?;
-            self.counts.add(finding.level);
-            answer.raise(status_of(finding.level, self.style));
+/// The words for parts of a manifest that have rules.
+const PACKAGE: &str = "package.metadata.manifest-check";
+
+const WORKSPACE: &str = "workspace.metadata.manifest-check";
+
+/// The rules that findings hear: those of the workspace, of the package and of the command line.
+#[derive(Clone, Copy, Drop)]
+struct Rules<'a> {
+    of_workspace: &'a [Rule],
+    of_package: &'a [Rule],
+    of_command: &'a [Rule],
+}
+
+/// What is told so far.
+#[derive(Drop)]
+struct Telling<'a> {
+    asked: &'a Asked,
+    counts: Counts,
+    printed: Printed,
+    answer: Answer,
+}
+
+impl<'a> Telling<'a> {
+    /// Prints what is told, unless a rule allows it.
+    fn tell(
+        &mut self,
+        alloc: Global,
+        rules: &Rules<'_>,
+        told: &Told<'_>,
+    ) -> Result<(), AllocError> {
+        let weight = weight_by_each(
+            rules.of_workspace,
+            rules.of_package,
+            rules.of_command,
+            &weighed_of(told),
+        );
+        if weight == Weight::Allowed {
+            return Ok(());
         }
-        self.counts.add_manifest(report.keys.len());
-        if self.is_verbose && report.keys.is_empty() {
-            let path = manifest.path.as_str();
-            let line = format!(in alloc; "{path}: no key of `target` to check\n")?;
-            answer.errors.push_str(line.as_str())?;
+        let told = Told { weight, ..*told };
+        self.printed.push(&mut self.answer.output, alloc, &told)?;
+        self.counts.add(weight);
+        self.answer.raise(status_of(weight));
+        Ok(())
+    }
+
+    /// Tells what can't be used of the rules of a part of a manifest.
+    fn tell_faults(
+        &mut self,
+        alloc: Global,
+        rules: &Rules<'_>,
+        path: &str,
+        part: &str,
+        settings: &Settings,
+    ) -> Result<(), AllocError> {
+        for fault in &settings.faults {
+            let message = fault_message(alloc, fault)?;
+            self.tell(alloc, rules, &told_of_fault(path, part, message.as_str()))?;
         }
-        push_undecided(&mut answer.errors, alloc, manifest.path.as_str(), &report)?;
-        Ok(answer)
+        Ok(())
+    }
+
+    /// Tells that nothing needs a rule of a part of a manifest.
+    fn tell_unneeded(
+        &mut self,
+        alloc: Global,
+        rules: &Rules<'_>,
+        path: &str,
+        part: &str,
+        rule: &Rule,
+    ) -> Result<(), AllocError> {
+        let message = unneeded_message(alloc, rule)?;
+        self.tell(
+            alloc,
+            rules,
+            &told_of_unneeded(path, part, message.as_str()),
+        )
+    }
+
+    /// Tells what there is to tell of the root of a workspace, once its members are asked.
+    fn tell_root(&mut self, alloc: Global, root: &Root) -> Result<(), AllocError> {
+        let asked = self.asked;
+        let rules = Rules {
+            of_workspace: &root.settings.rules,
+            of_package: &[],
+            of_command: &asked.rules,
+        };
+        let path = shown_text(alloc, root.file.as_str())?;
+        self.tell_faults(alloc, &rules, path.as_str(), WORKSPACE, &root.settings)?;
+        if !asked.is_whole || !root.is_asked {
+            return Ok(());
+        }
+        for (rule, is_needed) in root.settings.rules.iter().zip(&root.needed) {
+            if is_unneeded(rule, *is_needed) {
+                self.tell_unneeded(alloc, &rules, path.as_str(), WORKSPACE, rule)?;
+            }
+        }
+        Ok(())
+    }
+
+    /// Tells what is found of a manifest, and of the rules that it has.
+    fn tell_of(
+        &mut self,
+        alloc: Global,
+        root: &mut Root,
+        settings: &Settings,
+        manifest: &Manifest,
+        found: &[Told<'_>],
+    ) -> Result<(), AllocError> {
+        let asked = self.asked;
+        let weighed = weighed_in(alloc, found)?;
+        root.note_needed(&weighed);
+        let rules = Rules {
+            of_workspace: &root.settings.rules,
+            of_package: &settings.rules,
+            of_command: &asked.rules,
+        };
+        for told in found {
+            self.tell(alloc, &rules, told)?;
+        }
+        let path = manifest.path.as_str();
+        self.tell_faults(alloc, &rules, path, PACKAGE, settings)?;
+        for rule in &settings.rules {
+            if is_unneeded(rule, rule.is_needed(&weighed)) {
+                self.tell_unneeded(alloc, &rules, path, PACKAGE, rule)?;
+            }
+        }
+        Ok(())
     }
 }
 
-/// What is told on standard error beside what can't be used.
-#[derive(Clone, Copy, Drop)]
-pub struct Loudness {
-    /// Each manifest without a key.
-    pub is_verbose: bool,
-    /// No last line that sums up.
-    pub is_quiet: bool,
+impl<'a> Telling<'a> {
+    /// Tells what a report on a manifest has, and what stands at wrong places in it.
+    fn tell_found(
+        &mut self,
+        alloc: Global,
+        root: &mut Root,
+        settings: &Settings,
+        manifest: &Manifest,
+        report: &Report<'_>,
+        wrong: &[WrongPlace],
+    ) -> Result<(), AllocError> {
+        let found = told_in(alloc, root, manifest, report, wrong)?;
+        self.tell_of(alloc, root, settings, manifest, &found)
+    }
+}
+
+/// What rules see of a finding.
+fn weighed_of<'a>(told: &Told<'a>) -> Weighed<'a> {
+    Weighed {
+        code: told.code,
+        key: told.place.key,
+        weight: told.weight,
+    }
+}
+
+/// What rules see of findings.
+fn weighed_in<'a>(alloc: Global, found: &[Told<'a>]) -> Result<Vec<Weighed<'a>>, AllocError> {
+    let mut weighed = Vec::new(alloc);
+    for told in found {
+        weighed.push(weighed_of(told))?;
+    }
+    Ok(weighed)
+}
+
+/// What is found of the keys of a manifest. Where its lints can't be read, what they declare is not known.
+fn told_in<'a>(
+    alloc: Global,
+    root: &Root,
+    manifest: &'a Manifest,
+    report: &'a Report<'a>,
+    wrong: &'a [WrongPlace],
+) -> Result<Vec<Told<'a>>, AllocError> {
+    let mut found = Vec::new(alloc);
+    for finding in &report.findings {
+        if finding.code == Code::Custom && root.hides_lints {
+            continue;
+        }
+        let weight = own_weight(finding.code, finding.level);
+        found.push(told_of(place_of(manifest, report, finding), finding, weight))?;
+    }
+    for it in wrong {
+        found.push(told_of_wrong(manifest.path.as_str(), it))?;
+    }
+    Ok(found)
+}
+
+/// What is told of the keys that are not decided.
+fn push_undecided(
+    errors: &mut String,
+    alloc: Global,
+    path: &str,
+    report: &Report<'_>,
+) -> Result<(), AllocError> {
+    for place in &report.undecided {
+        if let Some(key) = report.keys.get(*place) {
+            let key = shown_start(alloc, key.key)?;
+            let note = format!(in alloc;
+                "{path}: note: target.'{key}': whether it is always, never or equivalent takes too many splits\n"
+            )?;
+            errors.push_str(note.as_str())?;
+        }
+    }
+    Ok(())
+}
+
+/// Tells what is found of a manifest that is read.
+fn lint_manifest(
+    alloc: Global,
+    words: &Words,
+    root: &mut Root,
+    telling: &mut Telling<'_>,
+    settings: &Settings,
+    manifest: &Manifest,
+) -> Result<(), AllocError> {
+    let report = lint(alloc, &manifest.document, words)?;
+    let wrong = wrong_places(alloc, &manifest.document.table)?;
+    telling.tell_found(alloc, root, settings, manifest, &report, &wrong)?;
+    telling.counts.add_manifest(report.keys.len());
+    if telling.asked.is_verbose && report.keys.is_empty() {
+        let path = manifest.path.as_str();
+        let line = format!(in alloc; "{path}: no key of `target` to check\n")?;
+        telling.answer.errors.push_str(line.as_str())?;
+    }
+    push_undecided(
+        &mut telling.answer.errors,
+        alloc,
+        manifest.path.as_str(),
+        &report,
+    )
+}
+
+/// Tells what is found of the manifest at a path, or that it can't be used.
+fn lint_at<R: Files + Input + AllocGlobal>(
+    rt: &R,
+    path: &str,
+    words: &Words,
+    root: &mut Root,
+    telling: &mut Telling<'_>,
+) -> Result<(), AllocError> {
+    let alloc = rt.alloc();
+    match read_manifest(rt, path) {
+        Ok(mut manifest) => {
+            let table = &mut manifest.document.table;
+            inherit_lints(alloc, root, table)?;
+            declare(alloc, table, &root.settings.facts)?;
+            let settings = Settings::of(
+                alloc,
+                settings_at(table, "package"),
+                &telling.asked.codes,
+            )?;
+            declare(alloc, table, &settings.facts)?;
+            lint_manifest(alloc, words, root, telling, &settings, &manifest)
+        }
+        Err(ReadError::Unusable(line)) => telling.answer.append(Answer::unusable(alloc, line)),
+        Err(ReadError::Memory(refused)) => Err(refused),
+    }
 }
 
 /// The findings on the manifests that are named, in their order.
-pub fn lint_each<R: Files + Input + AllocGlobal>(
+pub fn lint_each<R: Files + Input + Env + AllocGlobal>(
     rt: &R,
     paths: &[&str],
-    style: Style,
-    loudness: Loudness,
+    asked: &Asked,
 ) -> Result<Answer, AllocError> {
     let alloc = rt.alloc();
     let words = Words::new(alloc)?;
-    let mut linting = Linting {
-        words: &words,
-        style,
-        is_verbose: loudness.is_verbose,
+    let printed = Printed::new(asked.style);
+    let begin = printed.begin(alloc, asked.version.as_str())?;
+    let mut telling = Telling {
+        asked,
         counts: Counts::none(),
+        printed,
+        answer: Answer::of(alloc, begin, Status::Fine),
     };
-    let mut whole = answer_each(rt, paths, &mut linting)?;
-    if !loudness.is_quiet {
-        let line = linting.counts.line(alloc)?;
-        whole.errors.push_str(line.as_str())?;
+    let mut root = Root::none(alloc)?;
+    for path in paths {
+        if let Some(other) = Root::of(rt, path, &asked.codes, &root)? {
+            telling.tell_root(alloc, &root)?;
+            root = other;
+        }
+        root.note_asked(alloc, path)?;
+        lint_at(rt, path, &words, &mut root, &mut telling)?;
     }
-    Ok(whole)
+    telling.tell_root(alloc, &root)?;
+    let Telling {
+        asked: _,
+        counts,
+        printed,
+        mut answer,
+    } = telling;
+    answer.output.push_str(printed.end())?;
+    if !asked.is_quiet {
+        let line = counts.line(alloc)?;
+        answer.errors.push_str(line.as_str())?;
+    }
+    Ok(answer)
 }

@@ -2,9 +2,15 @@
 #![tactic(auto)]
 
 mod asking;
+mod declaring;
+mod explaining;
 mod graphs;
+mod levels;
 mod linting;
 mod named;
+mod roots;
+mod styles;
+mod words;
 
 use anyhow::Result;
 use asking::answer_to;
@@ -12,10 +18,11 @@ use command_line::arguments::{command, without_cargo_name};
 use key_answers::answer::Status;
 use known_targets::RUSTC_VERSION;
 use std::alloc::{AllocError, Global};
-use std::env;
 use std::io::{ErrorKind, IsTerminal};
 use std::process::ExitCode;
 use std::rt::{Env, Files};
+use styles::Shown;
+use words::words_given;
 
 /// The version, with that of the table of known targets.
 fn version(alloc: Global) -> Result<String, AllocError> {
@@ -28,8 +35,8 @@ fn run<R: Print + Eprint + Input + Env + Files + AllocGlobal + Clone + Drop>(
     on_terminal: bool,
 ) -> Result<Status> {
     let alloc = rt.alloc();
-    let mut words: Vec<String> = env::args(rt)?.collect(alloc)?;
-    without_cargo_name(&mut words);
+    let mut words = words_given(rt)?;
+    without_cargo_name(alloc, &mut words)?;
     let version = version(alloc)?;
     let command = command(alloc, version.as_str())?;
     let matches = match command.try_get_matches_from(words.as_slice()) {
@@ -43,7 +50,11 @@ fn run<R: Print + Eprint + Input + Env + Files + AllocGlobal + Clone + Drop>(
             });
         }
     };
-    let answer = answer_to(rt, &matches, on_terminal)?;
+    let shown = Shown {
+        on_terminal,
+        version: version.as_str(),
+    };
+    let answer = answer_to(rt, &matches, &shown)?;
     if let Err(error) = rt.print(&answer.output) {
         if error.kind() == ErrorKind::BrokenPipe {
             return Ok(Status::Unusable);

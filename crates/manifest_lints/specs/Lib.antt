@@ -1,3 +1,4 @@
 pub mod Sames
 pub mod Reports
+pub mod Laws
 pub mod Founds

@@ -2,6 +2,7 @@
 #![tactic(auto)]
 
 mod found;
+pub mod laws;
 mod linting;
 
 pub use expression_folds::values_of;

@@ -1,19 +1,67 @@
--- The codes of findings: which hide which.
-use Rattle.std.specs.Prelude.{Bool, not, ◌&&◌, List, [], ◌∷◌}
+-- The codes of findings: their words, how much they weigh, and which hide which.
+use Rattle.std.specs.Prelude.{ℕ, Bool, not, ◌&&◌, ◌==◌, cond, codes, List, [], ◌∷◌}
 use Rattle.std.specs.List.{list_any, filter}
 use Rattle.manifest_lints_findings.specs.declared.codes.Code.{Code}
 use Rattle.manifest_lints_findings.specs.declared.codes.Code.TheVariants as code
 use Rattle.manifest_lints_findings.specs.declared.codes.TheConstants.{CODES}
+use Rattle.manifest_lints_findings.specs.declared.codes.Level.{Level}
+use Rattle.manifest_lints_findings.specs.declared.codes.Level.TheVariants as level
 
 -- a set of codes, as those that hold of a key
 abbrev pub CodeSet : Type 0
 CodeSet = Code → Bool
+
+-- the word for each
+abbrev pub code_word : Code → List ℕ
+code_word code.Refused = codes "refused"
+code_word code.NoTable = codes "no-table"
+code_word code.ReadOtherwise = codes "read-otherwise"
+code_word code.Unsupported = codes "unsupported"
+code_word code.Never = codes "never"
+code_word code.UnknownTarget = codes "unknown-target"
+code_word code.UnknownFact = codes "unknown-fact"
+code_word code.Nowhere = codes "nowhere"
+code_word code.Same = codes "same"
+code_word code.Equivalent = codes "equivalent"
+code_word code.Always = codes "always"
+code_word code.Everywhere = codes "everywhere"
+code_word code.Custom = codes "custom"
+code_word code.NotCanonical = codes "not-canonical"
+
+abbrev pub level_word : Level → List ℕ
+level_word level.Error = codes "error"
+level_word level.Warning = codes "warning"
+level_word level.Note = codes "note"
+
+-- how much a finding of each weighs
+abbrev pub code_level : Code → Level
+code_level code.Refused = level.Error
+code_level code.NoTable = level.Error
+code_level code.ReadOtherwise = level.Warning
+code_level code.Unsupported = level.Warning
+code_level code.Never = level.Warning
+code_level code.UnknownTarget = level.Warning
+code_level code.UnknownFact = level.Warning
+code_level code.Nowhere = level.Warning
+code_level code.Same = level.Warning
+code_level code.Equivalent = level.Warning
+code_level code.Always = level.Note
+code_level code.Everywhere = level.Note
+code_level code.Custom = level.Note
+code_level code.NotCanonical = level.Note
+
+-- the same on a condition with so many names and pairs
+abbrev pub finding_level : Code → ℕ → Level
+finding_level code.Never count = cond (count == 0) level.Note level.Warning
+finding_level code.Always count = cond (count == 0) level.Note level.Warning
+finding_level c count = code_level c
 
 -- those that hide a finding of the same key, whatever names it tells of
 abbrev pub hiders : Code → List Code
 hiders code.Nowhere = code.UnknownTarget ∷ code.UnknownFact ∷ code.Never ∷ []
 hiders code.Equivalent = code.Never ∷ code.Always ∷ code.Same ∷ []
 hiders code.Everywhere = code.Always ∷ []
+hiders code.NotCanonical = code.ReadOtherwise ∷ code.UnknownTarget ∷ code.UnknownFact ∷ []
 hiders _ = []
 
 -- whether a finding is told: it holds, and none hides it

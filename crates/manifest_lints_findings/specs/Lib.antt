@@ -4,3 +4,5 @@ pub mod Codes
 pub mod Marks
 pub mod Known
 pub mod Unknown
+pub mod Shown
+pub mod Laws

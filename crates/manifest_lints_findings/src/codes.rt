@@ -1,6 +1,6 @@
 //! The codes of findings, as one table.
 
-ghost use Rattle.manifest_lints_findings.specs.Codes.{hiders};
+ghost use Rattle.manifest_lints_findings.specs.Codes.{hiders, code_word, code_level, level_word};
 ghost use Rattle.std.specs.Prelude.{◌≡◌};
 
 /// How much a finding weighs.
@@ -67,7 +67,9 @@ pub const CODES: [Code; 14] = [
 
 impl Level {
     /// The word for it.
-    pub fn word(self) -> &'static str {
+    pub fn word(self) -> &'static str
+        ensures { result.now ≡ level_word self }
+    {
         match self {
             Level::Error => "error",
             Level::Warning => "warning",
@@ -81,7 +83,8 @@ impl Level {
 pub struct Row {
     /// The word for it.
     pub word: &'static str,
-    /// How much a finding of it weighs. `never` of a key without names and pairs is a note.
+    /// How much a finding of it weighs. `never` of a key without names and pairs is a note, and `always` of one with
+    /// names and pairs a warning.
     pub level: Level,
     /// The codes that hide it on the same key, whatever names they tell of.
     pub hidden_by: &'static [Code],
@@ -96,9 +99,18 @@ const EQUIVALENT_HIDERS: [Code; 3] = [Code::Never, Code::Always, Code::Same];
 /// What hides `everywhere`.
 const EVERYWHERE_HIDERS: [Code; 1] = [Code::Always];
 
+/// What hides `not-canonical`: what changes the key.
+const NOT_CANONICAL_HIDERS: [Code; 3] = [
+    Code::ReadOtherwise,
+    Code::UnknownTarget,
+    Code::UnknownFact,
+];
+
 impl Row {
     const fn of(word: &'static str, level: Level, hidden_by: &'static [Code]) -> Row
-        ensures { result.hidden_by.now ≡ hidden_by.now }
+        ensures word { result.word.now ≡ word.now }
+        ensures level { result.level ≡ level }
+        ensures hidden_by { result.hidden_by.now ≡ hidden_by.now }
     {
         Row {
             word,
@@ -111,7 +123,9 @@ impl Row {
 impl Code {
     /// Its row of the table.
     pub fn row(self) -> Row
-        ensures { result.hidden_by.now ≡ hiders self }
+        ensures word { result.word.now ≡ code_word self }
+        ensures level { result.level ≡ code_level self }
+        ensures hidden_by { result.hidden_by.now ≡ hiders self }
     {
         match self {
             Code::Refused => Row::of("refused", Level::Error, &[]),
@@ -127,12 +141,14 @@ impl Code {
             Code::Always => Row::of("always", Level::Note, &[]),
             Code::Everywhere => Row::of("everywhere", Level::Note, &EVERYWHERE_HIDERS),
             Code::Custom => Row::of("custom", Level::Note, &[]),
-            Code::NotCanonical => Row::of("not-canonical", Level::Note, &[]),
+            Code::NotCanonical => Row::of("not-canonical", Level::Note, &NOT_CANONICAL_HIDERS),
         }
     }
 
     /// The word for it.
-    pub fn word(self) -> &'static str {
+    pub fn word(self) -> &'static str
+        ensures { result.now ≡ code_word self }
+    {
         self.row().word
     }
 }

@@ -4,7 +4,9 @@
 pub mod codes;
 pub mod findings;
 pub mod known_keys;
+pub mod laws;
 pub mod making;
+mod meant;
 mod messages;
 mod no_tables;
 pub mod readings;
@@ -14,5 +16,6 @@ mod wording;
 
 pub use codes::{CODES, Code, Level};
 pub use findings::{Finding, Report};
-pub use suggestions::{Words, nearest_target};
+pub use meant::{near, nearest_target};
+pub use suggestions::Words;
 pub use unknown::unknown_in;

@@ -1,7 +1,9 @@
 //! The finding of a code on a key.
 
-ghost use Rattle.std.specs.Prelude.{◌≡◌, IfOk, Some};
+ghost use Rattle.std.specs.Prelude.{◌≡◌, IfOk, IfSome, Some, length, string_bytes};
+ghost use Rattle.manifest_lints_findings.specs.Codes.{finding_level};
 ghost use Rattle.manifest_lints_findings.specs.Marks.{mark};
+ghost use Rattle.manifest_lints_findings.specs.Shown.{IsShownOn, IsMended};
 
 use crate::codes::{Code, Level};
 use crate::findings::Finding;
@@ -12,11 +14,25 @@ use crate::suggestions::{Words, suggestion_of};
 use std::alloc::{AllocError, Global};
 
 /// How much a finding of this code weighs on a condition with so many names and pairs.
-fn level_of(code: Code, count: usize) -> Level {
-    if code == Code::Never && count == 0 {
-        Level::Note
-    } else {
-        code.row().level
+fn level_of(code: Code, count: usize) -> Level
+    ensures { result ≡ finding_level code count }
+{
+    match code {
+        Code::Never => {
+            if count == 0 {
+                Level::Note
+            } else {
+                Level::Warning
+            }
+        }
+        Code::Always => {
+            if count > 0 {
+                Level::Warning
+            } else {
+                Level::Note
+            }
+        }
+        _ => code.row().level,
     }
 }
 
@@ -28,7 +44,10 @@ pub fn finding_on(
     other: &str,
     code: Code,
 ) -> Result<Finding, AllocError>
-    ensures { IfOk result (λ f. mark f ≡ (Some key.now.place, code)) }
+    ensures mark { IfOk result (λ f. mark f ≡ (Some key.now.place, code)) }
+    ensures level { IfOk result (λ f. f.level ≡ finding_level code (length key.now.asked.items)) }
+    ensures shown { IfOk result (λ f. IsShownOn code key.now f) }
+    ensures suggestion { IfOk result (λ f. IfSome f.suggestion (λ s. IsMended code (string_bytes s))) }
 {
     let suggestion = suggestion_of(alloc, words, key, code)?;
     let message = message_of(alloc, words, key, other, &suggestion, code)?;

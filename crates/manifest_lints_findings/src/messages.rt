@@ -8,7 +8,7 @@ use crate::wording::{OWN, TOLD, joined, quoted, quoted_fact, with_meant};
 use cargo_platform::{Cfg, CfgExpr, Platform, shown_start, shown_text};
 use known_targets::RUSTC_VERSION;
 use manifest_lints_standings::asked_facts::AskedFact;
-use manifest_lints_standings::standing::Sort;
+use manifest_lints_standings::standing::{Sort, Standing};
 use std::alloc::{AllocError, Global};
 
 /// What is told by the finding of this code. `other` is the earlier key that is the same or as true, and `meant` may
@@ -64,6 +64,33 @@ fn listed(alloc: Global, facts: &[AskedFact<'_>]) -> Result<String, AllocError> 
     joined(alloc, &texts, facts.len(), ", ")
 }
 
+/// What people write in place of the words of a condition, and what stands for it.
+const INSTEAD: [(&str, &str); 8] = [
+    ("||", "use `any(..)` in place of `||`"),
+    ("&&", "use `all(..)` in place of `&&`"),
+    ("!=", "use `not(.. = \"..\")` in place of `!=`"),
+    ("!", "use `not(..)` in place of `!`"),
+    ("==", "use `=` in place of `==`"),
+    ("'", "a value stands in double quotes"),
+    ("[", "use `any(..)` in place of `[..]`"),
+    (" or ", "use `any(..)` in place of `or`"),
+];
+
+/// What to write in place of what stands in a key that is refused. What stands in a value is not meant.
+fn instead_of_fault(key: &str) -> Option<&'static str> {
+    for (written, hint) in INSTEAD {
+        for (place, part) in key.split('"').enumerate() {
+            if place % 2 == 0 && part.contains(written) {
+                return Some(hint);
+            }
+        }
+    }
+    if key.contains("not(") && key.contains(',') {
+        return Some("`not(..)` takes one condition: use `not(any(..))` or `not(all(..))`");
+    }
+    None
+}
+
 /// What is told of a key that is refused.
 fn refused_message(alloc: Global, key: &KnownKey<'_>) -> Result<String, AllocError> {
     let mut fault = String::new(alloc);
@@ -72,7 +99,10 @@ fn refused_message(alloc: Global, key: &KnownKey<'_>) -> Result<String, AllocErr
         fault = format!(in alloc; "{kind}")?;
     }
     let fault = shown_start(alloc, fault.as_str())?;
-    format!(in alloc; "the key spells no condition: {fault}")
+    match instead_of_fault(key.read.text) {
+        Some(hint) => format!(in alloc; "the key spells no condition: {fault}; {hint}"),
+        None => format!(in alloc; "the key spells no condition: {fault}"),
+    }
 }
 
 /// What is told of a key that Cargo reads otherwise: it alone reads the key, or reads names without their raw marks.
@@ -123,6 +153,8 @@ fn unknown_fact_message(
         if let Some(other) = instead_of(alloc, words, asked)? {
             let other = quoted(alloc, other.as_str())?;
             text = format!(in alloc; "{text} (perhaps {other} is meant)")?;
+        } else if asked.standing == Standing::OfProfile {
+            text = format!(in alloc; "{text} (no profile selects dependencies)")?;
         }
         texts.push(text)?;
     }

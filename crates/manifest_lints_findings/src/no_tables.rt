@@ -4,6 +4,7 @@ ghost use Rattle.std.specs.Prelude.{◌≡◌, IfOk, not};
 ghost use Rattle.toml.specs.View.{view};
 ghost use Rattle.manifest_lints_findings.specs.NoTables.{is_table_name, is_no_table, is_empty_list};
 
+use crate::meant::near;
 use crate::wording::quoted;
 use std::alloc::{AllocError, Global};
 use toml::Value;
@@ -22,6 +23,28 @@ fn is_table_name(name: &str) -> bool
     )
 }
 
+/// The names of tables of dependencies.
+const TABLES: [&str; 3] = ["dependencies", "dev-dependencies", "build-dependencies"];
+
+/// Whether Cargo reads a member of this name in the table of a key of its own configuration.
+fn is_configuration(name: &str) -> bool {
+    matches!(name, "linker" | "runner" | "rustflags" | "rustdocflags")
+}
+
+/// What is told of a member of this name, which is no table of dependencies.
+fn other_member(alloc: Global, name: &str) -> Result<String, AllocError> {
+    let shown = quoted(alloc, name)?;
+    if is_configuration(name) {
+        return format!(in alloc; "{shown} belongs into .cargo/config.toml");
+    }
+    match near(name, &TABLES) {
+        Some(table) => format!(in alloc;
+            "{shown} is no table of dependencies (perhaps `{table}` is meant)"
+        ),
+        None => format!(in alloc; "{shown} is no table of dependencies"),
+    }
+}
+
 /// What of what stands at a key is no table of dependencies, by words for each.
 pub fn no_tables(alloc: Global, value: &Value) -> Result<Vec<String>, AllocError>
     ensures { IfOk result (λ found. is_empty_list found.items ≡ not (is_no_table (view value.now))) }
@@ -34,8 +57,7 @@ pub fn no_tables(alloc: Global, value: &Value) -> Result<Vec<String>, AllocError
     'members: for (name, member) in table.iter() {
         let name = name.as_str();
         if !is_table_name(name) {
-            let name = quoted(alloc, name)?;
-            found.push(format!(in alloc; "{name} is no table of dependencies")?)?;
+            found.push(other_member(alloc, name)?)?;
         } else if member.as_table().is_none() {
             let name = quoted(alloc, name)?;
             found.push(format!(in alloc; "{name} is no table")?)?;

@@ -61,7 +61,8 @@ impl<'a> ReadKey<'a> {
 
     /// A key that stands in no manifest, and spells this condition.
     pub fn alone(text: &'a str, condition: Platform) -> ReadKey<'a>
-        ensures { result.spelled ≡ Spelled.Condition condition }
+        ensures spelled { result.spelled ≡ Spelled.Condition condition }
+        ensures text { result.text.now ≡ text.now }
     {
         ReadKey {
             text,

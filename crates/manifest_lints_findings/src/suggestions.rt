@@ -1,14 +1,19 @@
 //! What may be meant by a name, key or value that no known target has, and a key with its mistakes replaced.
 
+ghost use Rattle.std.specs.Prelude.{IsTrue, IfOk, IfSome, string_bytes};
+ghost use Rattle.cargo_platform.specs.Trees.{condition_of};
+ghost use Rattle.manifest_lints_findings.specs.Shown.{IsRidOf, IsMended};
+
 use crate::codes::Code;
 use crate::known_keys::KnownKey;
-use crate::readings::Spelled;
-use cargo_platform::{Cfg, CfgExpr, Platform};
-use known_targets::{KnownFact, KnownTarget, all_facts, names};
+use crate::meant::{meant_value, near, nearest_target};
+use crate::readings::{ReadKey, Spelled};
+use cargo_platform::{Cfg, CfgExpr, Platform, ReadError};
+use known_targets::{KnownFact, KnownTarget, all_facts};
+use manifest_documents::Declared;
 use manifest_lints_standings::asked_facts::AskedFact;
 use manifest_lints_standings::standing::{Sort, Standing, is_value_of};
 use std::alloc::{AllocError, Global};
-use strsim::osa_distance;
 use toml::Value;
 
 /// The facts that known targets have.
@@ -25,68 +30,16 @@ impl Words {
         })
     }
 
-    /// The value of the key that is nearest to this text.
-    fn nearest_value(
-        &self,
-        alloc: Global,
-        key: &str,
-        text: &str,
-    ) -> Result<Option<&str>, AllocError> {
-        let mut best = None;
+    /// The value of the key to which one edit leads.
+    fn near_value(&self, key: &str, text: &str) -> Option<&str> {
         for known in &self.facts {
             if let Cfg::KeyPair(other, value) = &known.fact {
-                if other.as_str() == key {
-                    best = nearer(alloc, text, value.as_str(), best)?;
+                if other.as_str() == key && near(text, &[value.as_str()]).is_some() {
+                    return Some(value.as_str());
                 }
             }
         }
-        Ok(best.map(|found| found.1))
-    }
-}
-
-/// Of the best one so far and another word the one that is nearer to the text: at most a third of its characters are
-/// edited.
-fn nearer<'a>(
-    alloc: Global,
-    text: &str,
-    word: &'a str,
-    best: Option<(usize, &'a str)>,
-) -> Result<Option<(usize, &'a str)>, AllocError> {
-    let most = text.chars().count() / 3;
-    if word.chars().count().abs_diff(text.chars().count()) > most {
-        return Ok(best);
-    }
-    let edits = osa_distance(alloc, text, word)?;
-    if edits > most {
-        return Ok(best);
-    }
-    match best {
-        Some((fewest, _)) if fewest <= edits => Ok(best),
-        _ => Ok(Some((edits, word))),
-    }
-}
-
-/// The name of the known target that is nearest to this text.
-pub fn nearest_target(alloc: Global, text: &str) -> Result<Option<&'static str>, AllocError> {
-    if text == "wasm32-wasi" {
-        return Ok(Some("wasm32-wasip1"));
-    }
-    let mut best = None;
-    for name in names() {
-        best = nearer(alloc, text, name, best)?;
-    }
-    Ok(best.map(|found| found.1))
-}
-
-/// The value that people mean by another word for it.
-fn meant_by(word: &str) -> Option<&'static str> {
-    match word {
-        "darwin" | "macosx" | "osx" => Some("macos"),
-        "dragonflybsd" => Some("dragonfly"),
-        "amd64" => Some("x86_64"),
-        "i386" | "i686" => Some("x86"),
-        "arm64" => Some("aarch64"),
-        _ => None,
+        None
     }
 }
 
@@ -99,12 +52,12 @@ pub fn instead_of(
     match (asked.standing, asked.fact) {
         (Standing::ValueAsName(key), Cfg::Name(name)) => with_value(alloc, key, name.as_str()),
         (Standing::OtherValue, Cfg::KeyPair(key, value)) => {
-            let key = key.as_str();
-            match value_instead_of(alloc, words, key, value.as_str())? {
-                Some(other) => with_value(alloc, key, other),
-                None => Ok(None),
-            }
+            fact_instead_of(alloc, words, key.as_str(), value.as_str())
         }
+        (Standing::Shortened, Cfg::KeyPair(key, value)) => {
+            long_fact(alloc, words, key.as_str(), value.as_str())
+        }
+        (Standing::OtherWord, Cfg::Name(name)) => by_other_word(alloc, name.as_str()),
         (Standing::Near(word), Cfg::Name(_)) => Ok(Some(String::from_str(alloc, word)?)),
         (Standing::Near(word), Cfg::KeyPair(_, value)) => with_value(alloc, word, value.as_str()),
         _ => Ok(None),
@@ -123,12 +76,108 @@ fn value_instead_of<'a>(
     key: &str,
     value: &str,
 ) -> Result<Option<&'a str>, AllocError> {
-    if let Some(other) = meant_by(value) {
-        if is_value_of(alloc, key, other)? {
-            return Ok(Some(other));
+    match meant_value(alloc, key, value)? {
+        Some(other) => Ok(Some(other)),
+        None => Ok(words.near_value(key, value)),
+    }
+}
+
+/// The keys among whose values a value is looked for that is none of its own key.
+const OTHER_KEYS: [&str; 5] = [
+    "target_os",
+    "target_arch",
+    "target_vendor",
+    "target_env",
+    "target_abi",
+];
+
+/// The fact that may be meant by a value of another key.
+fn by_value_of_other(alloc: Global, key: &str, value: &str) -> Result<Option<String>, AllocError> {
+    if value == "unix" || value == "windows" {
+        return Ok(Some(String::from_str(alloc, value)?));
+    }
+    for other in OTHER_KEYS {
+        if other != key && !value.is_empty() && is_value_of(alloc, other, value)? {
+            return with_value(alloc, other, value);
         }
     }
-    words.nearest_value(alloc, key, value)
+    Ok(None)
+}
+
+/// `any(..)` of the values that a value joins by commas or bars, where each is one.
+fn any_of_joined(alloc: Global, key: &str, value: &str) -> Result<Option<String>, AllocError> {
+    let mark = if value.contains('|') { '|' } else { ',' };
+    if !value.contains(mark) {
+        return Ok(None);
+    }
+    let mut text = String::from_str(alloc, "any(")?;
+    for (place, part) in value.split(mark).enumerate() {
+        let part = part.trim();
+        if !is_value_of(alloc, key, part)? {
+            return Ok(None);
+        }
+        let comma = if place == 0 { "" } else { ", " };
+        let fact = format!(in alloc; "{comma}{key} = \"{part}\"")?;
+        text.push_str(fact.as_str())?;
+    }
+    text.push_str(")")?;
+    Ok(Some(text))
+}
+
+/// The text that may stand in place of a pair whose value no known target has.
+fn fact_instead_of(
+    alloc: Global,
+    words: &Words,
+    key: &str,
+    value: &str,
+) -> Result<Option<String>, AllocError> {
+    if let Some(other) = meant_value(alloc, key, value)? {
+        return with_value(alloc, key, other);
+    }
+    if let Some(other) = by_value_of_other(alloc, key, value)? {
+        return Ok(Some(other));
+    }
+    if let Some(other) = any_of_joined(alloc, key, value)? {
+        return Ok(Some(other));
+    }
+    match words.near_value(key, value) {
+        Some(other) => with_value(alloc, key, other),
+        None => Ok(None),
+    }
+}
+
+/// The pair with the whole key, and the value that is meant. What people call a platform is a system.
+fn long_fact(
+    alloc: Global,
+    words: &Words,
+    key: &str,
+    value: &str,
+) -> Result<Option<String>, AllocError> {
+    let key = if key == "platform" {
+        String::from_str(alloc, "target_os")?
+    } else {
+        format!(in alloc; "target_{key}")?
+    };
+    let key = key.as_str();
+    if is_value_of(alloc, key, value)? {
+        return with_value(alloc, key, value);
+    }
+    if value == "unix" || value == "windows" {
+        return Ok(Some(String::from_str(alloc, value)?));
+    }
+    match value_instead_of(alloc, words, key, value)? {
+        Some(other) => with_value(alloc, key, other),
+        None => Ok(None),
+    }
+}
+
+/// The fact that is meant by another word for it.
+fn by_other_word(alloc: Global, word: &str) -> Result<Option<String>, AllocError> {
+    match meant_value(alloc, "target_os", word)? {
+        Some("windows") => Ok(Some(String::from_str(alloc, "windows")?)),
+        Some(system) => with_value(alloc, "target_os", system),
+        None => Ok(None),
+    }
 }
 
 /// The key that may stand in place of one that is a target's name, and no known target has it.
@@ -137,20 +186,18 @@ fn key_instead_of(alloc: Global, key: &KnownKey<'_>) -> Result<Option<String>, A
     if name == "windows" || name == "unix" {
         return Ok(Some(format!(in alloc; "cfg({name})")?));
     }
-    let word = meant_by(name).unwrap_or(name);
-    if is_value_of(alloc, "target_os", word)? {
-        return Ok(Some(format!(in alloc; "cfg(target_os = \"{word}\")")?));
-    }
-    if is_value_of(alloc, "target_arch", word)? {
-        return Ok(Some(format!(in alloc; "cfg(target_arch = \"{word}\")")?));
+    for key in ["target_os", "target_arch"] {
+        if is_value_of(alloc, key, name)? {
+            return Ok(Some(format!(in alloc; "cfg({key} = \"{name}\")")?));
+        }
+        if let Some(word) = meant_value(alloc, key, name)? {
+            return Ok(Some(format!(in alloc; "cfg({key} = \"{word}\")")?));
+        }
     }
     if let Some(whole) = dotted_target(alloc, key)? {
         return Ok(Some(whole));
     }
-    match nearest_target(alloc, name)? {
-        Some(other) => Ok(Some(String::from_str(alloc, other)?)),
-        None => Ok(None),
-    }
+    nearest_target(alloc, name)
 }
 
 /// The known target whose name TOML takes for two keys, as `[target.thumbv8m.main-none-eabi]`.
@@ -207,8 +254,49 @@ fn repaired(
     Ok(Some(repaired))
 }
 
-/// What may stand in the place of the whole key, by the finding of this code.
+/// What may stand in the place of the whole key, by the finding of this code. It spells a condition, of which no such
+/// finding is told.
 pub fn suggestion_of(
+    alloc: Global,
+    words: &Words,
+    key: &KnownKey<'_>,
+    code: Code,
+) -> Result<Option<String>, AllocError>
+    ensures { IfOk result (λ s. IfSome s (λ text. IsMended code (string_bytes text))) }
+{
+    match text_instead(alloc, words, key, code)? {
+        Some(text) if is_mended(alloc, text.as_str(), code)? => Ok(Some(text)),
+        _ => Ok(None),
+    }
+}
+
+/// Whether the text spells a condition of which a finding of this code is not told.
+fn is_mended(alloc: Global, text: &str, code: Code) -> Result<bool, AllocError>
+    ensures { IfOk result (λ b. IsTrue b → IsMended code text.now) }
+{
+    match Platform::from_str(alloc, text) {
+        Ok(condition) => is_rid_of(alloc, text, condition, code),
+        Err(ReadError::Parse(_)) => Ok(false),
+        Err(ReadError::Memory(refused)) => Err(refused),
+    }
+}
+
+/// Whether a finding of this code is not told of the text, which spells this condition.
+fn is_rid_of(alloc: Global, text: &str, condition: Platform, code: Code) -> Result<bool, AllocError>
+    ensures { IfOk result (λ b. IsTrue b → IsRidOf code text.now (condition_of condition)) }
+{
+    let read = ReadKey::alone(text, condition);
+    let known = KnownKey::of(alloc, &read, 0, &Declared::none(alloc))?;
+    match code {
+        Code::ReadOtherwise | Code::UnknownTarget | Code::UnknownFact | Code::NotCanonical => {
+            Ok(!known.holds(code))
+        }
+        _ => Ok(false),
+    }
+}
+
+/// A text that may be meant in the place of the whole key, by the finding of this code.
+fn text_instead(
     alloc: Global,
     words: &Words,
     key: &KnownKey<'_>,

@@ -18,6 +18,7 @@ use Rattle.manifest_documents.specs.Declarations.{DeclaredEntry, is_declared}
 use Rattle.manifest_lints_standings.specs.declared.asked_facts.AskedFact.{AskedFact}
 use Rattle.manifest_lints_standings.specs.declared.asked_facts.TheConstants.{OPEN}
 use Rattle.manifest_lints_standings.specs.declared.rustc_names.TheConstants.{VALUED, FLAGGED, PLAIN}
+use Rattle.manifest_lints_standings.specs.declared.rustc_names.TheConstants.{SHORTENED, OF_PROFILES, OTHER_WORDS}
 use Rattle.manifest_lints_standings.specs.declared.standing.Sort.{Sort}
 use Rattle.manifest_lints_standings.specs.declared.standing.Sort.TheVariants as sort
 use Rattle.manifest_lints_standings.specs.declared.standing.TheConstants.{NAMED_BY_VALUE, SHORTEST}
@@ -60,9 +61,14 @@ is_near_one name =
 unfoldable pub is_near : List ℕ → Bool
 is_near name = nat_le SHORTEST (length name) && is_near_one name
 
+-- a key without `target_`, what a profile sets, or another word for a fact of rustc's
+abbrev pub is_taken_for_rustcs : List ℕ → Bool
+is_taken_for_rustcs name = is_named name (map (λ w. w.now) SHORTENED)
+    || (is_named name (map (λ w. w.now) OF_PROFILES) || is_named name (map (λ w. w.now) OTHER_WORDS))
+
 -- what a name or key is that rustc does not have
 abbrev pub sort_of_other : List ℕ → Sort
-sort_of_other name = cond (is_near name) sort.Mistaken sort.Custom
+sort_of_other name = cond (is_taken_for_rustcs name) sort.Mistaken (cond (is_near name) sort.Mistaken sort.Custom)
 
 -- what a pair with this key is, by whether some known target has it
 abbrev pub sort_of_key : List ℕ → Bool → Sort
@@ -87,7 +93,7 @@ sort_of (KeyPair k v) = sort_of_key k.name (is_had table_keys (KeyPair k v))
 abbrev pub beside : Bool → Sort → Sort
 beside is_told sort.Rustcs = sort.Rustcs
 beside is_told sort.Unsupported = sort.Unsupported
-beside is_told sort.Mistaken = sort.Mistaken
+beside is_told sort.Mistaken = cond is_told sort.Declared sort.Mistaken
 beside is_told sort.Custom = cond is_told sort.Declared sort.Custom
 beside is_told sort.Declared = sort.Declared
 
@@ -99,6 +105,9 @@ sort_in standing.NoValue = sort.Mistaken
 sort_in standing.WithValue = sort.Mistaken
 sort_in standing.OtherValue = sort.Mistaken
 sort_in standing.TargetKey = sort.Mistaken
+sort_in standing.Shortened = sort.Mistaken
+sort_in standing.OfProfile = sort.Mistaken
+sort_in standing.OtherWord = sort.Mistaken
 sort_in (standing.Near word) = sort.Mistaken
 sort_in standing.Custom = sort.Custom
 sort_in standing.Declared = sort.Declared
@@ -111,7 +120,7 @@ is_sort sort.Custom sort.Custom = true
 is_sort sort.Declared sort.Declared = true
 is_sort _ _ = false
 
--- of what Cargo warns of, and of what only `--cfg` sets, it is open whether a target has it
+-- of what Cargo warns of, of what only `--cfg` sets, and of what is declared, it is open whether a target has it
 abbrev pub is_open_sort : Sort → Bool
 is_open_sort sort.Rustcs = false
 is_open_sort sort.Unsupported = true

@@ -27,6 +27,25 @@ pub const FLAGGED: [&str; 2] = ["panic", "target_feature"];
 /// The names that rustc sets without a value.
 pub const PLAIN: [&str; 3] = ["debug_assertions", "unix", "windows"];
 
+/// Rustc's keys without `target_`, as people write them, and the word for all of these.
+pub const SHORTENED: [&str; 9] = [
+    "abi",
+    "arch",
+    "endian",
+    "env",
+    "family",
+    "os",
+    "platform",
+    "pointer_width",
+    "vendor",
+];
+
+/// What a profile sets, as people ask for it. Cargo selects dependencies without a profile.
+pub const OF_PROFILES: [&str; 3] = ["debug", "opt_level", "release"];
+
+/// Other words for facts of rustc's.
+pub const OTHER_WORDS: [&str; 5] = ["darwin", "macosx", "osx", "win32", "win64"];
+
 /// The pair of this key and value.
 pub fn pair(alloc: Global, key: &str, value: &str) -> Result<Cfg, AllocError>
     ensures { IfOk result (λ c. value_of c ≡ KeyPair (plain key.now) value.now) }

@@ -1,6 +1,6 @@
 //! What a name or pair that a condition asks for is to rustc: one of its own, a mistake, or a custom one.
 
-ghost use Rattle.std.specs.Prelude.{◌≡◌, ◌↔◌, IfOk, IsTrue, is_some};
+ghost use Rattle.std.specs.Prelude.{◌≡◌, ◌↔◌, IfOk, IfSome, IsTrue, is_some};
 ghost use Rattle.std.specs.List.{list_any};
 ghost use Rattle.cargo_platform.specs.Trees.{Alone, KeyPair, value_of, condition_of};
 ghost use Rattle.cargo_platform.specs.Warnings.{is_unsupported_name};
@@ -10,10 +10,10 @@ ghost use Rattle.known_targets.specs.Rows.{plain};
 ghost use Rattle.known_targets.specs.Table.{table_keys};
 ghost use Rattle.manifest_lints_standings.specs.Standings.{has_as_value, is_near_one, is_one_edit_from, sort_of};
 ghost use Rattle.manifest_lints_standings.specs.Standings.{sort_in, sort_of_key, sort_of_other, is_sort, is_open_sort};
-ghost use Rattle.manifest_lints_standings.specs.Standings.{beside};
+ghost use Rattle.manifest_lints_standings.specs.Standings.{beside, is_taken_for_rustcs};
 ghost use Rattle.manifest_lints_standings.specs.Standings.{IsUnknownTarget};
 
-use crate::rustc_names::{FLAGGED, PLAIN, VALUED, pair};
+use crate::rustc_names::{FLAGGED, OF_PROFILES, OTHER_WORDS, PLAIN, SHORTENED, VALUED, pair};
 use cargo_platform::{Cfg, Platform};
 use known_targets::{KnownTarget, having};
 use partial_facts::names::is_among;
@@ -53,11 +53,17 @@ pub enum Standing {
     OtherValue,
     /// A value of the key `target`.
     TargetKey,
+    /// A key of rustc's without `target_`.
+    Shortened,
+    /// What a profile sets.
+    OfProfile,
+    /// Another word for a fact of rustc's.
+    OtherWord,
     /// A name or key that is one edit away from this one of rustc's.
     Near(&'static str),
     /// Only `--cfg` sets it.
     Custom,
-    /// Only `--cfg` sets it, and the manifest declares it.
+    /// The manifest declares it: `--cfg` sets it, or a rustc of its own.
     Declared,
 }
 
@@ -68,11 +74,11 @@ pub enum Sort {
     Rustcs,
     /// Cargo warns of it.
     Unsupported,
-    /// It is taken for a fact of rustc's, and none.
+    /// It is taken for a fact of rustc's, and none, and the manifest does not declare it.
     Mistaken,
     /// Only `--cfg` sets it, and the manifest does not declare it.
     Custom,
-    /// Only `--cfg` sets it, and the manifest declares it.
+    /// No known target has it, and the manifest declares it.
     Declared,
 }
 
@@ -89,6 +95,9 @@ impl Standing {
             | Standing::WithValue
             | Standing::OtherValue
             | Standing::TargetKey
+            | Standing::Shortened
+            | Standing::OfProfile
+            | Standing::OtherWord
             | Standing::Near(_) => Sort::Mistaken,
             Standing::Custom => Sort::Custom,
             Standing::Declared => Sort::Declared,
@@ -101,6 +110,7 @@ impl Standing {
     {
         match self {
             Standing::Custom if is_declared => Standing::Declared,
+            _ if is_declared && self.sort().is(Sort::Mistaken) => Standing::Declared,
             _ => self,
         }
     }
@@ -189,11 +199,31 @@ fn near_one(alloc: Global, text: &str) -> Result<Option<&'static str>, AllocErro
     near(alloc, text, &VALUED)
 }
 
+/// What a name or key is that people take for one of rustc's, whatever is near to it.
+fn taken_for_rustcs(name: &str) -> Option<Standing>
+    ensures is_one { is_some result ≡ is_taken_for_rustcs name.now }
+    ensures mistaken { IfSome result (λ s. sort_in s ≡ Sort.Mistaken) }
+{
+    if is_among(name, &SHORTENED) {
+        return Some(Standing::Shortened);
+    }
+    if is_among(name, &OF_PROFILES) {
+        return Some(Standing::OfProfile);
+    }
+    if is_among(name, &OTHER_WORDS) {
+        return Some(Standing::OtherWord);
+    }
+    None
+}
+
 /// What a name or key is that rustc does not have.
 #[tactic(auto, unfolding(crate::specs::Standings::is_near))]
 fn other(alloc: Global, name: &str) -> Result<Standing, AllocError>
     ensures { IfOk result (λ s. sort_in s ≡ sort_of_other name.now) }
 {
+    if let Some(standing) = taken_for_rustcs(name) {
+        return Ok(standing);
+    }
     if name.len() < SHORTEST {
         return Ok(Standing::Custom);
     }

@@ -4,7 +4,7 @@
 //! these signatures and comments by `.ci/c-library --header`.
 #![tactic(auto)]
 
-ghost use Rattle.std.specs.Prelude.{◌≡◌, ◌↔◌, ◌≢◌, ◌≤◌, ◌<◌, ℕ, length, IsTrue, true, false, ◌||◌, ◌==◌};
+ghost use Rattle.std.specs.Prelude.{◌≡◌, ◌↔◌, ◌≢◌, ◌≤◌, ◌<◌, ℕ, List, [], length, IsTrue, true, false, ◌||◌, ◌==◌};
 ghost use Rattle.std.specs.Str.{IsUtf8};
 ghost use Rattle.cargo_platform.specs.Trees.{Condition};
 ghost use Rattle.cargo_platform.specs.Platforms.{IsConditionText};
@@ -20,8 +20,8 @@ ghost use Rattle.byte_answers.specs.Outcomes.{ends_target_call};
 ghost use Rattle.byte_answers.specs.Refusals.{IsRefusal, IsRefusedLine, IsShownRefusal};
 
 use byte_answers::{
-    DONE, MOST_FLAT_BYTES, NOT_FLAT, NOT_UTF8, Outcome, REFUSED, Relation, TOO_DEEP, UNDECIDED,
-    UNKNOWN_TARGET, VERSION,
+    DONE, MOST_FLAT_BYTES, NO_MEMORY, NOT_FLAT, NOT_UTF8, Outcome, REFUSED, Relation, TOO_DEEP,
+    UNDECIDED, UNKNOWN_TARGET, VERSION,
 };
 use known_targets::{COUNT, WORDS};
 use std::alloc::Global;
@@ -380,5 +380,37 @@ pub extern "C" fn nevgrasi_flat_matches(
     ensures outcome { outcome.new.code ≡ result }
 {
     *outcome = byte_answers::flat_matches(alloc, flat, name, flat_facts);
+    outcome.code
+}
+
+/// Writes at which known targets each package of a graph is in the build: a line of JSON for each package, as the
+/// program `manifest_check graph --json` prints them. The document is what `cargo metadata --format-version 1` printed.
+/// Builds run on the host, a known target of this name, and with an empty name on the target itself. With `REFUSED` it
+/// writes why the document can't be used, and tells no span.
+#[unsafe(no_mangle)]
+pub extern "C" fn nevgrasi_graph(
+    alloc: Global,
+    document: &[u8],
+    host: &[u8],
+    out: &mut [u8],
+    outcome: &mut Outcome,
+) -> u32
+    ensures written { IsTrue (result == DONE || result == REFUSED)
+        → (text : List ℕ) × IsWritten text outcome.new.needed out.old out.new }
+    ensures silent { result ≢ DONE → result ≢ REFUSED → IsSilent outcome.new out.old out.new }
+    ensures not_utf8_document { result ≡ NOT_UTF8 → outcome.new.argument ≡ 0 → IsUtf8 document.now → ⊥ }
+    ensures not_utf8_host { result ≡ NOT_UTF8 → outcome.new.argument ≡ 1 → IsUtf8 host.now → ⊥ }
+    ensures utf8 { result ≢ NOT_UTF8 → IsUtf8 document.now × IsUtf8 host.now }
+    ensures unknown { result ≡ UNKNOWN_TARGET → (k : ℕ) → k < COUNT → target_name k ≢ host.now }
+    ensures empty { result ≡ UNKNOWN_TARGET → host.now ≢ [] }
+    ensures known { IsTrue (result == DONE || result == REFUSED) → host.now ≢ []
+        → (k : ℕ) × ((k < COUNT) × (target_name k ≡ host.now)) }
+    ensures host { result ≡ UNKNOWN_TARGET → outcome.new.argument ≡ 1 }
+    ensures argument { IsTrue (outcome.new.argument == 0 || outcome.new.argument == 1) }
+    ensures codes { IsTrue (result == DONE || result == REFUSED || result == NOT_UTF8
+        || result == NO_MEMORY || result == TOO_DEEP || result == UNKNOWN_TARGET) }
+    ensures outcome { outcome.new.code ≡ result }
+{
+    *outcome = byte_graphs::graph(alloc, document, host, out);
     outcome.code
 }

@@ -4,11 +4,12 @@
 use crate::Fault;
 use std::alloc::{AllocError, Global};
 
-/// Each power of two up to 2^17, one less and one more.
-const SIZES: [usize; 50] = [
-    1, 2, 3, 4, 5, 7, 8, 9, 15, 16, 17, 31, 32, 33, 63, 64, 65, 127, 128, 129, 255, 256, 257, 511,
-    512, 513, 1023, 1024, 1025, 2047, 2048, 2049, 4095, 4096, 4097, 8191, 8192, 8193, 16383, 16384,
-    16385, 32767, 32768, 32769, 65535, 65536, 65537, 131071, 131072, 131073,
+/// Each number up to 17, and each further power of two up to 2^17, one less and one more.
+const SIZES: [usize; 56] = [
+    1, 2, 3, 4, 5, 6, 7, 8, 9, 10, 11, 12, 13, 14, 15, 16, 17, 31, 32, 33, 63, 64, 65, 127, 128,
+    129, 255, 256, 257, 511, 512, 513, 1023, 1024, 1025, 2047, 2048, 2049, 4095, 4096, 4097, 8191,
+    8192, 8193, 16383, 16384, 16385, 32767, 32768, 32769, 65535, 65536, 65537, 131071, 131072,
+    131073,
 ];
 
 /// The characters of `{N~}`. As their number is odd, something else stands at each power of two.

@@ -57,7 +57,7 @@ fn manifest_above<R: Files + Env + AllocGlobal>(rt: &R) -> Result<Option<String>
     };
     let mut file = String::from_str(alloc, MANIFEST)?;
     for _ in 0..=depth {
-        if is_file(rt, file.as_str()) {
+        if is_file(rt, file.as_str())? {
             return Ok(Some(file));
         }
         file = format!(in alloc; "../{file}")?;
@@ -67,7 +67,7 @@ fn manifest_above<R: Files + Env + AllocGlobal>(rt: &R) -> Result<Option<String>
 
 /// The file that an argument names: of a folder its manifest.
 fn file_of<R: Files + AllocGlobal>(rt: &R, path: &str) -> Result<String, AllocError> {
-    if path != INPUT && !path.is_empty() && is_folder(rt, path) {
+    if path != INPUT && !path.is_empty() && is_folder(rt, path)? {
         let path = path.strip_suffix("/").unwrap_or(path);
         return format!(in rt.alloc(); "{path}/{MANIFEST}");
     }
@@ -75,11 +75,11 @@ fn file_of<R: Files + AllocGlobal>(rt: &R, path: &str) -> Result<String, AllocEr
 }
 
 /// The manifest of the root of the workspace that a manifest belongs to: its own, the one that `package.workspace`
-/// names, or the nearest above with a table `workspace`.
-fn root_of<R: Files + Env + AllocGlobal>(rt: &R, file: &str) -> Result<String, AllocError> {
+/// names, or the nearest above with a table `workspace`. Of one that belongs to none it is its own.
+pub fn root_of<R: Files + Env + AllocGlobal>(rt: &R, file: &str) -> Result<String, AllocError> {
     let alloc = rt.alloc();
     let folder = folder_of(file);
-    if let Some(manifest) = table_at(rt, file)? {
+    if let Some(manifest) = table_with_word(rt, file, "workspace")? {
         if manifest.get("workspace").is_some() {
             return String::from_str(alloc, file);
         }
@@ -109,7 +109,7 @@ fn root_of<R: Files + Env + AllocGlobal>(rt: &R, file: &str) -> Result<String, A
 }
 
 /// The path without the components that lead nowhere.
-fn shorter(alloc: Global, path: &str) -> Result<String, AllocError> {
+pub fn shorter(alloc: Global, path: &str) -> Result<String, AllocError> {
     let mut text = String::new(alloc);
     for component in &plain_components(alloc, path)? {
         if !text.is_empty() || path.starts_with('/') {

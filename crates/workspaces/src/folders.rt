@@ -1,6 +1,6 @@
 //! The folders below a root that a glob may take.
 
-use crate::manifests::{inside, is_folder};
+use crate::manifests::{inside, is_folder, unless_refused};
 use std::alloc::AllocError;
 use std::fs;
 use std::rt::Files;
@@ -17,9 +17,9 @@ fn names_in<R: Files + AllocGlobal + Clone + Drop>(
     let alloc = rt.alloc();
     let mut names = Vec::new(alloc);
     let folder = if folder.is_empty() { "." } else { folder };
-    if let Ok(entries) = fs::read_dir(rt, folder) {
+    if let Some(entries) = unless_refused(fs::read_dir(rt, folder))? {
         for entry in entries {
-            if let Ok(entry) = entry {
+            if let Some(entry) = unless_refused(entry)? {
                 names.push(String::from_str(alloc, entry.file_name())?)?;
             }
         }
@@ -29,10 +29,10 @@ fn names_in<R: Files + AllocGlobal + Clone + Drop>(
 }
 
 /// Whether a folder, and no link to one, stands at the path.
-fn is_own_folder<R: Files + AllocGlobal>(rt: &R, path: &str) -> bool {
-    match fs::symlink_metadata(rt, path) {
-        Ok(found) => found.is_dir(),
-        Err(_) => false,
+fn is_own_folder<R: Files + AllocGlobal>(rt: &R, path: &str) -> Result<bool, AllocError> {
+    match unless_refused(fs::symlink_metadata(rt, path))? {
+        Some(found) => Ok(found.is_dir()),
+        None => Ok(false),
     }
 }
 
@@ -55,7 +55,7 @@ fn add_below<R: Files + AllocGlobal + Clone + Drop>(
         for name in &names_in(rt, folder.as_str())? {
             let lower = inside(alloc, path.as_str(), name.as_str())?;
             let place = inside(alloc, root, lower.as_str())?;
-            if is_own_folder(rt, place.as_str()) {
+            if is_own_folder(rt, place.as_str())? {
                 found.push(lower)?;
             }
         }
@@ -78,7 +78,7 @@ fn add_named<R: Files + AllocGlobal + Clone + Drop>(
         if component.takes(alloc, &characters)? {
             let lower = inside(alloc, path, name.as_str())?;
             let place = inside(alloc, root, lower.as_str())?;
-            if is_folder(rt, place.as_str()) {
+            if is_folder(rt, place.as_str())? {
                 found.push(lower)?;
             }
         }
@@ -110,7 +110,7 @@ pub fn candidates<R: Files + AllocGlobal + Clone + Drop>(
             } else {
                 let lower = inside(alloc, path.as_str(), text)?;
                 let place = inside(alloc, root, lower.as_str())?;
-                if is_folder(rt, place.as_str()) {
+                if is_folder(rt, place.as_str())? {
                     next.push(lower)?;
                 }
             }

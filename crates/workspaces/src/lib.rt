@@ -8,4 +8,5 @@ mod finding;
 mod folders;
 mod manifests;
 
-pub use finding::{Asked, Found, find};
+pub use finding::{Asked, Found, find, root_of, shorter};
+pub use manifests::{table_in, table_with_word};

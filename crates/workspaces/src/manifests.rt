@@ -1,8 +1,10 @@
 //! Manifests as texts and tables, and paths beside each other.
 
+use limited_texts::{LIMIT, file_within};
 use std::alloc::{AllocError, Global};
-use std::fs;
+use std::io::ErrorKind;
 use std::rt::Files;
+use std::{fs, io};
 use toml::{Table, Value, table_from_str};
 
 /// The name of a manifest.
@@ -28,34 +30,40 @@ pub fn folder_of(file: &str) -> &str {
     }
 }
 
+/// What a call on files gave, where it gave something. It refuses only where memory is refused: then nothing is known of
+/// the file.
+pub fn unless_refused<T>(given: io::Result<T>) -> Result<Option<T>, AllocError> {
+    match given {
+        Ok(given) => Ok(Some(given)),
+        Err(error) => {
+            if error.kind() == ErrorKind::OutOfMemory {
+                return Err(AllocError);
+            }
+            Ok(None)
+        }
+    }
+}
+
 /// Whether a folder stands at the path.
-pub fn is_folder<R: Files + AllocGlobal>(rt: &R, path: &str) -> bool {
+pub fn is_folder<R: Files + AllocGlobal>(rt: &R, path: &str) -> Result<bool, AllocError> {
     let path = if path.is_empty() { "." } else { path };
-    match fs::metadata(rt, path) {
-        Ok(found) => found.is_dir(),
-        Err(_) => false,
+    match unless_refused(fs::metadata(rt, path))? {
+        Some(found) => Ok(found.is_dir()),
+        None => Ok(false),
     }
 }
 
 /// Whether a file stands at the path.
-pub fn is_file<R: Files + AllocGlobal>(rt: &R, path: &str) -> bool {
-    match fs::metadata(rt, path) {
-        Ok(found) => found.is_file(),
-        Err(_) => false,
+pub fn is_file<R: Files + AllocGlobal>(rt: &R, path: &str) -> Result<bool, AllocError> {
+    match unless_refused(fs::metadata(rt, path))? {
+        Some(found) => Ok(found.is_file()),
+        None => Ok(false),
     }
 }
 
-/// The table of a manifest. There is none where it can't be read or is no TOML: who reads it next says so.
-pub fn table_at<R: Files + AllocGlobal>(rt: &R, file: &str) -> Result<Option<Table>, AllocError> {
-    let alloc = rt.alloc();
-    let Ok(text) = fs::read_to_string(rt, file) else {
-        return Ok(None);
-    };
-    let text = text
-        .as_str()
-        .strip_prefix("\u{FEFF}")
-        .unwrap_or(text.as_str());
-    match table_from_str(alloc, text) {
+/// The table that a text spells. There is none where it is no TOML.
+fn table_of(alloc: Global, text: &str) -> Result<Option<Table>, AllocError> {
+    match table_from_str(alloc, text.strip_prefix("\u{FEFF}").unwrap_or(text)) {
         Ok(table) => Ok(Some(table)),
         Err(error) => {
             if error.is_memory() {
@@ -66,21 +74,29 @@ pub fn table_at<R: Files + AllocGlobal>(rt: &R, file: &str) -> Result<Option<Tab
     }
 }
 
+/// The table of a manifest. There is none where it can't be read or is no TOML: who reads it next says so.
+pub fn table_at<R: Files + AllocGlobal>(rt: &R, file: &str) -> Result<Option<Table>, AllocError> {
+    match unless_refused(file_within(rt, file, LIMIT))? {
+        Some(text) => table_of(rt.alloc(), text.as_str()),
+        None => Ok(None),
+    }
+}
+
 /// The table of a manifest with this word in its text: a large one without it is not read as TOML.
 pub fn table_with_word<R: Files + AllocGlobal>(
     rt: &R,
     file: &str,
     word: &str,
 ) -> Result<Option<Table>, AllocError> {
-    match fs::read_to_string(rt, file) {
-        Ok(text) => {
+    match unless_refused(file_within(rt, file, LIMIT))? {
+        Some(text) => {
             if text.contains(word) {
-                table_at(rt, file)
+                table_of(rt.alloc(), text.as_str())
             } else {
                 Ok(None)
             }
         }
-        Err(_) => Ok(None),
+        None => Ok(None),
     }
 }
 

@@ -1,5 +1,5 @@
 //! What Rust's crates on target conditions lack: all known targets at which a key holds, what one key says of another,
-//! and where a refused key goes wrong.
+//! where a refused key goes wrong, and at which targets each package of a graph is in the build.
 //!
 //! The answers are those of `libnevgrasi.so`, whose calls are proved. This crate is no proved code: it hands slices in,
 //! and takes the answers out. Reading and matching keys is the crate cargo-platform's part.
@@ -43,6 +43,8 @@ pub enum Error {
     TooDeep,
     /// A comparison took more splits than its budget.
     Undecided,
+    /// No known target has the name.
+    UnknownTarget,
     /// Memory was refused.
     NoMemory,
 }
@@ -53,6 +55,7 @@ impl fmt::Display for Error {
             Error::Refused(fault) => f.write_str(&fault.message),
             Error::TooDeep => f.write_str("too many parentheses are open"),
             Error::Undecided => f.write_str("the budget is used up"),
+            Error::UnknownTarget => f.write_str("no known target has the name"),
             Error::NoMemory => f.write_str("memory was refused"),
         }
     }
@@ -108,6 +111,7 @@ fn answered(call: impl Fn(*mut u8, usize, *mut raw::Outcome) -> u32) -> Result<(
         raw::DONE => Ok((outcome, out)),
         raw::TOO_DEEP => Err(Error::TooDeep),
         raw::UNDECIDED => Err(Error::Undecided),
+        raw::UNKNOWN_TARGET => Err(Error::UnknownTarget),
         raw::REFUSED => {
             let span = outcome.start..outcome.end;
             Err(Error::Refused(Fault { message: text_of(&out), span, snippet: None }))
@@ -250,6 +254,22 @@ impl Key {
         })?;
         Ok(compared(outcome, &written, true))
     }
+}
+
+/// At which known targets each package is in the build, of what `cargo metadata --format-version 1` printed: a line of
+/// JSON for each package, as `manifest_check graph --json` prints them. With a host, a known target, builds run there;
+/// without one on the target itself.
+///
+/// # Errors
+/// `Refused`, with no span, where the document can't be used. `UnknownTarget` where no known target has the host's
+/// name. `TooDeep` and `NoMemory`.
+pub fn graph(document: &str, host: Option<&str>) -> Result<String, Error> {
+    let host = host.unwrap_or("");
+    // SAFETY: as in `Key::new`.
+    let (_, lines) = answered(|out, room, outcome| unsafe {
+        raw::nevgrasi_graph(document.as_ptr(), document.len(), host.as_ptr(), host.len(), out, room, outcome)
+    })?;
+    Ok(text_of(&lines))
 }
 
 /// The version of the shared library.

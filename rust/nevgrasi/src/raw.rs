@@ -183,4 +183,17 @@ extern "C" {
         flat_facts_length: usize,
         outcome: *mut Outcome,
     ) -> u32;
+    /// Writes at which known targets each package of a graph is in the build: a line of JSON for each package, as the
+    /// program `manifest_check graph --json` prints them. The document is what `cargo metadata --format-version 1`
+    /// printed. Builds run on the host, a known target of this name, and with an empty name on the target itself. With
+    /// `REFUSED` it writes why the document can't be used, and tells no span.
+    pub fn nevgrasi_graph(
+        document: *const u8,
+        document_length: usize,
+        host: *const u8,
+        host_length: usize,
+        out: *mut u8,
+        out_length: usize,
+        outcome: *mut Outcome,
+    ) -> u32;
 }

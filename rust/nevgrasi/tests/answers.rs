@@ -1,6 +1,6 @@
 //! Each call once, with answers that the library's rows state too.
 
-use nevgrasi::{Error, Fault, Key};
+use nevgrasi::{graph, Error, Fault, Key};
 
 fn key(text: &str) -> Key {
     Key::new(text).expect("a key")
@@ -56,6 +56,28 @@ fn what_can_hold_has_an_example() {
     assert!(!key("cfg(all(unix, not(unix)))").can_hold().expect("an answer").holds);
     let broken = key("cfg(a = \"two\nlines\")").can_hold().expect("an answer").example.expect("an example");
     assert_eq!(broken.facts, ["a = \"two\nlines\""]);
+}
+
+#[test]
+fn packages_of_a_graph_have_their_targets() {
+    let document = r#"{"version": 1, "workspace_members": ["a"],
+        "packages": [{"id": "a", "name": "a", "version": "1.0.0", "license": "MIT", "targets": []},
+                     {"id": "b", "name": "b", "version": "0.1.0", "targets": []}],
+        "resolve": {"nodes": [{"id": "b", "deps": []}, {"id": "a", "deps": [
+            {"pkg": "b", "dep_kinds": [{"kind": null, "target": "x86_64-apple-darwin"}]}]}]}}"#;
+    let lines = concat!(
+        r#"{"package": "a 1.0.0", "id": "a", "license": "MIT", "targets": 320, "at": "all", "kinds": []}"#,
+        "\n",
+        r#"{"package": "b 0.1.0", "id": "b", "license": null, "targets": 1, "at": ["x86_64-apple-darwin"], "#,
+        r#""kinds": ["normal"]}"#,
+        "\n",
+    );
+    assert_eq!(graph(document, None).as_deref(), Ok(lines));
+    assert_eq!(graph(document, Some("x86_64-apple-darwin")).as_deref(), Ok(lines));
+    assert_eq!(graph(document, Some("x")), Err(Error::UnknownTarget));
+    let reason = "packages: a list is wanted".to_string();
+    let fault = Fault { message: reason, span: 0..0, snippet: None };
+    assert_eq!(graph(r#"{"version": 1}"#, None), Err(Error::Refused(fault)));
 }
 
 #[test]

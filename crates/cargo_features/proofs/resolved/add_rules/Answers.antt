@@ -1,4 +1,5 @@
-use Rattle.std.proofs.Common.{◌≡◌, ◌<◌, ℕ, ◌+◌, ◌∷◌, ◌++◌, [], List, take, get_or, length, append_assoc, sym, ◌∙◌, ap, subst}
+use Rattle.std.proofs.Common.{◌≡◌, ◌<◌, ℕ, ◌+◌, ◌∷◌, ◌++◌, [], List, take, get_or, length, append_assoc, sym, ◌∙◌, ap}
+use Rattle.std.proofs.Common.{subst}
 use Rattle.std.proofs.lemmas.List.{take_more, get_or_default}
 use Rattle.target_rules.specs.declared.rules.Rule.{Rule}
 use Rattle.cargo_features.specs.Inside.Numbered.{IsNumbered, AreNumbered}

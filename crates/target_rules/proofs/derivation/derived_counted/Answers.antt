@@ -101,7 +101,8 @@ facts-preserved c =
     let sets_in : fact < length sets = omega (arith, inside, old.sets, c.facts.sets.ok.0) in
     let rounds_in : fact < length c.facts.rounds.items = omega (arith, inside, old.rounds, c.facts.rounds.ok.0) in
     let here : (k : ℕ) → is_in done fact k ≡ is_in sets fact k =
-    λ k. is_in_same before fact set_now k done_in ∙ sym (is_in_read sets fact set_now k sets_in c.index-in-Some-2.ensures) in
+    λ k. is_in_same before fact set_now k done_in ∙ sym (is_in_read sets fact set_now k sets_in
+    c.index-in-Some-2.ensures) in
     let there : (n k : ℕ) → (n ≡ fact → ⊥) → is_in done n k ≡ is_in before n k =
     λ n k other. is_in_other before fact set_now n k other in
     let within : (n k : ℕ) → k < COUNT → is_in done n k ≡ true → is_in sets n k ≡ true =

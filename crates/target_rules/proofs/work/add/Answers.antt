@@ -1,4 +1,5 @@
-use Rattle.std.proofs.Common.{ℕ, ◌≡◌, ◌<◌, List, ◌∷◌, ◌++◌, [], length, ◌||◌, ◌&&◌, ◌==◌, ◌+◌, ◌≤◌, ◌⊎◌, true, false, Bool, set}
+use Rattle.std.proofs.Common.{ℕ, ◌≡◌, ◌<◌, List, ◌∷◌, ◌++◌, [], length, ◌||◌, ◌&&◌, ◌==◌, ◌+◌, ◌≤◌, ◌⊎◌, true, false}
+use Rattle.std.proofs.Common.{Bool, set}
 use Rattle.std.proofs.Common.{refl, sym, ◌∙◌, ap, subst, inl, inr, arith}
 use Rattle.std.specs.Prelude.{All, Contains}
 use Rattle.std.proofs.lemmas.Bool.{cases_eq, or_left, eq-eqb, ne_eqb, false≢true}

@@ -16,7 +16,12 @@ dependencies-preserved c =
     let i = c.dependencies.i in
     let d : Dependency = c.index-dependency.result.now in
     let before : List Step = c.dependencies.steps.items in
-    let inside : i < length deps = omega (arith, c.dependencies-test.true, c.len-i-end.ensures, c.args.unit.now.dependencies.ok.0) in
+    let inside : i < length deps = omega (
+      arith,
+      c.dependencies-test.true,
+      c.len-i-end.ensures,
+      c.args.unit.now.dependencies.ok.0,
+    ) in
     c.in_ok-used.ensures
     ∙ ap (λ (ss : List Step). ss ++ used i d) c.in_ok-active.ensures
     ∙ append_assoc before (active i d) (used i d)

@@ -32,7 +32,8 @@ returns-in-Used c are =
     let same : c.at-in-Used.result ≡ number ps it =
     elim (cases_lt p (length ps)) as (λ _. c.at-in-Used.result ≡ number ps it) [
       | inl inside ↦
-          told ps c.args.self.now it p 1 c.in-Used.side c.at-in-Used.result are (lt-ltb p (length ps) inside) inside refl
+          told ps c.args.self.now it p 1 c.in-Used.side c.at-in-Used.result are (lt-ltb p (length ps) inside)
+          inside refl
           c.at-in-Used.ensures.there
       | inr past ↦
           told_none ps c.args.self.now it p c.at-in-Used.result are (λ known. ltb-true p (length ps) known) past
@@ -68,7 +69,14 @@ returns-else-dependency-len c are =
     let read = dependencies_read ps p x inside in
     let other = features_read ps p y inside in
     let low : d < dependency_count ps p =
-    omega (arith, c.if-dependency-len.false, c.len-else-index-packages-2.ensures, (get_or ps p x).dependencies.ok.0, read) in
+    omega (
+      arith,
+      c.if-dependency-len.false,
+      c.len-else-index-packages-2.ensures,
+      (get_or ps p
+          x).dependencies.ok.0,
+      read,
+    ) in
     let many : c.len-features.result ≡ feature_count ps p =
     omega (arith, c.len-features.ensures, (get_or ps p y).features.ok.0, other) in
     told ps c.args.self.now it p ((c.len-features.result + d) + 2) from c.at-in-Dependency.result are

@@ -1,0 +1,148 @@
+"""What a build of Cargo uses at one target: its feature resolver, step by step, and then its dependencies.
+
+It goes by the steps of `core/resolver/features.rs` and `ops/tree/graph.rs` of Cargo 1.95.0, for one target at a time, on
+what `cargo metadata` printed. `manifest_check graph --resolver` answers for all targets at once; this tells it is right.
+"""
+import collections
+
+Declared = collections.namedtuple("Declared", "name to kind optional default features holds")
+
+
+def library_name(package):
+    """The name by which other packages' code calls a package."""
+    kinds = {"lib", "rlib", "dylib", "cdylib", "staticlib", "proc-macro"}
+    for target in package["targets"]:
+        if kinds & set(target["kind"]):
+            return target["name"].replace("-", "_")
+    return package["name"].replace("-", "_")
+
+
+class Build:
+    """What is built for a target on a host. `holds_at` tells the targets of a condition."""
+
+    def __init__(self, document, roots, kinds, host, resolver, target, holds_at, features=(), default=True, all_on=False):
+        self.packages = {it["id"]: it for it in document["packages"]}
+        self.roots, self.kinds, self.host, self.target = roots, kinds, host, target
+        self.is_new = resolver != 1
+        self.holds_at = holds_at
+        self.declared = {node["id"]: self.declared_of(node) for node in document["resolve"]["nodes"]}
+        self.on = collections.defaultdict(set)
+        self.turned_on = collections.defaultdict(set)
+        self.deferred = collections.defaultdict(set)
+        self.processed = set()
+        for root in roots:
+            table = self.packages[root]["features"]
+            asked = list(table) if all_on else [f for f in features if f in table or "/" in f]
+            asked += ["default"] if default and "default" in table else []
+            self.activate(root, "target", asked)
+            if self.is_macro(root):
+                self.activate(root, "host", asked)
+
+    def is_macro(self, package):
+        return any("proc-macro" in target["kind"] for target in self.packages[package]["targets"])
+
+    def declared_of(self, node):
+        """The declared dependencies of a package, each with the package that it resolves to."""
+        found = []
+        for one in self.packages[node["id"]]["dependencies"]:
+            for edge in node["deps"]:
+                to = self.packages[edge["pkg"]]
+                called = (one["rename"] or library_name(to)).replace("-", "_")
+                if edge["pkg"] == node["id"]:
+                    called = library_name(to)
+                if one["name"] == to["name"] and called == edge["name"] and any(
+                    (row["kind"], row["target"]) == (one["kind"], one["target"]) for row in edge["dep_kinds"]
+                ):
+                    found.append(Declared(
+                        one["rename"] or one["name"], edge["pkg"], one["kind"] or "normal", one["optional"],
+                        one["uses_default_features"], one["features"], self.holds_at(one["target"])))
+        return found
+
+    def leads_to(self, package, side, one):
+        """The side that a dependency leads to, or none where it is not asked for at this target."""
+        of_host = side == "host" or one.kind == "build"
+        if (self.host if of_host else self.target) not in one.holds:
+            return None
+        return "host" if of_host or self.is_macro(one.to) else "target"
+
+    # ---- the feature resolver
+
+    def dependencies(self, package, side):
+        for one in self.declared[package]:
+            if one.kind == "dev" and package not in self.roots:
+                continue
+            if not self.is_new:
+                yield one, "target"
+            elif one.kind != "dev" or "dev" in self.kinds:
+                to = self.leads_to(package, side, one)
+                if to:
+                    yield one, to
+
+    def key(self, package, side):
+        return package, side if self.is_new else "target"
+
+    def activate(self, package, side, asked):
+        for feature in asked:
+            self.turn_on(package, side, feature)
+        if self.key(package, side) in self.processed:
+            return
+        self.processed.add(self.key(package, side))
+        for one, to in self.dependencies(package, side):
+            if not one.optional:
+                self.activate(one.to, to, self.asked_by(one))
+
+    def asked_by(self, one):
+        table = self.packages[one.to]["features"]
+        return one.features + (["default"] if one.default and "default" in table else [])
+
+    def turn_on(self, package, side, word):
+        if word.startswith("dep:"):
+            self.turn_on_dependency(package, side, word.removeprefix("dep:"))
+        elif "/" in word:
+            name, feature = word.split("/", 1)
+            self.turn_on_of(package, side, name.removesuffix("?"), feature, name.endswith("?"))
+        elif word not in self.on[self.key(package, side)]:
+            self.on[self.key(package, side)].add(word)
+            for member in self.packages[package]["features"].get(word, ()):
+                self.turn_on(package, side, member)
+
+    def turn_on_dependency(self, package, side, name):
+        self.turned_on[self.key(package, side)].add(name)
+        waiting = self.deferred.pop((self.key(package, side), name), ())
+        for one, to in self.dependencies(package, side):
+            if one.name == name:
+                for feature in waiting:
+                    self.turn_on(one.to, to, feature)
+                self.activate(one.to, to, self.asked_by(one))
+
+    def turn_on_of(self, package, side, name, feature, is_weak):
+        for one, to in self.dependencies(package, side):
+            if one.name != name:
+                continue
+            if one.optional:
+                if is_weak and name not in self.turned_on[self.key(package, side)]:
+                    self.deferred[self.key(package, side), name].add(feature)
+                    continue
+                self.turn_on_dependency(package, side, name)
+                if not is_weak:
+                    self.turn_on(package, side, name)
+            self.turn_on(one.to, to, feature)
+
+    # ---- the dependencies that are used
+
+    def used(self):
+        """The packages that are built, each with its side."""
+        found = {(root, "host" if self.is_macro(root) else "target") for root in self.roots}
+        waiting = list(found)
+        while waiting:
+            package, side = waiting.pop()
+            for one in self.declared[package]:
+                if one.kind not in self.kinds or (one.kind == "dev" and package not in self.roots):
+                    continue
+                if one.optional and one.name not in self.turned_on[self.key(package, side)]:
+                    continue
+                to = self.leads_to(package, side, one)
+                if to and (one.to, to) not in found:
+                    found.add((one.to, to))
+                    waiting.append((one.to, to))
+        return found

@@ -1,0 +1,21 @@
+//! Laws over the definitions. The functions do nothing: each contract is a law.
+
+ghost use Rattle.std.specs.Prelude.{ℕ, Some};
+ghost use Rattle.package_graphs.specs.Packages.{BuiltFor, IsThereOn, KindSet, HostTarget};
+ghost use Rattle.cargo_features.specs.Graphs.{Declared, Graph, Built, IsGraphOf, resolver_1, resolver_2, joined};
+ghost use Rattle.cargo_features.specs.Holding.{Holds};
+ghost use Rattle.cargo_features.specs.declared.claims.Claim.{Claim};
+ghost use Rattle.cargo_features.specs.declared.claims.Claim.TheVariants as claim;
+
+/// What a build uses is there in the graph of the packages: features only take away.
+pub fn what_is_used_is_there()
+    ensures { (build : Built) (packages : Declared) (graph : Graph) (k p : ℕ) (side : BuiltFor)
+        → IsGraphOf packages graph → Holds build packages k (claim.Used p side)
+        → IsThereOn graph build.kinds (Some build.host) k (p, side) }
+{}
+
+/// What resolver 2 turns on or uses, resolver 1 does too, where sides are not told apart.
+pub fn resolver_1_has_what_resolver_2_has()
+    ensures { (kinds : KindSet) (host : HostTarget) (packages : Declared) (k : ℕ) (c : Claim)
+        → Holds (resolver_2 kinds host) packages k c → Holds (resolver_1 kinds host) packages k (joined c) }
+{}

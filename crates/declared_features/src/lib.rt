@@ -1,0 +1,12 @@
+//! What packages declare of dependencies and features in what `cargo metadata` printed, and that with places in the
+//! place of names, as the feature resolver wants it.
+#![tactic(auto)]
+
+mod fields;
+mod linking;
+mod manifests;
+mod places;
+
+pub use fields::{Wanted, Wrong};
+pub use linking::{Asked, Described, described_features};
+pub use manifests::{Declared, Feature, InDeclared, InManifest, Manifest, Refusal, read_manifests};

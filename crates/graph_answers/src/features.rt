@@ -1,0 +1,131 @@
+//! `--show features`: which features of which package are on at which targets.
+
+use crate::asked::Asked;
+use crate::graph::Graph;
+use crate::json::{push_field, push_targets, push_text};
+use crate::lines::{push, shown, shown_package, shown_targets};
+use crate::packages::push_package;
+use crate::resolving::Features;
+use key_answers::answer::{Answer, Status};
+use known_targets::TargetSet;
+use package_graphs::Side;
+use std::alloc::{AllocError, Global};
+
+/// The word of a side.
+pub fn side_word(side: Side) -> &'static str {
+    match side {
+        Side::Target => "target",
+        Side::Host => "host",
+    }
+}
+
+/// What a line tells of a side: nothing of the target's.
+pub fn side_note(side: Side) -> &'static str {
+    match side {
+        Side::Target => "",
+        Side::Host => ", for the host",
+    }
+}
+
+/// The answer to `--show features`.
+pub fn show_features(
+    alloc: Global,
+    graph: &Graph<'_>,
+    asked: &Asked<'_>,
+) -> Result<Answer, AllocError> {
+    let mut answer = Answer::of(alloc, String::new(alloc), Status::Fine);
+    let Some(features) = &graph.features else {
+        return Ok(answer);
+    };
+    for i in &graph.order {
+        push_side(
+            &mut answer.output,
+            alloc,
+            graph,
+            features,
+            *i,
+            Side::Target,
+            asked,
+        )?;
+        push_side(
+            &mut answer.output,
+            alloc,
+            graph,
+            features,
+            *i,
+            Side::Host,
+            asked,
+        )?;
+    }
+    Ok(answer)
+}
+
+/// Appends a line or an object for each feature of a package that is on at a target that is asked for.
+fn push_side(
+    text: &mut String,
+    alloc: Global,
+    graph: &Graph<'_>,
+    features: &Features<'_>,
+    index: usize,
+    side: Side,
+    asked: &Asked<'_>,
+) -> Result<(), AllocError> {
+    let names = features.names(alloc, index)?;
+    for i in 0..names.len() {
+        let targets = features
+            .resolved
+            .with_feature(index, side, i)
+            .intersection(asked.targets);
+        if targets.is_empty() {
+            continue;
+        }
+        if asked.json {
+            push_object(text, alloc, graph, index, names[i], side, targets, asked)?;
+        } else {
+            push_line(text, alloc, graph, index, names[i], side, targets, asked)?;
+        }
+    }
+    Ok(())
+}
+
+/// Appends the line of a feature.
+fn push_line(
+    text: &mut String,
+    alloc: Global,
+    graph: &Graph<'_>,
+    index: usize,
+    name: &str,
+    side: Side,
+    targets: TargetSet,
+    asked: &Asked<'_>,
+) -> Result<(), AllocError> {
+    let Some(described) = graph.described(index) else {
+        return Ok(());
+    };
+    let package = shown_package(alloc, described)?;
+    let name = shown(alloc, name)?;
+    let targets = shown_targets(alloc, targets, asked)?;
+    let note = side_note(side);
+    let line = format!(in alloc; "{package} {name}{note}: {targets}\n")?;
+    push(text, line.as_str())
+}
+
+/// Appends the object of a feature, on a line of its own.
+fn push_object(
+    text: &mut String,
+    alloc: Global,
+    graph: &Graph<'_>,
+    index: usize,
+    name: &str,
+    side: Side,
+    targets: TargetSet,
+    asked: &Asked<'_>,
+) -> Result<(), AllocError> {
+    push_package(text, alloc, graph, index)?;
+    push_field(text, ", ", "feature")?;
+    push_text(text, alloc, name)?;
+    push_field(text, ", ", "side")?;
+    push_text(text, alloc, side_word(side))?;
+    push_targets(text, alloc, targets, asked.targets)?;
+    push(text, "}\n")
+}

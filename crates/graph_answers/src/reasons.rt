@@ -1,0 +1,230 @@
+//! Why a package that the dependencies lead to is not built: which rule of the feature resolver leaves it out.
+
+use crate::asked::Asked;
+use crate::graph::Graph;
+use crate::json::{push_comma, push_field, push_targets, push_text};
+use crate::lines::{push, shown_targets};
+use crate::resolving::Features;
+use cargo_features::{Build, Dependency, Member, Package, used_packages};
+use known_targets::TargetSet;
+use std::alloc::{AllocError, Global};
+
+/// A reason for which packages are left out.
+#[derive(Clone, Copy, Drop)]
+pub struct Reason {
+    pub word: &'static str,
+    pub text: &'static str,
+}
+
+const WEAK: Reason = Reason {
+    word: "weak",
+    text: "a weak feature alone asks for it",
+};
+
+const TARGET: Reason = Reason {
+    word: "target",
+    text: "a feature of another target asks for it",
+};
+
+const SIDE: Reason = Reason {
+    word: "side",
+    text: "a feature of the other side, target or host, asks for it",
+};
+
+const DEV: Reason = Reason {
+    word: "dev",
+    text: "dev-dependencies alone ask for it",
+};
+
+const SEVERAL: Reason = Reason {
+    word: "several",
+    text: "several of weak, target, side and dev together",
+};
+
+const UNASKED: Reason = Reason {
+    word: "unasked",
+    text: "features ask for it that are not asked here",
+};
+
+/// For each reason, in order, and each package the targets at which it is left out for it.
+#[derive(Drop)]
+pub struct Reasons {
+    told: Vec<(Reason, Vec<TargetSet>)>,
+}
+
+/// The same list of members, with each weak one as strong.
+fn strong_members(alloc: Global, members: &[Member]) -> Result<Vec<Member>, AllocError> {
+    let mut strong = Vec::new(alloc);
+    for member in members {
+        strong.push(match *member {
+            Member::Weak(dependency, feature) => Member::Strong(dependency, feature),
+            other => other,
+        })?;
+    }
+    Ok(strong)
+}
+
+/// A list of places, copied.
+fn copied(alloc: Global, places: &[usize]) -> Result<Vec<usize>, AllocError> {
+    let mut copy = Vec::new(alloc);
+    for place in places {
+        copy.push(*place)?;
+    }
+    Ok(copy)
+}
+
+/// The same packages, with each weak member of a feature as a strong one.
+fn strong_packages(alloc: Global, packages: &[Package]) -> Result<Vec<Package>, AllocError> {
+    let mut strong = Vec::new(alloc);
+    for unit in packages {
+        let mut dependencies = Vec::new(alloc);
+        for it in &unit.dependencies {
+            dependencies.push(Dependency {
+                to: it.to,
+                kind: it.kind,
+                is_optional: it.is_optional,
+                holds: it.holds,
+                features: copied(alloc, &it.features)?,
+                named: it.named,
+            })?;
+        }
+        let mut features = Vec::new(alloc);
+        for members in &unit.features {
+            features.push(strong_members(alloc, members)?)?;
+        }
+        strong.push(Package {
+            is_root: unit.is_root,
+            is_macro: unit.is_macro,
+            dependencies,
+            features,
+            asked: copied(alloc, &unit.asked)?,
+        })?;
+    }
+    Ok(strong)
+}
+
+/// For each package the targets at which a build uses it, of those that are left.
+fn taken(
+    alloc: Global,
+    packages: &[Package],
+    build: Build,
+    left: &mut Vec<TargetSet>,
+) -> Result<Vec<TargetSet>, AllocError> {
+    let used = used_packages(alloc, packages, build)?;
+    let mut taken = Vec::new(alloc);
+    for i in 0..left.len() {
+        let targets = match used.get(i) {
+            Some(set) => set.intersection(left[i]),
+            None => TargetSet::none(),
+        };
+        left[i] = left[i].intersection(targets.complement());
+        taken.push(targets)?;
+    }
+    Ok(taken)
+}
+
+/// For each package the targets at which dependencies lead to it, and the build does not use it.
+fn left_out(
+    alloc: Global,
+    graph: &Graph<'_>,
+    features: &Features<'_>,
+) -> Result<Vec<TargetSet>, AllocError> {
+    let mut left = Vec::new(alloc);
+    for i in 0..graph.linked.packages.len() {
+        let used = features.resolved.used(i);
+        left.push(graph.sets.at(i).intersection(used.complement()))?;
+    }
+    Ok(left)
+}
+
+impl Reasons {
+    /// The reasons for which packages of a graph are left out, where features are resolved.
+    pub fn of(alloc: Global, graph: &Graph<'_>) -> Result<Option<Reasons>, AllocError> {
+        let Some(features) = &graph.features else {
+            return Ok(None);
+        };
+        let packages = features.resolved.packages();
+        let mut left = left_out(alloc, graph, features)?;
+        let strong = strong_packages(alloc, packages)?;
+        let mut told = Vec::new(alloc);
+        let mut build = features.resolved.build();
+        told.push((WEAK, taken(alloc, &strong, build, &mut left)?))?;
+        build.by_target = false;
+        told.push((TARGET, taken(alloc, packages, build, &mut left)?))?;
+        build = features.resolved.build();
+        build.by_side = false;
+        told.push((SIDE, taken(alloc, packages, build, &mut left)?))?;
+        build = features.resolved.build();
+        build.with_dev = true;
+        told.push((DEV, taken(alloc, packages, build, &mut left)?))?;
+        build.by_target = false;
+        build.by_side = false;
+        told.push((SEVERAL, taken(alloc, &strong, build, &mut left)?))?;
+        told.push((UNASKED, left))?;
+        Ok(Some(Reasons { told }))
+    }
+
+    /// The targets that are asked for at which a package is left out for the reason at a place.
+    fn at(&self, reason: usize, index: usize, asked: &Asked<'_>) -> TargetSet {
+        let Some((_, sets)) = self.told.get(reason) else {
+            return TargetSet::none();
+        };
+        match sets.get(index) {
+            Some(set) => set.intersection(asked.targets),
+            None => TargetSet::none(),
+        }
+    }
+}
+
+/// The reasons for which a package is left out, as a line tells them.
+pub fn shown_reasons(
+    alloc: Global,
+    reasons: &Option<Reasons>,
+    index: usize,
+    asked: &Asked<'_>,
+) -> Result<String, AllocError> {
+    let mut text = String::new(alloc);
+    let Some(reasons) = reasons else {
+        return Ok(text);
+    };
+    for i in 0..reasons.told.len() {
+        let targets = reasons.at(i, index, asked);
+        if targets.is_empty() {
+            continue;
+        }
+        let reason = reasons.told[i].0.text;
+        let targets = shown_targets(alloc, targets, asked)?;
+        let part = format!(in alloc; "; not at {targets}: {reason}")?;
+        push(&mut text, part.as_str())?;
+    }
+    Ok(text)
+}
+
+/// Appends the member `left_out` of the object of a package, where features are resolved.
+pub fn push_reasons(
+    text: &mut String,
+    alloc: Global,
+    reasons: &Option<Reasons>,
+    index: usize,
+    asked: &Asked<'_>,
+) -> Result<(), AllocError> {
+    let Some(reasons) = reasons else {
+        return Ok(());
+    };
+    push_field(text, ", ", "left_out")?;
+    push(text, "[")?;
+    let mut is_first = true;
+    for i in 0..reasons.told.len() {
+        let targets = reasons.at(i, index, asked);
+        if targets.is_empty() {
+            continue;
+        }
+        push_comma(text, is_first)?;
+        is_first = false;
+        push_field(text, "{", "reason")?;
+        push_text(text, alloc, reasons.told[i].0.word)?;
+        push_targets(text, alloc, targets, asked.targets)?;
+        push(text, "}")?;
+    }
+    push(text, "]")
+}

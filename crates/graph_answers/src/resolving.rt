@@ -1,0 +1,340 @@
+//! Which features are asked for, and what they turn on.
+
+use crate::asked::{Asked, Show, unusable_words};
+use crate::refused::unusable;
+use cargo_features::{Build, Claim, Resolved, resolve};
+use cargo_metadata::Metadata;
+use cargo_metadata::graphs::Linked;
+use declared_features::{
+    Asked as AskedFeatures, Described, Manifest, Refusal, described_features, read_manifests,
+};
+use key_answers::answer::Answer;
+use key_answers::printing::shown_name;
+use known_targets::{KnownTarget, TargetSet};
+use package_graphs::{Kinds, Side};
+use serde_json::Value;
+use std::alloc::{AllocError, Global};
+
+/// The words of the command line on features, as they are.
+#[derive(Clone, Copy, Drop)]
+pub struct FeatureWords<'a> {
+    /// The resolver: 1, 2, 3, or `edition` for the one that Cargo takes by the edition of the root package.
+    pub resolver: Option<&'a str>,
+    /// Features that are asked of the roots, joined by commas or spaces.
+    pub features: &'a [&'a str],
+    /// Whether `default` is not asked of them.
+    pub no_default: bool,
+    /// Whether all features are asked of them.
+    pub all: bool,
+}
+
+impl<'a> FeatureWords<'a> {
+    /// The words that ask nothing of features.
+    pub fn none() -> FeatureWords<'a> {
+        FeatureWords {
+            resolver: None,
+            features: &[],
+            no_default: false,
+            all: false,
+        }
+    }
+
+    /// Whether the features are to be resolved.
+    fn is_asked(&self, show: Show) -> bool {
+        let is_shown = matches!(show, Show::Features | Show::Unified);
+        let is_told = self.resolver.is_some() || !self.features.is_empty();
+        is_shown || is_told || self.no_default || self.all
+    }
+
+    /// The names of the features, one by one.
+    fn names(&self, alloc: Global) -> Result<Vec<&'a str>, AllocError> {
+        let mut names = Vec::new(alloc);
+        for words in self.features {
+            for part in words.split(',') {
+                for name in part.split(' ') {
+                    if !name.is_empty() {
+                        names.push(name)?;
+                    }
+                }
+            }
+        }
+        Ok(names)
+    }
+}
+
+/// Which resolver decides.
+#[derive(Clone, Copy, Debug, PartialEq, Eq, Drop)]
+pub enum Resolver {
+    One,
+    /// 2, or 3, which tells features apart alike.
+    Two,
+}
+
+/// A graph with what its features turn on.
+#[derive(Drop)]
+pub struct Features<'a> {
+    pub manifests: Vec<Manifest<'a>>,
+    /// For each package of the graph the place of what it declares.
+    pub places: Vec<usize>,
+    /// For each of its dependencies its place among those of the linked package.
+    pub edges: Vec<Vec<usize>>,
+    pub resolved: Resolved,
+}
+
+impl<'a> Features<'a> {
+    /// The targets at which a dependency is used, by its place among those of a linked package.
+    pub fn using(&self, index: usize, place: usize) -> TargetSet {
+        let mut targets = TargetSet::none();
+        let Some(edges) = self.edges.get(index) else {
+            return targets;
+        };
+        for i in 0..edges.len() {
+            if edges[i] == place {
+                targets = targets.union(self.resolved.using(index, i));
+            }
+        }
+        targets
+    }
+
+    /// The targets at which the build uses a package on a side.
+    pub fn used_on(&self, index: usize, side: Side) -> TargetSet {
+        self.resolved.at(Claim::Used(index, side))
+    }
+
+    /// The names of a package's features, in order.
+    pub fn names(&self, alloc: Global, index: usize) -> Result<Vec<&'a str>, AllocError> {
+        let mut names = Vec::new(alloc);
+        let Some(place) = self.places.get(index) else {
+            return Ok(names);
+        };
+        if let Some(manifest) = self.manifests.get(*place) {
+            for feature in &manifest.features {
+                names.push(feature.name)?;
+            }
+        }
+        Ok(names)
+    }
+}
+
+/// The edition of the root package: the one whose manifest is that of the workspace.
+fn root_edition<'a>(
+    alloc: Global,
+    document: &'a Value,
+    manifests: &[Manifest<'a>],
+) -> Result<Option<&'a str>, AllocError> {
+    let Some(root) = text_at(document, "workspace_root") else {
+        return Ok(None);
+    };
+    let Some(Value::Array(packages)) = document.get("packages") else {
+        return Ok(None);
+    };
+    let slash = format!(in alloc; "{root}/Cargo.toml")?;
+    let backslash = format!(in alloc; "{root}\\Cargo.toml")?;
+    for i in 0..packages.len() {
+        let Some(path) = text_at(&packages[i], "manifest_path") else {
+            continue;
+        };
+        if path == slash.as_str() || path == backslash.as_str() {
+            return Ok(match manifests.get(i) {
+                Some(manifest) => manifest.edition,
+                None => None,
+            });
+        }
+    }
+    Ok(None)
+}
+
+/// The text at a field.
+fn text_at<'a>(value: &'a Value, field: &str) -> Option<&'a str> {
+    value.get(field)?.as_str()
+}
+
+/// The resolver that Cargo takes by the edition of the root package, or what is said where that is not told.
+fn resolver_by_edition<'a>(
+    alloc: Global,
+    file: &str,
+    document: &'a Value,
+    manifests: &[Manifest<'a>],
+) -> Result<Result<Resolver, Answer>, AllocError> {
+    match root_edition(alloc, document, manifests)? {
+        Some("2015" | "2018") => Ok(Ok(Resolver::One)),
+        Some("2021" | "2024") => Ok(Ok(Resolver::Two)),
+        Some(edition) => {
+            let shown = shown_name(alloc, edition)?;
+            let reason = format!(in alloc;
+                "no resolver is known of edition {shown}: say --resolver 1, 2 or 3"
+            )?;
+            Ok(Err(unusable(alloc, file, reason.as_str())?))
+        }
+        None => {
+            let reason =
+                "the workspace has no root package, whose edition tells the resolver: say --resolver 1, 2 or 3";
+            Ok(Err(unusable(alloc, file, reason)?))
+        }
+    }
+}
+
+/// The resolver of the word, or what is said where it names none.
+fn resolver_of<'a>(
+    alloc: Global,
+    file: &str,
+    words: &FeatureWords<'_>,
+    document: &'a Value,
+    manifests: &[Manifest<'a>],
+) -> Result<Result<Resolver, Answer>, AllocError> {
+    match words.resolver {
+        Some("1") => Ok(Ok(Resolver::One)),
+        Some("2" | "3") => Ok(Ok(Resolver::Two)),
+        None | Some("edition") => resolver_by_edition(alloc, file, document, manifests),
+        Some(_) => {
+            let text = "--resolver names 1, 2, 3 or edition";
+            Ok(Err(unusable_words(alloc, text)?))
+        }
+    }
+}
+
+/// What a resolver builds.
+fn build_of(resolver: Resolver, kinds: Kinds, host: KnownTarget) -> Build {
+    match resolver {
+        Resolver::One => Build::by_resolver_1(kinds, host),
+        Resolver::Two => Build::by_resolver_2(kinds, host),
+    }
+}
+
+/// The name of a feature that no root has.
+fn unknown_feature<'a>(
+    names: &[&'a str],
+    metadata: &Metadata<'_>,
+    manifests: &[Manifest<'_>],
+    linked: &Linked<'_>,
+    places: &[usize],
+) -> Option<&'a str> {
+    for name in names {
+        let mut is_known = false;
+        for i in 0..linked.packages.len() {
+            let (Some(place), true) = (places.get(i), linked.packages[i].is_root) else {
+                continue;
+            };
+            let (Some(found), Some(manifest)) = (
+                metadata.packages.get(*place),
+                manifests.get(*place),
+            ) else {
+                continue;
+            };
+            is_known |= has_feature(found.name, manifest, name);
+        }
+        if !is_known {
+            return Some(*name);
+        }
+    }
+    None
+}
+
+/// Whether a package has a feature of this name: `f`, its own name before it, or that of a dependency.
+fn has_feature(package: &str, manifest: &Manifest<'_>, name: &str) -> bool {
+    let own = match name.split_once('/') {
+        Some((first, feature)) if first == package => feature,
+        Some((first, _)) => {
+            let first = first.strip_suffix("?").unwrap_or(first);
+            for declared in &manifest.dependencies {
+                if declared.rename.unwrap_or(declared.name) == first {
+                    return true;
+                }
+            }
+            return false;
+        }
+        None => name,
+    };
+    for feature in &manifest.features {
+        if feature.name == own {
+            return true;
+        }
+    }
+    false
+}
+
+/// For each package of a graph the place of what it declares.
+fn places_of(
+    alloc: Global,
+    metadata: &Metadata<'_>,
+    linked: &Linked<'_>,
+) -> Result<Vec<usize>, AllocError> {
+    let mut ids = Vec::new(alloc);
+    for i in 0..metadata.packages.len() {
+        ids.push((metadata.packages[i].id, i))?;
+    }
+    ids.sort()?;
+    let mut places = Vec::new(alloc);
+    for described in &linked.described {
+        let place = match ids.binary_search_by(|id| id.0.cmp(described.id)) {
+            Ok(at) => match ids.get(at) {
+                Some((_, place)) => *place,
+                None => ids.len(),
+            },
+            Err(_) => ids.len(),
+        };
+        places.push(place)?;
+    }
+    Ok(places)
+}
+
+/// What is said of a document whose packages declare something that is not as it has to be.
+fn refused_manifests(alloc: Global, file: &str, refusal: &Refusal) -> Result<Answer, AllocError> {
+    let reason = format!(in alloc; "{refusal}")?;
+    unusable(alloc, file, reason.as_str())
+}
+
+/// What the features of a graph turn on, if that is asked for, or what is said where it can't be told.
+pub fn features_of<'a>(
+    alloc: Global,
+    file: &str,
+    document: &'a Value,
+    metadata: &Metadata<'a>,
+    linked: &Linked<'a>,
+    asked: &Asked<'_>,
+    words: &FeatureWords<'_>,
+) -> Result<Result<Option<Features<'a>>, Answer>, AllocError> {
+    if !words.is_asked(asked.show) {
+        return Ok(Ok(None));
+    }
+    let Some(host) = asked.host else {
+        let text = "features are resolved for a host: say --host NAME";
+        return Ok(Err(unusable_words(alloc, text)?));
+    };
+    if asked.show == Show::Why {
+        let text =
+            "`--show why` knows no features: leave out --resolver and what is asked of features";
+        return Ok(Err(unusable_words(alloc, text)?));
+    }
+    let manifests = match read_manifests(alloc, document) {
+        Ok(manifests) => manifests,
+        Err(Refusal::Memory(error)) => return Err(error),
+        Err(refusal) => return Ok(Err(refused_manifests(alloc, file, &refusal)?)),
+    };
+    let resolver = match resolver_of(alloc, file, words, document, &manifests)? {
+        Ok(resolver) => resolver,
+        Err(answer) => return Ok(Err(answer)),
+    };
+    let places = places_of(alloc, metadata, linked)?;
+    let names = words.names(alloc)?;
+    if let Some(name) = unknown_feature(&names, metadata, &manifests, linked, &places) {
+        let name = shown_name(alloc, name)?;
+        let reason = format!(in alloc; "no root has the feature {name}")?;
+        return Ok(Err(unusable(alloc, file, reason.as_str())?));
+    }
+    let features = AskedFeatures {
+        names: &names,
+        default: !words.no_default,
+        all: words.all,
+    };
+    let Described { packages, edges } = described_features(
+        alloc, metadata, &manifests, linked, &features,
+    )?;
+    let resolved = resolve(alloc, packages, build_of(resolver, asked.kinds, host))?;
+    Ok(Ok(Some(Features {
+        manifests,
+        places,
+        edges,
+        resolved,
+    })))
+}

@@ -1,0 +1,155 @@
+//! `--show unified`: the packages that are built with different features, at different targets or for the host.
+
+use crate::asked::Asked;
+use crate::features::{side_note, side_word};
+use crate::graph::Graph;
+use crate::json::{push_comma, push_field, push_targets, push_text};
+use crate::lines::{push, shown, shown_package, shown_targets};
+use crate::packages::push_package;
+use crate::resolving::Features;
+use key_answers::answer::{Answer, Status};
+use known_targets::TargetSet;
+use known_targets::classes::classes;
+use package_graphs::Side;
+use std::alloc::{AllocError, Global};
+
+/// Targets at which a package is built for a side with the same features.
+#[derive(Drop)]
+struct Built<'a> {
+    side: Side,
+    targets: TargetSet,
+    features: Vec<&'a str>,
+}
+
+/// Appends how a package is built for a side, at the targets that are asked for.
+fn push_built<'a>(
+    alloc: Global,
+    features: &Features<'a>,
+    index: usize,
+    side: Side,
+    asked: &Asked<'_>,
+    built: &mut Vec<Built<'a>>,
+) -> Result<(), AllocError> {
+    let used = features.used_on(index, side).intersection(asked.targets);
+    let names = features.names(alloc, index)?;
+    let mut sets = Vec::new(alloc);
+    for i in 0..names.len() {
+        sets.push(features.resolved.with_feature(index, side, i))?;
+    }
+    for class in classes(alloc, &sets)? {
+        let targets = class.intersection(used);
+        if targets.is_empty() {
+            continue;
+        }
+        let mut on = Vec::new(alloc);
+        for i in 0..names.len() {
+            let is_on = match sets.get(i) {
+                Some(set) => !set.intersection(targets).is_empty(),
+                None => false,
+            };
+            if is_on {
+                on.push(names[i])?;
+            }
+        }
+        built.push(Built {
+            side,
+            targets,
+            features: on,
+        })?;
+    }
+    Ok(())
+}
+
+/// Whether all are built with the same features.
+fn are_same(built: &[Built<'_>]) -> bool {
+    let Some(first) = built.first() else {
+        return true;
+    };
+    for one in built {
+        if one.features.as_slice() != first.features.as_slice() {
+            return false;
+        }
+    }
+    true
+}
+
+/// The answer to `--show unified`.
+pub fn show_unified(
+    alloc: Global,
+    graph: &Graph<'_>,
+    asked: &Asked<'_>,
+) -> Result<Answer, AllocError> {
+    let mut answer = Answer::of(alloc, String::new(alloc), Status::Fine);
+    let Some(features) = &graph.features else {
+        return Ok(answer);
+    };
+    for i in &graph.order {
+        let mut built = Vec::new(alloc);
+        push_built(alloc, features, *i, Side::Target, asked, &mut built)?;
+        push_built(alloc, features, *i, Side::Host, asked, &mut built)?;
+        if are_same(&built) {
+            continue;
+        }
+        for one in &built {
+            if asked.json {
+                push_object(&mut answer.output, alloc, graph, *i, one, asked)?;
+            } else {
+                push_line(&mut answer.output, alloc, graph, *i, one, asked)?;
+            }
+        }
+    }
+    Ok(answer)
+}
+
+/// Appends the line of a package with some features.
+fn push_line(
+    text: &mut String,
+    alloc: Global,
+    graph: &Graph<'_>,
+    index: usize,
+    built: &Built<'_>,
+    asked: &Asked<'_>,
+) -> Result<(), AllocError> {
+    let Some(described) = graph.described(index) else {
+        return Ok(());
+    };
+    let package = shown_package(alloc, described)?;
+    let targets = shown_targets(alloc, built.targets, asked)?;
+    let note = side_note(built.side);
+    let begin = format!(in alloc; "{package}{note}: {targets}:")?;
+    push(text, begin.as_str())?;
+    if built.features.is_empty() {
+        push(text, " no feature")?;
+    }
+    for name in &built.features {
+        let name = shown(alloc, name)?;
+        push(text, " ")?;
+        push(text, name.as_str())?;
+    }
+    push(text, "\n")
+}
+
+/// Appends the object of a package with some features, on a line of its own.
+fn push_object(
+    text: &mut String,
+    alloc: Global,
+    graph: &Graph<'_>,
+    index: usize,
+    built: &Built<'_>,
+    asked: &Asked<'_>,
+) -> Result<(), AllocError> {
+    push_package(text, alloc, graph, index)?;
+    push_field(text, ", ", "side")?;
+    push_text(text, alloc, side_word(built.side))?;
+    push_field(text, ", ", "features")?;
+    push(text, "[")?;
+    let mut is_first = true;
+    for name in &built.features {
+        push_comma(text, is_first)?;
+        is_first = false;
+        push_text(text, alloc, name)?;
+    }
+    push(text, "]")?;
+    push_targets(text, alloc, built.targets, asked.targets)?;
+    push(text, "}\n")
+}

@@ -1,0 +1,37 @@
+//! Texts that are read to a limit, so that what never ends is refused.
+#![tactic(auto)]
+
+ghost use Rattle.std.specs.Prelude.{◌≡◌, ◌≤◌, IfOk, IfSome, string_len, string_bytes};
+
+use std::alloc::Global;
+use std::fs::File;
+use std::io::{self, ErrorKind, Read};
+use std::rt::Files;
+
+/// How many bytes of an input are read at most, where nothing else is said: 64 MiB.
+pub const LIMIT: u64 = 67_108_864;
+
+/// The text of a reader, the whole of it. It refuses one of more bytes than the limit, what is no UTF-8, and what can't be read.
+pub fn text_within<R: Read + Drop>(alloc: Global, reader: R, limit: u64) -> io::Result<String>
+    ensures within { IfOk result (λ text. string_len text ≤ limit) }
+    ensures whole { IfOk result (λ text. IfSome (R.remaining reader) (λ left. string_bytes text ≡ left)) }
+{
+    let limit = limit.min(u64::MAX - 1);
+    let mut bytes = Vec::new(alloc);
+    let mut start = reader.take(limit + 1);
+    let _count = start.read_to_end(&mut bytes)?;
+    if bytes.len() as u64 > limit {
+        return Err(io::Error::from(ErrorKind::FileTooLarge));
+    }
+    match String::from_utf8(bytes) {
+        Ok(text) => Ok(text),
+        Err(_) => Err(io::Error::from(ErrorKind::InvalidData)),
+    }
+}
+
+/// The text of the file at a path, as `text_within` reads it.
+pub fn file_within<R: Files + AllocGlobal>(rt: &R, path: &str, limit: u64) -> io::Result<String>
+    ensures { IfOk result (λ text. string_len text ≤ limit) }
+{
+    text_within(rt.alloc(), File::open(rt, path)?, limit)
+}

@@ -1,0 +1,214 @@
+//! What the codes of findings mean, for people.
+
+use crate::told::own_weight;
+use lint_levels::Weight;
+use manifest_lints_findings::{CODES, Code};
+use std::alloc::{AllocError, Global};
+
+/// The code of what can't be used in a table of rules.
+pub const SETTINGS: &str = "settings";
+
+/// The code of a rule that allows what is not found any more.
+pub const UNNEEDED_ALLOW: &str = "unneeded-allow";
+
+/// The code of a table that is meant for targets and stands elsewhere.
+pub const MISPLACED: &str = "misplaced";
+
+/// The code of a table with an underscore in its name.
+pub const UNDERSCORED: &str = "underscored";
+
+/// What is said of a code.
+#[derive(Clone, Copy, Drop)]
+pub struct Explained {
+    /// The word for it.
+    pub word: &'static str,
+    /// How much a finding weighs where no rule is heard.
+    pub weight: Weight,
+    /// Where it is told, in a line.
+    pub short: &'static str,
+    /// A paragraph, and an example.
+    pub text: &'static str,
+}
+
+/// What is said of the codes that are not about a key.
+const OTHERS: [Explained; 4] = [
+    Explained {
+        word: MISPLACED,
+        weight: Weight::Warning,
+        short: "a table that is meant for targets stands where Cargo does not read it",
+        text: "A key of `target` stands at the top of the manifest, in `targets`, in `workspace.target`, or in a table of \
+               dependencies, where Cargo takes it for the name of a package and refuses the manifest.\n\n\
+               Example: [targets.'cfg(unix)'.dependencies]\nwhere `[target.'cfg(unix)'.dependencies]` is meant.",
+    },
+    Explained {
+        word: UNDERSCORED,
+        weight: Weight::Warning,
+        short: "`dev_dependencies` or `build_dependencies`, which Cargo warns of, or refuses",
+        text: "Cargo warns of these names, and refuses them in packages of the edition of 2024. The names have a dash.\n\n\
+               Example: [target.'cfg(unix)'.dev_dependencies]\nwhere `dev-dependencies` is the name.",
+    },
+    Explained {
+        word: SETTINGS,
+        weight: Weight::Warning,
+        short: "something in a table `manifest-check` of the metadata can't be used",
+        text: "A table `manifest-check` in `package.metadata` or `workspace.metadata` has a word that is no setting, \
+               a code that does not exist, or something else in place of a list. What can be used of it counts.\n\n\
+               Example: [package.metadata.manifest-check]\n         allow = [\"nowere\"]\nwhere `nowhere` is meant.",
+    },
+    Explained {
+        word: UNNEEDED_ALLOW,
+        weight: Weight::Note,
+        short: "an `allow` of the metadata is about nothing that is found",
+        text: "A rule in the metadata allows a code, and nothing with that code is found: the manifest was mended, or \
+               a newer rustc knows the name. The rule can go.\n\n\
+               Example: [package.metadata.manifest-check]\n         allow = [\"custom\"]\nwhere no key has a custom \
+               fact.",
+    },
+];
+
+/// Where a finding of the code is told, in a line.
+fn short_of(code: Code) -> &'static str {
+    match code {
+        Code::Refused => "the key spells no condition",
+        Code::NoTable => "`target`, a key or something under it is no table",
+        Code::ReadOtherwise => "Cargo of today reads the key otherwise than it is spelled",
+        Code::Unsupported => "Cargo warns of a name or pair, which selects no dependencies",
+        Code::Never => "no set of facts makes the condition true",
+        Code::UnknownTarget => "no known target has the name",
+        Code::UnknownFact => "a name or pair is taken for one of rustc's that no known target has",
+        Code::Nowhere => "the condition holds at no known target",
+        Code::Same => "the same condition as that of an earlier key",
+        Code::Equivalent => "as true as an earlier key over every set of facts",
+        Code::Always => "every set of facts makes the condition true",
+        Code::Everywhere => "the condition holds at every known target",
+        Code::Custom => "only `--cfg` sets a name or pair, and the manifest does not declare it",
+        Code::NotCanonical => "the canonical form is another text; not told unless it is asked for",
+    }
+}
+
+/// What is said of errors.
+fn text_of_error(code: Code) -> &'static str {
+    match code {
+        Code::Refused => {
+            "The key is neither the name of a target nor an expression `cfg(..)` that can be read, so Cargo refuses \
+             the whole manifest. The two lines below the finding show where the fault lies.\n\n\
+             Example: [target.'cfg(all(unix windows))'.dependencies]\nhas no comma between the two names."
+        }
+        _ => {
+            "`target`, a key below it, or what stands under a key is no table where Cargo expects one. Cargo refuses \
+             the manifest, or leaves out what stands there.\n\n\
+             Example: [target]\n         'cfg(unix)' = \"1\""
+        }
+    }
+}
+
+/// What is said of warnings on what Cargo and rustc know.
+fn text_of_names(code: Code) -> &'static str {
+    match code {
+        Code::ReadOtherwise => {
+            "Cargo of today drops the raw mark `r#`, or takes `true` and `false` for names, and so asks for something \
+             else than the key spells.\n\n\
+             Example: [target.'cfg(true = \"x\")'.dependencies]\nwhich newer rules take for a literal."
+        }
+        Code::Unsupported => {
+            "Cargo knows the fact, and never sets it where it selects dependencies: features, profiles and tests are \
+             chosen later. The dependency is never selected, or always where it stands under `not`.\n\n\
+             Example: [target.'cfg(feature = \"std\")'.dependencies]\nwhere an optional dependency of the feature is \
+             meant."
+        }
+        Code::UnknownTarget => {
+            "The key is the name of a target that the rustc of the table does not know. A file with a target of one's \
+             own may have it; else Cargo selects the dependencies nowhere, and says nothing.\n\n\
+             Example: [target.x86_64-apple-macos.dependencies]\nwhere `x86_64-apple-darwin` is meant."
+        }
+        Code::UnknownFact => {
+            "The condition asks for a name or value that looks like one of rustc's, and no known target has it. So it \
+             is false at all of them, and Cargo says nothing.\n\n\
+             Example: [target.'cfg(target_os = \"darwin\")'.dependencies]\nwhere `target_os = \"macos\"` is meant."
+        }
+        _ => {
+            "The condition asks for a name or pair that rustc does not set. Only `--cfg` in RUSTFLAGS sets it for \
+             dependencies: what a build script prints comes too late. A name that the manifest declares in \
+             `lints.rust.unexpected_cfgs.check-cfg` is not told.\n\n\
+             Example: [target.'cfg(loom)'.dependencies]"
+        }
+    }
+}
+
+/// What is said of findings on what a condition comes to.
+fn text_of_truth(code: Code) -> &'static str {
+    match code {
+        Code::Never => {
+            "The condition contradicts itself, so the dependencies are never selected. It is a note where the key has \
+             no names at all, as `cfg(false)`, since it may be meant.\n\n\
+             Example: [target.'cfg(all(unix, not(unix)))'.dependencies]"
+        }
+        Code::Nowhere => {
+            "Facts may make the condition true, and no target that rustc knows has them. A target of one's own may.\n\n\
+             Example: [target.'cfg(all(target_os = \"ios\", target_arch = \"x86\"))'.dependencies]"
+        }
+        Code::Same => {
+            "Two keys spell the same condition, with other spaces, commas or raw marks. What stands under both \
+             is selected together, so one table can hold it.\n\n\
+             Example: [target.'cfg( unix )'.dependencies]\nafter [target.'cfg(unix)'.dependencies]"
+        }
+        Code::Equivalent => {
+            "Two keys are true over the same sets of facts, though they are spelled in other words.\n\n\
+             Example: [target.'cfg(target_family = \"unix\")'.dependencies]\nafter [target.'cfg(unix)'.dependencies]"
+        }
+        Code::Always => {
+            "The condition can't be false, so the table may as well be `dependencies` itself.\n\n\
+             Example: [target.'cfg(any(not(unix), unix))'.dependencies]"
+        }
+        Code::Everywhere => {
+            "Each target that rustc knows makes the condition true. A target of one's own may make it false.\n\n\
+             Example: [target.'cfg(any(target_endian = \"little\", target_endian = \"big\"))'.dependencies]"
+        }
+        _ => {
+            "The condition can be spelled in the one form that all tools print. This is told where \
+             `--warn not-canonical` or a rule of the metadata asks for it, and never beside a finding that changes \
+             the key.\n\n\
+             Example: [target.'cfg( unix )'.dependencies]\nwhose canonical form is `cfg(unix)`."
+        }
+    }
+}
+
+/// What is said of a code.
+pub fn explanation_of(code: Code) -> Explained {
+    let text = match code {
+        Code::Refused | Code::NoTable => text_of_error(code),
+        Code::ReadOtherwise
+        | Code::Unsupported
+        | Code::UnknownTarget
+        | Code::UnknownFact
+        | Code::Custom => text_of_names(code),
+        _ => text_of_truth(code),
+    };
+    Explained {
+        word: code.word(),
+        weight: own_weight(code, code.row().level),
+        short: short_of(code),
+        text,
+    }
+}
+
+/// What is said of each code, in the order in which they are told of a key, and of those that are not about keys.
+pub fn all_explained(alloc: Global) -> Result<Vec<Explained>, AllocError> {
+    let mut all = Vec::new(alloc);
+    for code in CODES {
+        all.push(explanation_of(code))?;
+    }
+    for other in OTHERS {
+        all.push(other)?;
+    }
+    Ok(all)
+}
+
+/// The words for all codes.
+pub fn words(alloc: Global) -> Result<Vec<&'static str>, AllocError> {
+    let mut words = Vec::new(alloc);
+    for explained in &all_explained(alloc)? {
+        words.push(explained.word)?;
+    }
+    Ok(words)
+}

@@ -1,0 +1,62 @@
+//! How much was checked, and how much was found.
+
+use lint_levels::Weight;
+use std::alloc::{AllocError, Global};
+
+/// How many manifests and keys were checked, and how many findings there are of each weight.
+#[derive(Clone, Copy, Drop)]
+pub struct Counts {
+    manifests: usize,
+    keys: usize,
+    errors: usize,
+    warnings: usize,
+    notes: usize,
+}
+
+/// A number of things.
+fn counted(alloc: Global, count: usize, thing: &str) -> Result<String, AllocError> {
+    if count == 1 {
+        format!(in alloc; "{count} {thing}")
+    } else {
+        format!(in alloc; "{count} {thing}s")
+    }
+}
+
+impl Counts {
+    /// None.
+    pub fn none() -> Counts {
+        Counts {
+            manifests: 0,
+            keys: 0,
+            errors: 0,
+            warnings: 0,
+            notes: 0,
+        }
+    }
+
+    /// One more manifest, with so many keys.
+    pub fn add_manifest(&mut self, keys: usize) {
+        self.manifests = self.manifests.saturating_add(1);
+        self.keys = self.keys.saturating_add(keys);
+    }
+
+    /// One more of this weight.
+    pub fn add(&mut self, weight: Weight) {
+        match weight {
+            Weight::Error => self.errors = self.errors.saturating_add(1),
+            Weight::Warning => self.warnings = self.warnings.saturating_add(1),
+            Weight::Note => self.notes = self.notes.saturating_add(1),
+            Weight::Allowed => {}
+        }
+    }
+
+    /// The last line, which sums up.
+    pub fn line(self, alloc: Global) -> Result<String, AllocError> {
+        let manifests = counted(alloc, self.manifests, "manifest")?;
+        let keys = counted(alloc, self.keys, "key")?;
+        let errors = counted(alloc, self.errors, "error")?;
+        let warnings = counted(alloc, self.warnings, "warning")?;
+        let notes = counted(alloc, self.notes, "note")?;
+        format!(in alloc; "{manifests}, {keys} checked: {errors}, {warnings}, {notes}\n")
+    }
+}

@@ -1,0 +1,203 @@
+//! The formats in which findings are printed.
+
+use crate::escapes::escaped;
+use crate::sarif::{push_result, sarif_begin, sarif_end};
+use crate::told::{Place, Told, weight_word};
+use key_answers::printing::{push_indented, push_json, put, put_text, text_value};
+use lint_levels::Weight;
+use serde_json::{Map, Value, json};
+use std::alloc::{AllocError, Global};
+
+/// How findings are printed.
+#[derive(Clone, Copy, Debug, PartialEq, Eq, Drop)]
+pub enum Format {
+    /// A line each, and the two lines that show a fault.
+    Human,
+    /// A line each.
+    Short,
+    /// An object each, on a line of its own.
+    Json,
+    /// A command each, for a workflow of GitHub.
+    Github,
+    /// One document in the Static Analysis Results Interchange Format, 2.1.0.
+    Sarif,
+}
+
+impl Format {
+    /// The format with this name.
+    pub fn by_name(name: &str) -> Option<Format> {
+        match name {
+            "human" => Some(Format::Human),
+            "short" => Some(Format::Short),
+            "json" => Some(Format::Json),
+            "github" => Some(Format::Github),
+            "sarif" => Some(Format::Sarif),
+            _ => None,
+        }
+    }
+}
+
+/// How findings are printed.
+#[derive(Clone, Copy, Drop)]
+pub struct Style {
+    pub format: Format,
+    /// Words for weights have colours, where people read them.
+    pub colours: bool,
+}
+
+/// Findings that are printed one after the other.
+#[derive(Clone, Copy, Drop)]
+pub struct Printed {
+    style: Style,
+    told: usize,
+}
+
+/// The word for a weight, in colours where these are wanted.
+fn coloured(alloc: Global, weight: Weight, colours: bool) -> Result<String, AllocError> {
+    let word = weight_word(weight);
+    if !colours {
+        return String::from_str(alloc, word);
+    }
+    let colour = match weight {
+        Weight::Error => "31",
+        Weight::Warning => "33",
+        Weight::Note | Weight::Allowed => "36",
+    };
+    format!(in alloc; "\x1b[{colour}m{word}\x1b[0m")
+}
+
+/// Appends the line of a finding: where it is, its weight and code, what it is on and what is told.
+fn push_line(
+    text: &mut String,
+    alloc: Global,
+    told: &Told<'_>,
+    colours: bool,
+) -> Result<(), AllocError> {
+    let path = told.place.path;
+    let line = match told.place.line {
+        Some(line) => format!(in alloc; ":{line}")?,
+        None => String::new(alloc),
+    };
+    let word = coloured(alloc, told.weight, colours)?;
+    let code = told.code;
+    let subject = told.on(alloc)?;
+    let message = told.message;
+    let head = format!(in alloc; "{path}{line}: {word}[{code}]: {subject}: {message}\n")?;
+    text.push_str(head.as_str())
+}
+
+/// Appends the lines of a finding, with those that show a fault.
+fn push_lines(
+    text: &mut String,
+    alloc: Global,
+    told: &Told<'_>,
+    colours: bool,
+) -> Result<(), AllocError> {
+    push_line(text, alloc, told, colours)?;
+    match told.snippet {
+        Some(snippet) => push_indented(text, snippet),
+        None => Ok(()),
+    }
+}
+
+/// A number, or null.
+fn number_value(alloc: Global, number: Option<usize>) -> Result<Value, AllocError> {
+    match number {
+        Some(number) => json!(in alloc; number),
+        None => Ok(Value::Null),
+    }
+}
+
+/// The beginning and the end of a span, or null.
+fn span_value(alloc: Global, span: Option<(usize, usize)>) -> Result<Value, AllocError> {
+    match span {
+        Some((start, end)) => json!(in alloc; [start, end]),
+        None => Ok(Value::Null),
+    }
+}
+
+/// Adds where a finding is to its object.
+fn put_place(
+    object: &mut Map<String, Value>,
+    alloc: Global,
+    place: &Place<'_>,
+) -> Result<(), AllocError> {
+    put_text(object, alloc, "manifest", place.path)?;
+    put(object, alloc, "line", number_value(alloc, place.line)?)?;
+    put(object, alloc, "key", text_value(alloc, place.key)?)
+}
+
+/// Appends the object of a finding, on a line of its own.
+fn push_object(text: &mut String, alloc: Global, told: &Told<'_>) -> Result<(), AllocError> {
+    let mut object = Map::new(alloc);
+    put_place(&mut object, alloc, &told.place)?;
+    put(&mut object, alloc, "span", span_value(alloc, told.span)?)?;
+    let suggestion = text_value(alloc, told.suggestion)?;
+    put(&mut object, alloc, "suggestion", suggestion)?;
+    put_text(&mut object, alloc, "level", weight_word(told.weight))?;
+    put_text(&mut object, alloc, "code", told.code)?;
+    put_text(&mut object, alloc, "message", told.message)?;
+    push_json(text, alloc, &Value::Object(object))
+}
+
+/// Appends the command of a finding, which shows it beside the line in a change.
+fn push_command(text: &mut String, alloc: Global, told: &Told<'_>) -> Result<(), AllocError> {
+    let word = match told.weight {
+        Weight::Error => "error",
+        Weight::Warning => "warning",
+        Weight::Note | Weight::Allowed => "notice",
+    };
+    let file = escaped(alloc, told.place.path, true)?;
+    let line = match told.place.line {
+        Some(line) => format!(in alloc; ",line={line}")?,
+        None => String::new(alloc),
+    };
+    let code = told.code;
+    let message = told.message;
+    let subject = told.on(alloc)?;
+    let body = format!(in alloc; "{subject}: {message}")?;
+    let body = escaped(alloc, body.as_str(), false)?;
+    let command = format!(in alloc; "::{word} file={file}{line},title={code}::{body}\n")?;
+    text.push_str(command.as_str())
+}
+
+impl Printed {
+    /// A report in this style, with nothing told so far.
+    pub fn new(style: Style) -> Printed {
+        Printed { style, told: 0 }
+    }
+
+    /// What stands before the first finding.
+    pub fn begin(&self, alloc: Global, version: &str) -> Result<String, AllocError> {
+        match self.style.format {
+            Format::Sarif => sarif_begin(alloc, version),
+            _ => Ok(String::new(alloc)),
+        }
+    }
+
+    /// Appends what is printed of a finding.
+    pub fn push(
+        &mut self,
+        text: &mut String,
+        alloc: Global,
+        told: &Told<'_>,
+    ) -> Result<(), AllocError> {
+        let is_first = self.told == 0;
+        self.told = self.told.saturating_add(1);
+        match self.style.format {
+            Format::Human => push_lines(text, alloc, told, self.style.colours),
+            Format::Short => push_line(text, alloc, told, self.style.colours),
+            Format::Json => push_object(text, alloc, told),
+            Format::Github => push_command(text, alloc, told),
+            Format::Sarif => push_result(text, alloc, told, is_first),
+        }
+    }
+
+    /// What stands behind the last finding.
+    pub fn end(&self) -> &'static str {
+        match self.style.format {
+            Format::Sarif => sarif_end(),
+            _ => "",
+        }
+    }
+}

@@ -1,0 +1,19 @@
+//! What `lint` tells, as it is printed: for people, one line or one object each, or as a CI takes it.
+#![tactic(auto)]
+
+pub mod codes;
+mod counts;
+mod escapes;
+mod formats;
+mod places;
+mod rules_told;
+mod sarif;
+mod told;
+
+pub use counts::Counts;
+pub use formats::{Format, Printed, Style};
+pub use places::{WrongPlace, wrong_places};
+pub use rules_told::{
+    fault_message, told_of_fault, told_of_unneeded, told_of_wrong, unneeded_message,
+};
+pub use told::{Place, Told, own_weight, place_of, status_of, told_of, weight_word};

@@ -1,0 +1,167 @@
+//! Tables that are meant for targets, and that Cargo reads otherwise or not at all.
+
+use crate::codes::{MISPLACED, UNDERSCORED};
+use cargo_platform::shown_start;
+use known_targets::KnownTarget;
+use lint_levels::Weight;
+use std::alloc::{AllocError, Global};
+use toml::{Table, Value};
+
+/// A table that stands elsewhere than its writer may mean.
+#[derive(Drop)]
+pub struct WrongPlace {
+    pub code: &'static str,
+    pub weight: Weight,
+    /// The table, as its header has it.
+    pub subject: String,
+    pub message: String,
+}
+
+/// The tables of dependencies of a package.
+const TABLES: [&str; 3] = ["dependencies", "dev-dependencies", "build-dependencies"];
+
+/// Names with underscores that Cargo knows, and those that stand for them.
+const UNDERSCORES: [(&str, &str); 2] = [
+    ("dev_dependencies", "dev-dependencies"),
+    ("build_dependencies", "build-dependencies"),
+];
+
+/// Whether a key of a table is one of `target`.
+fn is_key(key: &str) -> bool {
+    key.starts_with("cfg(") || KnownTarget::by_name(key).is_some()
+}
+
+/// Whether what stands at a key is a table with a key of `target`.
+fn has_keys(value: &Value) -> bool {
+    match value.as_table() {
+        Some(table) => table.keys().any(|key| is_key(key.as_str())),
+        None => false,
+    }
+}
+
+/// A table of this name, which Cargo does not read.
+fn unread(alloc: Global, name: &str, meant: &str) -> Result<WrongPlace, AllocError> {
+    let name = shown_start(alloc, name)?;
+    let meant = shown_start(alloc, meant)?;
+    let meant = meant.as_str();
+    Ok(WrongPlace {
+        code: MISPLACED,
+        weight: Weight::Warning,
+        subject: name,
+        message: format!(in alloc; "Cargo does not read this table; perhaps `{meant}` is meant")?,
+    })
+}
+
+/// Adds the tables at the top of a manifest that Cargo does not read.
+fn add_at_top(
+    alloc: Global,
+    manifest: &Table,
+    found: &mut Vec<WrongPlace>,
+) -> Result<(), AllocError> {
+    for (name, value) in manifest.iter() {
+        let name = name.as_str();
+        if name.starts_with("cfg(") {
+            let meant = format!(in alloc; "target.'{name}'")?;
+            found.push(unread(alloc, name, meant.as_str())?)?;
+        } else if name == "targets" && has_keys(value) {
+            found.push(unread(alloc, name, "target")?)?;
+        }
+    }
+    if let Some(Value::Table(workspace)) = manifest.get("workspace") {
+        if workspace.get("target").is_some() {
+            found.push(unread(alloc, "workspace.target", "target")?)?;
+        }
+    }
+    Ok(())
+}
+
+/// Adds the keys of `target` that stand in a table of dependencies, as if they were names of packages.
+fn add_among_packages(
+    alloc: Global,
+    manifest: &Table,
+    found: &mut Vec<WrongPlace>,
+) -> Result<(), AllocError> {
+    for name in TABLES {
+        let Some(Value::Table(table)) = manifest.get(name) else {
+            continue;
+        };
+        for (key, _) in table.iter() {
+            if key.as_str().starts_with("cfg(") {
+                let key = shown_start(alloc, key.as_str())?;
+                found.push(WrongPlace {
+                    code: MISPLACED,
+                    weight: Weight::Error,
+                    subject: format!(in alloc; "{name}.'{key}'")?,
+                    message: format!(in alloc;
+                        "Cargo refuses this name of a package; perhaps `target.'{key}'.{name}` is meant"
+                    )?,
+                })?;
+            }
+        }
+    }
+    Ok(())
+}
+
+/// Whether the package says that its edition is 2024.
+fn is_of_2024(manifest: &Table) -> bool {
+    match manifest.get("package") {
+        Some(Value::Table(package)) => match package.get("edition") {
+            Some(edition) => edition.as_str() == Some("2024"),
+            None => false,
+        },
+        _ => false,
+    }
+}
+
+/// Adds the tables with underscores in their names, which Cargo refuses from the edition of 2024 on. `before` is what
+/// stands before their names in a header.
+fn add_underscored(
+    alloc: Global,
+    table: &Table,
+    before: &str,
+    is_refused: bool,
+    found: &mut Vec<WrongPlace>,
+) -> Result<(), AllocError> {
+    for (name, other) in UNDERSCORES {
+        if table.get(name).is_none() {
+            continue;
+        }
+        let message = if is_refused {
+            format!(in alloc;
+                "Cargo refuses this name in the edition of 2024; `{other}` is the name"
+            )?
+        } else {
+            format!(in alloc; "Cargo warns of this name; `{other}` is the name")?
+        };
+        found.push(WrongPlace {
+            code: UNDERSCORED,
+            weight: if is_refused {
+                Weight::Error
+            } else {
+                Weight::Warning
+            },
+            subject: format!(in alloc; "{before}{name}")?,
+            message,
+        })?;
+    }
+    Ok(())
+}
+
+/// The tables of a manifest that are meant for targets and stand elsewhere, and those with an old name.
+pub fn wrong_places(alloc: Global, manifest: &Table) -> Result<Vec<WrongPlace>, AllocError> {
+    let mut found = Vec::new(alloc);
+    add_at_top(alloc, manifest, &mut found)?;
+    add_among_packages(alloc, manifest, &mut found)?;
+    let is_refused = is_of_2024(manifest);
+    add_underscored(alloc, manifest, "", is_refused, &mut found)?;
+    if let Some(Value::Table(targets)) = manifest.get("target") {
+        for (key, value) in targets.iter() {
+            if let Some(table) = value.as_table() {
+                let key = shown_start(alloc, key.as_str())?;
+                let before = format!(in alloc; "target.'{key}'.")?;
+                add_underscored(alloc, table, before.as_str(), is_refused, &mut found)?;
+            }
+        }
+    }
+    Ok(found)
+}

@@ -1,0 +1,89 @@
+//! What is told of tables that are no keys: rules that can't be used or that nothing needs, and wrong places.
+
+use crate::codes::{SETTINGS, UNNEEDED_ALLOW};
+use crate::places::WrongPlace;
+use crate::told::{Place, Told};
+use cargo_platform::shown_start;
+use lint_levels::{Fault, Rule, Subject, TOOL, Weight};
+use std::alloc::{AllocError, Global};
+
+/// What is told of something that can't be used in a table of rules.
+pub fn fault_message(alloc: Global, fault: &Fault) -> Result<String, AllocError> {
+    match fault {
+        Fault::NoTable => format!(in alloc; "`{TOOL}` is no table"),
+        Fault::NoList(word) => format!(in alloc; "`{word}` is no list"),
+        Fault::NoEntry(word) => format!(in alloc;
+            "an entry of `{word}` is neither a code nor a table with the texts `key` and `code`"
+        ),
+        Fault::NoText(word) => format!(in alloc; "an entry of `{word}` is no text"),
+        Fault::UnknownCode(word) => {
+            let word = shown_start(alloc, word.as_str())?;
+            format!(in alloc; "no code is named `{word}`; `lint --list-codes` prints all")
+        }
+        Fault::UnknownWord(word) => {
+            let word = shown_start(alloc, word.as_str())?;
+            format!(in alloc; "nothing is set by `{word}`")
+        }
+    }
+}
+
+/// What is told of a rule that allows what is not found.
+pub fn unneeded_message(alloc: Global, rule: &Rule) -> Result<String, AllocError> {
+    let subject = match &rule.subject {
+        Subject::Code(word) => word.as_str(),
+        Subject::Warnings => "warnings",
+        Subject::Notes => "notes",
+    };
+    match &rule.key {
+        Some(key) => {
+            let key = shown_start(alloc, key.as_str())?;
+            format!(in alloc; "nothing on the key `{key}` needs that `{subject}` is allowed")
+        }
+        None => format!(in alloc; "nothing needs that `{subject}` is allowed"),
+    }
+}
+
+/// What is told of a part of a manifest.
+fn told_of_part<'a>(
+    path: &'a str,
+    part: &'a str,
+    code: &'a str,
+    weight: Weight,
+    message: &'a str,
+) -> Told<'a> {
+    Told {
+        place: Place {
+            path,
+            key: None,
+            line: None,
+        },
+        weight,
+        code,
+        subject: part,
+        message,
+        suggestion: None,
+        span: None,
+        snippet: None,
+    }
+}
+
+/// That something can't be used in the rules of a part of a manifest.
+pub fn told_of_fault<'a>(path: &'a str, part: &'a str, message: &'a str) -> Told<'a> {
+    told_of_part(path, part, SETTINGS, Weight::Warning, message)
+}
+
+/// That nothing needs a rule of a part of a manifest.
+pub fn told_of_unneeded<'a>(path: &'a str, part: &'a str, message: &'a str) -> Told<'a> {
+    told_of_part(path, part, UNNEEDED_ALLOW, Weight::Note, message)
+}
+
+/// That a table stands where it is not read.
+pub fn told_of_wrong<'a>(path: &'a str, wrong: &'a WrongPlace) -> Told<'a> {
+    told_of_part(
+        path,
+        wrong.subject.as_str(),
+        wrong.code,
+        wrong.weight,
+        wrong.message.as_str(),
+    )
+}

@@ -1,0 +1,136 @@
+//! What is told of a manifest: where, how much it weighs, and the text.
+
+use cargo_platform::shown_start;
+use key_answers::answer::Status;
+use lint_levels::Weight;
+use manifest_documents::TargetKey;
+use manifest_documents::reading::Manifest;
+use manifest_lints_findings::{Code, Finding, Level, Report};
+use std::alloc::{AllocError, Global};
+use std::ops::Range;
+
+/// Where a finding is.
+#[derive(Clone, Copy, Drop)]
+pub struct Place<'a> {
+    /// The path of the manifest, as it is shown.
+    pub path: &'a str,
+    /// The key that it is on, if it is on one.
+    pub key: Option<&'a str>,
+    /// The line, where it is certain.
+    pub line: Option<usize>,
+}
+
+/// A finding as it is told.
+#[derive(Clone, Copy, Drop)]
+pub struct Told<'a> {
+    pub place: Place<'a>,
+    /// How much it weighs by the rules.
+    pub weight: Weight,
+    /// The word for its code.
+    pub code: &'a str,
+    /// What stands between the code and the text.
+    pub subject: &'a str,
+    /// What is told. It has one line, and no character that is not shown.
+    pub message: &'a str,
+    /// A text that may stand in place of the whole key.
+    pub suggestion: Option<&'a str>,
+    /// Where in the key a fault lies, in bytes.
+    pub span: Option<(usize, usize)>,
+    /// The two lines that show the fault.
+    pub snippet: Option<&'a str>,
+}
+
+/// The key that a finding is on, if it is on one.
+fn key_of<'k, 'a>(report: &'k Report<'a>, finding: &Finding) -> Option<&'k TargetKey<'a>> {
+    report.keys.get(finding.key?)
+}
+
+/// The place of a finding of a report on a manifest.
+pub fn place_of<'a>(manifest: &'a Manifest, report: &Report<'a>, finding: &Finding) -> Place<'a> {
+    let path = manifest.path.as_str();
+    let lines = &manifest.document.lines;
+    match key_of(report, finding) {
+        Some(key) => Place {
+            path,
+            key: Some(key.key),
+            line: lines.of_key(key.key).map(|appearance| appearance.line),
+        },
+        None => Place {
+            path,
+            key: None,
+            line: lines.target,
+        },
+    }
+}
+
+/// How much a finding of this code and level weighs where no rule is heard: `not-canonical` is not told then.
+pub fn own_weight(code: Code, level: Level) -> Weight {
+    match (code, level) {
+        (Code::NotCanonical, _) => Weight::Allowed,
+        (_, Level::Error) => Weight::Error,
+        (_, Level::Warning) => Weight::Warning,
+        (_, Level::Note) => Weight::Note,
+    }
+}
+
+/// The beginning and the end of a span.
+fn ends(span: &Option<Range<usize>>) -> Option<(usize, usize)> {
+    match span {
+        Some(span) => Some((span.start, span.end)),
+        None => None,
+    }
+}
+
+/// The text of an optional `String`.
+fn text_of(text: &Option<String>) -> Option<&str> {
+    match text {
+        Some(text) => Some(text.as_str()),
+        None => None,
+    }
+}
+
+/// A finding at its place, with the weight that rules make of it.
+pub fn told_of<'a>(place: Place<'a>, finding: &'a Finding, weight: Weight) -> Told<'a> {
+    Told {
+        place,
+        weight,
+        code: finding.code.word(),
+        subject: "target",
+        message: finding.message.as_str(),
+        suggestion: text_of(&finding.suggestion),
+        span: ends(&finding.span),
+        snippet: text_of(&finding.snippet),
+    }
+}
+
+impl<'a> Told<'a> {
+    /// What it is on, as it is shown: its key, or what stands in place of one.
+    pub fn on(&self, alloc: Global) -> Result<String, AllocError> {
+        let subject = self.subject;
+        match self.place.key {
+            Some(key) => {
+                let key = shown_start(alloc, key)?;
+                format!(in alloc; "{subject}.'{key}'")
+            }
+            None => String::from_str(alloc, subject),
+        }
+    }
+}
+
+/// The word for a weight.
+pub fn weight_word(weight: Weight) -> &'static str {
+    match weight {
+        Weight::Allowed => "allowed",
+        Weight::Note => "note",
+        Weight::Warning => "warning",
+        Weight::Error => "error",
+    }
+}
+
+/// How a run ends with a finding of this weight.
+pub fn status_of(weight: Weight) -> Status {
+    match weight {
+        Weight::Error | Weight::Warning => Status::Found,
+        Weight::Note | Weight::Allowed => Status::Fine,
+    }
+}

@@ -1,0 +1,70 @@
+//! Facts that a project knows, put among those that its manifest declares.
+
+use std::alloc::{AllocError, Global};
+use toml::{Table, Value};
+
+/// Where a manifest declares facts: at the last of these members, one in the other.
+const PATH: [&str; 3] = ["lints", "rust", "unexpected_cfgs"];
+
+/// The member with the texts that declare.
+const MEMBER: &str = "check-cfg";
+
+/// The text that declares a fact, which is written as `rustc --print cfg` prints it.
+fn declaration(alloc: Global, fact: &str) -> Result<String, AllocError> {
+    match fact.split_once('=') {
+        Some((key, value)) => {
+            let key = key.trim();
+            let value = value.trim();
+            format!(in alloc; "cfg({key}, values({value}))")
+        }
+        None => format!(in alloc; "cfg({fact})"),
+    }
+}
+
+/// What is declared by a manifest, and these facts.
+fn declarations(
+    alloc: Global,
+    declared: Option<&Value>,
+    facts: &[String],
+) -> Result<Value, AllocError> {
+    let mut texts = Vec::new(alloc);
+    if let Some(Value::Array(entries)) = declared {
+        for entry in entries {
+            texts.push(entry.clone()?)?;
+        }
+    }
+    for fact in facts {
+        texts.push(Value::String(declaration(alloc, fact.as_str())?))?;
+    }
+    Ok(Value::Array(texts))
+}
+
+/// The table that stands at a member of another, or an empty one.
+fn table_at(alloc: Global, value: Option<&Value>) -> Result<Table, AllocError> {
+    match value {
+        Some(Value::Table(table)) => table.clone(),
+        _ => Ok(Table::new(alloc)),
+    }
+}
+
+/// Adds a member to a table.
+fn put(alloc: Global, table: &mut Table, member: &str, value: Value) -> Result<(), AllocError> {
+    let _before = table.insert(String::from_str(alloc, member)?, value)?;
+    Ok(())
+}
+
+/// Adds facts to those that a manifest declares.
+pub fn declare(alloc: Global, manifest: &mut Table, facts: &[String]) -> Result<(), AllocError> {
+    if facts.is_empty() {
+        return Ok(());
+    }
+    let [lints_name, rust_name, cfgs_name] = PATH;
+    let mut lints = table_at(alloc, manifest.get(lints_name))?;
+    let mut rust = table_at(alloc, lints.get(rust_name))?;
+    let mut cfgs = table_at(alloc, rust.get(cfgs_name))?;
+    let texts = declarations(alloc, cfgs.get(MEMBER), facts)?;
+    put(alloc, &mut cfgs, MEMBER, texts)?;
+    put(alloc, &mut rust, cfgs_name, Value::Table(cfgs))?;
+    put(alloc, &mut lints, rust_name, Value::Table(rust))?;
+    put(alloc, manifest, lints_name, Value::Table(lints))
+}

@@ -1,0 +1,35 @@
+//! What the codes of findings mean.
+
+use anyhow::{Result, bail};
+use cargo_platform::shown_text;
+use key_answers::answer::{Answer, Status};
+use lint_reports::codes::all_explained;
+use lint_reports::weight_word;
+use std::alloc::{AllocError, Global};
+
+/// A line on each code.
+pub fn listed_codes(alloc: Global) -> Result<Answer, AllocError> {
+    let mut text = String::new(alloc);
+    for explained in &all_explained(alloc)? {
+        let weight = weight_word(explained.weight);
+        let word = explained.word;
+        let short = explained.short;
+        let line = format!(in alloc; "{word} ({weight}): {short}\n")?;
+        text.push_str(line.as_str())?;
+    }
+    Ok(Answer::of(alloc, text, Status::Fine))
+}
+
+/// What is said of the code with this word.
+pub fn explained_code(alloc: Global, word: &str) -> Result<Answer> {
+    for explained in &all_explained(alloc)? {
+        if explained.word == word {
+            let weight = weight_word(explained.weight);
+            let text = explained.text;
+            let text = format!(in alloc; "{word} ({weight})\n\n{text}\n")?;
+            return Ok(Answer::of(alloc, text, Status::Fine));
+        }
+    }
+    let word = shown_text(alloc, word)?;
+    bail!("no code is named `{word}`; `lint --list-codes` prints all")
+}

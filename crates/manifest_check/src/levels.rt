@@ -1,0 +1,54 @@
+//! The rules on findings that stand in a command line and in manifests.
+
+use anyhow::{Result, bail};
+use cargo_platform::shown_text;
+use clap::ArgMatches;
+use lint_levels::{Rule, Setting, Subject};
+use std::alloc::Global;
+
+/// The options by which a command line has rules.
+const OPTIONS: [Setting; 3] = [Setting::Allow, Setting::Warn, Setting::Deny];
+
+/// A rule of a command line, and the place of its word.
+#[derive(Drop)]
+struct Placed {
+    place: usize,
+    rule: Rule,
+}
+
+/// The rule of an option with this word.
+fn rule_of(alloc: Global, setting: Setting, word: &str, codes: &[&str]) -> Result<Rule> {
+    match Subject::of(alloc, word, codes)? {
+        Some(subject) => Ok(Rule {
+            setting,
+            subject,
+            key: None,
+        }),
+        None => {
+            let word = shown_text(alloc, word)?;
+            bail!("no code is named `{word}`; `lint --list-codes` prints all");
+        }
+    }
+}
+
+/// The rules of a command line, in the order of its words. A word that is no code is refused.
+pub fn command_rules(alloc: Global, matches: &ArgMatches<'_>, codes: &[&str]) -> Result<Vec<Rule>> {
+    let mut placed: Vec<Placed> = Vec::new(alloc);
+    for setting in OPTIONS {
+        let words = matches.get_strs(setting.word()).unwrap_or(&[]);
+        let places = matches.indices_of(setting.word()).unwrap_or(&[]);
+        for (word, place) in words.iter().zip(places) {
+            let rule = rule_of(alloc, setting, word, codes)?;
+            placed.push(Placed {
+                place: *place,
+                rule,
+            })?;
+        }
+    }
+    placed.sort_by_key(|it| it.place)?;
+    let mut rules = Vec::new(alloc);
+    for Placed { place: _, rule } in placed {
+        rules.push(rule)?;
+    }
+    Ok(rules)
+}

@@ -1,0 +1,152 @@
+//! What the root of a workspace says to its members.
+
+use lint_levels::{Rule, Setting, Settings, Weighed, settings_at};
+use std::alloc::{AllocError, Global};
+use std::rt::{Env, Files};
+use toml::{Table, Value};
+use workspaces::{root_of, shorter, table_in, table_with_word};
+
+/// What stands for standard input.
+const INPUT: &str = "-";
+
+/// What the root of a workspace says.
+#[derive(Drop)]
+pub struct Root {
+    /// The path of its manifest.
+    pub file: String,
+    pub settings: Settings,
+    /// Of each rule, whether a finding needs it.
+    pub needed: Vec<bool>,
+    /// What stands at `workspace.lints`.
+    lints: Option<Value>,
+    /// Whether it has a table `workspace`.
+    is_workspace: bool,
+    /// Whether its manifest was asked too.
+    pub is_asked: bool,
+    /// Whether the last manifest takes lints from it that can't be read.
+    pub hides_lints: bool,
+}
+
+/// The rules that a manifest has for its part, and no finding that needs them yet.
+fn settings_of(
+    alloc: Global,
+    manifest: &Table,
+    codes: &[&str],
+) -> Result<(Settings, Vec<bool>), AllocError> {
+    let settings = Settings::of(alloc, settings_at(manifest, "workspace"), codes)?;
+    let mut needed = Vec::new(alloc);
+    for _ in &settings.rules {
+        needed.push(false)?;
+    }
+    Ok((settings, needed))
+}
+
+impl Root {
+    /// What no root says.
+    pub fn none(alloc: Global) -> Result<Root, AllocError> {
+        Root::at(alloc, String::new(alloc), &Table::new(alloc), &[])
+    }
+
+    /// What this manifest says as a root.
+    fn at(
+        alloc: Global,
+        file: String,
+        manifest: &Table,
+        codes: &[&str],
+    ) -> Result<Root, AllocError> {
+        let (settings, needed) = settings_of(alloc, manifest, codes)?;
+        let workspace = table_in(manifest, "workspace");
+        let lints = match workspace {
+            Some(workspace) => match workspace.get("lints") {
+                Some(lints) => Some(lints.clone()?),
+                None => None,
+            },
+            None => None,
+        };
+        Ok(Root {
+            file,
+            settings,
+            needed,
+            lints,
+            is_workspace: workspace.is_some(),
+            is_asked: false,
+            hides_lints: false,
+        })
+    }
+
+    /// What the root says to which the manifest at this path belongs, where another one stands at hand.
+    pub fn of<R: Files + Env + AllocGlobal>(
+        rt: &R,
+        path: &str,
+        codes: &[&str],
+        at_hand: &Root,
+    ) -> Result<Option<Root>, AllocError> {
+        let alloc = rt.alloc();
+        let file = if path == INPUT {
+            String::from_str(alloc, INPUT)?
+        } else {
+            let file = root_of(rt, path)?;
+            shorter(alloc, file.as_str())?
+        };
+        if file.as_str() == at_hand.file.as_str() {
+            return Ok(None);
+        }
+        let root = match table_with_word(rt, file.as_str(), "workspace")? {
+            Some(manifest) => Root::at(alloc, file, &manifest, codes)?,
+            None => Root::at(alloc, file, &Table::new(alloc), codes)?,
+        };
+        Ok(Some(root))
+    }
+
+    /// Notes that the manifest at a path was asked.
+    pub fn note_asked(&mut self, alloc: Global, path: &str) -> Result<(), AllocError> {
+        let path = shorter(alloc, path)?;
+        if path.as_str() == self.file.as_str() {
+            self.is_asked = true;
+        }
+        Ok(())
+    }
+
+    /// Notes which of its rules these findings need.
+    pub fn note_needed(&mut self, found: &[Weighed<'_>]) {
+        for (rule, needed) in self.settings.rules.iter().zip(&mut self.needed) {
+            if rule.is_needed(found) {
+                *needed = true;
+            }
+        }
+    }
+}
+
+/// Whether a rule allows something, and no finding needs it.
+pub fn is_unneeded(rule: &Rule, is_needed: bool) -> bool {
+    rule.setting == Setting::Allow && !is_needed
+}
+
+/// Whether the manifest takes its lints from the root.
+fn takes_lints(manifest: &Table) -> bool {
+    match table_in(manifest, "lints") {
+        Some(lints) => match lints.get("workspace") {
+            Some(takes) => takes.as_bool() == Some(true),
+            None => false,
+        },
+        None => false,
+    }
+}
+
+/// Puts the lints of the root into the place of those of a manifest that says `lints.workspace = true`. The root knows
+/// then whether it has any to give.
+pub fn inherit_lints(
+    alloc: Global,
+    root: &mut Root,
+    manifest: &mut Table,
+) -> Result<(), AllocError> {
+    let takes = takes_lints(manifest);
+    root.hides_lints = takes && !root.is_workspace;
+    if takes {
+        if let Some(lints) = &root.lints {
+            let lints = lints.clone()?;
+            let _before = manifest.insert(String::from_str(alloc, "lints")?, lints)?;
+        }
+    }
+    Ok(())
+}

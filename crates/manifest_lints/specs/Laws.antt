@@ -1,0 +1,15 @@
+-- What reports are by, by value.
+use Rattle.std.specs.Prelude.{◌≡◌, List, [], ◌∷◌, codes, map}
+use Rattle.partial_facts.specs.declared.one_valued.TheConstants.{ONE_VALUED}
+use Rattle.manifest_lints_questions.specs.declared.deciding.TheConstants.{MANY}
+
+-- the keys of which rustc sets one value at most
+abbrev pub AreOneValued : Type 0
+AreOneValued =
+    map (λ t. t.now) ONE_VALUED.now
+    ≡ codes "panic" ∷ codes "target_abi" ∷ codes "target_arch" ∷ codes "target_endian" ∷ codes "target_env"
+    ∷ codes "target_os" ∷ codes "target_pointer_width" ∷ codes "target_vendor" ∷ []
+
+-- so many open names and keys are not too many
+abbrev pub AreMany : Type 0
+AreMany = MANY ≡ 4096

@@ -1,0 +1,15 @@
+-- The codes by value.
+use Rattle.std.specs.Prelude.{◌≡◌, List, [], ◌∷◌}
+use Rattle.manifest_lints_findings.specs.declared.codes.Code.{Code}
+use Rattle.manifest_lints_findings.specs.declared.codes.Code.TheVariants as code
+use Rattle.manifest_lints_findings.specs.declared.codes.TheConstants.{CODES}
+
+-- all codes, each once, in the order in which they are told of one key
+abbrev pub all_codes : List Code
+all_codes =
+    code.Refused ∷ code.NoTable ∷ code.ReadOtherwise ∷ code.Unsupported ∷ code.Never ∷ code.UnknownTarget
+    ∷ code.UnknownFact ∷ code.Nowhere ∷ code.Same ∷ code.Equivalent ∷ code.Always ∷ code.Everywhere ∷ code.Custom
+    ∷ code.NotCanonical ∷ []
+
+abbrev pub AreAllCodes : Type 0
+AreAllCodes = CODES ≡ all_codes

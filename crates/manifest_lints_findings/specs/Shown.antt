@@ -1,0 +1,40 @@
+-- What a finding shows beside its message: where a refused key goes wrong, and a text that may stand in a key's place.
+use Rattle.std.specs.Prelude.{◌≡◌, ℕ, Bool, false, List, [], IsTrue, bytes_eq, None}
+use Rattle.cargo_platform.specs.Trees.{Condition}
+use Rattle.cargo_platform.specs.Errors.{orig_of, fault_in, span_in}
+use Rattle.cargo_platform.specs.KeySpans.{IsSpanInKey, IsSnippetOfKey}
+use Rattle.cargo_platform.specs.Platforms.{IsConditionText}
+use Rattle.cargo_platform.specs.Print.{print_condition}
+use Rattle.manifest_lints_standings.specs.declared.standing.Sort.TheVariants as sort
+use Rattle.manifest_lints_standings.specs.Standings.{has_sort, sorted_in, IsUnknownTarget}
+use Rattle.manifest_lints_findings.specs.Known.{has_marked_literal}
+use Rattle.manifest_lints_findings.specs.declared.codes.Code.{Code}
+use Rattle.manifest_lints_findings.specs.declared.codes.Code.TheVariants as code
+use Rattle.manifest_lints_findings.specs.declared.findings.Finding.{Finding}
+use Rattle.manifest_lints_findings.specs.declared.known_keys.KnownKey.{KnownKey}
+use Rattle.manifest_lints_findings.specs.declared.readings.Spelled.{Spelled}
+use Rattle.manifest_lints_findings.specs.declared.readings.Spelled.TheVariants as spelled
+
+-- of a refused key the span and the two lines are those of its fault, and of any other there are none
+abbrev pub IsShownBy : List ℕ → Spelled → Finding → Type 0
+IsShownBy key (spelled.Refused e) f =
+    IsSpanInKey key (orig_of e) (fault_in e) (span_in e) f.span
+    × IsSnippetOfKey key (orig_of e) (fault_in e) (span_in e) f.snippet
+IsShownBy key (spelled.Condition p) f = (f.span ≡ None) × (f.snippet ≡ None)
+IsShownBy key (spelled.ByCargo m) f = (f.span ≡ None) × (f.snippet ≡ None)
+
+abbrev pub IsShownOn : Code → KnownKey → Finding → Type 0
+IsShownOn code.Refused k f = IsShownBy k.read.now.text.now k.read.now.spelled f
+IsShownOn c k f = (f.span ≡ None) × (f.snippet ≡ None)
+
+-- of this text, which spells the condition, no finding of the code is told
+abbrev pub IsRidOf : Code → List ℕ → Condition → Type 0
+IsRidOf code.UnknownTarget text c = IsUnknownTarget c → ⊥
+IsRidOf code.UnknownFact text c = has_sort sort.Mistaken (sorted_in [] c) ≡ false
+IsRidOf code.ReadOtherwise text c = has_marked_literal (sorted_in [] c) ≡ false
+IsRidOf code.NotCanonical text c = IsTrue (bytes_eq (print_condition c) text)
+IsRidOf _ text c = ⊥
+
+-- the text spells a condition, of which no finding of the code is told
+abbrev pub IsMended : Code → List ℕ → Type 0
+IsMended code text = (c : Condition) × IsConditionText text c × IsRidOf code text c
