@@ -66,6 +66,10 @@ fn words_on<'a>(host: Option<&'a str>) -> Words<'a> {
         allow: None,
         allow_file: None,
         except: &[],
+        resolver: None,
+        features: &[],
+        no_default: false,
+        all_features: false,
         json: true,
         html: false,
     }

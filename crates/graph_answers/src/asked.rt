@@ -36,6 +36,14 @@ pub struct Words<'a> {
     pub allow_file: Option<(&'a str, &'a str)>,
     /// Packages that no audit tells of, each as its name, `@` and its version.
     pub except: &'a [&'a str],
+    /// The resolver of features: 1, 2, 3, or `edition` for the one that Cargo takes by the edition of the root package.
+    pub resolver: Option<&'a str>,
+    /// Features that are asked of the roots, joined by commas or spaces.
+    pub features: &'a [&'a str],
+    /// Whether `default` is not asked of them.
+    pub no_default: bool,
+    /// Whether all features are asked of them.
+    pub all_features: bool,
     pub json: bool,
     /// Whether a page is wanted too.
     pub html: bool,

@@ -7,7 +7,7 @@ use crate::licences::{Audit, show_licences};
 use crate::packages::show_packages;
 use crate::page::page_of;
 use crate::refused::{refused_depth, refused_document, refused_graph, unusable};
-use crate::resolving::{FeatureWords, Features, features_of};
+use crate::resolving::{Features, features_of};
 use crate::targets::show_targets;
 use crate::unified::show_unified;
 use crate::why::show_why;
@@ -120,7 +120,7 @@ fn graph_of<'a>(
     file: &str,
     document: &'a Value,
     asked: &Asked<'_>,
-    words: &FeatureWords<'_>,
+    words: &Words<'_>,
 ) -> Result<Result<Graph<'a>, Answer>, AllocError> {
     let metadata = match read(alloc, document) {
         Ok(metadata) => metadata,
@@ -195,7 +195,7 @@ fn report_on_document(
     document: &Value,
     asked: &Asked<'_>,
     audit: &Option<Audit<'_>>,
-    words: &FeatureWords<'_>,
+    words: &Words<'_>,
 ) -> Result<Report, AllocError> {
     let graph = match graph_of(alloc, file, document, asked, words)? {
         Ok(graph) => graph,
@@ -219,17 +219,6 @@ pub fn report_on(
     text: &str,
     words: &Words<'_>,
 ) -> Result<Report, AllocError> {
-    report_with(alloc, file, text, words, &FeatureWords::none())
-}
-
-/// The same, with the words on features.
-pub fn report_with(
-    alloc: Global,
-    file: &str,
-    text: &str,
-    words: &Words<'_>,
-    features: &FeatureWords<'_>,
-) -> Result<Report, AllocError> {
     let asked = match Asked::of(alloc, words)? {
         Ok(asked) => asked,
         Err(answer) => return Ok(Report::without_page(answer)),
@@ -246,7 +235,7 @@ pub fn report_with(
             &document,
             &asked,
             &audit,
-            features,
+            words,
         ),
         Err(error) => {
             let reason = format!(in alloc; "{error}")?;

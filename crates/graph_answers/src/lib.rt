@@ -19,5 +19,4 @@ mod targets;
 mod unified;
 mod why;
 
-pub use graph::{Report, report_on, report_with};
-pub use resolving::FeatureWords;
+pub use graph::{Report, report_on};

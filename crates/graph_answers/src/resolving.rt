@@ -1,6 +1,6 @@
 //! Which features are asked for, and what they turn on.
 
-use crate::asked::{Asked, Show, unusable_words};
+use crate::asked::{Asked, Show, Words, unusable_words};
 use crate::refused::unusable;
 use cargo_features::{Build, Claim, Resolved, resolve};
 use cargo_metadata::Metadata;
@@ -15,51 +15,26 @@ use package_graphs::{Kinds, Side};
 use serde_json::Value;
 use std::alloc::{AllocError, Global};
 
-/// The words of the command line on features, as they are.
-#[derive(Clone, Copy, Drop)]
-pub struct FeatureWords<'a> {
-    /// The resolver: 1, 2, 3, or `edition` for the one that Cargo takes by the edition of the root package.
-    pub resolver: Option<&'a str>,
-    /// Features that are asked of the roots, joined by commas or spaces.
-    pub features: &'a [&'a str],
-    /// Whether `default` is not asked of them.
-    pub no_default: bool,
-    /// Whether all features are asked of them.
-    pub all: bool,
+/// Whether the features are to be resolved.
+fn is_asked(words: &Words<'_>, show: Show) -> bool {
+    let is_shown = matches!(show, Show::Features | Show::Unified);
+    let is_told = words.resolver.is_some() || !words.features.is_empty();
+    is_shown || is_told || words.no_default || words.all_features
 }
 
-impl<'a> FeatureWords<'a> {
-    /// The words that ask nothing of features.
-    pub fn none() -> FeatureWords<'a> {
-        FeatureWords {
-            resolver: None,
-            features: &[],
-            no_default: false,
-            all: false,
-        }
-    }
-
-    /// Whether the features are to be resolved.
-    fn is_asked(&self, show: Show) -> bool {
-        let is_shown = matches!(show, Show::Features | Show::Unified);
-        let is_told = self.resolver.is_some() || !self.features.is_empty();
-        is_shown || is_told || self.no_default || self.all
-    }
-
-    /// The names of the features, one by one.
-    fn names(&self, alloc: Global) -> Result<Vec<&'a str>, AllocError> {
-        let mut names = Vec::new(alloc);
-        for words in self.features {
-            for part in words.split(',') {
-                for name in part.split(' ') {
-                    if !name.is_empty() {
-                        names.push(name)?;
-                    }
+/// The names of the features that are asked for, one by one.
+fn names_of<'a>(alloc: Global, features: &[&'a str]) -> Result<Vec<&'a str>, AllocError> {
+    let mut names = Vec::new(alloc);
+    for words in features {
+        for part in words.split(',') {
+            for name in part.split(' ') {
+                if !name.is_empty() {
+                    names.push(name)?;
                 }
             }
         }
-        Ok(names)
     }
+    Ok(names)
 }
 
 /// Which resolver decides.
@@ -178,7 +153,7 @@ fn resolver_by_edition<'a>(
 fn resolver_of<'a>(
     alloc: Global,
     file: &str,
-    words: &FeatureWords<'_>,
+    words: &Words<'_>,
     document: &'a Value,
     manifests: &[Manifest<'a>],
 ) -> Result<Result<Resolver, Answer>, AllocError> {
@@ -292,9 +267,9 @@ pub fn features_of<'a>(
     metadata: &Metadata<'a>,
     linked: &Linked<'a>,
     asked: &Asked<'_>,
-    words: &FeatureWords<'_>,
+    words: &Words<'_>,
 ) -> Result<Result<Option<Features<'a>>, Answer>, AllocError> {
-    if !words.is_asked(asked.show) {
+    if !is_asked(words, asked.show) {
         return Ok(Ok(None));
     }
     let Some(host) = asked.host else {
@@ -316,7 +291,7 @@ pub fn features_of<'a>(
         Err(answer) => return Ok(Err(answer)),
     };
     let places = places_of(alloc, metadata, linked)?;
-    let names = words.names(alloc)?;
+    let names = names_of(alloc, words.features)?;
     if let Some(name) = unknown_feature(&names, metadata, &manifests, linked, &places) {
         let name = shown_name(alloc, name)?;
         let reason = format!(in alloc; "no root has the feature {name}")?;
@@ -325,7 +300,7 @@ pub fn features_of<'a>(
     let features = AskedFeatures {
         names: &names,
         default: !words.no_default,
-        all: words.all,
+        all: words.all_features,
     };
     let Described { packages, edges } = described_features(
         alloc, metadata, &manifests, linked, &features,

@@ -4,7 +4,7 @@ use anyhow::Result;
 use cargo_platform::shown_text;
 use clap::ArgMatches;
 use graph_answers::asked::Words;
-use graph_answers::{FeatureWords, Report, report_with};
+use graph_answers::{Report, report_on};
 use key_answers::answer::Answer;
 use std::alloc::Global;
 use std::rt::Files;
@@ -45,16 +45,6 @@ pub fn graph_answer<R: Files + Input + AllocGlobal>(
     }
 }
 
-/// What is asked of features.
-fn feature_words<'m>(matches: &'m ArgMatches<'m>) -> FeatureWords<'m> {
-    FeatureWords {
-        resolver: matches.get_str("resolver"),
-        features: matches.get_strs("features").unwrap_or(&[]),
-        no_default: matches.get_flag("no-default-features"),
-        all: matches.get_flag("all-features"),
-    }
-}
-
 /// Answers `graph`, with the name and the text of a file of allowed licences.
 fn answer_with<R: Files + Input + AllocGlobal>(
     rt: &R,
@@ -73,13 +63,16 @@ fn answer_with<R: Files + Input + AllocGlobal>(
         allow: matches.get_str("allow"),
         allow_file,
         except: matches.get_strs("except").unwrap_or(&[]),
+        resolver: matches.get_str("resolver"),
+        features: matches.get_strs("features").unwrap_or(&[]),
+        no_default: matches.get_flag("no-default-features"),
+        all_features: matches.get_flag("all-features"),
         json: matches.get_flag("json"),
         html: matches.get_str("html").is_some(),
     };
-    let features = feature_words(matches);
     match text_of(rt, file) {
         Ok(text) => {
-            let report = report_with(alloc, file, text.as_str(), &words, &features)?;
+            let report = report_on(alloc, file, text.as_str(), &words)?;
             written(rt, report, matches.get_str("html"))
         }
         Err(error) => unusable(alloc, file, &error),
