@@ -4,3 +4,4 @@ pub mod Exact
 pub mod Pushing
 pub mod Within
 pub mod Joined
+pub mod Asking

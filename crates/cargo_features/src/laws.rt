@@ -3,6 +3,7 @@
 ghost use Rattle.std.specs.Prelude.{ℕ, Some};
 ghost use Rattle.package_graphs.specs.Packages.{BuiltFor, IsThereOn, KindSet, HostTarget};
 ghost use Rattle.cargo_features.specs.Graphs.{Declared, Graph, Built, IsGraphOf, resolver_1, resolver_2, joined};
+ghost use Rattle.cargo_features.specs.Asking.{AskMore};
 ghost use Rattle.cargo_features.specs.Holding.{Holds};
 ghost use Rattle.cargo_features.specs.declared.claims.Claim.{Claim};
 ghost use Rattle.cargo_features.specs.declared.claims.Claim.TheVariants as claim;
@@ -18,4 +19,10 @@ pub fn what_is_used_is_there()
 pub fn resolver_1_has_what_resolver_2_has()
     ensures { (kinds : KindSet) (host : HostTarget) (packages : Declared) (k : ℕ) (c : Claim)
         → Holds (resolver_2 kinds host) packages k c → Holds (resolver_1 kinds host) packages k (joined c) }
+{}
+
+/// Who asks more features of the same packages takes nothing away: what was turned on or used still is.
+pub fn more_features_take_nothing_away()
+    ensures { (build : Built) (packages others : Declared) (k : ℕ) (c : Claim)
+        → AskMore packages others → Holds build packages k c → Holds build others k c }
 {}

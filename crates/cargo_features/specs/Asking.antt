@@ -1,0 +1,26 @@
+-- The same packages, of which more features are asked.
+use Rattle.std.specs.Prelude.{◌≡◌, ◌<◌, ℕ, List, Vec, length, Contains}
+use Rattle.std.specs.Global.{Global}
+use Rattle.std.specs.List.{slice_index_or}
+use Rattle.cargo_features.specs.declared.packages.Package.{Package}
+
+-- the package, where these features are asked of it
+abbrev pub asking : Package → Vec ℕ Global → Package
+asking unit asked = record {
+  is_root = unit.is_root;
+  is_macro = unit.is_macro;
+  dependencies = unit.dependencies;
+  features = unit.features;
+  asked = asked;
+}
+
+-- the other is the same package, and what is asked of the first is asked of it too
+pub record AsksMore (unit other : Package) : Type 0 where
+  pub same : other ≡ asking unit other.asked
+  pub asked : (f : ℕ) → Contains unit.asked.items f → Contains other.asked.items f
+
+-- so it is with each of the packages, by their places
+pub record AskMore (packages others : List Package) : Type 0 where
+  pub count : length others ≡ length packages
+  pub each : (p : ℕ) → p < length packages → (x : Package)
+      → AsksMore (slice_index_or packages p x) (slice_index_or others p x)
