@@ -2,6 +2,7 @@
 #![tactic(auto)]
 
 pub mod deep;
+mod described;
 pub mod in_turn;
 pub mod questions;
 pub mod selecting;

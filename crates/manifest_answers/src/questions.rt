@@ -92,16 +92,45 @@ fn name_array(alloc: Global, targets: TargetSet) -> Result<String, AllocError> {
     Ok(text)
 }
 
+/// The key `cfg(NAME)`, where it holds at a known target.
+fn within_cfg(alloc: Global, name: &str) -> Result<Option<String>, AllocError> {
+    let key = format!(in alloc; "cfg({name})")?;
+    match read_key(alloc, key.as_str()) {
+        Ok(condition) => {
+            let targets = matching(alloc, &condition)?;
+            Ok(if targets.is_empty() { None } else { Some(key) })
+        }
+        Err(Refusal::Memory(refused)) => Err(refused),
+        Err(Refusal::Unusable(_)) => Ok(None),
+    }
+}
+
+/// What is said of a key that is a name which no known target has, with the key that may be meant.
+fn unknown_key(alloc: Global, name: &str) -> Result<String, AllocError> {
+    let meant = match within_cfg(alloc, name)? {
+        Some(key) => Some(key),
+        None => nearest_target(alloc, name)?,
+    };
+    let name = shown_name(alloc, name)?;
+    match meant {
+        Some(meant) => format!(in alloc;
+            "note: no target that rustc {RUSTC_VERSION} knows is named {name}; perhaps {meant} is meant\n"
+        ),
+        None => {
+            format!(in alloc;
+                "note: no target that rustc {RUSTC_VERSION} knows is named {name}\n"
+            )
+        }
+    }
+}
+
 /// What standard error is told beside the names: how many there are, and that no known target has the key's name.
 fn counted(alloc: Global, condition: &Platform, targets: TargetSet) -> Result<String, AllocError> {
     let count = targets.len();
     let mut errors = format!(in alloc; "{count} of {COUNT} known targets\n")?;
     if let Platform::Name(name) = condition {
         if KnownTarget::by_name(name.as_str()).is_none() {
-            let name = shown_name(alloc, name.as_str())?;
-            let note = format!(in alloc;
-                "note: no target that rustc {RUSTC_VERSION} knows is named {name}\n"
-            )?;
+            let note = unknown_key(alloc, name.as_str())?;
             errors.push_str(note.as_str())?;
         }
     }

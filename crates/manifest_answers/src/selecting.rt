@@ -1,5 +1,6 @@
 //! `select`: which dependencies of a manifest are selected.
 
+use crate::described::put_described;
 use crate::in_turn::{Question, answer_each};
 use crate::questions::{added_facts, table_or_lines, unknown_name};
 use cargo_platform::shown_start;
@@ -103,12 +104,15 @@ fn put_choice(
 fn push_object(
     text: &mut String,
     alloc: Global,
-    path: &str,
+    manifest: &Manifest,
+    target: &str,
     row: &Row<'_>,
 ) -> Result<(), AllocError> {
     let mut object = Map::new(alloc);
-    put_text(&mut object, alloc, "manifest", path)?;
+    put_text(&mut object, alloc, "manifest", manifest.path.as_str())?;
+    put_text(&mut object, alloc, "target", target)?;
     put_dependency(&mut object, alloc, &row.dependency)?;
+    put_described(&mut object, alloc, &manifest.document, &row.dependency)?;
     put_choice(&mut object, alloc, &row.choice)?;
     push_json(text, alloc, &Value::Object(object))
 }
@@ -130,22 +134,23 @@ fn refused(alloc: Global, path: &str, error: SelectError<'_>) -> Result<Answer, 
     Ok(Answer::unusable(alloc, text))
 }
 
-/// Appends what is printed of the rows.
-fn push_rows(
-    text: &mut String,
+/// What is printed of the rows, a line each; objects where `json` is true.
+fn rows_text(
     alloc: Global,
-    path: &str,
+    manifest: &Manifest,
+    target: &str,
     rows: &[Row<'_>],
     json: bool,
-) -> Result<(), AllocError> {
+) -> Result<String, AllocError> {
+    let mut text = String::new(alloc);
     for row in rows {
         if json {
-            push_object(text, alloc, path, row)?;
+            push_object(&mut text, alloc, manifest, target, row)?;
         } else {
-            push_line(text, alloc, path, row)?;
+            push_line(&mut text, alloc, manifest.path.as_str(), row)?;
         }
     }
-    Ok(())
+    Ok(text)
 }
 
 /// `select`: the target and the host that are asked, and how the answer is printed.
@@ -170,8 +175,7 @@ impl<'a> Question for Selecting<'a> {
             self.host,
         ) {
             Ok(rows) => {
-                let mut text = String::new(alloc);
-                push_rows(&mut text, alloc, path, &rows, self.json)?;
+                let text = rows_text(alloc, manifest, self.target, &rows, self.json)?;
                 Ok(Answer::of(alloc, text, Status::Fine))
             }
             Err(error) => refused(alloc, path, error),
