@@ -104,7 +104,7 @@ impl Cfg {
     pub fn from_str(alloc: Global, s: &str) -> Result<Cfg, ReadError>
         // `Ok` comes only of what the text spells.
         ensures value { IfOk result (λ c. IsValueText s.now (value_of c)) }
-        // The error holds the text, and the fault of its longest completable prefix and what follows, with its span.
+        // The error holds the text, and the fault and span of its longest completable prefix and what follows.
         ensures orig { IfParse result (λ e. orig_of e ≡ s.now) }
         ensures fault { IfParse result (λ e. IsRefused Values s.now (fault_in e)) }
         ensures span { IfParse result (λ e. IsRefusedAt Values s.now (fault_in e) (span_in e)) }
@@ -248,7 +248,7 @@ impl CfgExpr {
     pub fn from_str(alloc: Global, s: &str) -> Result<CfgExpr, ReadError>
         // `Ok` comes only of what the text spells.
         ensures tree { IfOk result (λ e. IsTreeText s.now (tree_of e)) }
-        // The error holds the text, and the fault of its longest completable prefix and what follows, with its span.
+        // The error holds the text, and the fault and span of its longest completable prefix and what follows.
         ensures orig { IfParse result (λ e. orig_of e ≡ s.now) }
         ensures fault { IfParse result (λ e. IsRefused Expressions s.now (fault_in e)) }
         ensures span { IfParse result (λ e. IsRefusedAt Expressions s.now (fault_in e) (span_in e)) }

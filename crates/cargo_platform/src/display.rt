@@ -60,7 +60,7 @@ impl fmt::Debug for CfgExpr {
     ghost use Rattle.cargo_platform.specs.Trees.{tree_of};
     ghost use Rattle.cargo_platform.specs.Print.{print};
 
-    // It prints as `Display` does.
+    // It prints exactly the bytes of the definition.
     ghost debug_output = { λ e. Some (print (tree_of e)) };
 
     // As it prints, since the derived text takes stack for each level.

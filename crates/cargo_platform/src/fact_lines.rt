@@ -73,7 +73,7 @@ pub fn read_facts(alloc: Global, text: &str) -> Result<Vec<Cfg>, FactsError>
     ensures fault { IfLine result (λ n e. IsRefused Values (line_at (lines_of text.now) n) (fault_in e)) }
     ensures span { IfLine result
         (λ n e. IsRefusedAt Values (line_at (lines_of text.now) n) (fault_in e) (span_in e)) }
-    // Answers are well-formed. What is well-formed reads back from its prints, one a line.
+    // Answers are well-formed. Prints of well-formed facts, one a line, read back.
     ensures well_formed { IfOk result (λ v. AllByRecursion IsWellFormedValue (map value_of v.items)) }
     ensures reads_back { (cs : List CfgValue) → AllByRecursion IsWellFormedValue cs
         → AllByRecursion IsUnbroken (map print_value cs) → text.now ≡ ended (map print_value cs)

@@ -42,7 +42,7 @@ impl Platform {
     pub fn from_json(alloc: Global, value: &Value) -> Result<Platform, JsonError>
         // `NotText` comes exactly of what is no text.
         ensures not_text { IsErrOf result NotText ↔ (IsText (view value.now) → ⊥) }
-        // A text is read as `from_str` promises. So what is well-formed reads back.
+        // A text is read as `from_str` promises.
         ensures condition { (text : List ℕ) → view value.now ≡ json.string text
             → IfOk result (λ p. IsConditionText text (condition_of p)) }
         ensures fault { (text : List ℕ) → view value.now ≡ json.string text

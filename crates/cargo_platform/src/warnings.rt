@@ -28,10 +28,9 @@ impl Platform {
         alloc: Global,
         warnings: &mut Vec<String>,
     ) -> Result<(), AllocError>
-        // The stated warnings are added, in their order.
+        // The stated warnings are added in their order, and on failure none.
         ensures ok { OnOk result
             (texts warnings.new ≡ texts warnings.old ++ attribute_warnings (condition_of self.now)) }
-        // On failure the list is as before.
         ensures err { OnErr result (texts warnings.new ≡ texts warnings.old) }
     {
         warn(self, alloc, &Attributes, warnings)
@@ -49,10 +48,9 @@ impl Platform {
         warnings: &mut Vec<String>,
         path: &str,
     ) -> Result<(), AllocError>
-        // The stated warnings are added, in their order.
+        // The stated warnings are added in their order, and on failure none.
         ensures ok { OnOk result
             (texts warnings.new ≡ texts warnings.old ++ keyword_warnings path.now (condition_of self.now)) }
-        // On failure the list is as before.
         ensures err { OnErr result (texts warnings.new ≡ texts warnings.old) }
     {
         warn(self, alloc, &Keywords(path), warnings)

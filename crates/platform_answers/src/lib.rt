@@ -74,8 +74,7 @@ pub fn run<R: Read, W: Write>(
         × IsInput (R.remaining (reader_of input.old)) (R.remaining (reader_of input.new)) (read_counts input.new) bs
         × BreaksOff (W.contents (writer_of output.old)) (W.contents (writer_of output.new)) (write_counts output.new)
         bs }
-    // With `Read`, a read failed, or 1,048,578 reads, the most that are made, brought neither the end nor a byte too
-    // many.
+    // With `Read`, a read failed, or the most reads, 1,048,578, brought neither the end nor a byte too many.
     ensures read { IsErrOf result RunError.Read → HasReadFault (read_counts input.new) }
     ensures within { (read_counts input.new).reads ≤ 1_048_578 }
     // After `Read` and `Memory` nothing was written.
