@@ -24,7 +24,7 @@
 # make graphs     the same for its command graph
 # make cargo-select  what `manifest_check select` selects, beside what Cargo does; it needs cargo and rustc 1.95.0
 # make try-c      the library for C and Python, called from both; it needs a C compiler
-# make pages      what the pages say, beside what it is said of
+# make pages      what the pages say, beside what it is said of; `.ci/promises --write` makes their lists anew
 # make depths     the programs on the deepest conditions that their inputs hold
 .PHONY: lint run build install c-library install-c wheel dist try-c take test gate fits mutants refusals second-reader \
 	statuses manifests workspaces graphs cargo-select \
@@ -109,5 +109,9 @@ targets:
 fmt: rt
 	for crate in crates/*/; do (cd $$crate && rt fmt) || exit 1; done
 
-refusals second-reader statuses manifests workspaces graphs cargo-select pages depths: rt
+refusals second-reader statuses manifests workspaces graphs cargo-select depths: rt
 	.ci/$@
+
+pages: rt
+	.ci/promises
+	.ci/pages

@@ -65,6 +65,7 @@ fn is_macro(packages: &[Package], index: usize) -> bool
 impl Build {
     /// What Cargo's resolver 1 builds: a package has the same features everywhere.
     pub fn by_resolver_1(kinds: Kinds, host: KnownTarget) -> Build
+        // The build tells features apart as the resolver does.
         ensures { result ≡ resolver_1 kinds host }
     {
         Build {
@@ -78,6 +79,7 @@ impl Build {
 
     /// What Cargo's resolvers 2 and 3 build, which tell features apart alike.
     pub fn by_resolver_2(kinds: Kinds, host: KnownTarget) -> Build
+        // The build tells features apart as the resolver does.
         ensures { result ≡ resolver_2 kinds host }
     {
         Build {

@@ -143,7 +143,9 @@ pub fn used_packages(
     packages: &[Package],
     build: Build,
 ) -> Result<Vec<TargetSet>, AllocError>
+    // Each package has a set.
     ensures count { IfOk result (λ sets. vec_len sets ≡ length packages.now) }
+    // A target is in the set exactly if the package is used there, on one side or the other.
     ensures exact { IfOk result (λ sets. (p k : ℕ) → p < length packages.now → k < COUNT
         → IsTrue (is_in sets.items p k) ↔ IsUsed build packages.now k p) }
 {
@@ -166,7 +168,9 @@ pub struct Resolved {
 /// The targets at which each claim on the packages holds. It refuses only where memory is refused. What is on no
 /// package, feature or dependency is passed over.
 pub fn resolve(alloc: Global, packages: Vec<Package>, build: Build) -> Result<Resolved, AllocError>
+    // What is resolved are these packages, for this build.
     ensures same { IfOk result (λ resolved. IsResolved packages.items build resolved) }
+    // A target is in the set of a claim exactly if steps from the request for the build lead there.
     ensures exact { IfOk result (λ resolved. (c : Claim) (k : ℕ) → is_known packages.items c ≡ true → k < COUNT
         → IsTrue (holds_in resolved c k) ↔ Holds build packages.items k c) }
 {
@@ -195,6 +199,7 @@ impl Resolved {
 
     /// The targets at which a claim holds.
     pub fn at(&self, claim: Claim) -> TargetSet
+        // The answer is the set of the claim.
         ensures { AreNumbers self.now.packages.items self.now.found.numbers
             → (k : ℕ) → k < COUNT → is_member result k ≡ holds_in self.now claim k }
     {
@@ -203,6 +208,7 @@ impl Resolved {
 
     /// The targets at which the build uses a package, for either side.
     pub fn used(&self, index: usize) -> TargetSet
+        // A target is in the set exactly if the package is used there, on one side or the other.
         ensures { AreNumbers self.now.packages.items self.now.found.numbers → (k : ℕ) → k < COUNT
             → is_member result k ≡ is_used self.now.packages.items self.now.found index k }
     {
@@ -211,6 +217,7 @@ impl Resolved {
 
     /// The targets at which a package that is used on a side is built with a feature of its own.
     pub fn with_feature(&self, index: usize, side: Side, feature: usize) -> TargetSet
+        // A target is in the set exactly if the package is used there on the side, and its feature is on.
         ensures { AreNumbers self.now.packages.items self.now.found.numbers → (k : ℕ) → k < COUNT
             → is_member result k ≡ is_built_with self.now index side feature k }
     {

@@ -71,6 +71,7 @@ impl Ident {
 
     /// The name, without the raw mark.
     pub fn as_str(&self) -> &str
+        // Names count as text, without marks.
         ensures { result.now ≡ string_bytes self.now.name }
     {
         &self.name
@@ -78,6 +79,7 @@ impl Ident {
 
     /// Whether the name equals the text. The raw mark plays no part.
     pub fn eq_text(&self, text: &str) -> bool
+        // Names count as text, without marks.
         ensures { IsTrue result ↔ (string_bytes self.now.name ≡ text.now) }
     {
         self.as_str() == text
@@ -100,16 +102,17 @@ impl Cfg {
     /// its tokens that some tokens would complete. Where memory is refused the answer is `ReadError::Memory`, whatever
     /// the text.
     pub fn from_str(alloc: Global, s: &str) -> Result<Cfg, ReadError>
-        // What is read is what the text spells.
+        // `Ok` comes only of what the text spells.
         ensures value { IfOk result (λ c. IsValueText s.now (value_of c)) }
-        // The error is of this text, is its first fault, and tells its span.
+        // The error holds the text, and the fault and span of its longest completable prefix and what follows.
         ensures orig { IfParse result (λ e. orig_of e ≡ s.now) }
         ensures fault { IfParse result (λ e. IsRefused Values s.now (fault_in e)) }
         ensures span { IfParse result (λ e. IsRefusedAt Values s.now (fault_in e) (span_in e)) }
-        // The other clauses follow by the laws. No text that spells a value is refused, and the print of a well-formed
-        // value is answered by that very value.
+        // Answers are well-formed.
         ensures well_formed { IfOk result (λ c. IsWellFormedValue (value_of c)) }
+        // `Parse` comes only of a text that spells nothing. So what spells something is read, if memory suffices.
         ensures refused { IfParse result (λ _. (c : CfgValue) → IsValueText s.now c → ⊥) }
+        // What is well-formed reads back from its print.
         ensures reads_back { (c : CfgValue) → IsWellFormedValue c → s.now ≡ print_value c
             → IfOk result (λ d. value_of d ≡ c) × IfParse result (λ _. ⊥) }
     {
@@ -243,16 +246,17 @@ impl CfgExpr {
     /// its tokens that some tokens would complete. Where memory is refused the answer is `ReadError::Memory`, whatever
     /// the text.
     pub fn from_str(alloc: Global, s: &str) -> Result<CfgExpr, ReadError>
-        // What is read is the tree that the text spells.
+        // `Ok` comes only of what the text spells.
         ensures tree { IfOk result (λ e. IsTreeText s.now (tree_of e)) }
-        // The error is of this text, is its first fault, and tells its span.
+        // The error holds the text, and the fault and span of its longest completable prefix and what follows.
         ensures orig { IfParse result (λ e. orig_of e ≡ s.now) }
         ensures fault { IfParse result (λ e. IsRefused Expressions s.now (fault_in e)) }
         ensures span { IfParse result (λ e. IsRefusedAt Expressions s.now (fault_in e) (span_in e)) }
-        // The other clauses follow by the laws. No text that spells a tree is refused, and the print of a well-formed
-        // tree is answered by that very tree.
+        // Answers are well-formed.
         ensures well_formed { IfOk result (λ e. IsWellFormed (tree_of e)) }
+        // `Parse` comes only of a text that spells nothing. So what spells something is read, if memory suffices.
         ensures refused { IfParse result (λ _. (t : Tree) → IsTreeText s.now t → ⊥) }
+        // What is well-formed reads back from its print.
         ensures reads_back { (t : Tree) → IsWellFormed t → s.now ≡ print t
             → IfOk result (λ e. tree_of e ≡ t) × IfParse result (λ _. ⊥) }
     {
@@ -267,7 +271,7 @@ impl CfgExpr {
     /// makes no fewer than the text has characters, and one. It looked at a refused text up to the end of the fault's
     /// span, and where something is left after an expression, up to that: no less often than characters stand before.
     pub fn from_str_counted(alloc: Global, s: &str) -> (Result<CfgExpr, ReadError>, Looks)
-        // What `from_str` promises.
+        // The first part is what `from_str` promises.
         ensures tree { IfOk result.0 (λ e. IsTreeText s.now (tree_of e)) }
         ensures orig { IfParse result.0 (λ e. orig_of e ≡ s.now) }
         ensures fault { IfParse result.0 (λ e. IsRefused Expressions s.now (fault_in e)) }
@@ -276,10 +280,13 @@ impl CfgExpr {
         ensures refused { IfParse result.0 (λ _. (t : Tree) → IsTreeText s.now t → ⊥) }
         ensures reads_back { (t : Tree) → IsWellFormed t → s.now ≡ print t
             → IfOk result.0 (λ e. tree_of e ≡ t) × IfParse result.0 (λ _. ⊥) }
-        // What the looks come to.
+        // A reading of `n` characters takes at most `9n + 1` looks.
         ensures at_most { result.1 ≤ 12 * (length (chars s.now) + 1) }
         ensures at_most_nine { result.1 ≤ 9 * length (chars s.now) + 1 }
+        // With a tree it takes at least `n + 1`.
         ensures with_tree { OnOk result.0 (length (chars s.now) + 1 ≤ result.1) }
+        // Of a refused text it takes no fewer than characters stand before its span's end, or before what is left after
+        // an expression.
         ensures at_least { IfParse result.0
             (λ e. IfSome (span_in e) (λ span. IsLookedTo s.now (looked_to (fault_in e) span) result.1)) }
     {
@@ -297,7 +304,7 @@ impl CfgExpr {
     /// nothing refused.
     #[inline(always)]
     pub fn into_parts(self) -> CfgExprParts
-        // Put together again, the parts are the expression.
+        // The parts make the expression again.
         ensures { joined result ≡ self }
     {
         match self {

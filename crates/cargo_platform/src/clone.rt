@@ -16,6 +16,7 @@ impl Ident {
     /// A copy with the same name and the same raw mark. It refuses only where memory is refused.
     #[inline(always)]
     pub fn clone(&self, alloc: Global) -> Result<Ident, AllocError>
+        // A copy stands for the same, marks too.
         ensures { IfOk result (λ copy. name_of copy ≡ name_of self.now) }
     {
         Ok(Ident {
@@ -29,6 +30,7 @@ impl Cfg {
     /// A copy with the same name or key, raw mark and value. It refuses only where memory is refused.
     #[inline(always)]
     pub fn clone(&self, alloc: Global) -> Result<Cfg, AllocError>
+        // A copy stands for the same, marks too.
         ensures { IfOk result (λ copy. value_of copy ≡ value_of self.now) }
     {
         match self {
@@ -45,6 +47,7 @@ impl CfgExpr {
     /// A copy of the whole tree, with its raw marks. It refuses only where memory is refused.
     #[inline(always)]
     pub fn clone(&self, alloc: Global) -> Result<CfgExpr, AllocError>
+        // A copy stands for the same, marks too.
         ensures { IfOk result (λ copy. tree_of copy ≡ tree_of self.now) }
     {
         copy_tree(alloc, self)
@@ -235,6 +238,7 @@ impl Platform {
     /// A copy of the same platform, with the raw marks of its expression. It refuses only where memory is refused.
     #[inline(always)]
     pub fn clone(&self, alloc: Global) -> Result<Platform, AllocError>
+        // A copy stands for the same, marks too.
         ensures { IfOk result (λ copy. condition_of copy ≡ condition_of self.now) }
     {
         match self {

@@ -10,6 +10,7 @@ impl fmt::Display for Ident {
     ghost use Rattle.cargo_platform.specs.Trees.{name_of};
     ghost use Rattle.cargo_platform.specs.Print.{print_name};
 
+    // It prints exactly the bytes of the definition.
     ghost output = { λ i. Some (print_name (name_of i)) };
 
     fn fmt<W: fmt::Write>(&self, f: &mut fmt::Formatter<W>) -> fmt::Result {
@@ -25,6 +26,7 @@ impl fmt::Display for Cfg {
     ghost use Rattle.cargo_platform.specs.Trees.{value_of};
     ghost use Rattle.cargo_platform.specs.Print.{print_value};
 
+    // It prints exactly the bytes of the definition.
     ghost output = { λ c. Some (print_value (value_of c)) };
 
     fn fmt<W: fmt::Write>(&self, f: &mut fmt::Formatter<W>) -> fmt::Result {
@@ -45,6 +47,7 @@ impl fmt::Display for CfgExpr {
     ghost use Rattle.cargo_platform.specs.Trees.{tree_of};
     ghost use Rattle.cargo_platform.specs.Print.{print};
 
+    // It prints exactly the bytes of the definition.
     ghost output = { λ e. Some (print (tree_of e)) };
 
     fn fmt<W: fmt::Write>(&self, f: &mut fmt::Formatter<W>) -> fmt::Result {
@@ -57,6 +60,7 @@ impl fmt::Debug for CfgExpr {
     ghost use Rattle.cargo_platform.specs.Trees.{tree_of};
     ghost use Rattle.cargo_platform.specs.Print.{print};
 
+    // It prints exactly the bytes of the definition.
     ghost debug_output = { λ e. Some (print (tree_of e)) };
 
     // As it prints, since the derived text takes stack for each level.
@@ -209,6 +213,7 @@ impl fmt::Display for Platform {
     ghost use Rattle.cargo_platform.specs.Trees.{condition_of};
     ghost use Rattle.cargo_platform.specs.Print.{print_condition};
 
+    // It prints exactly the bytes of the definition.
     ghost output = { λ p. Some (print_condition (condition_of p)) };
 
     fn fmt<W: fmt::Write>(&self, f: &mut fmt::Formatter<W>) -> fmt::Result {

@@ -52,6 +52,7 @@ impl ParseError {
 
     /// The error of a text, of which it keeps a copy, with no span. Without memory for the copy the kind is dropped.
     pub fn new(alloc: Global, orig: &str, kind: ParseErrorKind) -> Result<ParseError, AllocError>
+        // It holds what was given, and no span.
         ensures of { IfOk result (λ e. orig_of e ≡ orig.now) }
         ensures why { IfOk result (λ e. fault_in e ≡ fault_meant kind) }
         ensures nowhere { IfOk result (λ e. span_in e ≡ None) }
@@ -77,6 +78,7 @@ impl ParseError {
 
     /// What is wrong with the text.
     pub fn kind(&self) -> &ParseErrorKind
+        // What the error holds.
         ensures { fault_meant result.now ≡ fault_in self.now }
     {
         &self.kind
@@ -84,6 +86,7 @@ impl ParseError {
 
     /// The whole text that was refused.
     pub fn orig(&self) -> &str
+        // What the error holds.
         ensures { result.now ≡ orig_of self.now }
     {
         &self.refused.orig
@@ -94,6 +97,7 @@ impl ParseError {
     /// on; and the empty span at the end where the text ends too early. An error of a reader has a span, and one that
     /// `new` made has none.
     pub fn span(&self) -> Option<Range<usize>>
+        // What the error holds.
         ensures { result ≡ span_in self.now }
     {
         match &self.refused.span {
@@ -117,6 +121,7 @@ impl fmt::Display for ParseErrorKind {
     ghost use Rattle.cargo_platform.specs.Print.{print_fault};
     ghost use Rattle.cargo_platform.specs.Errors.{fault_meant};
 
+    // It prints exactly the bytes of the definition.
     ghost output = { λ k. Some (print_fault (fault_meant k)) };
 
     fn fmt<W: fmt::Write>(&self, f: &mut fmt::Formatter<W>) -> fmt::Result {
@@ -155,6 +160,7 @@ impl fmt::Display for ParseError {
     ghost use Rattle.cargo_platform.specs.Print.{print_error};
     ghost use Rattle.cargo_platform.specs.Errors.{fault_in, orig_of};
 
+    // It prints exactly the bytes of the definition.
     ghost output = { λ e. Some (print_error (orig_of e) (fault_in e)) };
 
     fn fmt<W: fmt::Write>(&self, f: &mut fmt::Formatter<W>) -> fmt::Result {
@@ -169,6 +175,7 @@ impl std::error::Error for ParseError {}
 impl fmt::Display for ReadError {
     ghost use Rattle.cargo_platform.specs.Errors.{print_refusal};
 
+    // But for `Memory`, it prints exactly the bytes of the definition.
     ghost output = { λ e. print_refusal e };
 
     fn fmt<W: fmt::Write>(&self, f: &mut fmt::Formatter<W>) -> fmt::Result {

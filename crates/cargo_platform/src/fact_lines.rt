@@ -65,17 +65,15 @@ fn read_line(alloc: Global, number: usize, line: &str) -> Result<Cfg, FactsError
 /// no fact is refused with `FactsError::Line` of the first such line. Where memory is refused the answer is
 /// `FactsError::Memory`, whatever the text.
 pub fn read_facts(alloc: Global, text: &str) -> Result<Vec<Cfg>, FactsError>
-    // What is read is what the lines spell, one fact a line.
+    // Answers are what the lines spell, one fact a line.
     ensures facts { IfOk result (λ v. SpellFacts (lines_of text.now) (map value_of v.items)) }
-    // The first line that spells no fact is refused. The error is of that line, is its first fault,
-    // and tells its span in that line.
+    // The error is of the first line that spells none, with its fault and span.
     ensures refused { IfLine result (λ n e. IsFirstNoFact (lines_of text.now) n) }
     ensures orig { IfLine result (λ n e. orig_of e ≡ line_at (lines_of text.now) n) }
     ensures fault { IfLine result (λ n e. IsRefused Values (line_at (lines_of text.now) n) (fault_in e)) }
     ensures span { IfLine result
         (λ n e. IsRefusedAt Values (line_at (lines_of text.now) n) (fault_in e) (span_in e)) }
-    // The other clauses follow by the laws. The prints of well-formed facts, one a line, are answered by those very
-    // facts.
+    // Answers are well-formed. Prints of well-formed facts, one a line, read back.
     ensures well_formed { IfOk result (λ v. AllByRecursion IsWellFormedValue (map value_of v.items)) }
     ensures reads_back { (cs : List CfgValue) → AllByRecursion IsWellFormedValue cs
         → AllByRecursion IsUnbroken (map print_value cs) → text.now ≡ ended (map print_value cs)
@@ -98,6 +96,7 @@ impl FactsError {
     /// Where the fault lies in the text of facts, in bytes of the whole text: in the line of its number. `None` with a
     /// text that has no such line there, and where memory was refused.
     pub fn span_in(&self, text: &str) -> Option<Range<usize>>
+        // Where the fault lies in the whole text.
         ensures { IsSpanInFacts text.now self.now result }
     {
         let FactsError::Line { number, error } = self else {
@@ -155,6 +154,7 @@ fn first_line(text: &str) -> Option<&str>
 impl fmt::Display for FactsError {
     ghost use Rattle.cargo_platform.specs.FactLines.{print_facts_error};
 
+    // But for `Memory`, it prints exactly the bytes of the definition.
     ghost output = { λ e. print_facts_error e };
 
     fn fmt<W: fmt::Write>(&self, f: &mut fmt::Formatter<W>) -> fmt::Result {

@@ -165,6 +165,7 @@ pub struct FactIndex {
 impl FactIndex {
     /// An index of copies of the facts in `cfg`. It refuses only where memory is refused.
     pub fn new(alloc: Global, cfg: &[Cfg]) -> Result<FactIndex, AllocError>
+        // It means the set of its facts.
         ensures { IfOk result (λ index. ⟦<FactIndex as Facts>⟧.meant index ≡ fact_set (map value_of cfg.now)) }
     {
         let name_count = cfg
@@ -208,6 +209,7 @@ impl CfgExpr {
     /// asks for every member and `any` for some member, so that `all()` is true and `any()` is false. This is the
     /// conditional compilation of the Rust reference, as Cargo's reference uses it to select dependencies by platform.
     pub fn matches(&self, cfg: &[Cfg]) -> bool
+        // Truth is over the set of facts: order, repeats and marks play no part.
         ensures { result ≡ truth (fact_set (map value_of cfg.now)) (tree_of self.now) }
     {
         self.matches_in(&Listed(cfg))
@@ -216,6 +218,7 @@ impl CfgExpr {
     /// Whether the expression is true over the set of facts that the holder means. The holder is asked as often as
     /// `matches_counted` tells.
     pub fn matches_in<F: Facts>(&self, facts: &F) -> bool
+        // Truth is over the set of facts: order, repeats and marks play no part.
         ensures { result ≡ truth (F.meant facts.now) (tree_of self.now) }
     {
         self.is_true_in(facts, &mut Uncounted)
@@ -225,7 +228,10 @@ impl CfgExpr {
     /// often the holder was asked: for each name and pair once at most, from left to right, and for none after one
     /// that settles its group.
     pub fn matches_counted<F: Facts>(&self, facts: &F) -> (bool, Asks)
+        // Truth is over the set of facts: order, repeats and marks play no part.
         ensures truth { result.0 ≡ truth (F.meant facts.now) (tree_of self.now) }
+        // A holder is asked once for each name and pair, from left to right, and for none after one that settles its
+        // group.
         ensures asks { result.1 ≡ min (asks (F.meant facts.now) (tree_of self.now)) (2 ^ 128 - 1) }
     {
         let mut asks = Asks::none();

@@ -19,6 +19,7 @@ impl ParseError {
     ///
     /// An error does not know its reader, so ask with the key that `Platform::from_str` refused.
     pub fn span_in(&self, key: &str) -> Option<Range<usize>>
+        // Where the fault lies in the whole key.
         ensures { IsSpanInKey key.now (orig_of self.now) (fault_in self.now) (span_in self.now) result }
     {
         let span = self.span()?;
@@ -29,6 +30,7 @@ impl ParseError {
     /// Two lines for people as those of `snippet`, which show the key of a manifest and the span in it. Where `span_in`
     /// answers `None` there are none.
     pub fn snippet_in(&self, alloc: Global, key: &str) -> Result<Option<String>, AllocError>
+        // Where the fault lies in the whole key.
         ensures { IfOk result
             (λ s. IsSnippetOfKey key.now (orig_of self.now) (fault_in self.now) (span_in self.now) s) }
     {

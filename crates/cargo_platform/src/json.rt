@@ -29,6 +29,7 @@ pub enum JsonError {
 impl Platform {
     /// The printed condition, as a JSON text. It refuses only where memory is refused.
     pub fn to_json(&self, alloc: Global) -> Result<Value, AllocError>
+        // The print, as a text.
         ensures { IfOk result (λ v. view v ≡ json.string (print_condition (condition_of self.now))) }
     {
         Ok(Value::String(format!(in alloc; "{self}")?))
@@ -39,18 +40,15 @@ impl Platform {
     /// A null, a truth value, a number, a list and an object are refused with `NotText`, and only these. A text is
     /// refused as `from_str` refuses it, with the same error.
     pub fn from_json(alloc: Global, value: &Value) -> Result<Platform, JsonError>
-        // Exactly what is no text is refused as no text.
+        // `NotText` comes exactly of what is no text.
         ensures not_text { IsErrOf result NotText ↔ (IsText (view value.now) → ⊥) }
-        // What is read is the condition that the text spells.
+        // A text is read as `from_str` promises.
         ensures condition { (text : List ℕ) → view value.now ≡ json.string text
             → IfOk result (λ p. IsConditionText text (condition_of p)) }
-        // The error is the fault of the text between `cfg(` and `)`, and else of the whole text.
         ensures fault { (text : List ℕ) → view value.now ≡ json.string text
             → IfJsonParse result (λ e. IsRefusedCondition text (orig_of e) (fault_in e)) }
         ensures span { (text : List ℕ) → view value.now ≡ json.string text
             → IfJsonParse result (λ e. IsRefusedConditionAt text (orig_of e) (fault_in e) (span_in e)) }
-        // The other clauses follow by the laws. No text that spells a condition is refused, and the JSON text of a
-        // well-formed condition is answered by that very condition.
         ensures well_formed { IfOk result (λ p. IsWellFormedCondition (condition_of p)) }
         ensures refused { (text : List ℕ) → view value.now ≡ json.string text
             → IfJsonParse result (λ _. (c : Condition) → IsConditionText text c → ⊥) }

@@ -18,6 +18,7 @@ use std::cmp::Ordering;
 use std::hash::{Hash, Hasher};
 
 impl PartialEq for Ident {
+    // Equality, a total order and the hash go by the key.
     ghost eq = { on name_of (eq_by_cmp name_cmp) };
 
     ghost laws = { partial_equiv_from_equiv (on_equiv name_of (eq_by_cmp_equiv name_total)) };
@@ -43,6 +44,7 @@ impl PartialOrd for Ident {
 }
 
 impl Ord for Ident {
+    // Equality, a total order and the hash go by the key.
     ghost cmp = { on name_of name_cmp };
 
     ghost total = { on_total name_of name_total };
@@ -57,6 +59,7 @@ impl Ord for Ident {
 }
 
 impl Hash for Ident {
+    // Equality, a total order and the hash go by the key.
     ghost hash_input = { λ i. name_hash (name_of i) };
 
     ghost respects_eq = { λ a b same. name_alike (name_of a) (name_of b)
@@ -68,6 +71,7 @@ impl Hash for Ident {
 }
 
 impl PartialEq for Cfg {
+    // Equality, a total order and the hash go by the key.
     ghost eq = { on value_of (eq_by_cmp value_cmp) };
 
     ghost laws = { partial_equiv_from_equiv (on_equiv value_of (eq_by_cmp_equiv value_total)) };
@@ -96,6 +100,7 @@ impl PartialOrd for Cfg {
 }
 
 impl Ord for Cfg {
+    // Equality, a total order and the hash go by the key.
     ghost cmp = { on value_of value_cmp };
 
     ghost total = { on_total value_of value_total };
@@ -121,6 +126,7 @@ impl Ord for Cfg {
 }
 
 impl Hash for Cfg {
+    // Equality, a total order and the hash go by the key.
     ghost hash_input = { λ c. value_hash (value_of c) };
 
     ghost respects_eq = { λ a b same. value_alike (value_of a) (value_of b)

@@ -11,7 +11,9 @@ use crate::tokens::{Token, Tokenizer};
 /// over the tokens: one within quotes does not count, nor does what stands behind a token fault. A `)` that closes none
 /// is passed over. The parenthesis of a key's `cfg(` counts too.
 pub fn nesting(text: &str) -> usize
+    // The most parentheses that are open at once, over the cut.
     ensures nesting { IsNesting text.now result }
+    // Of an expression, the groups on the longest way down its tree.
     ensures tree { IsDeepAsTree text.now result }
 {
     let mut unclosed: usize = 0;
@@ -31,6 +33,7 @@ pub fn nesting(text: &str) -> usize
 /// The place in bytes of the first `(` with which more than so many parentheses are open, or `None` where a text is
 /// nested no deeper.
 pub fn nesting_beyond(text: &str, most: usize) -> Option<usize>
+    // The first `(` with which more than `most` are open, or nothing where none is.
     ensures passed { IfSome result (λ at. IsPassedAt text.now most at) }
     ensures beyond { IfSome result (λ _. IsNestedBeyond text.now most) }
     ensures within { IfNone result (IsNestedWithin text.now most) }

@@ -36,16 +36,16 @@ impl Platform {
     /// first such character. Alphabetic are the characters with that property of Unicode, and numbers those of the
     /// general categories Nd, Nl and No.
     pub fn from_str(alloc: Global, s: &str) -> Result<Platform, ReadError>
-        // What is read is the condition that the text spells.
+        // `Ok` comes only of what the text spells.
         ensures condition { IfOk result (λ p. IsConditionText s.now (condition_of p)) }
-        // The error is the fault of the text between `cfg(` and `)`, and else of the whole text.
+        // The error is that of the text between `cfg(` and `)`, and else of the whole key.
         ensures fault { IfParse result (λ e. IsRefusedCondition s.now (orig_of e) (fault_in e)) }
-        // Its span is one of that text.
         ensures span { IfParse result (λ e. IsRefusedConditionAt s.now (orig_of e) (fault_in e) (span_in e)) }
-        // The other clauses follow by the laws. No text that spells a condition is refused, and the print of a
-        // well-formed condition is answered by that very condition.
+        // Answers are well-formed.
         ensures well_formed { IfOk result (λ p. IsWellFormedCondition (condition_of p)) }
+        // `Parse` comes only of a text that spells nothing. So what spells something is read, if memory suffices.
         ensures refused { IfParse result (λ _. (c : Condition) → IsConditionText s.now c → ⊥) }
+        // What is well-formed reads back from its print.
         ensures reads_back { (c : Condition) → IsWellFormedCondition c → s.now ≡ print_condition c
             → IfOk result (λ p. condition_of p ≡ c) × IfParse result (λ _. ⊥) }
     {
@@ -72,6 +72,7 @@ impl Platform {
     /// Whether the condition holds for a target with this name and these facts: a name where it is the target's name,
     /// and an expression where it is true over the facts, whatever the name.
     pub fn matches(&self, name: &str, cfg: &[Cfg]) -> bool
+        // Truth is over the set of facts: order, repeats and marks play no part.
         ensures truth { result
             ≡ truth_of_condition name.now (fact_set (map value_of cfg.now)) (condition_of self.now) }
         ensures applies { IsTrue result
@@ -86,7 +87,10 @@ impl Platform {
     /// Whether the condition holds for a target with this name and the facts of the holder, as `matches` answers, and
     /// how often the holder was asked: for a name never, and for an expression as `CfgExpr::matches_counted` says.
     pub fn matches_counted<F: Facts>(&self, name: &str, facts: &F) -> (bool, Asks)
+        // Truth is over the set of facts: order, repeats and marks play no part.
         ensures truth { result.0 ≡ truth_of_condition name.now (F.meant facts.now) (condition_of self.now) }
+        // A holder is asked once for each name and pair, from left to right, and for none after one that settles its
+        // group.
         ensures asks { result.1 ≡ min (asks_of_condition (F.meant facts.now) (condition_of self.now)) (2 ^ 128 - 1) }
     {
         match self {
@@ -101,12 +105,12 @@ impl CfgExpr {
     /// every other key: an expression that is not true, the name of a target, and a text that is refused. An
     /// allocation failure is the only error, and is never taken for false.
     pub fn matches_key(alloc: Global, key: &str, cfg: &[Cfg]) -> Result<bool, AllocError>
-        // The key spells a tree that is true over the facts.
+        // `true` comes only where the key spells a tree that is true over the facts.
         ensures yes { IfOk result
             (λ answer. IsTrue answer
             → (e : Tree) × IsConditionText key.now (Expression e)
             × IsTrue (truth (fact_set (map value_of cfg.now)) e)) }
-        // No tree that the key spells is.
+        // `false` comes only where it spells none.
         ensures otherwise { IfOk result
             (λ answer. answer ≡ false → (e : Tree) → IsConditionText key.now (Expression e)
             → truth (fact_set (map value_of cfg.now)) e ≡ false) }

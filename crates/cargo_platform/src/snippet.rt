@@ -33,6 +33,7 @@ impl ParseError {
     /// shown, the first 40 of a longer span, and else 100 in all, with `..` at each side that is cut. A text that the
     /// kind holds is shown and cut in the same way, from its start on.
     pub fn snippet(&self, alloc: Global) -> Result<Option<String>, AllocError>
+        // The text with carets under the span, cut, and U+FFFD for what is hidden.
         ensures { IfOk result (λ s. IsSnippet (orig_of self.now) (span_in self.now) (fault_in self.now) s) }
     {
         match self.span() {
@@ -45,6 +46,7 @@ impl ParseError {
 /// The text as snippets show it, in whole: a character is shown as U+FFFD that is neither the space U+0020 nor in one
 /// of the general categories L, N, P and S. So a printed text forges no line.
 pub fn shown_text(alloc: Global, text: &str) -> Result<String, AllocError>
+    // The text with U+FFFD for what is hidden.
     ensures { IfOk result (λ s. string_bytes s ≡ encode_utf8_all (map shown (chars text.now))) }
 {
     text.chars().map(shown).collect(alloc)
@@ -53,6 +55,7 @@ pub fn shown_text(alloc: Global, text: &str) -> Result<String, AllocError>
 /// The text as snippets show one that is their fault's: as `shown_text`, and of more than 100 characters the first 100
 /// with `..` after.
 pub fn shown_start(alloc: Global, text: &str) -> Result<String, AllocError>
+    // The text with U+FFFD for what is hidden, cut after 100 characters.
     ensures { IfOk result (λ s. string_bytes s ≡ shown_line (chars text.now) 0 0) }
 {
     shown_line(alloc, text, 0, 0)

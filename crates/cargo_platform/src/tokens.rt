@@ -40,6 +40,7 @@ pub enum Token<'a> {
 impl<'a> Token<'a> {
     /// What the token is called in a fault: its character in backquotes, "an identifier" or "a string".
     pub fn classify(&self) -> &'static str
+        // What faults call the token.
         ensures { result.now ≡ called (lexeme self.now) }
     {
         match self {
@@ -132,8 +133,13 @@ impl<'a> Iterator for Tokenizer<'a> {
 
     type Item = Result<Spanned<'a>, TokenFault>;
 
+    // Each call is a step of the cut (`gives`): the next token with its span, the tail's fault once, or nothing. Spans
+    // begin and end at characters (`begins`, `reached`), and name and value are bytes inside. Until a fault, the `n`
+    // characters before the place took `n + 1` to `9n + 1` looks (`at_least`, `at_most`). One call takes at most `9n +
+    // 1`, with `n` characters left (`at_most_ever`, `call`, `call_ever`).
     ghost next_gives = { NextCall };
 
+    // The calls come to an end.
     ghost remaining = { λ t. at_most (results_left t) };
 
     #[inline(always)]

@@ -28,6 +28,7 @@ impl Platform {
         alloc: Global,
         warnings: &mut Vec<String>,
     ) -> Result<(), AllocError>
+        // The stated warnings are added in their order, and on failure none.
         ensures ok { OnOk result
             (texts warnings.new ≡ texts warnings.old ++ attribute_warnings (condition_of self.now)) }
         ensures err { OnErr result (texts warnings.new ≡ texts warnings.old) }
@@ -47,6 +48,7 @@ impl Platform {
         warnings: &mut Vec<String>,
         path: &str,
     ) -> Result<(), AllocError>
+        // The stated warnings are added in their order, and on failure none.
         ensures ok { OnOk result
             (texts warnings.new ≡ texts warnings.old ++ keyword_warnings path.now (condition_of self.now)) }
         ensures err { OnErr result (texts warnings.new ≡ texts warnings.old) }

@@ -18,7 +18,10 @@ pub const FAMILY_RULE: &str = "all(\
 
 /// The rule of `FAMILY_RULE`, for a caller that assumes it.
 pub fn family_rule(alloc: Global) -> Result<CfgExpr, AllocError>
+    // The rule is what `FAMILY_RULE` spells.
     ensures text { IfOk result (λ rule. IsTreeText FAMILY_RULE.now (tree_of rule)) }
+    // It is true over exactly the sets with `unix` if and only if they have `target_family = "unix"`, and so for
+    // `windows`.
     ensures sets { IfOk result (λ rule. (s : FactSet)
         → (truth s (tree_of rule) ≡ true) ↔ KeepsFamilyRule s) }
 {

@@ -71,6 +71,11 @@ pub fn can_hold_platform<'a>(
     known: &'a Known<'a>,
     budget: u64,
 ) -> Result<CanSelect, AllocError>
+    // Of a `Yes`, the condition holds for the example, which is possible. Of a `No`, it holds for no name over any
+    // possible set.
+    //
+    // `Undecided` comes only where the budget is too small. With `n` open pairs in what is asked and assumed, `2^n - 1`
+    // splits are enough.
     ensures { IfOk result (λ r. SaysCanSelect r known.now (condition_of platform.now ∷ []) budget
         (λ name s. IsTrueCondition name s (condition_of platform.now))
         (λ name s. IsTrueCondition name s (condition_of platform.now) → ⊥)) }
@@ -86,6 +91,10 @@ pub fn always_platform<'a>(
     known: &'a Known<'a>,
     budget: u64,
 ) -> Result<MustSelect, AllocError>
+    // A `Yes` is so for each name over each possible set of facts. A `No` is not so for the example, which is possible.
+    //
+    // `Undecided` comes only where the budget is too small. With `n` open pairs in what is asked and assumed, `2^n - 1`
+    // splits are enough.
     ensures { IfOk result (λ r. SaysMustSelect r known.now (condition_of platform.now ∷ []) budget
         (λ name s. IsTrueCondition name s (condition_of platform.now) → ⊥)
         (λ name s. IsTrueCondition name s (condition_of platform.now))) }
@@ -102,6 +111,10 @@ pub fn implies_platform<'a>(
     known: &'a Known<'a>,
     budget: u64,
 ) -> Result<MustSelect, AllocError>
+    // A `Yes` is so for each name over each possible set of facts. A `No` is not so for the example, which is possible.
+    //
+    // `Undecided` comes only where the budget is too small. With `n` open pairs in what is asked and assumed, `2^n - 1`
+    // splits are enough.
     ensures { IfOk result (λ r. SaysMustSelect r known.now (condition_of a.now ∷ condition_of b.now ∷ []) budget
         (λ name s. IsTrueCondition name s (condition_of a.now) × (IsTrueCondition name s (condition_of b.now) → ⊥))
         (λ name s. IsTrueCondition name s (condition_of a.now) → IsTrueCondition name s (condition_of b.now))) }
@@ -125,6 +138,10 @@ pub fn exclude_platform<'a>(
     known: &'a Known<'a>,
     budget: u64,
 ) -> Result<MustSelect, AllocError>
+    // A `Yes` is so for each name over each possible set of facts. A `No` is not so for the example, which is possible.
+    //
+    // `Undecided` comes only where the budget is too small. With `n` open pairs in what is asked and assumed, `2^n - 1`
+    // splits are enough.
     ensures { IfOk result (λ r. SaysMustSelect r known.now (condition_of a.now ∷ condition_of b.now ∷ []) budget
         (λ name s. IsTrueCondition name s (condition_of a.now) × IsTrueCondition name s (condition_of b.now))
         (λ name s. IsTrueCondition name s (condition_of a.now) → IsTrueCondition name s (condition_of b.now) → ⊥)) }
@@ -148,6 +165,10 @@ pub fn equivalent_platform<'a>(
     known: &'a Known<'a>,
     budget: u64,
 ) -> Result<MustSelect, AllocError>
+    // A `Yes` is so for each name over each possible set of facts. A `No` is not so for the example, which is possible.
+    //
+    // `Undecided` comes only where the budget is too small. With `n` open pairs in what is asked and assumed, `2^n - 1`
+    // splits are enough.
     ensures { IfOk result (λ r. SaysMustSelect r known.now (condition_of a.now ∷ condition_of b.now ∷ []) budget
         (λ name s. (IsTrueCondition name s (condition_of a.now) ↔ IsTrueCondition name s (condition_of b.now)) → ⊥)
         (λ name s. IsTrueCondition name s (condition_of a.now) ↔ IsTrueCondition name s (condition_of b.now))) }

@@ -24,6 +24,7 @@ use std::alloc::{AllocError, Global};
 /// It goes over the expression once, with a set of targets for each part, and without recursion. It refuses only where
 /// memory is refused. A condition that holds at no known target may hold at one that rustc does not know.
 pub fn matching(alloc: Global, platform: &Platform) -> Result<TargetSet, AllocError>
+    // A target is in the set exactly if the condition holds there.
     ensures { IfOk result (λ set. (k : ℕ) → k < COUNT → IsTrue (is_member set k)
         ↔ IsTrueCondition (target_name k) (target_facts k) (condition_of platform.now)) }
 {
@@ -42,9 +43,11 @@ pub fn certainly_matching(
     platform: &Platform,
     open_keys: &[&str],
 ) -> Result<TargetSet, AllocError>
+    // A target is in the set exactly if the condition is true by the facts that are not open, in Kleene's logic.
     ensures exact { IfOk result (λ set. (k : ℕ) → k < COUNT → IsTrue (is_member set k)
         ↔ (kleene_condition (Some (target_name k)) (open_told (target_facts k) (names_of open_keys.now))
         (condition_of platform.now) ≡ Some true)) }
+    // At a target in the set, the condition holds over each set of facts that is the target's but for open ones.
     ensures sound { IfOk result (λ set. (k : ℕ) (s : FactSet) → k < COUNT → IsTrue (is_member set k)
         → IsSameButOpen (target_facts k) (names_of open_keys.now) s
         → IsTrueCondition (target_name k) s (condition_of platform.now)) }
@@ -61,9 +64,11 @@ pub fn possibly_matching(
     platform: &Platform,
     open_keys: &[&str],
 ) -> Result<TargetSet, AllocError>
+    // A target is not in the set exactly if the condition is false by the facts that are not open, in Kleene's logic.
     ensures exact { IfOk result (λ set. (k : ℕ) → k < COUNT → (is_member set k ≡ false)
         ↔ (kleene_condition (Some (target_name k)) (open_told (target_facts k) (names_of open_keys.now))
         (condition_of platform.now) ≡ Some false)) }
+    // A target is in the set where the condition holds over some set of facts that is the target's but for open ones.
     ensures sound { IfOk result (λ set. (k : ℕ) (s : FactSet) → k < COUNT
         → IsSameButOpen (target_facts k) (names_of open_keys.now) s
         → IsTrueCondition (target_name k) s (condition_of platform.now) → IsTrue (is_member set k)) }
@@ -91,6 +96,7 @@ fn taken_at(
 
 /// The targets that have the fact, whatever its raw mark.
 pub fn having(c: &Cfg) -> TargetSet
+    // A target is in the set exactly if it has the fact.
     ensures { (k : ℕ) → k < COUNT → is_member result k ≡ contains (target_facts k) (pair_of (value_of c.now)) }
 {
     targets_with(keys(), c)

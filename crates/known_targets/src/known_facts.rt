@@ -30,8 +30,11 @@ pub struct KnownFact {
 ///
 /// A fact that is not among them is had by no known target. It refuses only where memory is refused.
 pub fn all_facts(alloc: Global) -> Result<Vec<KnownFact>, AllocError>
+    // The facts are sorted, and each stands once.
     ensures sorted { IfOk result (λ facts. IsStrictlySortedBy value_cmp (fact_values facts.items)) }
+    // Each fact has exactly the targets that have it, and some do.
     ensures each { IfOk result (λ facts. All (IsFactOf table_keys) facts.items) }
+    // Each fact of a known target is there.
     ensures all { IfOk result (λ facts. (k : ℕ) → k < COUNT
         → HasAllFacts (target_facts k) (fact_set (fact_values facts.items))) }
 {

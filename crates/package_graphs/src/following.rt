@@ -23,6 +23,8 @@ impl PackageSets {
         from: usize,
         dependency: &Dependency,
     ) -> TargetSet
+        // A target is in the set exactly if the package is there on a side, and the dependency is followed and holds
+        // from it.
         ensures { (k : ℕ) → k < COUNT → IsTrue (is_member result k)
             ↔ IsFollowedAt self.now packages.now kinds host from dependency.now k }
     {

@@ -20,6 +20,7 @@ pub struct PackageSets {
 impl PackageSets {
     /// The targets at which the package at this place is there, built for this side.
     pub fn on(&self, index: usize, side: Side) -> TargetSet
+        // The answer is the set of the package for the side.
         ensures { (k : ℕ) → k < COUNT → is_member result k ≡ is_on self.now index side k }
     {
         if index > self.sets.len() / 2 {
@@ -34,6 +35,7 @@ impl PackageSets {
 
     /// The targets at which the package at this place is there.
     pub fn at(&self, index: usize) -> TargetSet
+        // The answer has the targets of both sides.
         ensures { (k : ℕ) → k < COUNT → is_member result k ≡ is_at self.now index k }
     {
         self.on(index, Side::Target)
@@ -51,8 +53,10 @@ pub fn present_packages(
     kinds: Kinds,
     host: Option<KnownTarget>,
 ) -> Result<PackageSets, AllocError>
+    // A target is in the set of a package, for a side, exactly if dependencies that hold lead there from a root.
     ensures exact { IfOk result (λ sets. (n : Sided) (k : ℕ) → n.0 < length packages.now → k < COUNT
         → IsTrue (is_on sets n.0 n.1 k) ↔ IsThereOn packages.now kinds host k n) }
+    // Without a host, each dependency is asked of the target.
     ensures without_host { host ≡ None → IfOk result (λ sets. (p k : ℕ) → p < length packages.now → k < COUNT
         → IsTrue (is_at sets p k) ↔ IsThere packages.now kinds k p) }
 {

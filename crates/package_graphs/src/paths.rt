@@ -53,6 +53,7 @@ pub fn shortest_path(
     at: KnownTarget,
     to: usize,
 ) -> Result<Option<Vec<Step>>, AllocError>
+    // The steps lead from a root to the package at the target, and no fewer steps do.
     ensures { IfOk result (λ found. IfSome found
         (λ steps. IsShortest packages.now kinds host (place at) steps.items to)) }
 {

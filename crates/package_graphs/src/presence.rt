@@ -20,7 +20,9 @@ use std::alloc::{AllocError, Global};
 /// It goes over the edges of a node again only after its set has grown. It refuses only where memory is refused. A root
 /// that is no node is passed over, and so is an edge to none.
 pub fn present(alloc: Global, graph: &Graph, roots: &[usize]) -> Result<Vec<TargetSet>, AllocError>
+    // Each node has a set.
     ensures count { IfOk result (λ sets. vec_len sets ≡ length (edge_lists graph.now)) }
+    // A target is in the set of a node exactly if edges lead there from a root, each of which holds at it.
     ensures exact { IfOk result (λ sets. (n k : ℕ) → n < length (edge_lists graph.now) → k < COUNT
         → IsTrue (is_in sets.items n k) ↔ IsPresent (edge_lists graph.now) roots.now k n) }
 {
@@ -37,9 +39,12 @@ pub struct Counted {
 
 /// What `present` answers, and for each node how often its edges were gone over: at most once for each known target.
 pub fn present_counted(alloc: Global, graph: &Graph, roots: &[usize]) -> Result<Counted, AllocError>
+    // Each node has a set.
     ensures count { IfOk result (λ c. vec_len c.sets ≡ length (edge_lists graph.now)) }
+    // A target is in the set of a node exactly if edges lead there from a root, each of which holds at it.
     ensures exact { IfOk result (λ c. (n k : ℕ) → n < length (edge_lists graph.now) → k < COUNT
         → IsTrue (is_in c.sets.items n k) ↔ IsPresent (edge_lists graph.now) roots.now k n) }
+    // The edges of a node are gone over at most as often as there are known targets.
     ensures rounds { IfOk result (λ c. (n : ℕ) → slice_index c.rounds.items n ≤ COUNT) }
 {
     let mut sets = vec![in alloc; TargetSet::none(); graph.len()]?;

@@ -59,19 +59,31 @@ pub fn run<R: Read, W: Write>(
 ) -> Result<Outcome, RunError>
     requires unread { read_counts input.old ≡ no_reads }
     requires unwritten { write_counts output.old ≡ no_writes }
+    // With an outcome, the input was read to its end or is too long, and the output was written, then flushed once.
+    // Interrupted calls were repeated, and nothing failed.
+    //
+    // A key with more than 100,000 groups in one another is refused, whatever else is wrong, at the first parenthesis
+    // too many.
     ensures ran { IfOk result (λ outcome. (bs : List ℕ)
         × IsInput (R.remaining (reader_of input.old)) (R.remaining (reader_of input.new)) (read_counts input.new) bs
         × Answers (W.contents (writer_of output.old)) (W.contents (writer_of output.new)) (write_counts output.new)
         outcome bs) }
+    // With `Write`, a beginning of the output was written. A write or the flush failed, or as many writes as bytes and
+    // one were made, more than one of them interrupted.
     ensures write { IsErrOf result RunError.Write → (bs : List ℕ)
         × IsInput (R.remaining (reader_of input.old)) (R.remaining (reader_of input.new)) (read_counts input.new) bs
         × BreaksOff (W.contents (writer_of output.old)) (W.contents (writer_of output.new)) (write_counts output.new)
         bs }
+    // With `Read`, a read failed, or the most reads, 1,048,578, brought neither the end nor a byte too many.
     ensures read { IsErrOf result RunError.Read → HasReadFault (read_counts input.new) }
     ensures within { (read_counts input.new).reads ≤ 1_048_578 }
+    // After `Read` and `Memory` nothing was written.
     ensures read_silent { IsErrOf result RunError.Read → output.new ≡ output.old }
+    // Each read has room for 4,096 bytes.
     ensures room { HadWholeRoom (read_counts input.new) }
+    // With `Memory`, no read had failed, and some byte or the end had come.
     ensures memory { IsErrOf result RunError.Memory → MayWantMemory (read_counts input.new) }
+    // After `Read` and `Memory` nothing was written.
     ensures memory_silent { IsErrOf result RunError.Memory → output.new ≡ output.old }
 {
     let gathered = reading::gather(alloc, input)?;

@@ -112,6 +112,7 @@ fn compare_members(ds: &[CfgExpr], es: &[CfgExpr]) -> Ordering
 }
 
 impl PartialEq for CfgExpr {
+    // Equality, a total order and the hash go by the key.
     ghost eq = { on tree_of (eq_by_cmp tree_cmp) };
 
     ghost laws = { partial_equiv_from_equiv (on_equiv tree_of (eq_by_cmp_equiv tree_total)) };
@@ -136,6 +137,7 @@ impl PartialOrd for CfgExpr {
 }
 
 impl Ord for CfgExpr {
+    // Equality, a total order and the hash go by the key.
     ghost cmp = { on tree_of tree_cmp };
 
     ghost total = { on_total tree_of tree_total };
@@ -211,6 +213,7 @@ fn feed_all_but_last<'a, H: Hasher>(members: &'a [CfgExpr], state: &mut H) -> Op
 }
 
 impl Hash for CfgExpr {
+    // Equality, a total order and the hash go by the key.
     ghost hash_input = { λ e. tree_hash (tree_of e) };
 
     ghost respects_eq = { λ a b same. tree_alike (tree_of a) (tree_of b)

@@ -14,6 +14,7 @@ use std::cmp::Ordering;
 use std::hash::{Hash, Hasher};
 
 impl PartialEq for Platform {
+    // Equality, a total order and the hash go by the key.
     ghost eq = { on condition_of (eq_by_cmp condition_cmp) };
 
     ghost laws = { partial_equiv_from_equiv (on_equiv condition_of (eq_by_cmp_equiv condition_total)) };
@@ -43,6 +44,7 @@ impl PartialOrd for Platform {
 }
 
 impl Ord for Platform {
+    // Equality, a total order and the hash go by the key.
     ghost cmp = { on condition_of condition_cmp };
 
     ghost total = { on_total condition_of condition_total };
@@ -62,6 +64,7 @@ impl Ord for Platform {
 }
 
 impl Hash for Platform {
+    // Equality, a total order and the hash go by the key.
     ghost hash_input = { λ p. condition_hash (condition_of p) };
 
     ghost respects_eq = { λ a b same. condition_alike (condition_of a) (condition_of b)

@@ -13,6 +13,7 @@ impl<'a> Tokenizer<'a> {
     /// The text from the first character that is no space, from the place reached; `None` if only spaces are left.
     /// After a fault it begins at the fault's place.
     pub fn rest(&self) -> Option<&'a str>
+        // The text from the next character that is no space.
         ensures { MatchOption result
             (AreSpaces self.now.text self.now.place (length self.now.text))
             (λ rest. IsRestFrom self.now.text self.now.place rest.now) }

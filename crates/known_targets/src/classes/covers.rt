@@ -51,6 +51,7 @@ pub fn covering(
     facts: &[KnownFact],
     set: TargetSet,
 ) -> Result<Option<Platform>, AllocError>
+    // A condition that is answered holds at each target of the set, and at no other known one.
     ensures { IfOk result (λ p. IfSome p (λ p. HoldsExactly set (condition_of p))) }
 {
     let mut parts = Vec::new(alloc);

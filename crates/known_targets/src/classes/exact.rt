@@ -14,6 +14,7 @@ pub fn exactly(
     platform: Platform,
     set: TargetSet,
 ) -> Result<Option<Platform>, AllocError>
+    // A condition that is answered holds at each target of the set, and at no other known one.
     ensures { IfOk result (λ p. IfSome p (λ p. HoldsExactly set (condition_of p))) }
 {
     let targets = matching(alloc, &platform)?;

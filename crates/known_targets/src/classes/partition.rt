@@ -10,6 +10,7 @@ use std::alloc::{AllocError, Global};
 /// The known targets in classes: two are in one class exactly if each of the sets has both or neither. No class is
 /// empty. It refuses only where memory is refused.
 pub fn classes(alloc: Global, sets: &[TargetSet]) -> Result<Vec<TargetSet>, AllocError>
+    // Each known target is in a class, with exactly those that each of the sets has too, or lacks too.
     ensures { IfOk result (λ classes. AreClasses sets.now classes.items) }
 {
     let mut classes = Vec::new(alloc);
