@@ -100,8 +100,9 @@ fits:
 mutants: rt
 	.ci/mutants $(ONLY)
 
-measure: rt
+measure: build
 	.ci/measure
+	@if command -v cargo > /dev/null; then .ci/graph-speed; else echo "graph-speed: left out, for want of cargo"; fi
 
 targets:
 	.ci/known-targets --renew

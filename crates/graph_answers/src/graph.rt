@@ -229,14 +229,7 @@ pub fn report_on(
     };
     let file = shown_text(alloc, file)?;
     match Value::from_str(alloc, text) {
-        Ok(document) => report_on_document(
-            alloc,
-            file.as_str(),
-            &document,
-            &asked,
-            &audit,
-            words,
-        ),
+        Ok(document) => report_on_document(alloc, file.as_str(), &document, &asked, &audit, words),
         Err(error) => {
             let reason = format!(in alloc; "{error}")?;
             let reason = shown_text(alloc, reason.as_str())?;

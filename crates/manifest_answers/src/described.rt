@@ -84,7 +84,12 @@ pub fn put_described(
     let told = told_of(document, dependency);
     let package = text_at(told, "package").unwrap_or(dependency.name);
     put_text(object, alloc, "package", package)?;
-    put(object, alloc, "version", text_value(alloc, version_of(told))?)?;
+    put(
+        object,
+        alloc,
+        "version",
+        text_value(alloc, version_of(told))?,
+    )?;
     put_text(object, alloc, "source", source_of(told))?;
     let features = features_of(alloc, told)?;
     put(object, alloc, "features", Value::Array(features))?;

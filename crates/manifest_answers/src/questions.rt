@@ -117,9 +117,7 @@ fn unknown_key(alloc: Global, name: &str) -> Result<String, AllocError> {
             "note: no target that rustc {RUSTC_VERSION} knows is named {name}; perhaps {meant} is meant\n"
         ),
         None => {
-            format!(in alloc;
-                "note: no target that rustc {RUSTC_VERSION} knows is named {name}\n"
-            )
+            format!(in alloc; "note: no target that rustc {RUSTC_VERSION} knows is named {name}\n")
         }
     }
 }
