@@ -2,7 +2,7 @@
 # make lint MANIFEST=path  tells what is wrong or odd about the keys of `target` in a manifest, in the same way
 # make build  proves and builds both programs, and says where they are
 # make install PREFIX=..  puts both programs into PREFIX/bin, manifest_check as cargo-manifest-check too, and its man page
-#             and completions into PREFIX/share
+#             and completions into PREFIX/share; where a C compiler is, it does what `make install-c` does too
 # make c-library  proves and builds the library for C, and says where it is
 # make install-c PREFIX=..  puts the library for C, its header, a file for pkg-config and the Python package in place
 # make wheel  builds a wheel of the Python package, with the shared library in it, into out/wheel
@@ -57,6 +57,7 @@ install: build
 	ln -sf manifest_check "$(DESTDIR)$(PREFIX)/bin/cargo-manifest-check"
 	install -d "$(DESTDIR)$(PREFIX)/share"
 	cp -R share/. "$(DESTDIR)$(PREFIX)/share"
+	@! command -v $(CC) > /dev/null || $(MAKE) --no-print-directory install-c
 
 C_LIBRARY := crates/nevgrasi_c/out
 PYTHON_FOLDER ?= $(PREFIX)/lib/python3/dist-packages
