@@ -4,7 +4,7 @@ use crate::dependencies::path_dependencies;
 use crate::folders::candidates;
 use crate::manifests::{
     MANIFEST, folder_of, inside, is_file, is_folder, package_name, table_at, table_in,
-    table_with_word, text_in, texts_in,
+    table_with_word, text_in, texts_in, unless_refused,
 };
 use cargo_platform::shown_text;
 use std::alloc::{AllocError, Global};
@@ -48,13 +48,18 @@ fn tell(found: &mut Found, alloc: Global, file: &str, reason: &str) -> Result<()
     found.errors.push_str(line.as_str())
 }
 
+/// How many components the path of the folder at hand has; none where that is not known.
+fn depth_at_hand<R: Env + AllocGlobal>(rt: &R) -> Result<usize, AllocError> {
+    Ok(match unless_refused(env::current_dir(rt))? {
+        Some(folder) => folder.as_path().components().count(),
+        None => 0,
+    })
+}
+
 /// The manifest of the folder at hand, or of the nearest one above it.
 fn manifest_above<R: Files + Env + AllocGlobal>(rt: &R) -> Result<Option<String>, AllocError> {
     let alloc = rt.alloc();
-    let depth = match env::current_dir(rt) {
-        Ok(folder) => folder.as_path().components().count(),
-        Err(_) => 0,
-    };
+    let depth = depth_at_hand(rt)?;
     let mut file = String::from_str(alloc, MANIFEST)?;
     for _ in 0..=depth {
         if is_file(rt, file.as_str())? {
@@ -90,11 +95,7 @@ pub fn root_of<R: Files + Env + AllocGlobal>(rt: &R, file: &str) -> Result<Strin
             }
         }
     }
-    let depth = match env::current_dir(rt) {
-        Ok(here) => here.as_path().components().count(),
-        Err(_) => 0,
-    };
-    let depth = depth.saturating_add(folder.split('/').count());
+    let depth = depth_at_hand(rt)?.saturating_add(folder.split('/').count());
     let mut above = inside(alloc, folder, "..")?;
     for _ in 0..depth {
         let root = inside(alloc, above.as_str(), MANIFEST)?;
