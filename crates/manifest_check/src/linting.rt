@@ -9,6 +9,7 @@ use lint_reports::{
     Counts, Printed, Style, Told, WrongPlace, fault_message, own_weight, place_of, status_of,
     told_of, told_of_fault, told_of_unneeded, told_of_wrong, unneeded_message, wrong_places,
 };
+use manifest_answers::deep::first_deep;
 use manifest_documents::reading::{Manifest, ReadError, read_manifest};
 use manifest_lints::{Code, Report, Words, lint};
 use std::alloc::{AllocError, Global};
@@ -275,6 +276,9 @@ fn lint_at<R: Files + Input + AllocGlobal>(
     let alloc = rt.alloc();
     match read_manifest(rt, path) {
         Ok(mut manifest) => {
+            if let Some(line) = first_deep(alloc, &manifest)? {
+                return telling.answer.append(Answer::unusable(alloc, line));
+            }
             let table = &mut manifest.document.table;
             inherit_lints(alloc, root, table)?;
             declare(alloc, table, &root.settings.facts)?;
