@@ -196,7 +196,7 @@ static const char PACKAGES[] =
 
 /* A document whose one condition has so many levels. */
 static void try_deep_graph(size_t levels, uint32_t code) {
-    char *key = malloc(levels * 5 + 6), *document = malloc(levels * 5 + 400);
+    char *key = malloc(levels * 5 + 7), *document = malloc(levels * 5 + 400);
     size_t at = (size_t)sprintf(key, "cfg(");
     for (size_t k = 0; k < levels; k++) at += (size_t)sprintf(key + at, "not(");
     key[at++] = 'a';
