@@ -9,7 +9,7 @@ ghost use Rattle.byte_answers.specs.Outcomes.{IsSilent, IsWritten};
 use byte_answers::{
     DONE, MOST_OPEN, NO_MEMORY, NOT_UTF8, Outcome, REFUSED, TOO_DEEP, UNKNOWN_TARGET, write,
 };
-use cargo_metadata::{Metadata, Refusal, read};
+use cargo_metadata::{InDependency, InNode, InResolve, Metadata, Refusal, read};
 use cargo_platform::nesting_beyond;
 use graph_answers::asked::Words;
 use graph_answers::report_on;
@@ -45,12 +45,28 @@ fn is_too_deep(metadata: &Metadata<'_>) -> bool {
     false
 }
 
+/// Whether memory was refused, anywhere in the document.
+fn is_memory(refusal: &Refusal) -> bool {
+    match refusal {
+        Refusal::Memory(_) | Refusal::Resolve(InResolve::Memory(_)) => true,
+        Refusal::Resolve(InResolve::Node(_, InNode::Memory(_))) => true,
+        Refusal::Resolve(InResolve::Node(_, InNode::Dependency(_, InDependency::Memory(_)))) =>
+            true,
+        _ => false,
+    }
+}
+
 /// Whether a document has a condition that is too deep.
 fn has_deep_condition(alloc: Global, document: &Value) -> Result<bool, AllocError> {
     match read(alloc, document) {
         Ok(metadata) => Ok(is_too_deep(&metadata)),
-        Err(Refusal::Memory(refused)) => Err(refused),
-        Err(_) => Ok(false),
+        Err(refusal) => {
+            if is_memory(&refusal) {
+                Err(AllocError)
+            } else {
+                Ok(false)
+            }
+        }
     }
 }
 
@@ -75,6 +91,15 @@ fn words_on<'a>(host: Option<&'a str>) -> Words<'a> {
     }
 }
 
+/// Whether a reason tells that memory was refused: its words come right behind the place in the document, which has no
+/// colon.
+fn is_of_memory(reason: &str) -> bool {
+    match reason.split_once(": ") {
+        Some((_, words)) => words.starts_with("memory allocation failed"),
+        None => false,
+    }
+}
+
 /// What is told of a text that is JSON and has no deep condition.
 fn told_of_json(alloc: Global, text: &str, host: Option<&str>) -> Result<Told, AllocError> {
     let answer = report_on(alloc, "", text, &words_on(host))?.answer;
@@ -85,8 +110,8 @@ fn told_of_json(alloc: Global, text: &str, host: Option<&str>) -> Result<Told, A
     let errors = answer.errors.as_str();
     let reason = errors.strip_prefix(": error: ").unwrap_or(errors);
     let reason = reason.strip_suffix('\n').unwrap_or(reason);
-    if reason.starts_with("no JSON: ") {
-        // The text was read once: only memory can have been refused.
+    // The text was read once: here it is no JSON only where memory was refused.
+    if reason.starts_with("no JSON: ") || is_of_memory(reason) {
         return Err(AllocError);
     }
     Ok(Told::Reason(String::from_str(alloc, reason)?))
