@@ -10,7 +10,7 @@ use cargo_platform::nesting_beyond;
 pub const MOST_OPEN: usize = 10_000;
 
 /// Whether more parentheses than `MOST_OPEN` are open at once. Those within quotes do not count.
-pub(crate) fn is_too_deep(text: &str) -> bool
+pub fn is_too_deep(text: &str) -> bool
     ensures deep { result ≡ true → IsTooDeep text.now }
     ensures shallow { result ≡ false → IsTooDeep text.now → ⊥ }
 {

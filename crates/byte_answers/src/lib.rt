@@ -18,7 +18,7 @@ mod release;
 mod trees;
 mod unflat;
 
-pub use depth::{MOST_FLAT_BYTES, MOST_OPEN};
+pub use depth::{MOST_FLAT_BYTES, MOST_OPEN, is_too_deep};
 pub use keys::{canonical, fault, read_key};
 pub use known::{facts, target_name, targets};
 pub use matching::matches;

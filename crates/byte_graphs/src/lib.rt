@@ -1,158 +1,33 @@
 //! The packages of a graph from bytes, into a buffer of the caller: for callers that are not written in Rattle.
 #![tactic(auto)]
 
-ghost use Rattle.std.specs.Prelude.{◌≡◌, ◌≢◌, ◌<◌, ℕ, List, [], IsTrue, true, false, ◌||◌, ◌==◌};
+ghost use Rattle.std.specs.Prelude.{◌≡◌, ◌≢◌, ◌<◌, ℕ, List, [], IsTrue, ◌||◌, ◌==◌, IfOk, IfErr};
 ghost use Rattle.std.specs.Str.{IsUtf8};
 ghost use Rattle.known_targets.specs.Table.{target_name};
 ghost use Rattle.byte_answers.specs.Outcomes.{IsSilent, IsWritten};
+ghost use Rattle.byte_graphs.specs.Documents.{IsGraph, IsDeepGraph, IsUnusable};
 
-use byte_answers::{
-    DONE, MOST_OPEN, NO_MEMORY, NOT_UTF8, Outcome, REFUSED, TOO_DEEP, UNKNOWN_TARGET, write,
-};
-use cargo_metadata::{InDependency, InNode, InResolve, Metadata, Refusal, read};
-use cargo_platform::nesting_beyond;
-use graph_answers::asked::Words;
-use graph_answers::report_on;
-use key_answers::answer::Status;
+mod documents;
+
+use byte_answers::{DONE, NO_MEMORY, NOT_UTF8, Outcome, REFUSED, TOO_DEEP, UNKNOWN_TARGET, write};
+use documents::{Told, told_of};
 use known_targets::{COUNT, KnownTarget};
-use serde_json::Value;
-use std::alloc::{AllocError, Global};
+use std::alloc::Global;
 use std::str;
 
-/// What is told of a document.
-#[derive(Drop)]
-enum Told {
-    /// A line of JSON for each package.
-    Lines(String),
-    /// Why the document can't be used.
-    Reason(String),
-    TooDeep,
-}
-
-/// Whether a condition of the document has more parentheses open at once than `MOST_OPEN`.
-fn is_too_deep(metadata: &Metadata<'_>) -> bool {
-    for node in &metadata.nodes {
-        for dependency in &node.dependencies {
-            for row in &dependency.kinds {
-                if let Some(condition) = row.condition {
-                    if nesting_beyond(condition, MOST_OPEN).is_some() {
-                        return true;
-                    }
-                }
-            }
-        }
-    }
-    false
-}
-
-/// Whether memory was refused, anywhere in the document.
-fn is_memory(refusal: &Refusal) -> bool {
-    match refusal {
-        Refusal::Memory(_) | Refusal::Resolve(InResolve::Memory(_)) => true,
-        Refusal::Resolve(InResolve::Node(_, InNode::Memory(_))) => true,
-        Refusal::Resolve(InResolve::Node(_, InNode::Dependency(_, InDependency::Memory(_)))) =>
-            true,
-        _ => false,
-    }
-}
-
-/// Whether a document has a condition that is too deep.
-fn has_deep_condition(alloc: Global, document: &Value) -> Result<bool, AllocError> {
-    match read(alloc, document) {
-        Ok(metadata) => Ok(is_too_deep(&metadata)),
-        Err(refusal) => {
-            if is_memory(&refusal) {
-                Err(AllocError)
-            } else {
-                Ok(false)
-            }
-        }
-    }
-}
-
-/// The words that ask for the packages as lines of JSON, over all known targets.
-fn words_on<'a>(host: Option<&'a str>) -> Words<'a> {
-    Words {
-        targets: &[],
-        edges: None,
-        host,
-        packages: &[],
-        show: None,
-        of: None,
-        allow: None,
-        allow_file: None,
-        except: &[],
-        resolver: None,
-        features: &[],
-        no_default: false,
-        all_features: false,
-        json: true,
-        html: false,
-    }
-}
-
-/// Whether a reason tells that memory was refused: its words come right behind the place in the document, which has no
-/// colon.
-fn is_of_memory(reason: &str) -> bool {
-    match reason.split_once(": ") {
-        Some((_, words)) => words.starts_with("memory allocation failed"),
-        None => false,
-    }
-}
-
-/// What is told of a text that is JSON and has no deep condition.
-fn told_of_json(alloc: Global, text: &str, host: Option<&str>) -> Result<Told, AllocError> {
-    let answer = report_on(alloc, "", text, &words_on(host))?.answer;
-    if answer.status != Status::Unusable {
-        return Ok(Told::Lines(answer.output));
-    }
-    // The errors name no file, and end in a line end.
-    let errors = answer.errors.as_str();
-    let reason = errors.strip_prefix(": error: ").unwrap_or(errors);
-    let reason = reason.strip_suffix('\n').unwrap_or(reason);
-    // The text was read once: here it is no JSON only where memory was refused.
-    if reason.starts_with("no JSON: ") || is_of_memory(reason) {
-        return Err(AllocError);
-    }
-    Ok(Told::Reason(String::from_str(alloc, reason)?))
-}
-
-/// Why a text can't be used, where it is no JSON or has a deep condition.
-fn unread(alloc: Global, text: &str) -> Result<Option<Told>, AllocError> {
-    match Value::from_str(alloc, text) {
-        Ok(document) => {
-            let is_deep = has_deep_condition(alloc, &document)?;
-            Ok(if is_deep { Some(Told::TooDeep) } else { None })
-        }
-        Err(error) => {
-            if error.is_memory() {
-                return Err(AllocError);
-            }
-            Ok(Some(Told::Reason(format!(in alloc; "no JSON: {error}")?)))
-        }
-    }
-}
-
-/// What is told of the text of a document.
-fn told_of(alloc: Global, text: &str, host: Option<&str>) -> Result<Told, AllocError> {
-    match unread(alloc, text)? {
-        Some(told) => Ok(told),
-        None => told_of_json(alloc, text, host),
-    }
-}
-
-/// Whether builds may run on a target of this name: it is known, or empty, which stands for no host.
-fn is_host(name: &str) -> bool
-    ensures known { result ≡ true → name.now ≢ [] → (k : ℕ) × ((k < COUNT) × (target_name k ≡ name.now)) }
-    ensures unknown { result ≡ false → (k : ℕ) → k < COUNT → target_name k ≢ name.now }
-    ensures empty { result ≡ false → name.now ≢ [] }
+/// The host of this name, and none for the empty one: builds then run on the target itself. An `Err` is a name that no
+/// known target has.
+fn host_of(name: &str) -> Result<Option<KnownTarget>, &str>
+    ensures known { IfOk result (λ _. name.now ≢ [] → (k : ℕ) × ((k < COUNT) × (target_name k ≡ name.now))) }
+    ensures unknown { IfErr result (λ _. (k : ℕ) → k < COUNT → target_name k ≢ name.now) }
+    ensures empty { IfErr result (λ _. name.now ≢ []) }
 {
     if name.is_empty() {
-        return true;
+        return Ok(None);
     }
     match KnownTarget::by_name(name) {
-        Some(_) => true,
-        None => false,
+        Some(target) => Ok(Some(target)),
+        None => Err(name),
     }
 }
 
@@ -191,6 +66,9 @@ pub fn graph(alloc: Global, document: &[u8], host: &[u8], out: &mut [u8]) -> Out
     ensures empty { result.code ≡ UNKNOWN_TARGET → host.now ≢ [] }
     ensures known { IsTrue (result.code == DONE || result.code == REFUSED) → host.now ≢ []
         → (k : ℕ) × ((k < COUNT) × (target_name k ≡ host.now)) }
+    ensures done { result.code ≡ DONE → IsGraph document.now }
+    ensures refused { result.code ≡ REFUSED → IsUnusable document.now }
+    ensures too_deep { result.code ≡ TOO_DEEP → IsDeepGraph document.now }
     ensures host { result.code ≡ UNKNOWN_TARGET → result.argument ≡ 1 }
     ensures argument { IsTrue (result.argument == 0 || result.argument == 1) }
     ensures codes { IsTrue (result.code == DONE || result.code == REFUSED || result.code == NOT_UTF8
@@ -202,10 +80,9 @@ pub fn graph(alloc: Global, document: &[u8], host: &[u8], out: &mut [u8]) -> Out
     let Ok(name) = str::from_utf8(host) else {
         return Outcome::ended(NOT_UTF8, 1);
     };
-    if !is_host(name) {
+    let Ok(host) = host_of(name) else {
         return Outcome::ended(UNKNOWN_TARGET, 1);
-    }
-    let host = if name.is_empty() { None } else { Some(name) };
+    };
     match told_of(alloc, document, host) {
         Ok(Told::Lines(lines)) => Outcome::done(write(lines.as_bytes(), out)),
         Ok(Told::Reason(reason)) => refused(reason.as_str(), out),

@@ -1,5 +1,5 @@
 -- A whole document.
-use Rattle.std.specs.Prelude.{◌≡◌, ℕ, true, false, List, Some, codes, is_some}
+use Rattle.std.specs.Prelude.{◌≡◌, ℕ, Bool, true, false, List, Some, codes, is_some}
 use Rattle.std.specs.Borrow.{Bor}
 use Rattle.serde_json.specs.Data.{Data}
 use Rattle.serde_json.specs.Find.{get, as_str, as_object}
@@ -9,6 +9,10 @@ use Rattle.cargo_metadata.specs.Packages.{IsPackage}
 use Rattle.cargo_metadata.specs.Nodes.{IsNode, IsInNode}
 use Rattle.cargo_metadata.specs.declared.metadata.Metadata.{Metadata}
 use Rattle.cargo_metadata.specs.declared.refusals.Wanted.TheVariants as wanted
+use Rattle.cargo_metadata.specs.declared.refusals.InDependency.{InDependency}
+use Rattle.cargo_metadata.specs.declared.refusals.InDependency.TheVariants as in_dependency
+use Rattle.cargo_metadata.specs.declared.refusals.InNode.{InNode}
+use Rattle.cargo_metadata.specs.declared.refusals.InNode.TheVariants as in_node
 use Rattle.cargo_metadata.specs.declared.refusals.InResolve.{InResolve}
 use Rattle.cargo_metadata.specs.declared.refusals.InResolve.TheVariants as in_resolve
 use Rattle.cargo_metadata.specs.declared.refusals.Refusal.{Refusal}
@@ -48,3 +52,27 @@ IsRefused d (refusals.Package i wrong) = IsElementAt (λ e. IsWrong e wrong) (co
 IsRefused d (refusals.Member i) = IsElementAt (λ e. is_some (as_str e) ≡ false) (codes "workspace_members") i d
 IsRefused d (refusals.Resolve wrong) = InsideResolve d (λ resolve. IsInResolve resolve wrong)
 IsRefused d (refusals.Memory error) = Unit {0}
+
+-- ---- whether memory is why
+
+abbrev pub is_memory_of_dependency : InDependency → Bool
+is_memory_of_dependency (in_dependency.Field wrong) = false
+is_memory_of_dependency (in_dependency.Kind i wrong) = false
+is_memory_of_dependency (in_dependency.Memory error) = true
+
+abbrev pub is_memory_of_node : InNode → Bool
+is_memory_of_node (in_node.Field wrong) = false
+is_memory_of_node (in_node.Dependency i wrong) = is_memory_of_dependency wrong
+is_memory_of_node (in_node.Memory error) = true
+
+abbrev pub is_memory_of_resolve : InResolve → Bool
+is_memory_of_resolve (in_resolve.Field wrong) = false
+is_memory_of_resolve (in_resolve.Node i wrong) = is_memory_of_node wrong
+is_memory_of_resolve (in_resolve.Memory error) = true
+
+abbrev pub is_memory : Refusal → Bool
+is_memory (refusals.Field wrong) = false
+is_memory (refusals.Package i wrong) = false
+is_memory (refusals.Member i) = false
+is_memory (refusals.Resolve wrong) = is_memory_of_resolve wrong
+is_memory (refusals.Memory error) = true

@@ -1,5 +1,5 @@
 -- The first fault of a document: of ids of packages, of nodes, of members, and then of dependencies.
-use Rattle.std.specs.Prelude.{◌<◌, ℕ, List, Option, Some, None, length, Contains}
+use Rattle.std.specs.Prelude.{◌<◌, ℕ, Bool, true, false, List, Option, Some, None, length, Contains}
 use Rattle.std.specs.List.{slice_index_or}
 use Rattle.std.specs.Borrow.{Bor}
 use Rattle.cargo_platform.specs.Errors.{orig_of, fault_in}
@@ -70,3 +70,18 @@ IsUnlinked m (refusals.SameNode first again) = IsNodeAgain m first again
 IsUnlinked m (refusals.NoMember i) = IsNoNode m i
 IsUnlinked m (refusals.Dependency i j wrong) = HasDependency m i j wrong
 IsUnlinked m (refusals.Memory error) = Unit {0}
+
+-- ---- whether memory is why
+
+abbrev pub is_memory_of_dependency : InDependency → Bool
+is_memory_of_dependency in_dependency.NoNode = false
+is_memory_of_dependency (in_dependency.Condition i e) = false
+is_memory_of_dependency (in_dependency.Memory error) = true
+
+abbrev pub is_memory : Refusal → Bool
+is_memory (refusals.SamePackage first again) = false
+is_memory (refusals.NoPackage i) = false
+is_memory (refusals.SameNode first again) = false
+is_memory (refusals.NoMember i) = false
+is_memory (refusals.Dependency i j wrong) = is_memory_of_dependency wrong
+is_memory (refusals.Memory error) = true

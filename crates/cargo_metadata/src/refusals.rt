@@ -1,5 +1,8 @@
 //! Why a document is refused, and where.
 
+ghost use Rattle.std.specs.Prelude.{◌≡◌};
+ghost use Rattle.cargo_metadata.specs.Documents.{is_memory, is_memory_of_node};
+
 use std::alloc::AllocError;
 
 /// What was wanted at a field.
@@ -63,4 +66,29 @@ pub enum Refusal {
     /// What stands at `resolve` is refused.
     Resolve(InResolve),
     Memory(AllocError),
+}
+
+impl Refusal {
+    /// Whether memory was refused, anywhere in the document.
+    pub fn is_memory(&self) -> bool
+        ensures { result ≡ is_memory self.now }
+    {
+        match self {
+            Refusal::Memory(_) | Refusal::Resolve(InResolve::Memory(_)) => true,
+            Refusal::Resolve(InResolve::Node(_, wrong)) => wrong.is_memory(),
+            _ => false,
+        }
+    }
+}
+
+impl InNode {
+    /// Whether memory was refused, anywhere in the node.
+    fn is_memory(&self) -> bool
+        ensures { result ≡ is_memory_of_node self.now }
+    {
+        matches!(
+            self,
+            InNode::Memory(_) | InNode::Dependency(_, InDependency::Memory(_))
+        )
+    }
 }

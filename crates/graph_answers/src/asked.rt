@@ -67,6 +67,13 @@ pub struct Asked<'a> {
     pub html: bool,
 }
 
+/// All kinds of dependencies are followed.
+const ALL_KINDS: Kinds = Kinds {
+    normal: true,
+    build: true,
+    dev: true,
+};
+
 /// What is said of words that can't be used.
 pub fn unusable_words(alloc: Global, text: &str) -> Result<Answer, AllocError> {
     let text = format!(in alloc; "error: {text}\n")?;
@@ -105,11 +112,7 @@ fn targets_of(alloc: Global, names: &[&str]) -> Result<Result<TargetSet, Answer>
 /// The kinds that these words name, or what is said where one names none.
 fn kinds_of(alloc: Global, words: Option<&str>) -> Result<Result<Kinds, Answer>, AllocError> {
     let Some(words) = words else {
-        return Ok(Ok(Kinds {
-            normal: true,
-            build: true,
-            dev: true,
-        }));
+        return Ok(Ok(ALL_KINDS));
     };
     let mut kinds = Kinds {
         normal: false,
@@ -147,6 +150,22 @@ fn show_of(word: Option<&str>) -> Option<Show> {
 }
 
 impl<'a> Asked<'a> {
+    /// The packages are asked for, as lines of JSON, at all known targets, in builds on this host.
+    pub fn packages_on(host: Option<KnownTarget>) -> Asked<'a> {
+        Asked {
+            targets: TargetSet::all(),
+            count: COUNT,
+            are_named: false,
+            kinds: ALL_KINDS,
+            host,
+            packages: &[],
+            show: Show::Packages,
+            of: "",
+            json: true,
+            html: false,
+        }
+    }
+
     /// What the words ask, or what is said of words that can't be used.
     pub fn of(alloc: Global, words: &Words<'a>) -> Result<Result<Asked<'a>, Answer>, AllocError> {
         let Some(show) = show_of(words.show) else {

@@ -16,7 +16,7 @@ use cargo_metadata::{Metadata, Package as Described, read};
 use cargo_platform::shown_text;
 use key_answers::answer::{Answer, Status};
 use key_answers::printing::shown_name;
-use known_targets::TargetSet;
+use known_targets::{KnownTarget, TargetSet};
 use package_graphs::{PackageSets, present_packages};
 use serde_json::Value;
 use std::alloc::{AllocError, Global};
@@ -112,6 +112,28 @@ fn choose_roots<'a>(linked: &mut Linked<'_>, names: &[&'a str]) -> Result<(), &'
         }
     }
     Ok(())
+}
+
+/// The packages of a graph: a line of JSON for each, with the known targets at which it is in the build, as
+/// `manifest_check graph --json` prints them. Builds run on the host, or on the target itself without one.
+pub fn package_lines(
+    alloc: Global,
+    metadata: Metadata<'_>,
+    linked: Linked<'_>,
+    host: Option<KnownTarget>,
+) -> Result<String, AllocError> {
+    let asked = Asked::packages_on(host);
+    let sets = present_packages(alloc, &linked.packages, asked.kinds, asked.host)?;
+    let order = in_order(alloc, &linked.described)?;
+    let graph = Graph {
+        metadata,
+        linked,
+        sets,
+        order,
+        features: None,
+    };
+    let answer = show_packages(alloc, &graph, &asked)?;
+    Ok(answer.output)
 }
 
 /// The graph of a document that is JSON, or what is said of one that can't be used.

@@ -19,4 +19,5 @@ mod targets;
 mod unified;
 mod why;
 
-pub use graph::{Report, report_on};
+pub use graph::{Report, package_lines, report_on};
+pub use refused::{document_reason, graph_reason};

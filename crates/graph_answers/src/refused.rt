@@ -1,5 +1,9 @@
 //! What is said of a document that can't be used: the path in it, what is wrong there, and of which package.
 
+ghost use Rattle.std.specs.Prelude.{◌≡◌, false, OnOk};
+ghost use Rattle.cargo_metadata.specs.Documents.{is_memory};
+ghost use Rattle.cargo_metadata.specs.Refusals.{is_memory as is_memory_of_graph};
+
 use crate::lines::{push, shown};
 use cargo_metadata::graphs::{InDependency, Refusal as Unlinked};
 use cargo_metadata::{InResolve, Metadata, Refusal};
@@ -17,19 +21,13 @@ pub fn unusable(alloc: Global, file: &str, reason: &str) -> Result<Answer, Alloc
 }
 
 /// The reason with the package that it is about, where one is known.
-fn about(
-    alloc: Global,
-    file: &str,
-    reason: &str,
-    subject: Option<&str>,
-) -> Result<Answer, AllocError> {
+fn about(alloc: Global, reason: String, subject: Option<&str>) -> Result<String, AllocError> {
     match subject {
         Some(subject) => {
             let subject = shown(alloc, subject)?;
-            let whole = format!(in alloc; "{reason}, of {subject}")?;
-            unusable(alloc, file, whole.as_str())
+            format!(in alloc; "{reason}, of {subject}")
         }
-        None => unusable(alloc, file, reason),
+        None => Ok(reason),
     }
 }
 
@@ -51,6 +49,21 @@ fn subject_of<'a>(document: &'a Value, refusal: &Refusal) -> Option<&'a str> {
     }
 }
 
+/// Why a document is none of `cargo metadata`, as people read it. Where memory was refused there is no reason.
+pub fn document_reason(
+    alloc: Global,
+    document: &Value,
+    refusal: &Refusal,
+) -> Result<String, AllocError>
+    ensures memory { OnOk result (is_memory refusal.now ≡ false) }
+{
+    if refusal.is_memory() {
+        return Err(AllocError);
+    }
+    let reason = format!(in alloc; "{refusal}")?;
+    about(alloc, reason, subject_of(document, refusal))
+}
+
 /// What is said of a document that is none of `cargo metadata`.
 pub fn refused_document(
     alloc: Global,
@@ -58,11 +71,8 @@ pub fn refused_document(
     document: &Value,
     refusal: &Refusal,
 ) -> Result<Answer, AllocError> {
-    if let Refusal::Memory(_) = refusal {
-        return Err(AllocError);
-    }
-    let reason = format!(in alloc; "{refusal}")?;
-    about(alloc, file, reason.as_str(), subject_of(document, refusal))
+    let reason = document_reason(alloc, document, refusal)?;
+    unusable(alloc, file, reason.as_str())
 }
 
 /// The id that a refusal is about.
@@ -117,16 +127,42 @@ pub fn refused_depth(
         "resolve.nodes[{i}].deps[{j}].dep_kinds[{k}].target: the text is {reason}"
     )?;
     let subject = metadata.nodes.get(i).map(|node| node.id);
-    Ok(Some(about(alloc, file, reason.as_str(), subject)?))
+    let reason = about(alloc, reason, subject)?;
+    Ok(Some(unusable(alloc, file, reason.as_str())?))
 }
 
-/// Where a condition is refused and why, indented, as `targets` shows it.
+/// Where a condition is refused and why, indented, as `targets` shows it, behind a line end.
 fn fault_lines(alloc: Global, key: &str, error: &ParseError) -> Result<String, AllocError> {
     let whole = refused_key(alloc, key, error)?;
-    match whole.as_str().split_once('\n') {
-        Some((_, lines)) => String::from_str(alloc, lines),
-        None => Ok(String::new(alloc)),
+    let mut lines = String::new(alloc);
+    if let Some((_, rest)) = whole.as_str().split_once('\n') {
+        push(&mut lines, "\n")?;
+        push(&mut lines, rest.strip_suffix('\n').unwrap_or(rest))?;
     }
+    Ok(lines)
+}
+
+/// Why the ids or conditions of a document make no graph, as people read it: one line, and of a refused condition the
+/// lines that show where. Where memory was refused there is no reason.
+pub fn graph_reason(
+    alloc: Global,
+    metadata: &Metadata<'_>,
+    refusal: &Unlinked,
+) -> Result<String, AllocError>
+    ensures memory { OnOk result (is_memory_of_graph refusal.now ≡ false) }
+{
+    if refusal.is_memory() {
+        return Err(AllocError);
+    }
+    let reason = format!(in alloc; "{refusal}")?;
+    let mut reason = about(alloc, reason, id_of(metadata, refusal))?;
+    if let Unlinked::Dependency(i, j, InDependency::Condition(k, error)) = refusal {
+        if let Some(key) = condition_at(metadata, *i, *j, *k) {
+            let lines = fault_lines(alloc, key, error)?;
+            push(&mut reason, lines.as_str())?;
+        }
+    }
+    Ok(reason)
 }
 
 /// What is said of a document whose ids or conditions make no graph.
@@ -136,20 +172,6 @@ pub fn refused_graph(
     metadata: &Metadata<'_>,
     refusal: &Unlinked,
 ) -> Result<Answer, AllocError> {
-    let is_memory = matches!(
-        refusal,
-        Unlinked::Memory(_) | Unlinked::Dependency(_, _, InDependency::Memory(_))
-    );
-    if is_memory {
-        return Err(AllocError);
-    }
-    let reason = format!(in alloc; "{refusal}")?;
-    let mut answer = about(alloc, file, reason.as_str(), id_of(metadata, refusal))?;
-    if let Unlinked::Dependency(i, j, InDependency::Condition(k, error)) = refusal {
-        if let Some(key) = condition_at(metadata, *i, *j, *k) {
-            let lines = fault_lines(alloc, key, error)?;
-            push(&mut answer.errors, lines.as_str())?;
-        }
-    }
-    Ok(answer)
+    let reason = graph_reason(alloc, metadata, refusal)?;
+    unusable(alloc, file, reason.as_str())
 }

@@ -18,6 +18,7 @@ ghost use Rattle.byte_answers.specs.Outcomes.{IsSilent, IsWritten, ends_comparis
 ghost use Rattle.byte_answers.specs.Outcomes.{ends_key_call};
 ghost use Rattle.byte_answers.specs.Outcomes.{ends_target_call};
 ghost use Rattle.byte_answers.specs.Refusals.{IsRefusal, IsRefusedLine, IsShownRefusal};
+ghost use Rattle.byte_graphs.specs.Documents.{IsGraph, IsDeepGraph, IsUnusable};
 
 use byte_answers::{
     DONE, MOST_FLAT_BYTES, NO_MEMORY, NOT_FLAT, NOT_UTF8, Outcome, REFUSED, Relation, TOO_DEEP,
@@ -405,6 +406,9 @@ pub extern "C" fn nevgrasi_graph(
     ensures empty { result ≡ UNKNOWN_TARGET → host.now ≢ [] }
     ensures known { IsTrue (result == DONE || result == REFUSED) → host.now ≢ []
         → (k : ℕ) × ((k < COUNT) × (target_name k ≡ host.now)) }
+    ensures done { result ≡ DONE → IsGraph document.now }
+    ensures refused { result ≡ REFUSED → IsUnusable document.now }
+    ensures too_deep { result ≡ TOO_DEEP → IsDeepGraph document.now }
     ensures host { result ≡ UNKNOWN_TARGET → outcome.new.argument ≡ 1 }
     ensures argument { IsTrue (outcome.new.argument == 0 || outcome.new.argument == 1) }
     ensures codes { IsTrue (result == DONE || result == REFUSED || result == NOT_UTF8

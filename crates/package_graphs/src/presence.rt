@@ -10,7 +10,7 @@ ghost use Rattle.package_graphs.specs.Graphs.{edge_lists, edges_from, IsPresent,
 ghost use Rattle.package_graphs.specs.Inside.Spreading.{waits, IsQueue, node_count, missing, rounds_left, AreSound};
 ghost use Rattle.package_graphs.specs.Inside.Spreading.{AreCarried};
 
-use crate::graph::Graph;
+use crate::graph::{Edge, Graph};
 use crate::queue::Queue;
 use known_targets::TargetSet;
 use std::alloc::{AllocError, Global};
@@ -95,6 +95,13 @@ fn add(
     Ok(())
 }
 
+/// The targets at which an edge leads on from a node that is there at these.
+fn along(from: TargetSet, edge: &Edge) -> TargetSet
+    ensures { (k : ℕ) → k < COUNT → is_member result k ≡ (is_member from k && is_member edge.now.holds k) }
+{
+    from.intersection(edge.holds)
+}
+
 /// Goes over the edges of a node.
 fn go_over(
     graph: &Graph,
@@ -129,7 +136,7 @@ fn go_over(
         if edge.to >= sets.len() {
             continue;
         }
-        let more = sets[node].intersection(edge.holds);
+        let more = along(sets[node], edge);
         add(sets, queue, edge.to, more)?;
     }
     Ok(())

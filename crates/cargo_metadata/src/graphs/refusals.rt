@@ -1,5 +1,8 @@
 //! Why a document is no graph.
 
+ghost use Rattle.std.specs.Prelude.{◌≡◌};
+ghost use Rattle.cargo_metadata.specs.Refusals.{is_memory};
+
 use cargo_platform::ParseError;
 use std::alloc::AllocError;
 
@@ -27,4 +30,16 @@ pub enum Refusal {
     /// The node at the first place has something wrong with the dependency at the second.
     Dependency(usize, usize, InDependency),
     Memory(AllocError),
+}
+
+impl Refusal {
+    /// Whether memory was refused, also for a condition.
+    pub fn is_memory(&self) -> bool
+        ensures { result ≡ is_memory self.now }
+    {
+        matches!(
+            self,
+            Refusal::Memory(_) | Refusal::Dependency(_, _, InDependency::Memory(_))
+        )
+    }
 }

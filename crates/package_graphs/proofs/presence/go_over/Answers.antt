@@ -40,13 +40,13 @@ edges-preserved c =
           (c.edges.invariant.carried (c.in_ok-add.ensures.waited node rests))
           (λ k known end here holds.
           let was = sym (c.in_ok-add.ensures.same node k known rests) ∙ here in
-          let both = c.intersection-more.ensures k known ∙ and_from _ _ (sym (read k) ∙ was) holds in
+          let both = c.along-more.ensures k known ∙ and_from _ _ (sym (read k) ∙ was) holds in
           c.in_ok-add.ensures.sets edge.to k known
           ∙ or_right (at edge.to k) _ (and_from (edge.to == edge.to) _ (eq-eqb edge.to edge.to refl) both));
       sound = λ roots h.
-          sound_more graph roots at new edge.to (is_member c.intersection-more.result) c.in_ok-add.ensures.sets
+          sound_more graph roots at new edge.to (is_member c.along-more.result) c.in_ok-add.ensures.sets
           (λ k known more.
-          let parts = and_parts _ _ (sym (c.intersection-more.ensures k known) ∙ more) in
+          let parts = and_parts _ _ (sym (c.along-more.ensures k known) ∙ more) in
           along graph roots at node i edge inside is (c.edges.invariant.sound roots h) k known
           (read k ∙ parts.0) parts.1)
           (c.edges.invariant.sound roots h);

@@ -1,0 +1,111 @@
+//! What a document tells: the lines of its packages, or why it has none.
+
+ghost use Rattle.std.specs.Prelude.{◌≡◌, true, false, IfOk};
+ghost use Rattle.serde_json.specs.View.{view};
+ghost use Rattle.byte_graphs.specs.Documents.{HasDeepCondition, HasDeepDependency, HasDeepKind};
+ghost use Rattle.byte_graphs.specs.Inside.Telling.{IsTold, IsToldOf};
+
+use byte_answers::is_too_deep;
+use cargo_metadata::graphs::link;
+use cargo_metadata::{Dependency, Metadata, Node, read};
+use graph_answers::{document_reason, graph_reason, package_lines};
+use known_targets::KnownTarget;
+use serde_json::Value;
+use std::alloc::{AllocError, Global};
+
+/// What is told of a document.
+#[derive(Drop)]
+pub enum Told {
+    /// A line of JSON for each package.
+    Lines(String),
+    /// Why the document can't be used.
+    Reason(String),
+    TooDeep,
+}
+
+/// Whether a condition of a dependency is too deep.
+fn has_deep_kind(dependency: &Dependency<'_>) -> bool
+    ensures deep { result ≡ true → HasDeepKind dependency.now }
+    ensures shallow { result ≡ false → HasDeepKind dependency.now → ⊥ }
+{
+    'kinds: for i in 0..dependency.kinds.len() {
+        if let Some(condition) = dependency.kinds[i].condition {
+            if is_too_deep(condition) {
+                return true;
+            }
+        }
+    }
+    false
+}
+
+/// Whether a condition of a node is too deep.
+fn has_deep_dependency(node: &Node<'_>) -> bool
+    ensures deep { result ≡ true → HasDeepDependency node.now }
+    ensures shallow { result ≡ false → HasDeepDependency node.now → ⊥ }
+{
+    'dependencies: for i in 0..node.dependencies.len() {
+        if has_deep_kind(&node.dependencies[i]) {
+            return true;
+        }
+    }
+    false
+}
+
+/// Whether a condition of the document is too deep.
+fn has_deep_condition(metadata: &Metadata<'_>) -> bool
+    ensures deep { result ≡ true → HasDeepCondition metadata.now }
+    ensures shallow { result ≡ false → HasDeepCondition metadata.now → ⊥ }
+{
+    'nodes: for i in 0..metadata.nodes.len() {
+        if has_deep_dependency(&metadata.nodes[i]) {
+            return true;
+        }
+    }
+    false
+}
+
+/// What is told of a document that is JSON.
+fn told_of_json(
+    alloc: Global,
+    document: &Value,
+    host: Option<KnownTarget>,
+) -> Result<Told, AllocError>
+    ensures { IfOk result (λ told. IsToldOf (view document.now) told) }
+{
+    let metadata = match read(alloc, document) {
+        Ok(metadata) => metadata,
+        Err(refusal) => {
+            let reason = document_reason(alloc, document, &refusal)?;
+            return Ok(Told::Reason(reason));
+        }
+    };
+    if has_deep_condition(&metadata) {
+        return Ok(Told::TooDeep);
+    }
+    match link(alloc, &metadata) {
+        Ok(linked) => {
+            let lines = package_lines(alloc, metadata, linked, host)?;
+            Ok(Told::Lines(lines))
+        }
+        Err(refusal) => {
+            let reason = graph_reason(alloc, &metadata, &refusal)?;
+            Ok(Told::Reason(reason))
+        }
+    }
+}
+
+/// What is told of the text of a document.
+pub fn told_of(alloc: Global, text: &str, host: Option<KnownTarget>) -> Result<Told, AllocError>
+    ensures { IfOk result (λ told. IsTold text.now told) }
+{
+    match Value::from_str(alloc, text) {
+        Ok(document) => told_of_json(alloc, &document, host),
+        Err(error) => {
+            if error.is_memory() {
+                return Err(AllocError);
+            }
+            let reason = format!(in alloc; "no JSON: {error}")?;
+            Ok(Told::Reason(reason))
+        }
+    }
+}
