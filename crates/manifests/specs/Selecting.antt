@@ -5,8 +5,8 @@ use Rattle.std.specs.List.{All}
 use Rattle.toml.specs.Data.{Members, as_table}
 use Rattle.cargo_platform.specs.Trees.{Condition, value_of}
 use Rattle.cargo_platform.specs.Facts.{Pair, fact_set}
-use Rattle.cargo_platform.specs.Platforms.{IsConditionText, IsRefusedCondition}
-use Rattle.cargo_platform.specs.Errors.{orig_of, fault_in}
+use Rattle.cargo_platform.specs.Platforms.{IsConditionText, IsRefusedConditionAt}
+use Rattle.cargo_platform.specs.Errors.{orig_of, fault_in, span_in}
 use Rattle.cargo_platform.specs.declared.error.ParseError.{ParseError}
 use Rattle.known_targets.specs.declared.known.KnownTarget.{KnownTarget}
 use Rattle.known_targets.specs.Sets.{place}
@@ -117,11 +117,11 @@ pub record IsNoTableKey (key : List ℕ) (e : Entry) : Type 0 where
   pub spelled : IsConditionText key condition
   pub no_table : as_table e.1 ≡ None
 
--- the key is this one, which spells no condition, for this fault
+-- the key is this one, which spells no condition, for this fault at its place
 pub record IsRefusedKey (key : List ℕ) (error : ParseError) (e : Entry) : Type 0 where
   pub this : e.0 ≡ key
   pub nothing : (c : Condition) → IsConditionText key c → ⊥
-  pub fault : IsRefusedCondition key (orig_of error) (fault_in error)
+  pub fault : IsRefusedConditionAt key (orig_of error) (fault_in error) (span_in error)
 
 -- what an error says of the key that it is on
 abbrev pub IsErrorOn : Entry → SelectError → Type 0
