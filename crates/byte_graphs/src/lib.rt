@@ -56,20 +56,29 @@ fn refused(reason: &str, out: &mut [u8]) -> Outcome
 /// in the buffer. `UNKNOWN_TARGET` where no known target has the host's name. `NOT_UTF8` tells by `argument` which text
 /// is none. `TOO_DEEP` where a condition has more than `MOST_OPEN` parentheses open at once.
 pub fn graph(alloc: Global, document: &[u8], host: &[u8], out: &mut [u8]) -> Outcome
+    // With `DONE` the document is a graph, and no condition is too deep.
+    ensures done { result.code ≡ DONE → IsGraph document.now }
+    // With `REFUSED` it is no JSON, or makes no graph, for a fault other than want of memory.
+    ensures refused { result.code ≡ REFUSED → IsUnusable document.now }
+    // With `TOO_DEEP` it says what a graph needs, and a condition is too deep.
+    ensures too_deep { result.code ≡ TOO_DEEP → IsDeepGraph document.now }
+    // With `DONE` and `REFUSED` a text is written, where the buffer is long enough.
     ensures written { IsTrue (result.code == DONE || result.code == REFUSED)
         → (text : List ℕ) × IsWritten text result.needed out.old out.new }
+    // With other codes nothing is written.
     ensures silent { result.code ≢ DONE → result.code ≢ REFUSED → IsSilent result out.old out.new }
+    // With `NOT_UTF8` the text that `argument` counts is none of UTF-8; with other codes both are UTF-8.
     ensures not_utf8_document { result.code ≡ NOT_UTF8 → result.argument ≡ 0 → IsUtf8 document.now → ⊥ }
     ensures not_utf8_host { result.code ≡ NOT_UTF8 → result.argument ≡ 1 → IsUtf8 host.now → ⊥ }
     ensures utf8 { result.code ≢ NOT_UTF8 → IsUtf8 document.now × IsUtf8 host.now }
+    // With `UNKNOWN_TARGET` the host has a name, and no known target has it.
     ensures unknown { result.code ≡ UNKNOWN_TARGET → (k : ℕ) → k < COUNT → target_name k ≢ host.now }
     ensures empty { result.code ≡ UNKNOWN_TARGET → host.now ≢ [] }
+    ensures host { result.code ≡ UNKNOWN_TARGET → result.argument ≡ 1 }
+    // With `DONE` and `REFUSED` the host is a known target, or has no name.
     ensures known { IsTrue (result.code == DONE || result.code == REFUSED) → host.now ≢ []
         → (k : ℕ) × ((k < COUNT) × (target_name k ≡ host.now)) }
-    ensures done { result.code ≡ DONE → IsGraph document.now }
-    ensures refused { result.code ≡ REFUSED → IsUnusable document.now }
-    ensures too_deep { result.code ≡ TOO_DEEP → IsDeepGraph document.now }
-    ensures host { result.code ≡ UNKNOWN_TARGET → result.argument ≡ 1 }
+    // It ends with one of these codes, `NO_MEMORY` among them.
     ensures argument { IsTrue (result.argument == 0 || result.argument == 1) }
     ensures codes { IsTrue (result.code == DONE || result.code == REFUSED || result.code == NOT_UTF8
         || result.code == NO_MEMORY || result.code == TOO_DEEP || result.code == UNKNOWN_TARGET) }

@@ -1,7 +1,6 @@
 //! What is built, and where a dependency leads to.
 
 ghost use Rattle.std.specs.Prelude.{◌≡◌};
-ghost use Rattle.package_graphs.specs.Packages.{is_of_host, side};
 ghost use Rattle.cargo_features.specs.Graphs.{resolver_1, resolver_2};
 ghost use Rattle.cargo_features.specs.Ways.{is_macro, way, feature_way, feature_side, is_counted, begins_on};
 
@@ -29,27 +28,6 @@ pub struct Build {
 pub struct Way {
     pub side: Side,
     pub condition: Condition,
-}
-
-/// Whether a dependency is one of the host: what the host needs, and what a build script does.
-fn is_of_host(from: Side, kind: Kind) -> bool
-    ensures { result ≡ is_of_host from kind }
-{
-    match from {
-        Side::Host => true,
-        Side::Target => matches!(kind, Kind::Build),
-    }
-}
-
-/// The side of what is built for the host, or is not.
-fn side(is_for_host: bool) -> Side
-    ensures { result ≡ side is_for_host }
-{
-    if is_for_host {
-        Side::Host
-    } else {
-        Side::Target
-    }
 }
 
 /// Whether the package at this place is a procedural macro; there is none past the end.
@@ -95,10 +73,10 @@ impl Build {
     pub fn way(self, packages: &[Package], from: Side, dependency: &Dependency) -> Way
         ensures { result ≡ way packages.now from dependency.now }
     {
-        let is_for_host = is_of_host(from, dependency.kind) || is_macro(packages, dependency.to);
+        let is_for_host = from.asks_host(dependency.kind) || is_macro(packages, dependency.to);
         Way {
-            side: side(is_for_host),
-            condition: if is_of_host(from, dependency.kind) {
+            side: Side::new(is_for_host),
+            condition: if from.asks_host(dependency.kind) {
                 Condition::OfHost(dependency.holds)
             } else {
                 Condition::OfTarget(dependency.holds)

@@ -3,7 +3,7 @@ use Rattle.std.specs.Prelude.{◌≡◌, ℕ, Bool, true, false, List, Some, cod
 use Rattle.std.specs.Borrow.{Bor}
 use Rattle.serde_json.specs.Data.{Data}
 use Rattle.serde_json.specs.Find.{get, as_str, as_object}
-use Rattle.cargo_metadata.specs.Fields.{fits, IsWrong}
+use Rattle.cargo_metadata.specs.Fields.{fits, IsWrongIn, wanted_of_document, wanted_of_package, wanted_of_resolve}
 use Rattle.cargo_metadata.specs.Rows.{AreRowsAt, IsElementAt}
 use Rattle.cargo_metadata.specs.Packages.{IsPackage}
 use Rattle.cargo_metadata.specs.Nodes.{IsNode, IsInNode}
@@ -42,13 +42,14 @@ pub record IsMetadata (d : Data) (m : Metadata) : Type 0 where
 -- ---- why it is refused
 
 abbrev pub IsInResolve : Data → InResolve → Type 0
-IsInResolve d (in_resolve.Field wrong) = IsWrong d wrong
+IsInResolve d (in_resolve.Field wrong) = IsWrongIn wanted_of_resolve d wrong
 IsInResolve d (in_resolve.Node i wrong) = IsElementAt (λ e. IsInNode e wrong) (codes "nodes") i d
 IsInResolve d (in_resolve.Memory error) = Unit {0}
 
 abbrev pub IsRefused : Data → Refusal → Type 0
-IsRefused d (refusals.Field wrong) = IsWrong d wrong
-IsRefused d (refusals.Package i wrong) = IsElementAt (λ e. IsWrong e wrong) (codes "packages") i d
+IsRefused d (refusals.Field wrong) = IsWrongIn wanted_of_document d wrong
+IsRefused d (refusals.Package i wrong) =
+    IsElementAt (λ e. IsWrongIn wanted_of_package e wrong) (codes "packages") i d
 IsRefused d (refusals.Member i) = IsElementAt (λ e. is_some (as_str e) ≡ false) (codes "workspace_members") i d
 IsRefused d (refusals.Resolve wrong) = InsideResolve d (λ resolve. IsInResolve resolve wrong)
 IsRefused d (refusals.Memory error) = Unit {0}

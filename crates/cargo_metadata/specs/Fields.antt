@@ -1,6 +1,6 @@
 -- What stands at the fields of an object.
 use Rattle.std.specs.Prelude.{◌≡◌, ℕ, Bool, false, cond, ◌==◌, List, [], ◌∷◌, Option, Some, None, codes}
-use Rattle.std.specs.Prelude.{bytes_eq}
+use Rattle.std.specs.Prelude.{◌||◌, bytes_eq}
 use Rattle.std.specs.Prelude.{option_map, option_and_then, is_some}
 use Rattle.serde_json.specs.Data.{Data, null, boolean, number, string, array, object, Items, no_items, item}
 use Rattle.serde_json.specs.Find.{get, as_str, as_array, as_object, as_number, as_u64}
@@ -61,3 +61,43 @@ fits wanted.Condition found = is_some (condition_in found)
 
 abbrev pub IsWrong : Data → Wrong → Type 0
 IsWrong d wrong = fits wrong.wanted (get wrong.field.now d) ≡ false
+
+-- it is told of this field that this was wanted there
+abbrev pub IsAt : List ℕ → Wanted → Wrong → Type 0
+IsAt field what wrong = (wrong.field.now ≡ field) × (wrong.wanted ≡ what)
+
+-- ---- what is wanted at which field
+
+abbrev pub wanted_of_document : List ℕ → Option Wanted
+wanted_of_document field =
+    cond (bytes_eq field (codes "version")) (Some wanted.One)
+    (cond (bytes_eq field (codes "packages") || bytes_eq field (codes "workspace_members")) (Some wanted.List)
+    (cond (bytes_eq field (codes "resolve")) (Some wanted.Resolve) None))
+
+abbrev pub wanted_of_package : List ℕ → Option Wanted
+wanted_of_package field =
+    cond (bytes_eq field (codes "id") || bytes_eq field (codes "name") || bytes_eq field (codes "version"))
+    (Some wanted.Text) None
+
+abbrev pub wanted_of_resolve : List ℕ → Option Wanted
+wanted_of_resolve field = cond (bytes_eq field (codes "nodes")) (Some wanted.List) None
+
+abbrev pub wanted_of_node : List ℕ → Option Wanted
+wanted_of_node field =
+    cond (bytes_eq field (codes "id")) (Some wanted.Text)
+    (cond (bytes_eq field (codes "deps")) (Some wanted.List) None)
+
+abbrev pub wanted_of_dependency : List ℕ → Option Wanted
+wanted_of_dependency field =
+    cond (bytes_eq field (codes "pkg")) (Some wanted.Text)
+    (cond (bytes_eq field (codes "dep_kinds")) (Some wanted.List) None)
+
+abbrev pub wanted_of_kind : List ℕ → Option Wanted
+wanted_of_kind field =
+    cond (bytes_eq field (codes "kind")) (Some wanted.Kind)
+    (cond (bytes_eq field (codes "target")) (Some wanted.Condition) None)
+
+-- at a field at which this is wanted stands something else, or nothing
+pub record IsWrongIn (wanted_of : List ℕ → Option Wanted) (d : Data) (wrong : Wrong) : Type 0 where
+  pub wanted : wanted_of wrong.field.now ≡ Some wrong.wanted
+  pub wrong : IsWrong d wrong

@@ -2,7 +2,7 @@
 
 ghost use Rattle.std.specs.Prelude.{◌≡◌, map, option_map, MatchResult, Some};
 ghost use Rattle.serde_json.specs.View.{view};
-ghost use Rattle.cargo_metadata.specs.Fields.{field_at, text_at, list_at, IsWrong};
+ghost use Rattle.cargo_metadata.specs.Fields.{field_at, text_at, list_at, IsWrong, IsAt};
 
 use crate::refusals::{Wanted, Wrong};
 use serde_json::Value;
@@ -40,7 +40,7 @@ pub fn list_at<'a>(value: &'a Value, field: &str) -> Option<&'a [Value]>
 /// The text at a field.
 pub fn wanted_text<'a>(value: &'a Value, field: &'static str) -> Result<&'a str, Wrong>
     ensures { MatchResult result (λ s. text_at field.now (view value.now) ≡ Some s.now)
-        (λ wrong. IsWrong (view value.now) wrong) }
+        (λ wrong. IsWrong (view value.now) wrong × IsAt field.now Wanted.Text wrong) }
 {
     match text_at(value, field) {
         Some(text) => Ok(text),
@@ -54,7 +54,7 @@ pub fn wanted_text<'a>(value: &'a Value, field: &'static str) -> Result<&'a str,
 /// The list at a field.
 pub fn wanted_list<'a>(value: &'a Value, field: &'static str) -> Result<&'a [Value], Wrong>
     ensures { MatchResult result (λ vs. list_at field.now (view value.now) ≡ Some (map view vs.now))
-        (λ wrong. IsWrong (view value.now) wrong) }
+        (λ wrong. IsWrong (view value.now) wrong × IsAt field.now Wanted.List wrong) }
 {
     match list_at(value, field) {
         Some(items) => Ok(items),

@@ -3,7 +3,7 @@
 ghost use Rattle.std.specs.Prelude.{◌≡◌, MatchResult, Some, true, codes};
 ghost use Rattle.serde_json.specs.View.{view};
 ghost use Rattle.serde_json.specs.Find.{get};
-ghost use Rattle.cargo_metadata.specs.Fields.{fits, IsWrong};
+ghost use Rattle.cargo_metadata.specs.Fields.{fits, IsWrongIn, wanted_of_document};
 ghost use Rattle.cargo_metadata.specs.Rows.{AreRowsAt};
 ghost use Rattle.cargo_metadata.specs.Packages.{IsPackage};
 ghost use Rattle.cargo_metadata.specs.Nodes.{IsNode};
@@ -53,7 +53,8 @@ pub fn read<'a>(alloc: Global, document: &'a Value) -> Result<Metadata<'a>, Refu
 
 /// Whether the version is 1.
 fn check_version(document: &Value) -> Result<(), Wrong>
-    ensures { MatchResult result (λ _. IsVersionOne (view document.now)) (λ wrong. IsWrong (view document.now) wrong) }
+    ensures { MatchResult result (λ _. IsVersionOne (view document.now))
+        (λ wrong. IsWrongIn wanted_of_document (view document.now) wrong) }
 {
     let wrong = Wrong {
         field: "version",
@@ -72,7 +73,7 @@ fn check_version(document: &Value) -> Result<(), Wrong>
 /// What stands at `resolve`.
 fn resolve_at<'a>(document: &'a Value) -> Result<&'a Value, Wrong>
     ensures { MatchResult result (λ resolve. IsResolve (view document.now) (view resolve.now))
-        (λ wrong. IsWrong (view document.now) wrong) }
+        (λ wrong. IsWrongIn wanted_of_document (view document.now) wrong) }
 {
     let wrong = Wrong {
         field: "resolve",

@@ -3,7 +3,7 @@
 ghost use Rattle.std.specs.Prelude.{◌≡◌, MatchResult, Some};
 ghost use Rattle.std.specs.Option.{option_copied};
 ghost use Rattle.serde_json.specs.View.{view};
-ghost use Rattle.cargo_metadata.specs.Fields.{IsWrong};
+ghost use Rattle.cargo_metadata.specs.Fields.{IsWrongIn, wanted_of_kind};
 ghost use Rattle.cargo_metadata.specs.Nodes.{kind_at, condition_at, IsKindRow, IsDependency, IsNode};
 ghost use Rattle.cargo_metadata.specs.Nodes.{IsInDependency, IsInNode};
 
@@ -46,7 +46,7 @@ pub struct Node<'a> {
 /// The kind of a dependency: nothing or null is the normal one.
 fn kind_of(value: &Value) -> Result<Kind, Wrong>
     ensures { MatchResult result (λ kind. kind_at (view value.now) ≡ Some kind)
-        (λ wrong. IsWrong (view value.now) wrong) }
+        (λ wrong. IsWrongIn wanted_of_kind (view value.now) wrong) }
 {
     let wrong = Wrong {
         field: "kind",
@@ -70,7 +70,7 @@ fn kind_of(value: &Value) -> Result<Kind, Wrong>
 /// The condition of a dependency: nothing or null is none.
 fn condition_of<'a>(value: &'a Value) -> Result<Option<&'a str>, Wrong>
     ensures { MatchResult result (λ text. condition_at (view value.now) ≡ Some (option_copied text))
-        (λ wrong. IsWrong (view value.now) wrong) }
+        (λ wrong. IsWrongIn wanted_of_kind (view value.now) wrong) }
 {
     let found = match field_at(value, "target") {
         None => return Ok(None),
@@ -90,7 +90,8 @@ fn condition_of<'a>(value: &'a Value) -> Result<Option<&'a str>, Wrong>
 
 /// The kind and the condition that an object is.
 fn kind_row<'a>(value: &'a Value) -> Result<KindRow<'a>, Wrong>
-    ensures { MatchResult result (λ row. IsKindRow (view value.now) row) (λ wrong. IsWrong (view value.now) wrong) }
+    ensures { MatchResult result (λ row. IsKindRow (view value.now) row)
+        (λ wrong. IsWrongIn wanted_of_kind (view value.now) wrong) }
 {
     let kind = kind_of(value)?;
     let condition = condition_of(value)?;

@@ -2,7 +2,7 @@
 
 ghost use Rattle.std.specs.Prelude.{◌≡◌, MatchResult};
 ghost use Rattle.serde_json.specs.View.{view};
-ghost use Rattle.cargo_metadata.specs.Fields.{IsWrong};
+ghost use Rattle.cargo_metadata.specs.Fields.{IsWrongIn, wanted_of_package};
 ghost use Rattle.cargo_metadata.specs.Packages.{IsPackage, is_macro, has_macro_kind, is_macro_kind};
 
 use crate::fields::{list_at, text_at, wanted_text};
@@ -22,7 +22,8 @@ pub struct Package<'a> {
 
 /// The package that an object is.
 pub fn package_of<'a>(value: &'a Value) -> Result<Package<'a>, Wrong>
-    ensures { MatchResult result (λ p. IsPackage (view value.now) p) (λ wrong. IsWrong (view value.now) wrong) }
+    ensures { MatchResult result (λ p. IsPackage (view value.now) p)
+        (λ wrong. IsWrongIn wanted_of_package (view value.now) wrong) }
 {
     let id = wanted_text(value, "id")?;
     let name = wanted_text(value, "name")?;

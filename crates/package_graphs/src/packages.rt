@@ -2,6 +2,7 @@
 
 ghost use Rattle.std.specs.Prelude.{◌≡◌};
 ghost use Rattle.package_graphs.specs.Kinds.{is_followed};
+ghost use Rattle.package_graphs.specs.Packages.{is_of_host, side};
 
 use known_targets::TargetSet;
 
@@ -63,4 +64,28 @@ pub enum Side {
     Target,
     /// For the host, on which the build runs.
     Host,
+}
+
+impl Side {
+    /// The side of what is built for the host, or is not.
+    pub fn new(is_for_host: bool) -> Side
+        ensures { result ≡ side is_for_host }
+    {
+        if is_for_host {
+            Side::Host
+        } else {
+            Side::Target
+        }
+    }
+
+    /// Whether a dependency of this kind, of a package on this side, is one of the host: what the host needs, and what a
+    /// build script does.
+    pub fn asks_host(self, kind: Kind) -> bool
+        ensures { result ≡ is_of_host self kind }
+    {
+        match self {
+            Side::Host => true,
+            Side::Target => matches!(kind, Kind::Build),
+        }
+    }
 }

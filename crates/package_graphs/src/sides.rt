@@ -4,7 +4,7 @@ ghost use Rattle.std.specs.Prelude.{◌≡◌, ◌<◌, ◌^◌, IfOk, length};
 ghost use Rattle.known_targets.specs.Sets.{is_member};
 ghost use Rattle.package_graphs.specs.Graphs.{edge_lists};
 ghost use Rattle.package_graphs.specs.Kinds.{is_followed};
-ghost use Rattle.package_graphs.specs.Packages.{node_of, side, is_macro, is_of_host, side_after, first_side};
+ghost use Rattle.package_graphs.specs.Packages.{node_of, is_macro, side_after, first_side};
 ghost use Rattle.package_graphs.specs.Inside.Numbered.{holds_by, edge_of, edges_on, numbered, AreFirst, IsQuestion};
 
 use crate::graph::{Edge, Graph};
@@ -34,27 +34,6 @@ pub fn node_of(index: usize, side: Side) -> usize
     }
 }
 
-/// Whether a dependency is one of the host: what the host needs, and what a build script does.
-fn is_of_host(from: Side, kind: Kind) -> bool
-    ensures { result ≡ is_of_host from kind }
-{
-    match from {
-        Side::Host => true,
-        Side::Target => matches!(kind, Kind::Build),
-    }
-}
-
-/// The side of what is built for the host, or is not.
-fn side(is_for_host: bool) -> Side
-    ensures { result ≡ side is_for_host }
-{
-    if is_for_host {
-        Side::Host
-    } else {
-        Side::Target
-    }
-}
-
 impl Question {
     /// What is asked by these kinds, and of this host.
     pub fn new(kinds: Kinds, host: Option<KnownTarget>) -> Question
@@ -76,7 +55,7 @@ impl Question {
     {
         match self.host {
             None => Side::Target,
-            Some(_) => side(is_of_host(from, kind) || is_macro),
+            Some(_) => Side::new(from.asks_host(kind) || is_macro),
         }
     }
 
@@ -86,7 +65,7 @@ impl Question {
     {
         match self.host {
             None => Side::Target,
-            Some(_) => side(is_macro),
+            Some(_) => Side::new(is_macro),
         }
     }
 
@@ -97,7 +76,7 @@ impl Question {
         match self.host {
             None => dependency.holds,
             Some(host) => {
-                if !is_of_host(from, dependency.kind) {
+                if !from.asks_host(dependency.kind) {
                     dependency.holds
                 } else if dependency.holds.contains(host) {
                     self.always
