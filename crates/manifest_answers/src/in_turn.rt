@@ -17,16 +17,18 @@ pub trait Question {
         requires { HasNoDeepKey (target_of (table_view manifest.now.document.table)) };
 }
 
-/// The answers on the manifests that are named, in their order. One that can't be used does not stop the others.
+/// The answers on the manifests that are named, in their order. One that can't be used, as where it has more bytes than
+/// the limit, does not stop the others.
 pub fn answer_each<R: Files + Input + AllocGlobal, Q: Question>(
     rt: &R,
     paths: &[&str],
+    limit: u64,
     question: &mut Q,
 ) -> Result<Answer, AllocError> {
     let alloc = rt.alloc();
     let mut whole = Answer::of(alloc, String::new(alloc), Status::Fine);
     for path in paths {
-        let answer = answer_on(rt, path, question)?;
+        let answer = answer_on(rt, path, limit, question)?;
         whole.append(answer)?;
     }
     Ok(whole)
@@ -36,10 +38,11 @@ pub fn answer_each<R: Files + Input + AllocGlobal, Q: Question>(
 fn answer_on<R: Files + Input + AllocGlobal, Q: Question>(
     rt: &R,
     path: &str,
+    limit: u64,
     question: &mut Q,
 ) -> Result<Answer, AllocError> {
     let alloc = rt.alloc();
-    match read_manifest(rt, path) {
+    match read_manifest(rt, path, limit) {
         Ok(manifest) => match first_deep(alloc, &manifest)? {
             Some(line) => Ok(Answer::unusable(alloc, line)),
             None => question.answer(alloc, &manifest),

@@ -205,13 +205,14 @@ fn known_host(alloc: Global, name: Option<&str>) -> Result<Option<KnownTarget>, 
 }
 
 /// What is selected of the manifests that are named, in their order. The target's own facts are those of `lines`, where
-/// these are given, and else it is a known one.
+/// these are given, and else it is a known one. Manifests of more bytes than the limit are refused.
 pub fn select_each<R: Files + Input + AllocGlobal>(
     rt: &R,
     paths: &[&str],
     target: &Target<'_>,
     lines: Option<&str>,
     host: Option<&str>,
+    limit: u64,
     json: bool,
 ) -> Result<Answer, Refusal> {
     let alloc = rt.alloc();
@@ -228,5 +229,5 @@ pub fn select_each<R: Files + Input + AllocGlobal>(
         host: known_host(alloc, host)?,
         json,
     };
-    Ok(answer_each(rt, paths, &mut selecting)?)
+    Ok(answer_each(rt, paths, limit, &mut selecting)?)
 }

@@ -1,14 +1,15 @@
 //! The subcommands, asked by the words that `clap` read.
 
 use crate::explaining::{explained_code, listed_codes};
-use crate::graphs::{graph_answer, text_of};
+use crate::graphs::graph_answer;
 use crate::levels::command_rules;
+use crate::limits::{limit_of, text_of};
 use crate::linting::{Asked, lint_each};
 use crate::named::{Named, named_manifests};
 use crate::styles::{Shown, style_of};
-use anyhow::{Context, Result};
+use anyhow::Result;
 use clap::ArgMatches;
-use key_answers::answer::{Answer, answered};
+use key_answers::answer::{Answer, Refusal, answered};
 use key_answers::comparing::compare;
 use lint_reports::codes::words;
 use manifest_answers::questions;
@@ -25,12 +26,9 @@ fn word<'a>(matches: &ArgMatches<'a>, id: &str) -> &'a str {
 fn facts_file<R: Files + Input + AllocGlobal>(
     rt: &R,
     matches: &ArgMatches<'_>,
-) -> Result<Option<String>> {
+) -> Result<Option<String>, Refusal> {
     match matches.get_str("facts") {
-        Some(path) => {
-            let text = text_of(rt, path).context(format_args!("reading the facts of {path:?}"))?;
-            Ok(Some(text))
-        }
+        Some(path) => { Ok(Some(text_of(rt, path, limit_of(matches))?)) }
         None => Ok(None),
     }
 }
@@ -39,23 +37,22 @@ fn facts_file<R: Files + Input + AllocGlobal>(
 fn match_answer<R: Files + Input + AllocGlobal>(
     rt: &R,
     matches: &ArgMatches<'_>,
-) -> Result<Answer> {
+) -> Result<Answer, Refusal> {
     let lines = facts_file(rt, matches)?;
-    let answer = questions::applies(
+    questions::applies(
         rt.alloc(),
         word(matches, "key"),
         word(matches, "target"),
         lines.as_ref().map(|text| text.as_str()),
         matches.get_strs("cfg").unwrap_or(&[]),
-    );
-    Ok(answered(rt.alloc(), answer)?)
+    )
 }
 
 /// Answers `select`.
 fn select_answer<R: Files + Input + Env + AllocGlobal + Clone + Drop>(
     rt: &R,
     matches: &ArgMatches<'_>,
-) -> Result<Answer> {
+) -> Result<Answer, Refusal> {
     let lines = facts_file(rt, matches)?;
     let target = Target {
         name: word(matches, "target"),
@@ -70,6 +67,7 @@ fn select_answer<R: Files + Input + Env + AllocGlobal + Clone + Drop>(
         &target,
         lines.as_ref().map(|text| text.as_str()),
         matches.get_str("host"),
+        limit_of(matches),
         matches.get_flag("json"),
     );
     answer.append(answered(rt.alloc(), selected)?)?;
@@ -97,6 +95,7 @@ fn lint_answer<R: Files + Input + Env + AllocGlobal + Clone + Drop>(
         codes,
         is_verbose: matches.get_flag("verbose"),
         is_quiet: matches.get_flag("quiet"),
+        limit: limit_of(matches),
         is_whole: !matches.contains_id("package") && !matches.contains_id("exclude"),
     };
     let Named { paths, mut answer } = named_manifests(rt, matches)?;
@@ -143,13 +142,13 @@ pub fn answer_to<R: Files + Input + Env + AllocGlobal + Clone + Drop>(
         return lint_answer(rt, m, shown);
     }
     if let Some(m) = matches.subcommand_matches("select") {
-        return select_answer(rt, m);
+        return Ok(answered(rt.alloc(), select_answer(rt, m))?);
     }
     if let Some(m) = matches.subcommand_matches("graph") {
         return graph_answer(rt, m);
     }
     if let Some(m) = matches.subcommand_matches("match") {
-        return match_answer(rt, m);
+        return Ok(answered(rt.alloc(), match_answer(rt, m))?);
     }
     question_answer(rt.alloc(), matches)
 }

@@ -1,5 +1,6 @@
 //! The manifests that the words of a command line mean.
 
+use crate::limits::limit_of;
 use clap::ArgMatches;
 use key_answers::answer::{Answer, Status};
 use std::alloc::{AllocError, Global};
@@ -35,6 +36,7 @@ pub fn named_manifests<R: Files + Env + AllocGlobal + Clone + Drop>(
         packages: values(alloc, matches, "package")?,
         excluded: values(alloc, matches, "exclude")?,
         whole: matches.get_flag("workspace"),
+        limit: limit_of(matches),
     };
     let Found { paths, errors } = find(rt, &asked)?;
     let answer = if errors.is_empty() {

@@ -7,14 +7,12 @@ use crate::manifests::{
     table_with_word, text_in, texts_in, unless_refused,
 };
 use cargo_platform::shown_text;
+use limited_texts::INPUT;
 use std::alloc::{AllocError, Global};
 use std::env;
 use std::rt::{Env, Files};
 use toml::Table;
 use workspace_members::{Fault, Pattern, PatternError, Rules, names_of, plain_components};
-
-/// What stands for standard input.
-const INPUT: &str = "-";
 
 /// What the words of a command line say of manifests.
 #[derive(Drop)]
@@ -30,6 +28,8 @@ pub struct Asked {
     pub excluded: Vec<String>,
     /// All members of the workspace, from a member too.
     pub whole: bool,
+    /// How many bytes a manifest may have.
+    pub limit: u64,
 }
 
 /// The manifests that are meant.
@@ -80,11 +80,16 @@ fn file_of<R: Files + AllocGlobal>(rt: &R, path: &str) -> Result<String, AllocEr
 }
 
 /// The manifest of the root of the workspace that a manifest belongs to: its own, the one that `package.workspace`
-/// names, or the nearest above with a table `workspace`. Of one that belongs to none it is its own.
-pub fn root_of<R: Files + Env + AllocGlobal>(rt: &R, file: &str) -> Result<String, AllocError> {
+/// names, or the nearest above with a table `workspace`. Of one that belongs to none it is its own. Manifests of more
+/// bytes than the limit are passed over.
+pub fn root_of<R: Files + Env + AllocGlobal>(
+    rt: &R,
+    file: &str,
+    limit: u64,
+) -> Result<String, AllocError> {
     let alloc = rt.alloc();
     let folder = folder_of(file);
-    if let Some(manifest) = table_with_word(rt, file, "workspace")? {
+    if let Some(manifest) = table_with_word(rt, file, "workspace", limit)? {
         if manifest.get("workspace").is_some() {
             return String::from_str(alloc, file);
         }
@@ -99,7 +104,7 @@ pub fn root_of<R: Files + Env + AllocGlobal>(rt: &R, file: &str) -> Result<Strin
     let mut above = inside(alloc, folder, "..")?;
     for _ in 0..depth {
         let root = inside(alloc, above.as_str(), MANIFEST)?;
-        if let Some(manifest) = table_with_word(rt, root.as_str(), "workspace")? {
+        if let Some(manifest) = table_with_word(rt, root.as_str(), "workspace", limit)? {
             if manifest.get("workspace").is_some() {
                 return shorter(alloc, root.as_str());
             }
@@ -201,12 +206,13 @@ fn add_dependencies<R: Files + Env + AllocGlobal + Clone + Drop>(
     path: &str,
     shared: Option<&Table>,
     rules: &Rules,
+    limit: u64,
     members: &mut Vec<String>,
 ) -> Result<(), AllocError> {
     let alloc = rt.alloc();
     let folder = inside(alloc, root, path)?;
     let file = inside(alloc, folder.as_str(), MANIFEST)?;
-    let Some(manifest) = table_at(rt, file.as_str())? else {
+    let Some(manifest) = table_at(rt, file.as_str(), limit)? else {
         return Ok(());
     };
     for dependency in &path_dependencies(alloc, &manifest, shared)? {
@@ -232,6 +238,7 @@ fn members_of<R: Files + Env + AllocGlobal + Clone + Drop>(
     file: &str,
     manifest: &Table,
     workspace: &Table,
+    limit: u64,
     found: &mut Found,
 ) -> Result<Vec<String>, AllocError> {
     let alloc = rt.alloc();
@@ -257,6 +264,7 @@ fn members_of<R: Files + Env + AllocGlobal + Clone + Drop>(
             path.as_str(),
             shared,
             &rules,
+            limit,
             &mut members,
         )?;
     }
@@ -279,11 +287,11 @@ fn add_meant<R: Files + Env + AllocGlobal + Clone + Drop>(
             .map_err(AllocError::from);
     }
     let file = if asked.whole || !asked.packages.is_empty() {
-        root_of(rt, file)?
+        root_of(rt, file, asked.limit)?
     } else {
         String::from_str(alloc, file)?
     };
-    let manifest = table_with_word(rt, file.as_str(), "workspace")?;
+    let manifest = table_with_word(rt, file.as_str(), "workspace", asked.limit)?;
     found.paths.push(file.clone()?)?;
     let Some(manifest) = manifest else {
         return Ok(());
@@ -291,7 +299,8 @@ fn add_meant<R: Files + Env + AllocGlobal + Clone + Drop>(
     let Some(workspace) = table_in(&manifest, "workspace") else {
         return Ok(());
     };
-    for path in &members_of(rt, file.as_str(), &manifest, workspace, found)? {
+    let members = members_of(rt, file.as_str(), &manifest, workspace, asked.limit, found)?;
+    for path in &members {
         if !path.is_empty() {
             let folder = inside(alloc, folder_of(file.as_str()), path.as_str())?;
             let member = inside(alloc, folder.as_str(), MANIFEST)?;
@@ -302,8 +311,8 @@ fn add_meant<R: Files + Env + AllocGlobal + Clone + Drop>(
 }
 
 /// The name of the package of a manifest, or an empty text.
-fn name_at<R: Files + AllocGlobal>(rt: &R, file: &str) -> Result<String, AllocError> {
-    match table_at(rt, file)? {
+fn name_at<R: Files + AllocGlobal>(rt: &R, file: &str, limit: u64) -> Result<String, AllocError> {
+    match table_at(rt, file, limit)? {
         Some(manifest) => String::from_str(rt.alloc(), package_name(&manifest).unwrap_or("")),
         None => Ok(String::new(rt.alloc())),
     }
@@ -319,7 +328,7 @@ fn choose<R: Files + AllocGlobal>(
     let mut names: Vec<String> = Vec::new(alloc);
     let mut chosen: Vec<String> = Vec::new(alloc);
     for path in &found.paths {
-        let name = name_at(rt, path.as_str())?;
+        let name = name_at(rt, path.as_str(), asked.limit)?;
         let is_asked = asked.packages.is_empty() || has(&asked.packages, name.as_str());
         if is_asked && !has(&asked.excluded, name.as_str()) {
             chosen.push(path.clone()?)?;

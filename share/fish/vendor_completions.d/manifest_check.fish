@@ -21,6 +21,7 @@ complete -c manifest_check -n '__fish_seen_subcommand_from lint' -l manifest-pat
 complete -c manifest_check -n '__fish_seen_subcommand_from lint' -l package -s p -x -d 'The package of this name in the workspace alone'
 complete -c manifest_check -n '__fish_seen_subcommand_from lint' -l exclude -x -d 'Leaves out the package of this name'
 complete -c manifest_check -n '__fish_seen_subcommand_from lint' -l workspace -d 'All members of the workspace, from a member too'
+complete -c manifest_check -n '__fish_seen_subcommand_from lint' -l limit -x -d 'How many bytes an input may have; 64 MiB without it'
 complete -c manifest_check -n '__fish_seen_subcommand_from lint' -F
 complete -c manifest_check -n '__fish_seen_subcommand_from select' -l target -x -a '(manifest_check targets '\''cfg(all())'\'' 2>/dev/null | sed '\''$d'\'')' -d 'The name of the target'
 complete -c manifest_check -n '__fish_seen_subcommand_from select' -l host -x -a '(manifest_check targets '\''cfg(all())'\'' 2>/dev/null | sed '\''$d'\'')' -d 'The target of build-dependencies; without it those under a key are open'
@@ -32,10 +33,12 @@ complete -c manifest_check -n '__fish_seen_subcommand_from select' -l manifest-p
 complete -c manifest_check -n '__fish_seen_subcommand_from select' -l package -s p -x -d 'The package of this name in the workspace alone'
 complete -c manifest_check -n '__fish_seen_subcommand_from select' -l exclude -x -d 'Leaves out the package of this name'
 complete -c manifest_check -n '__fish_seen_subcommand_from select' -l workspace -d 'All members of the workspace, from a member too'
+complete -c manifest_check -n '__fish_seen_subcommand_from select' -l limit -x -d 'How many bytes an input may have; 64 MiB without it'
 complete -c manifest_check -n '__fish_seen_subcommand_from select' -F
 complete -c manifest_check -n '__fish_seen_subcommand_from match' -l target -x -a '(manifest_check targets '\''cfg(all())'\'' 2>/dev/null | sed '\''$d'\'')' -d 'The name of the target'
 complete -c manifest_check -n '__fish_seen_subcommand_from match' -l facts -r -F -d 'The facts of the target, as `rustc --print cfg` prints them, in place of rustc'\''s; - for standard input'
 complete -c manifest_check -n '__fish_seen_subcommand_from match' -l cfg -x -d 'One more fact of the target, as unix or key="value"'
+complete -c manifest_check -n '__fish_seen_subcommand_from match' -l limit -x -d 'How many bytes an input may have; 64 MiB without it'
 complete -c manifest_check -n '__fish_seen_subcommand_from targets' -l json -d 'Prints JSON'
 complete -c manifest_check -n '__fish_seen_subcommand_from compare' -l json -d 'Prints JSON'
 complete -c manifest_check -n '__fish_seen_subcommand_from compare' -l budget -x -d 'How many splits each line may take'
@@ -54,4 +57,5 @@ complete -c manifest_check -n '__fish_seen_subcommand_from graph' -l allow -x -d
 complete -c manifest_check -n '__fish_seen_subcommand_from graph' -l allow-file -r -F -d 'Reads allowed licences from this file, one a line'
 complete -c manifest_check -n '__fish_seen_subcommand_from graph' -l except -x -d 'Tells nothing of this package: NAME@VERSION'
 complete -c manifest_check -n '__fish_seen_subcommand_from graph' -l html -r -F -d 'Writes a page of the packages by classes of targets to this file too'
+complete -c manifest_check -n '__fish_seen_subcommand_from graph' -l limit -x -d 'How many bytes an input may have; 64 MiB without it'
 complete -c manifest_check -n '__fish_seen_subcommand_from graph' -l json -d 'Prints JSON'
