@@ -14,6 +14,28 @@ pub const LIMIT: u64 = 67_108_864;
 /// What stands for standard input.
 pub const INPUT: &str = "-";
 
+/// An input that can't be used, and why, both as they are shown.
+#[derive(Drop)]
+pub struct Unusable {
+    /// The file; none where no file is at fault.
+    pub file: Option<String>,
+    pub reason: String,
+}
+
+impl Unusable {
+    /// What is said of it, on a line.
+    pub fn line(&self, alloc: Global) -> Result<String, AllocError> {
+        let reason = self.reason.as_str();
+        match &self.file {
+            Some(file) => {
+                let file = file.as_str();
+                format!(in alloc; "{file}: error: {reason}\n")
+            }
+            None => format!(in alloc; "error: {reason}\n"),
+        }
+    }
+}
+
 /// The text of a reader, the whole of it. It refuses one of more bytes than the limit, what is no UTF-8, and what can't
 /// be read.
 pub fn text_within<R: Read + Drop>(alloc: Global, reader: R, limit: u64) -> io::Result<String>

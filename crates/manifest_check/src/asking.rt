@@ -9,12 +9,13 @@ use crate::named::{Named, named_manifests};
 use crate::styles::{Shown, style_of};
 use anyhow::Result;
 use clap::ArgMatches;
-use key_answers::answer::{Answer, Refusal, answered};
+use key_answers::answer::{Answer, Refusal, Status, answered};
 use key_answers::comparing::compare;
 use lint_reports::codes::words;
+use manifest_answers::faults::Asking;
 use manifest_answers::questions;
 use manifest_answers::selecting::{Target, select_each};
-use std::alloc::Global;
+use std::alloc::{AllocError, Global};
 use std::rt::{Env, Files};
 
 /// The text of a word that its subcommand requires.
@@ -28,7 +29,7 @@ fn facts_file<R: Files + Input + AllocGlobal>(
     matches: &ArgMatches<'_>,
 ) -> Result<Option<String>, Refusal> {
     match matches.get_str("facts") {
-        Some(path) => { Ok(Some(text_of(rt, path, limit_of(matches))?)) }
+        Some(path) => Ok(Some(text_of(rt, path, limit_of(matches))?)),
         None => Ok(None),
     }
 }
@@ -48,19 +49,30 @@ fn match_answer<R: Files + Input + AllocGlobal>(
     )
 }
 
-/// Answers `select`.
+/// How `select` is asked.
+fn asking_of<'a>(matches: &ArgMatches<'a>) -> Asking<'a> {
+    Asking {
+        target: word(matches, "target"),
+        json: matches.get_flag("json"),
+    }
+}
+
+/// Answers `select`, where the words can be used.
 fn select_answer<R: Files + Input + Env + AllocGlobal + Clone + Drop>(
     rt: &R,
     matches: &ArgMatches<'_>,
 ) -> Result<Answer, Refusal> {
+    let alloc = rt.alloc();
+    let asking = asking_of(matches);
     let lines = facts_file(rt, matches)?;
     let target = Target {
-        name: word(matches, "target"),
+        asking,
         added: matches.get_strs("cfg").unwrap_or(&[]),
         open: matches.get_strs("open").unwrap_or(&[]),
     };
-    let Named { paths, mut answer } = named_manifests(rt, matches)?;
-    let paths: Vec<&str> = paths.iter().map(|path| path.as_str()).collect(rt.alloc())?;
+    let Named { paths, unusable } = named_manifests(rt, matches)?;
+    let mut answer = asking.tell_each(alloc, &unusable)?;
+    let paths: Vec<&str> = paths.iter().map(|path| path.as_str()).collect(alloc)?;
     let selected = select_each(
         rt,
         &paths,
@@ -68,10 +80,21 @@ fn select_answer<R: Files + Input + Env + AllocGlobal + Clone + Drop>(
         lines.as_ref().map(|text| text.as_str()),
         matches.get_str("host"),
         limit_of(matches),
-        matches.get_flag("json"),
-    );
-    answer.append(answered(rt.alloc(), selected)?)?;
+    )?;
+    answer.append(selected)?;
     Ok(answer)
+}
+
+/// Answers `select`, what can't be used too.
+fn select_told<R: Files + Input + Env + AllocGlobal + Clone + Drop>(
+    rt: &R,
+    matches: &ArgMatches<'_>,
+) -> Result<Answer, AllocError> {
+    match select_answer(rt, matches) {
+        Ok(answer) => Ok(answer),
+        Err(Refusal::Unusable(lines)) => asking_of(matches).tell_words(rt.alloc(), lines.as_str()),
+        Err(Refusal::Memory(refused)) => Err(refused),
+    }
 }
 
 /// Answers `lint`.
@@ -98,7 +121,11 @@ fn lint_answer<R: Files + Input + Env + AllocGlobal + Clone + Drop>(
         limit: limit_of(matches),
         is_whole: !matches.contains_id("package") && !matches.contains_id("exclude"),
     };
-    let Named { paths, mut answer } = named_manifests(rt, matches)?;
+    let Named { paths, unusable } = named_manifests(rt, matches)?;
+    let mut answer = Answer::of(alloc, String::new(alloc), Status::Fine);
+    for it in &unusable {
+        answer.append(Answer::unusable(alloc, it.line(alloc)?))?;
+    }
     let paths: Vec<&str> = paths.iter().map(|path| path.as_str()).collect(alloc)?;
     answer.append(lint_each(rt, &paths, &asked)?)?;
     Ok(answer)
@@ -142,7 +169,7 @@ pub fn answer_to<R: Files + Input + Env + AllocGlobal + Clone + Drop>(
         return lint_answer(rt, m, shown);
     }
     if let Some(m) = matches.subcommand_matches("select") {
-        return Ok(answered(rt.alloc(), select_answer(rt, m))?);
+        return Ok(select_told(rt, m)?);
     }
     if let Some(m) = matches.subcommand_matches("graph") {
         return graph_answer(rt, m);

@@ -292,7 +292,10 @@ fn lint_at<R: Files + Input + AllocGlobal>(
             declare(alloc, table, &settings.facts)?;
             lint_manifest(alloc, words, root, telling, &settings, &manifest)
         }
-        Err(ReadError::Unusable(line)) => telling.answer.append(Answer::unusable(alloc, line)),
+        Err(ReadError::Unusable(unusable)) => {
+            let line = unusable.line(alloc)?;
+            telling.answer.append(Answer::unusable(alloc, line))
+        }
         Err(ReadError::Memory(refused)) => Err(refused),
     }
 }

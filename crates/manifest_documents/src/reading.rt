@@ -2,7 +2,7 @@
 
 use crate::document::Document;
 use cargo_platform::shown_text;
-use limited_texts::{INPUT, given_within, reason_of};
+use limited_texts::{INPUT, Unusable, given_within, reason_of};
 use std::alloc::{AllocError, Global};
 use std::fs;
 use std::rt::Files;
@@ -19,8 +19,8 @@ pub struct Manifest {
 /// Why a manifest gives nothing.
 #[derive(Drop)]
 pub enum ReadError {
-    /// This line is to be told on standard error.
-    Unusable(String),
+    /// It can't be used, which is to be told.
+    Unusable(Unusable),
     Memory(AllocError),
 }
 
@@ -49,10 +49,17 @@ fn without_mark(text: &str) -> &str {
     text.strip_prefix("\u{FEFF}").unwrap_or(text)
 }
 
+fn unusable_at(alloc: Global, path: &str, reason: &str) -> Result<Unusable, AllocError> {
+    Ok(Unusable {
+        file: Some(String::from_str(alloc, path)?),
+        reason: String::from_str(alloc, reason)?,
+    })
+}
+
 /// What is told of a manifest that can't be used.
 fn unusable(alloc: Global, path: &str, reason: &str) -> ReadError {
-    match format!(in alloc; "{path}: error: {reason}\n") {
-        Ok(line) => ReadError::Unusable(line),
+    match unusable_at(alloc, path, reason) {
+        Ok(unusable) => ReadError::Unusable(unusable),
         Err(refused) => ReadError::Memory(refused),
     }
 }

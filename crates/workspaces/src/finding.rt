@@ -7,7 +7,7 @@ use crate::manifests::{
     table_with_word, text_in, texts_in, unless_refused,
 };
 use cargo_platform::shown_text;
-use limited_texts::INPUT;
+use limited_texts::{INPUT, Unusable};
 use std::alloc::{AllocError, Global};
 use std::env;
 use std::rt::{Env, Files};
@@ -36,16 +36,17 @@ pub struct Asked {
 #[derive(Drop)]
 pub struct Found {
     pub paths: Vec<String>,
-    /// What can't be found, a line each.
-    pub errors: String,
+    /// What can't be found.
+    pub unusable: Vec<Unusable>,
 }
 
-/// Adds a line on what can't be found or read.
+/// Adds what can't be found or read.
 fn tell(found: &mut Found, alloc: Global, file: &str, reason: &str) -> Result<(), AllocError> {
-    let file = shown_text(alloc, file)?;
-    let reason = shown_text(alloc, reason)?;
-    let line = format!(in alloc; "{file}: error: {reason}\n")?;
-    found.errors.push_str(line.as_str())
+    found.unusable.push(Unusable {
+        file: Some(shown_text(alloc, file)?),
+        reason: shown_text(alloc, reason)?,
+    })?;
+    Ok(())
 }
 
 /// How many components the path of the folder at hand has; none where that is not known.
@@ -351,8 +352,10 @@ fn tell_unknown(
     for name in asked {
         if !has(names, name.as_str()) {
             let name = shown_text(alloc, name.as_str())?;
-            let line = format!(in alloc; "error: no package of the workspace is named {name}\n")?;
-            found.errors.push_str(line.as_str())?;
+            found.unusable.push(Unusable {
+                file: None,
+                reason: format!(in alloc; "no package of the workspace is named {name}")?,
+            })?;
         }
     }
     Ok(())
@@ -381,14 +384,17 @@ pub fn find<R: Files + Env + AllocGlobal + Clone + Drop>(
     let alloc = rt.alloc();
     let mut found = Found {
         paths: Vec::new(alloc),
-        errors: String::new(alloc),
+        unusable: Vec::new(alloc),
     };
     if asked.paths.is_empty() && asked.manifests.is_empty() {
         match manifest_above(rt)? {
             Some(file) => add_meant(rt, asked, file.as_str(), &mut found)?,
             None => {
-                let line = "error: no `Cargo.toml` is here or in a folder above\n";
-                found.errors.push_str(line)?;
+                let reason = "no `Cargo.toml` is here or in a folder above";
+                found.unusable.push(Unusable {
+                    file: None,
+                    reason: String::from_str(alloc, reason)?,
+                })?;
             }
         }
     }
