@@ -259,7 +259,7 @@ const FACTS_OF: Subcommand = Subcommand {
 
 const COMPARE: Subcommand = Subcommand {
     name: "compare",
-    about: "Says how two keys stand to each other, over every target and every set of facts",
+    about: "Says how two keys stand to each other, at the known targets and at those of any specification",
     end: "Example: manifest_check compare 'cfg(target_os = \"linux\")' 'cfg(unix)'",
     arguments: &[
         JSON,

@@ -132,15 +132,18 @@ fn lint_answer<R: Files + Input + Env + AllocGlobal + Clone + Drop>(
 }
 
 /// Answers `compare`.
-fn compare_answer(alloc: Global, matches: &ArgMatches<'_>) -> Result<Answer> {
-    let answer = compare(
-        alloc,
-        word(matches, "first"),
-        word(matches, "second"),
-        matches.get_one::<u64>("budget").unwrap_or(0),
-        matches.get_flag("json"),
-    );
-    Ok(answered(alloc, answer)?)
+fn compare_answer(alloc: Global, matches: &ArgMatches<'_>) -> Result<Answer, Refusal> {
+    let first = word(matches, "first");
+    let second = word(matches, "second");
+    let budget = matches.get_one::<u64>("budget").unwrap_or(0);
+    let mut answer = compare(alloc, first, second, budget, matches.get_flag("json"))?;
+    let hints = questions::unknown_words(alloc, first)?;
+    answer.errors.push_str(hints.as_str())?;
+    if second != first {
+        let hints = questions::unknown_words(alloc, second)?;
+        answer.errors.push_str(hints.as_str())?;
+    }
+    Ok(answer)
 }
 
 /// Answers a question on keys and targets.
@@ -153,7 +156,7 @@ fn question_answer(alloc: Global, matches: &ArgMatches<'_>) -> Result<Answer> {
         return Ok(questions::facts(alloc, word(m, "name"))?);
     }
     if let Some(m) = matches.subcommand_matches("compare") {
-        return compare_answer(alloc, m);
+        return Ok(answered(alloc, compare_answer(alloc, m))?);
     }
     let text = String::from_str(alloc, "error: no such subcommand\n")?;
     Ok(Answer::unusable(alloc, text))

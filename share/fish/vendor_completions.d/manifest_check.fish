@@ -5,7 +5,7 @@ complete -c manifest_check -n __fish_use_subcommand -a select -d 'Tells which de
 complete -c manifest_check -n __fish_use_subcommand -a match -d 'Says whether a key applies to a target'
 complete -c manifest_check -n __fish_use_subcommand -a targets -d 'Lists the known targets at which a key holds'
 complete -c manifest_check -n __fish_use_subcommand -a facts -d 'Prints the facts of a known target, as `rustc --print cfg` does'
-complete -c manifest_check -n __fish_use_subcommand -a compare -d 'Says how two keys stand to each other, over every target and every set of facts'
+complete -c manifest_check -n __fish_use_subcommand -a compare -d 'Says how two keys stand to each other, at the known targets and at those of any specification'
 complete -c manifest_check -n __fish_use_subcommand -a graph -d 'Tells which packages are in a build at which targets, and why'
 complete -c manifest_check -n '__fish_seen_subcommand_from lint' -l json -d 'Prints JSON'
 complete -c manifest_check -n '__fish_seen_subcommand_from lint' -l message-format -x -a 'human short json github sarif' -d 'How findings are printed; human without it'
