@@ -6,6 +6,9 @@ use std::alloc::{AllocError, Global};
 /// How many splits each line of `compare` may take, unless `--budget` says another number.
 const BUDGET: &str = "65536";
 
+/// How many bytes of an input are read at most, unless `--limit` says another number: 64 MiB.
+const LIMIT_BYTES: &str = "67108864";
+
 /// What Cargo hands over as the first argument of `cargo manifest-check ..`.
 const CARGO_NAME: &str = "manifest-check";
 
@@ -22,6 +25,8 @@ enum Given {
     OneOf(&'static str, &'static [&'static str]),
     /// A number, and what it is where none is given.
     Number(&'static str, &'static str),
+    /// The same of a number that is not 0.
+    Positive(&'static str, &'static str),
     /// A value each time that it is repeated.
     Values(&'static str),
     /// The same, and a letter is enough.
@@ -97,6 +102,12 @@ const WORKSPACE: Argument = Argument {
     help: "All members of the workspace, from a member too",
 };
 
+const LIMIT: Argument = Argument {
+    name: "limit",
+    given: Given::Positive("N", LIMIT_BYTES),
+    help: "How many bytes an input may have; 64 MiB without it",
+};
+
 const MANIFESTS: Argument = Argument {
     name: "manifest",
     given: Given::Places("MANIFEST"),
@@ -168,6 +179,7 @@ const LINT: Subcommand = Subcommand {
         PACKAGE,
         EXCLUDE,
         WORKSPACE,
+        LIMIT,
         MANIFESTS,
     ],
 };
@@ -197,6 +209,7 @@ const SELECT: Subcommand = Subcommand {
         PACKAGE,
         EXCLUDE,
         WORKSPACE,
+        LIMIT,
         MANIFESTS,
     ],
 };
@@ -215,6 +228,7 @@ const MATCH: Subcommand = Subcommand {
         TARGET,
         FACTS,
         ADDED_FACTS,
+        LIMIT,
     ],
 };
 
@@ -245,7 +259,7 @@ const FACTS_OF: Subcommand = Subcommand {
 
 const COMPARE: Subcommand = Subcommand {
     name: "compare",
-    about: "Says how two keys stand to each other, over every target and every set of facts",
+    about: "Says how two keys stand to each other, at the known targets and at those of any specification",
     end: "Example: manifest_check compare 'cfg(target_os = \"linux\")' 'cfg(unix)'",
     arguments: &[
         JSON,
@@ -355,6 +369,7 @@ const GRAPH: Subcommand = Subcommand {
             given: Given::Value("FILE"),
             help: "Writes a page of the packages by classes of targets to this file too",
         },
+        LIMIT,
         JSON,
     ],
 };
@@ -420,6 +435,10 @@ fn to_argument<'a>(alloc: Global, told: &Argument) -> Arg<'a> {
         Given::Number(value, without) => option(made, told.name, value)
             .action(ArgAction::Set)
             .value_parser(value_parser!(u64))
+            .default_value(without),
+        Given::Positive(value, without) => option(made, told.name, value)
+            .action(ArgAction::Set)
+            .value_parser(value_parser!(u64).range(1..))
             .default_value(without),
         Given::Place(value) => made.value_name(value).required(true).action(ArgAction::Set),
         Given::Places(value) => made

@@ -8,8 +8,8 @@ use exact_answers::{
     Known, MustSelect, ONE_VALUED, PossibleTarget, equivalent_platform, exclude_platform,
     family_rule, implies_platform,
 };
-use known_targets::matching;
-use serde_json::{Map, Value};
+use known_targets::{COUNT, TargetSet, matching};
+use serde_json::{Map, Value, json};
 use std::alloc::{AllocError, Global};
 
 /// The relations, as they are asked and told.
@@ -20,6 +20,9 @@ pub enum Relation {
     Equivalent,
     Excludes,
 }
+
+/// How many names of targets a line has at most.
+const SHOWN: usize = 3;
 
 pub const RELATIONS: [Relation; 4] = [
     Relation::Implies,
@@ -67,18 +70,34 @@ pub fn holds_everywhere<'a>(
     }
 }
 
-/// Which relations hold at each known target with its own facts, in the order of `RELATIONS`.
-pub fn at_known_targets(
-    alloc: Global,
-    a: &Platform,
-    b: &Platform,
-) -> Result<[bool; 4], AllocError> {
+/// How two keys stand to each other at the known targets, each with its own facts.
+#[derive(Clone, Copy, Drop)]
+pub struct AtKnown {
+    /// Which relations hold at each of them, in the order of `RELATIONS`.
+    pub held: [bool; 4],
+    /// Those at which both keys hold.
+    pub both: TargetSet,
+    /// Those at which the first key holds and the second does not.
+    pub first_alone: TargetSet,
+    /// Those at which the second key holds and the first does not.
+    pub second_alone: TargetSet,
+}
+
+/// How `a` stands to `b` at the known targets.
+pub fn at_known_targets(alloc: Global, a: &Platform, b: &Platform) -> Result<AtKnown, AllocError> {
     let at_a = matching(alloc, a)?;
     let at_b = matching(alloc, b)?;
-    let implies = at_a.intersection(at_b.complement()).is_empty();
-    let implied_by = at_b.intersection(at_a.complement()).is_empty();
-    let excludes = at_a.intersection(at_b).is_empty();
-    Ok([implies, implied_by, implies && implied_by, excludes])
+    let both = at_a.intersection(at_b);
+    let first_alone = at_a.intersection(at_b.complement());
+    let second_alone = at_b.intersection(at_a.complement());
+    let implies = first_alone.is_empty();
+    let implied_by = second_alone.is_empty();
+    Ok(AtKnown {
+        held: [implies, implied_by, implies && implied_by, both.is_empty()],
+        both,
+        first_alone,
+        second_alone,
+    })
 }
 
 /// The example with its facts in their order, each once.
@@ -105,7 +124,7 @@ fn told(alloc: Global, answer: &MustSelect) -> Result<String, AllocError> {
     }
 }
 
-/// What is told of the known targets.
+/// The relations that hold at each known target.
 fn told_at_known(alloc: Global, held: &[bool; 4]) -> Result<String, AllocError> {
     let mut text = String::new(alloc);
     for (relation, holds) in RELATIONS.iter().zip(held.iter()) {
@@ -120,6 +139,81 @@ fn told_at_known(alloc: Global, held: &[bool; 4]) -> Result<String, AllocError> 
         text.push_str("none")?;
     }
     Ok(text)
+}
+
+/// Appends how many targets there are, and the names of the first of them.
+fn push_targets(
+    text: &mut String,
+    alloc: Global,
+    label: &str,
+    targets: TargetSet,
+) -> Result<(), AllocError> {
+    let count = targets.len();
+    let counted = match count {
+        0 => String::from_str(alloc, "none")?,
+        1 => String::from_str(alloc, "1 target")?,
+        _ => format!(in alloc; "{count} targets")?,
+    };
+    let counted = counted.as_str();
+    let line = format!(in alloc; "    {label}: {counted}")?;
+    text.push_str(line.as_str())?;
+    let mut shown: usize = 0;
+    for target in targets.iter() {
+        if shown == SHOWN {
+            break;
+        }
+        let before = if shown == 0 { ": " } else { ", " };
+        text.push_str(before)?;
+        text.push_str(target.name())?;
+        shown = shown.saturating_add(1);
+    }
+    let more = count.saturating_sub(shown);
+    if more > 0 {
+        let line = format!(in alloc; " and {more} more")?;
+        text.push_str(line.as_str())?;
+    }
+    text.push_str("\n")
+}
+
+/// The lines on the known targets.
+fn known_lines(alloc: Global, known: &AtKnown) -> Result<String, AllocError> {
+    let told = told_at_known(alloc, &known.held)?;
+    let mut lines = format!(in alloc; "at the {COUNT} known targets: {told}\n")?;
+    push_targets(&mut lines, alloc, "both", known.both)?;
+    push_targets(&mut lines, alloc, "the first alone", known.first_alone)?;
+    push_targets(&mut lines, alloc, "the second alone", known.second_alone)?;
+    Ok(lines)
+}
+
+/// How many targets there are, and their names, as JSON.
+fn targets_value(alloc: Global, targets: TargetSet) -> Result<Value, AllocError> {
+    let mut names = Vec::new(alloc);
+    for target in targets.iter() {
+        names.push(Value::String(String::from_str(alloc, target.name())?))?;
+    }
+    let count = targets.len();
+    let mut object = Map::new(alloc);
+    put(&mut object, alloc, "targets", json!(in alloc; count)?)?;
+    if targets.equals(TargetSet::all()) {
+        put_text(&mut object, alloc, "at", "all")?;
+    } else {
+        put(&mut object, alloc, "at", Value::Array(names))?;
+    }
+    Ok(Value::Object(object))
+}
+
+/// Adds how the keys stand to each other at the known targets.
+fn put_known(
+    object: &mut Map<String, Value>,
+    alloc: Global,
+    known: &AtKnown,
+) -> Result<(), AllocError> {
+    put(object, alloc, "known", known_value(alloc, &known.held)?)?;
+    put(object, alloc, "both", targets_value(alloc, known.both)?)?;
+    let first_alone = targets_value(alloc, known.first_alone)?;
+    put(object, alloc, "first_alone", first_alone)?;
+    let second_alone = targets_value(alloc, known.second_alone)?;
+    put(object, alloc, "second_alone", second_alone)
 }
 
 /// The facts of an example, as JSON.
@@ -207,22 +301,52 @@ fn undecided_notes(
     Ok(errors)
 }
 
-/// The answers, one a line.
+/// What a group without members means.
+fn empty_group(e: &CfgExpr) -> Option<&'static str> {
+    let (members, meaning) = match e {
+        CfgExpr::Any(members) => (members, "it holds nowhere"),
+        CfgExpr::All(members) => (members, "it holds everywhere"),
+        CfgExpr::Not(_) | CfgExpr::Value(_) | CfgExpr::True | CfgExpr::False => return None,
+    };
+    if members.is_empty() {
+        Some(meaning)
+    } else {
+        None
+    }
+}
+
+/// What is said of a key that is empty: of no text, or a group without members. Of others it is nothing.
+fn empty_note(alloc: Global, place: &str, key: &Platform) -> Result<String, AllocError> {
+    let meaning = match key {
+        Platform::Cfg(e) => empty_group(e),
+        Platform::Name(name) => {
+            if name.is_empty() {
+                Some("no target has this name")
+            } else {
+                None
+            }
+        }
+    };
+    match meaning {
+        Some(meaning) => format!(in alloc; "note: the {place} key is empty: {meaning}\n"),
+        None => Ok(String::new(alloc)),
+    }
+}
+
+/// The answers, one a line: those at the known targets, and then those at any.
 fn lines_of(
     alloc: Global,
     answers: &[(Relation, MustSelect)],
-    held: &[bool; 4],
+    known: &AtKnown,
 ) -> Result<String, AllocError> {
-    let mut lines = String::new(alloc);
+    let mut lines = known_lines(alloc, known)?;
+    lines.push_str("at the targets of any specification:\n")?;
     for (relation, answer) in answers {
         let words = relation.words();
         let told = told(alloc, answer)?;
-        let line = format!(in alloc; "{words}: {told}\n")?;
+        let line = format!(in alloc; "    {words}: {told}\n")?;
         lines.push_str(line.as_str())?;
     }
-    let told = told_at_known(alloc, held)?;
-    let line = format!(in alloc; "at known targets: {told}\n")?;
-    lines.push_str(line.as_str())?;
     Ok(lines)
 }
 
@@ -230,9 +354,10 @@ fn lines_of(
 fn object_of(
     alloc: Global,
     answers: &[(Relation, MustSelect)],
-    held: &[bool; 4],
+    known: &AtKnown,
 ) -> Result<String, AllocError> {
     let mut object = Map::new(alloc);
+    put_known(&mut object, alloc, known)?;
     for (relation, answer) in answers {
         put(
             &mut object,
@@ -241,7 +366,6 @@ fn object_of(
             relation_value(alloc, answer)?,
         )?;
     }
-    put(&mut object, alloc, "known", known_value(alloc, held)?)?;
     let mut text = String::new(alloc);
     push_json(&mut text, alloc, &Value::Object(object))?;
     Ok(text)
@@ -262,13 +386,17 @@ fn compared(
         single: ONE_VALUED,
         assumed: rule,
     };
-    let held = at_known_targets(alloc, a, b)?;
+    let at_known = at_known_targets(alloc, a, b)?;
     let answers = answers_on(alloc, a, b, &known, budget)?;
-    let errors = undecided_notes(alloc, &answers, budget)?;
+    let mut errors = empty_note(alloc, "first", a)?;
+    let second = empty_note(alloc, "second", b)?;
+    errors.push_str(second.as_str())?;
+    let undecided = undecided_notes(alloc, &answers, budget)?;
+    errors.push_str(undecided.as_str())?;
     let output = if json {
-        object_of(alloc, &answers, &held)?
+        object_of(alloc, &answers, &at_known)?
     } else {
-        lines_of(alloc, &answers, &held)?
+        lines_of(alloc, &answers, &at_known)?
     };
     Ok(Answer {
         output,

@@ -3,7 +3,7 @@
 
 ghost use Rattle.std.specs.Prelude.{◌≡◌, ◌≤◌, IfOk, IfSome, string_len, string_bytes};
 
-use std::alloc::Global;
+use std::alloc::{AllocError, Global};
 use std::fs::File;
 use std::io::{self, ErrorKind, Read};
 use std::rt::Files;
@@ -11,7 +11,33 @@ use std::rt::Files;
 /// How many bytes of an input are read at most, where nothing else is said: 64 MiB.
 pub const LIMIT: u64 = 67_108_864;
 
-/// The text of a reader, the whole of it. It refuses one of more bytes than the limit, what is no UTF-8, and what can't be read.
+/// What stands for standard input.
+pub const INPUT: &str = "-";
+
+/// An input that can't be used, and why, both as they are shown.
+#[derive(Drop)]
+pub struct Unusable {
+    /// The file; none where no file is at fault.
+    pub file: Option<String>,
+    pub reason: String,
+}
+
+impl Unusable {
+    /// What is said of it, on a line.
+    pub fn line(&self, alloc: Global) -> Result<String, AllocError> {
+        let reason = self.reason.as_str();
+        match &self.file {
+            Some(file) => {
+                let file = file.as_str();
+                format!(in alloc; "{file}: error: {reason}\n")
+            }
+            None => format!(in alloc; "error: {reason}\n"),
+        }
+    }
+}
+
+/// The text of a reader, the whole of it. It refuses one of more bytes than the limit, what is no UTF-8, and what can't
+/// be read.
 pub fn text_within<R: Read + Drop>(alloc: Global, reader: R, limit: u64) -> io::Result<String>
     ensures within { IfOk result (λ text. string_len text ≤ limit) }
     ensures whole { IfOk result (λ text. IfSome (R.remaining reader) (λ left. string_bytes text ≡ left)) }
@@ -34,4 +60,30 @@ pub fn file_within<R: Files + AllocGlobal>(rt: &R, path: &str, limit: u64) -> io
     ensures { IfOk result (λ text. string_len text ≤ limit) }
 {
     text_within(rt.alloc(), File::open(rt, path)?, limit)
+}
+
+/// The text of the file at a path, or of standard input where the path is `-`, as `text_within` reads it.
+pub fn given_within<R: Files + Input + AllocGlobal>(
+    rt: &R,
+    path: &str,
+    limit: u64,
+) -> io::Result<String>
+    ensures { IfOk result (λ text. string_len text ≤ limit) }
+{
+    if path == INPUT {
+        text_within(rt.alloc(), rt.reader(), limit)
+    } else {
+        file_within(rt, path, limit)
+    }
+}
+
+/// What is said of a text that was read to this limit and refused.
+pub fn reason_of(alloc: Global, error: &io::Error, limit: u64) -> Result<String, AllocError> {
+    match error.kind() {
+        ErrorKind::FileTooLarge => {
+            format!(in alloc; "it has more than {limit} bytes, which is the limit")
+        }
+        ErrorKind::InvalidData => String::from_str(alloc, "it is not valid UTF-8"),
+        _ => format!(in alloc; "{error}"),
+    }
 }

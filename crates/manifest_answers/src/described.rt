@@ -68,10 +68,15 @@ fn features_of(alloc: Global, told: Option<&Told>) -> Result<Vec<Value>, AllocEr
     Ok(features)
 }
 
-/// The line at which the key of `target` first appears.
-fn line_of(document: &Document, dependency: &Dependency<'_>) -> Option<usize> {
-    let appearance = document.lines.of_key(dependency.key?)?;
+/// The number of the line on which a key of `target` first stands.
+pub fn first_line(document: &Document, key: &str) -> Option<usize> {
+    let appearance = document.lines.of_key(key)?;
     Some(appearance.line)
+}
+
+/// The number of the line on which the key of a dependency first stands.
+fn line_of(document: &Document, dependency: &Dependency<'_>) -> Option<usize> {
+    first_line(document, dependency.key?)
 }
 
 /// Adds `package`, `version`, `source`, `features` and `line`.

@@ -15,36 +15,65 @@ pub trait Question {
     /// The answer on a manifest, no key of which is nested too deep.
     fn answer(&mut self, alloc: Global, manifest: &Manifest) -> Result<Answer, AllocError>
         requires { HasNoDeepKey (target_of (table_view manifest.now.document.table)) };
+
+    /// The answer on the manifest at this path, as it is shown, that can't be used. `line` says so, and why.
+    fn refuse(
+        &mut self,
+        alloc: Global,
+        path: &str,
+        reason: &str,
+        line: &str,
+    ) -> Result<Answer, AllocError>;
 }
 
-/// The answers on the manifests that are named, in their order. One that can't be used does not stop the others.
+/// The answers on the manifests that are named, in their order. One that can't be used, as where it has more bytes than
+/// the limit, does not stop the others.
 pub fn answer_each<R: Files + Input + AllocGlobal, Q: Question>(
     rt: &R,
     paths: &[&str],
+    limit: u64,
     question: &mut Q,
 ) -> Result<Answer, AllocError> {
     let alloc = rt.alloc();
     let mut whole = Answer::of(alloc, String::new(alloc), Status::Fine);
     for path in paths {
-        let answer = answer_on(rt, path, question)?;
+        let answer = answer_on(rt, path, limit, question)?;
         whole.append(answer)?;
     }
     Ok(whole)
+}
+
+/// What a line on a key that is too deep says behind the place.
+fn reason_in(line: &str) -> &str {
+    let line = line.strip_suffix("\n").unwrap_or(line);
+    match line.split_once("error[refused]: ") {
+        Some((_, reason)) => reason,
+        None => line,
+    }
 }
 
 /// The answer on the manifest that is named.
 fn answer_on<R: Files + Input + AllocGlobal, Q: Question>(
     rt: &R,
     path: &str,
+    limit: u64,
     question: &mut Q,
 ) -> Result<Answer, AllocError> {
     let alloc = rt.alloc();
-    match read_manifest(rt, path) {
+    match read_manifest(rt, path, limit) {
         Ok(manifest) => match first_deep(alloc, &manifest)? {
-            Some(line) => Ok(Answer::unusable(alloc, line)),
+            Some(line) => {
+                let line = line.as_str();
+                question.refuse(alloc, manifest.path.as_str(), reason_in(line), line)
+            }
             None => question.answer(alloc, &manifest),
         },
-        Err(ReadError::Unusable(line)) => Ok(Answer::unusable(alloc, line)),
+        Err(ReadError::Unusable(unusable)) => {
+            let line = unusable.line(alloc)?;
+            let file = unusable.file.as_ref().map(|file: &String| file.as_str());
+            let reason = unusable.reason.as_str();
+            question.refuse(alloc, file.unwrap_or(path), reason, line.as_str())
+        }
         Err(ReadError::Memory(refused)) => Err(refused),
     }
 }

@@ -59,6 +59,16 @@ fn unknown_lines(
     Ok(text)
 }
 
+/// What there is to tell of the words of a key that rustc has in no known target, and of the name of a target, a line
+/// each: nothing of what only `--cfg` sets, and nothing of an empty key.
+pub fn unknown_words(alloc: Global, key: &str) -> Result<String, Refusal> {
+    if key.is_empty() {
+        return Ok(String::new(alloc));
+    }
+    let condition = read_key(alloc, key)?;
+    Ok(unknown_lines(alloc, key, condition, true)?)
+}
+
 /// The facts of the target with this name.
 pub fn facts(alloc: Global, name: &str) -> Result<Answer, AllocError> {
     match KnownTarget::by_name(name) {

@@ -1,7 +1,10 @@
 //! `select`: which dependencies of a manifest are selected.
 
-use crate::described::put_described;
+use crate::cargo_refuses::refused_by_cargo;
+use crate::described::{first_line, put_described};
+use crate::faults::{Asking, Fault, span_of};
 use crate::in_turn::{Question, answer_each};
+use crate::opened::OpenNames;
 use crate::questions::{added_facts, table_or_lines, unknown_name};
 use cargo_platform::shown_start;
 use key_answers::answer::{Answer, Refusal, Status};
@@ -117,35 +120,72 @@ fn push_object(
     push_json(text, alloc, &Value::Object(object))
 }
 
-/// What is told of a manifest that Cargo refuses.
-fn refused(alloc: Global, path: &str, error: SelectError<'_>) -> Result<Answer, AllocError> {
-    let text = match error {
-        SelectError::Memory(refused) => return Err(refused),
-        SelectError::TargetIsNoTable => format!(in alloc; "{path}: error: `target` is no table\n")?,
+/// What people read of a manifest from which nothing is selected.
+fn refused_lines(alloc: Global, path: &str, error: &SelectError<'_>) -> Result<String, AllocError> {
+    match error {
+        SelectError::Memory(_) => Err(AllocError),
+        SelectError::TargetIsNoTable => format!(in alloc; "{path}: error: `target` is no table\n"),
         SelectError::KeyIsNoTable(key) => {
             let key = shown_start(alloc, key)?;
-            format!(in alloc; "{path}: error: target.'{key}' is no table\n")?
+            format!(in alloc; "{path}: error: target.'{key}' is no table\n")
         }
         SelectError::Refused(key, error) => {
-            let fault = refused_key(alloc, key, &error)?;
-            format!(in alloc; "{path}: {fault}")?
+            let fault = refused_key(alloc, key, error)?;
+            format!(in alloc; "{path}: {fault}")
         }
-    };
-    Ok(Answer::unusable(alloc, text))
+    }
 }
 
-/// What is printed of the rows, a line each; objects where `json` is true.
+/// The answer on a manifest from which nothing is selected.
+fn refused(
+    alloc: Global,
+    asking: &Asking<'_>,
+    manifest: &Manifest,
+    error: &SelectError<'_>,
+) -> Result<Answer, AllocError> {
+    let path = manifest.path.as_str();
+    let lines = refused_lines(alloc, path, error)?;
+    let mut message = String::from_str(alloc, "it is no table")?;
+    let mut fault = Fault::of(Some(path), "`target` is no table");
+    match error {
+        SelectError::Memory(_) | SelectError::TargetIsNoTable => {}
+        SelectError::KeyIsNoTable(key) => fault.key = Some(*key),
+        SelectError::Refused(key, error) => {
+            let kind = error.kind();
+            message = format!(in alloc; "the key spells no condition: {kind}")?;
+            fault.key = Some(*key);
+            fault.span = span_of(key, error);
+        }
+    }
+    if let Some(key) = fault.key {
+        fault.message = message.as_str();
+        fault.line = first_line(&manifest.document, key);
+    }
+    asking.tell(alloc, &fault, lines.as_str())
+}
+
+/// The answer on a manifest that Cargo refuses for this reason.
+fn refused_for(
+    alloc: Global,
+    asking: &Asking<'_>,
+    path: &str,
+    reason: &str,
+) -> Result<Answer, AllocError> {
+    let line = format!(in alloc; "{path}: error: {reason}\n")?;
+    asking.tell(alloc, &Fault::of(Some(path), reason), line.as_str())
+}
+
+/// What is printed of the rows, a line each; objects where these are asked.
 fn rows_text(
     alloc: Global,
     manifest: &Manifest,
-    target: &str,
+    asking: &Asking<'_>,
     rows: &[Row<'_>],
-    json: bool,
 ) -> Result<String, AllocError> {
     let mut text = String::new(alloc);
     for row in rows {
-        if json {
-            push_object(&mut text, alloc, manifest, target, row)?;
+        if asking.json {
+            push_object(&mut text, alloc, manifest, asking.target, row)?;
         } else {
             push_line(&mut text, alloc, manifest.path.as_str(), row)?;
         }
@@ -156,37 +196,46 @@ fn rows_text(
 /// `select`: the target and the host that are asked, and how the answer is printed.
 #[derive(Drop)]
 struct Selecting<'a> {
-    /// The name of the target.
-    target: &'a str,
+    asking: Asking<'a>,
     known: &'a Asked<'a>,
     host: Option<KnownTarget>,
-    /// One object a line.
-    json: bool,
+    /// The names that are left open.
+    opened: OpenNames<'a>,
 }
 
 impl<'a> Question for Selecting<'a> {
     fn answer(&mut self, alloc: Global, manifest: &Manifest) -> Result<Answer, AllocError> {
-        let path = manifest.path.as_str();
-        match select(
-            alloc,
-            &manifest.document.table,
-            self.target,
-            self.known,
-            self.host,
-        ) {
-            Ok(rows) => {
-                let text = rows_text(alloc, manifest, self.target, &rows, self.json)?;
-                Ok(Answer::of(alloc, text, Status::Fine))
-            }
-            Err(error) => refused(alloc, path, error),
+        let table = &manifest.document.table;
+        self.opened.note(alloc, table)?;
+        let rows = match select(alloc, table, self.asking.target, self.known, self.host) {
+            Ok(rows) => rows,
+            Err(error) => return refused(alloc, &self.asking, manifest, &error),
+        };
+        if let Some(reason) = refused_by_cargo(alloc, table)? {
+            let path = manifest.path.as_str();
+            return refused_for(alloc, &self.asking, path, reason.as_str());
         }
+        let text = rows_text(alloc, manifest, &self.asking, &rows)?;
+        Ok(Answer::of(alloc, text, Status::Fine))
+    }
+
+    fn refuse(
+        &mut self,
+        alloc: Global,
+        path: &str,
+        reason: &str,
+        line: &str,
+    ) -> Result<Answer, AllocError> {
+        let fault = Fault::of(Some(path), reason);
+        self.asking.tell(alloc, &fault, line)
     }
 }
 
 /// A target, by what people write of it.
 #[derive(Clone, Copy, Drop)]
 pub struct Target<'a> {
-    pub name: &'a str,
+    /// Its name, and how the answer is told.
+    pub asking: Asking<'a>,
     /// Facts that it has beside its own.
     pub added: &'a [&'a str],
     /// Names and keys of which each fact is open.
@@ -205,17 +254,17 @@ fn known_host(alloc: Global, name: Option<&str>) -> Result<Option<KnownTarget>, 
 }
 
 /// What is selected of the manifests that are named, in their order. The target's own facts are those of `lines`, where
-/// these are given, and else it is a known one.
+/// these are given, and else it is a known one. Manifests of more bytes than the limit are refused.
 pub fn select_each<R: Files + Input + AllocGlobal>(
     rt: &R,
     paths: &[&str],
     target: &Target<'_>,
     lines: Option<&str>,
     host: Option<&str>,
-    json: bool,
+    limit: u64,
 ) -> Result<Answer, Refusal> {
     let alloc = rt.alloc();
-    let facts = table_or_lines(alloc, target.name, lines)?;
+    let facts = table_or_lines(alloc, target.asking.target, lines)?;
     let added = added_facts(alloc, target.added)?;
     let known = Asked {
         facts: &facts,
@@ -223,10 +272,13 @@ pub fn select_each<R: Files + Input + AllocGlobal>(
         open: target.open,
     };
     let mut selecting = Selecting {
-        target: target.name,
+        asking: target.asking,
         known: &known,
         host: known_host(alloc, host)?,
-        json,
+        opened: OpenNames::new(alloc, target.open)?,
     };
-    Ok(answer_each(rt, paths, &mut selecting)?)
+    let mut answer = answer_each(rt, paths, limit, &mut selecting)?;
+    let unasked = selecting.opened.unasked(alloc)?;
+    answer.errors.push_str(unasked.as_str())?;
+    Ok(answer)
 }

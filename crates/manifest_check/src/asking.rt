@@ -1,19 +1,21 @@
 //! The subcommands, asked by the words that `clap` read.
 
 use crate::explaining::{explained_code, listed_codes};
-use crate::graphs::{graph_answer, text_of};
+use crate::graphs::graph_answer;
 use crate::levels::command_rules;
+use crate::limits::{limit_of, text_of};
 use crate::linting::{Asked, lint_each};
 use crate::named::{Named, named_manifests};
 use crate::styles::{Shown, style_of};
-use anyhow::{Context, Result};
+use anyhow::Result;
 use clap::ArgMatches;
-use key_answers::answer::{Answer, answered};
+use key_answers::answer::{Answer, Refusal, Status, answered};
 use key_answers::comparing::compare;
 use lint_reports::codes::words;
+use manifest_answers::faults::Asking;
 use manifest_answers::questions;
 use manifest_answers::selecting::{Target, select_each};
-use std::alloc::Global;
+use std::alloc::{AllocError, Global};
 use std::rt::{Env, Files};
 
 /// The text of a word that its subcommand requires.
@@ -25,12 +27,9 @@ fn word<'a>(matches: &ArgMatches<'a>, id: &str) -> &'a str {
 fn facts_file<R: Files + Input + AllocGlobal>(
     rt: &R,
     matches: &ArgMatches<'_>,
-) -> Result<Option<String>> {
+) -> Result<Option<String>, Refusal> {
     match matches.get_str("facts") {
-        Some(path) => {
-            let text = text_of(rt, path).context(format_args!("reading the facts of {path:?}"))?;
-            Ok(Some(text))
-        }
+        Some(path) => Ok(Some(text_of(rt, path, limit_of(matches))?)),
         None => Ok(None),
     }
 }
@@ -39,41 +38,63 @@ fn facts_file<R: Files + Input + AllocGlobal>(
 fn match_answer<R: Files + Input + AllocGlobal>(
     rt: &R,
     matches: &ArgMatches<'_>,
-) -> Result<Answer> {
+) -> Result<Answer, Refusal> {
     let lines = facts_file(rt, matches)?;
-    let answer = questions::applies(
+    questions::applies(
         rt.alloc(),
         word(matches, "key"),
         word(matches, "target"),
         lines.as_ref().map(|text| text.as_str()),
         matches.get_strs("cfg").unwrap_or(&[]),
-    );
-    Ok(answered(rt.alloc(), answer)?)
+    )
 }
 
-/// Answers `select`.
+/// How `select` is asked.
+fn asking_of<'a>(matches: &ArgMatches<'a>) -> Asking<'a> {
+    Asking {
+        target: word(matches, "target"),
+        json: matches.get_flag("json"),
+    }
+}
+
+/// Answers `select`, where the words can be used.
 fn select_answer<R: Files + Input + Env + AllocGlobal + Clone + Drop>(
     rt: &R,
     matches: &ArgMatches<'_>,
-) -> Result<Answer> {
+) -> Result<Answer, Refusal> {
+    let alloc = rt.alloc();
+    let asking = asking_of(matches);
     let lines = facts_file(rt, matches)?;
     let target = Target {
-        name: word(matches, "target"),
+        asking,
         added: matches.get_strs("cfg").unwrap_or(&[]),
         open: matches.get_strs("open").unwrap_or(&[]),
     };
-    let Named { paths, mut answer } = named_manifests(rt, matches)?;
-    let paths: Vec<&str> = paths.iter().map(|path| path.as_str()).collect(rt.alloc())?;
+    let Named { paths, unusable } = named_manifests(rt, matches)?;
+    let mut answer = asking.tell_each(alloc, &unusable)?;
+    let paths: Vec<&str> = paths.iter().map(|path| path.as_str()).collect(alloc)?;
     let selected = select_each(
         rt,
         &paths,
         &target,
         lines.as_ref().map(|text| text.as_str()),
         matches.get_str("host"),
-        matches.get_flag("json"),
-    );
-    answer.append(answered(rt.alloc(), selected)?)?;
+        limit_of(matches),
+    )?;
+    answer.append(selected)?;
     Ok(answer)
+}
+
+/// Answers `select`, what can't be used too.
+fn select_told<R: Files + Input + Env + AllocGlobal + Clone + Drop>(
+    rt: &R,
+    matches: &ArgMatches<'_>,
+) -> Result<Answer, AllocError> {
+    match select_answer(rt, matches) {
+        Ok(answer) => Ok(answer),
+        Err(Refusal::Unusable(lines)) => asking_of(matches).tell_words(rt.alloc(), lines.as_str()),
+        Err(Refusal::Memory(refused)) => Err(refused),
+    }
 }
 
 /// Answers `lint`.
@@ -97,24 +118,32 @@ fn lint_answer<R: Files + Input + Env + AllocGlobal + Clone + Drop>(
         codes,
         is_verbose: matches.get_flag("verbose"),
         is_quiet: matches.get_flag("quiet"),
+        limit: limit_of(matches),
         is_whole: !matches.contains_id("package") && !matches.contains_id("exclude"),
     };
-    let Named { paths, mut answer } = named_manifests(rt, matches)?;
+    let Named { paths, unusable } = named_manifests(rt, matches)?;
+    let mut answer = Answer::of(alloc, String::new(alloc), Status::Fine);
+    for it in &unusable {
+        answer.append(Answer::unusable(alloc, it.line(alloc)?))?;
+    }
     let paths: Vec<&str> = paths.iter().map(|path| path.as_str()).collect(alloc)?;
     answer.append(lint_each(rt, &paths, &asked)?)?;
     Ok(answer)
 }
 
 /// Answers `compare`.
-fn compare_answer(alloc: Global, matches: &ArgMatches<'_>) -> Result<Answer> {
-    let answer = compare(
-        alloc,
-        word(matches, "first"),
-        word(matches, "second"),
-        matches.get_one::<u64>("budget").unwrap_or(0),
-        matches.get_flag("json"),
-    );
-    Ok(answered(alloc, answer)?)
+fn compare_answer(alloc: Global, matches: &ArgMatches<'_>) -> Result<Answer, Refusal> {
+    let first = word(matches, "first");
+    let second = word(matches, "second");
+    let budget = matches.get_one::<u64>("budget").unwrap_or(0);
+    let mut answer = compare(alloc, first, second, budget, matches.get_flag("json"))?;
+    let hints = questions::unknown_words(alloc, first)?;
+    answer.errors.push_str(hints.as_str())?;
+    if second != first {
+        let hints = questions::unknown_words(alloc, second)?;
+        answer.errors.push_str(hints.as_str())?;
+    }
+    Ok(answer)
 }
 
 /// Answers a question on keys and targets.
@@ -127,7 +156,7 @@ fn question_answer(alloc: Global, matches: &ArgMatches<'_>) -> Result<Answer> {
         return Ok(questions::facts(alloc, word(m, "name"))?);
     }
     if let Some(m) = matches.subcommand_matches("compare") {
-        return compare_answer(alloc, m);
+        return Ok(answered(alloc, compare_answer(alloc, m))?);
     }
     let text = String::from_str(alloc, "error: no such subcommand\n")?;
     Ok(Answer::unusable(alloc, text))
@@ -143,13 +172,13 @@ pub fn answer_to<R: Files + Input + Env + AllocGlobal + Clone + Drop>(
         return lint_answer(rt, m, shown);
     }
     if let Some(m) = matches.subcommand_matches("select") {
-        return select_answer(rt, m);
+        return Ok(select_told(rt, m)?);
     }
     if let Some(m) = matches.subcommand_matches("graph") {
         return graph_answer(rt, m);
     }
     if let Some(m) = matches.subcommand_matches("match") {
-        return match_answer(rt, m);
+        return Ok(answered(rt.alloc(), match_answer(rt, m))?);
     }
     question_answer(rt.alloc(), matches)
 }

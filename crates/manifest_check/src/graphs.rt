@@ -1,28 +1,18 @@
 //! `graph`: which packages are in a build at which targets.
 
+use crate::limits::{limit_of, text_at, text_of};
 use anyhow::Result;
 use cargo_platform::shown_text;
 use clap::ArgMatches;
 use graph_answers::asked::Words;
 use graph_answers::{Report, report_on};
-use key_answers::answer::Answer;
+use key_answers::answer::{Answer, answered};
+use limited_texts::INPUT;
 use std::alloc::Global;
 use std::rt::Files;
 use std::{fs, io};
 
-/// What stands for standard input.
-const INPUT: &str = "-";
-
-/// The text of a file, or of standard input.
-pub fn text_of<R: Files + Input + AllocGlobal>(rt: &R, file: &str) -> io::Result<String> {
-    if file == INPUT {
-        io::read_to_string(rt.alloc(), rt.reader())
-    } else {
-        fs::read_to_string(rt, file)
-    }
-}
-
-/// What is said of a file that can't be read or written.
+/// What is said of a file that can't be written.
 fn unusable(alloc: Global, file: &str, error: &io::Error) -> Result<Answer> {
     let file = shown_text(alloc, file)?;
     let text = format!(in alloc; "{file}: error: {error}\n")?;
@@ -34,12 +24,11 @@ pub fn graph_answer<R: Files + Input + AllocGlobal>(
     rt: &R,
     matches: &ArgMatches<'_>,
 ) -> Result<Answer> {
-    let alloc = rt.alloc();
     let file = matches.get_str("metadata").unwrap_or(INPUT);
     match matches.get_str("allow-file") {
-        Some(list) => match fs::read_to_string(rt, list) {
+        Some(list) => match text_at(rt, list, limit_of(matches)) {
             Ok(text) => answer_with(rt, matches, file, Some((list, text.as_str()))),
-            Err(error) => unusable(alloc, list, &error),
+            Err(refusal) => Ok(answered(rt.alloc(), Err(refusal))?),
         },
         None => answer_with(rt, matches, file, None),
     }
@@ -70,12 +59,12 @@ fn answer_with<R: Files + Input + AllocGlobal>(
         json: matches.get_flag("json"),
         html: matches.get_str("html").is_some(),
     };
-    match text_of(rt, file) {
+    match text_of(rt, file, limit_of(matches)) {
         Ok(text) => {
             let report = report_on(alloc, file, text.as_str(), &words)?;
             written(rt, report, matches.get_str("html"))
         }
-        Err(error) => unusable(alloc, file, &error),
+        Err(refusal) => Ok(answered(alloc, Err(refusal))?),
     }
 }
 

@@ -29,6 +29,8 @@ pub struct Asked {
     pub is_verbose: bool,
     /// No last line sums up.
     pub is_quiet: bool,
+    /// How many bytes a manifest may have.
+    pub limit: u64,
     /// No package is left out.
     pub is_whole: bool,
 }
@@ -274,7 +276,7 @@ fn lint_at<R: Files + Input + AllocGlobal>(
     telling: &mut Telling<'_>,
 ) -> Result<(), AllocError> {
     let alloc = rt.alloc();
-    match read_manifest(rt, path) {
+    match read_manifest(rt, path, telling.asked.limit) {
         Ok(mut manifest) => {
             if let Some(line) = first_deep(alloc, &manifest)? {
                 return telling.answer.append(Answer::unusable(alloc, line));
@@ -290,7 +292,10 @@ fn lint_at<R: Files + Input + AllocGlobal>(
             declare(alloc, table, &settings.facts)?;
             lint_manifest(alloc, words, root, telling, &settings, &manifest)
         }
-        Err(ReadError::Unusable(line)) => telling.answer.append(Answer::unusable(alloc, line)),
+        Err(ReadError::Unusable(unusable)) => {
+            let line = unusable.line(alloc)?;
+            telling.answer.append(Answer::unusable(alloc, line))
+        }
         Err(ReadError::Memory(refused)) => Err(refused),
     }
 }
@@ -313,7 +318,7 @@ pub fn lint_each<R: Files + Input + Env + AllocGlobal>(
     };
     let mut root = Root::none(alloc)?;
     for path in paths {
-        if let Some(other) = Root::of(rt, path, &asked.codes, &root)? {
+        if let Some(other) = Root::of(rt, path, &asked.codes, asked.limit, &root)? {
             telling.tell_root(alloc, &root)?;
             root = other;
         }

@@ -6,6 +6,7 @@ mod declaring;
 mod explaining;
 mod graphs;
 mod levels;
+mod limits;
 mod linting;
 mod named;
 mod roots;

@@ -1,16 +1,17 @@
 //! The manifests that the words of a command line mean.
 
+use crate::limits::limit_of;
 use clap::ArgMatches;
-use key_answers::answer::{Answer, Status};
+use limited_texts::Unusable;
 use std::alloc::{AllocError, Global};
 use std::rt::{Env, Files};
 use workspaces::{Asked, Found, find};
 
-/// Paths of manifests, and the answer so far: what can't be found.
+/// Paths of manifests, and what can't be found.
 #[derive(Drop)]
 pub struct Named {
     pub paths: Vec<String>,
-    pub answer: Answer,
+    pub unusable: Vec<Unusable>,
 }
 
 /// The values of an argument.
@@ -35,12 +36,8 @@ pub fn named_manifests<R: Files + Env + AllocGlobal + Clone + Drop>(
         packages: values(alloc, matches, "package")?,
         excluded: values(alloc, matches, "exclude")?,
         whole: matches.get_flag("workspace"),
+        limit: limit_of(matches),
     };
-    let Found { paths, errors } = find(rt, &asked)?;
-    let answer = if errors.is_empty() {
-        Answer::of(alloc, String::new(alloc), Status::Fine)
-    } else {
-        Answer::unusable(alloc, errors)
-    };
-    Ok(Named { paths, answer })
+    let Found { paths, unusable } = find(rt, &asked)?;
+    Ok(Named { paths, unusable })
 }

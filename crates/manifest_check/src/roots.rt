@@ -1,13 +1,11 @@
 //! What the root of a workspace says to its members.
 
+use limited_texts::INPUT;
 use lint_levels::{Rule, Setting, Settings, Weighed, settings_at};
 use std::alloc::{AllocError, Global};
 use std::rt::{Env, Files};
 use toml::{Table, Value};
 use workspaces::{root_of, shorter, table_in, table_with_word};
-
-/// What stands for standard input.
-const INPUT: &str = "-";
 
 /// What the root of a workspace says.
 #[derive(Drop)]
@@ -79,19 +77,20 @@ impl Root {
         rt: &R,
         path: &str,
         codes: &[&str],
+        limit: u64,
         at_hand: &Root,
     ) -> Result<Option<Root>, AllocError> {
         let alloc = rt.alloc();
         let file = if path == INPUT {
             String::from_str(alloc, INPUT)?
         } else {
-            let file = root_of(rt, path)?;
+            let file = root_of(rt, path, limit)?;
             shorter(alloc, file.as_str())?
         };
         if file.as_str() == at_hand.file.as_str() {
             return Ok(None);
         }
-        let root = match table_with_word(rt, file.as_str(), "workspace")? {
+        let root = match table_with_word(rt, file.as_str(), "workspace", limit)? {
             Some(manifest) => Root::at(alloc, file, &manifest, codes)?,
             None => Root::at(alloc, file, &Table::new(alloc), codes)?,
         };

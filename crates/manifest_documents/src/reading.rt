@@ -2,13 +2,11 @@
 
 use crate::document::Document;
 use cargo_platform::shown_text;
+use limited_texts::{INPUT, Unusable, given_within, reason_of};
 use std::alloc::{AllocError, Global};
+use std::fs;
 use std::rt::Files;
-use std::{fs, io};
 use toml::table_from_str;
-
-/// What stands for standard input.
-const INPUT: &str = "-";
 
 /// A manifest that is read.
 #[derive(Drop)]
@@ -21,8 +19,8 @@ pub struct Manifest {
 /// Why a manifest gives nothing.
 #[derive(Drop)]
 pub enum ReadError {
-    /// This line is to be told on standard error.
-    Unusable(String),
+    /// It can't be used, which is to be told.
+    Unusable(Unusable),
     Memory(AllocError),
 }
 
@@ -46,24 +44,22 @@ fn file_at<R: Files + AllocGlobal>(rt: &R, path: &str) -> Result<String, AllocEr
     String::from_str(alloc, path)
 }
 
-/// The text of a file, or of standard input.
-fn text_at<R: Files + Input + AllocGlobal>(rt: &R, file: &str) -> io::Result<String> {
-    if file == INPUT {
-        io::read_to_string(rt.alloc(), rt.reader())
-    } else {
-        fs::read_to_string(rt, file)
-    }
-}
-
 /// The text without a mark of the byte order, as Cargo reads it.
 fn without_mark(text: &str) -> &str {
     text.strip_prefix("\u{FEFF}").unwrap_or(text)
 }
 
+fn unusable_at(alloc: Global, path: &str, reason: &str) -> Result<Unusable, AllocError> {
+    Ok(Unusable {
+        file: Some(String::from_str(alloc, path)?),
+        reason: String::from_str(alloc, reason)?,
+    })
+}
+
 /// What is told of a manifest that can't be used.
 fn unusable(alloc: Global, path: &str, reason: &str) -> ReadError {
-    match format!(in alloc; "{path}: error: {reason}\n") {
-        Ok(line) => ReadError::Unusable(line),
+    match unusable_at(alloc, path, reason) {
+        Ok(unusable) => ReadError::Unusable(unusable),
         Err(refused) => ReadError::Memory(refused),
     }
 }
@@ -91,18 +87,19 @@ fn joined_lines(alloc: Global, error: &toml::de::Error) -> Result<String, AllocE
     shown_text(alloc, joined.as_str())
 }
 
-/// Reads the manifest that an argument names.
+/// Reads the manifest that an argument names. One of more bytes than the limit is not read to its end, and refused.
 pub fn read_manifest<R: Files + Input + AllocGlobal>(
     rt: &R,
     path: &str,
+    limit: u64,
 ) -> Result<Manifest, ReadError> {
     let alloc = rt.alloc();
     let file = file_at(rt, path)?;
     let shown = shown_text(alloc, file.as_str())?;
-    let text = match text_at(rt, file.as_str()) {
+    let text = match given_within(rt, file.as_str(), limit) {
         Ok(text) => text,
         Err(error) => {
-            let reason = format!(in alloc; "{error}")?;
+            let reason = reason_of(alloc, &error, limit)?;
             return Err(unusable(alloc, shown.as_str(), reason.as_str()));
         }
     };

@@ -7,14 +7,12 @@ use crate::manifests::{
     table_with_word, text_in, texts_in, unless_refused,
 };
 use cargo_platform::shown_text;
+use limited_texts::{INPUT, Unusable};
 use std::alloc::{AllocError, Global};
 use std::env;
 use std::rt::{Env, Files};
 use toml::Table;
 use workspace_members::{Fault, Pattern, PatternError, Rules, names_of, plain_components};
-
-/// What stands for standard input.
-const INPUT: &str = "-";
 
 /// What the words of a command line say of manifests.
 #[derive(Drop)]
@@ -30,22 +28,25 @@ pub struct Asked {
     pub excluded: Vec<String>,
     /// All members of the workspace, from a member too.
     pub whole: bool,
+    /// How many bytes a manifest may have.
+    pub limit: u64,
 }
 
 /// The manifests that are meant.
 #[derive(Drop)]
 pub struct Found {
     pub paths: Vec<String>,
-    /// What can't be found, a line each.
-    pub errors: String,
+    /// What can't be found.
+    pub unusable: Vec<Unusable>,
 }
 
-/// Adds a line on what can't be found or read.
+/// Adds what can't be found or read.
 fn tell(found: &mut Found, alloc: Global, file: &str, reason: &str) -> Result<(), AllocError> {
-    let file = shown_text(alloc, file)?;
-    let reason = shown_text(alloc, reason)?;
-    let line = format!(in alloc; "{file}: error: {reason}\n")?;
-    found.errors.push_str(line.as_str())
+    found.unusable.push(Unusable {
+        file: Some(shown_text(alloc, file)?),
+        reason: shown_text(alloc, reason)?,
+    })?;
+    Ok(())
 }
 
 /// How many components the path of the folder at hand has; none where that is not known.
@@ -80,11 +81,16 @@ fn file_of<R: Files + AllocGlobal>(rt: &R, path: &str) -> Result<String, AllocEr
 }
 
 /// The manifest of the root of the workspace that a manifest belongs to: its own, the one that `package.workspace`
-/// names, or the nearest above with a table `workspace`. Of one that belongs to none it is its own.
-pub fn root_of<R: Files + Env + AllocGlobal>(rt: &R, file: &str) -> Result<String, AllocError> {
+/// names, or the nearest above with a table `workspace`. Of one that belongs to none it is its own. Manifests of more
+/// bytes than the limit are passed over.
+pub fn root_of<R: Files + Env + AllocGlobal>(
+    rt: &R,
+    file: &str,
+    limit: u64,
+) -> Result<String, AllocError> {
     let alloc = rt.alloc();
     let folder = folder_of(file);
-    if let Some(manifest) = table_with_word(rt, file, "workspace")? {
+    if let Some(manifest) = table_with_word(rt, file, "workspace", limit)? {
         if manifest.get("workspace").is_some() {
             return String::from_str(alloc, file);
         }
@@ -99,7 +105,7 @@ pub fn root_of<R: Files + Env + AllocGlobal>(rt: &R, file: &str) -> Result<Strin
     let mut above = inside(alloc, folder, "..")?;
     for _ in 0..depth {
         let root = inside(alloc, above.as_str(), MANIFEST)?;
-        if let Some(manifest) = table_with_word(rt, root.as_str(), "workspace")? {
+        if let Some(manifest) = table_with_word(rt, root.as_str(), "workspace", limit)? {
             if manifest.get("workspace").is_some() {
                 return shorter(alloc, root.as_str());
             }
@@ -201,12 +207,13 @@ fn add_dependencies<R: Files + Env + AllocGlobal + Clone + Drop>(
     path: &str,
     shared: Option<&Table>,
     rules: &Rules,
+    limit: u64,
     members: &mut Vec<String>,
 ) -> Result<(), AllocError> {
     let alloc = rt.alloc();
     let folder = inside(alloc, root, path)?;
     let file = inside(alloc, folder.as_str(), MANIFEST)?;
-    let Some(manifest) = table_at(rt, file.as_str())? else {
+    let Some(manifest) = table_at(rt, file.as_str(), limit)? else {
         return Ok(());
     };
     for dependency in &path_dependencies(alloc, &manifest, shared)? {
@@ -232,6 +239,7 @@ fn members_of<R: Files + Env + AllocGlobal + Clone + Drop>(
     file: &str,
     manifest: &Table,
     workspace: &Table,
+    limit: u64,
     found: &mut Found,
 ) -> Result<Vec<String>, AllocError> {
     let alloc = rt.alloc();
@@ -257,6 +265,7 @@ fn members_of<R: Files + Env + AllocGlobal + Clone + Drop>(
             path.as_str(),
             shared,
             &rules,
+            limit,
             &mut members,
         )?;
     }
@@ -279,11 +288,11 @@ fn add_meant<R: Files + Env + AllocGlobal + Clone + Drop>(
             .map_err(AllocError::from);
     }
     let file = if asked.whole || !asked.packages.is_empty() {
-        root_of(rt, file)?
+        root_of(rt, file, asked.limit)?
     } else {
         String::from_str(alloc, file)?
     };
-    let manifest = table_with_word(rt, file.as_str(), "workspace")?;
+    let manifest = table_with_word(rt, file.as_str(), "workspace", asked.limit)?;
     found.paths.push(file.clone()?)?;
     let Some(manifest) = manifest else {
         return Ok(());
@@ -291,7 +300,8 @@ fn add_meant<R: Files + Env + AllocGlobal + Clone + Drop>(
     let Some(workspace) = table_in(&manifest, "workspace") else {
         return Ok(());
     };
-    for path in &members_of(rt, file.as_str(), &manifest, workspace, found)? {
+    let members = members_of(rt, file.as_str(), &manifest, workspace, asked.limit, found)?;
+    for path in &members {
         if !path.is_empty() {
             let folder = inside(alloc, folder_of(file.as_str()), path.as_str())?;
             let member = inside(alloc, folder.as_str(), MANIFEST)?;
@@ -302,8 +312,8 @@ fn add_meant<R: Files + Env + AllocGlobal + Clone + Drop>(
 }
 
 /// The name of the package of a manifest, or an empty text.
-fn name_at<R: Files + AllocGlobal>(rt: &R, file: &str) -> Result<String, AllocError> {
-    match table_at(rt, file)? {
+fn name_at<R: Files + AllocGlobal>(rt: &R, file: &str, limit: u64) -> Result<String, AllocError> {
+    match table_at(rt, file, limit)? {
         Some(manifest) => String::from_str(rt.alloc(), package_name(&manifest).unwrap_or("")),
         None => Ok(String::new(rt.alloc())),
     }
@@ -319,7 +329,7 @@ fn choose<R: Files + AllocGlobal>(
     let mut names: Vec<String> = Vec::new(alloc);
     let mut chosen: Vec<String> = Vec::new(alloc);
     for path in &found.paths {
-        let name = name_at(rt, path.as_str())?;
+        let name = name_at(rt, path.as_str(), asked.limit)?;
         let is_asked = asked.packages.is_empty() || has(&asked.packages, name.as_str());
         if is_asked && !has(&asked.excluded, name.as_str()) {
             chosen.push(path.clone()?)?;
@@ -342,8 +352,10 @@ fn tell_unknown(
     for name in asked {
         if !has(names, name.as_str()) {
             let name = shown_text(alloc, name.as_str())?;
-            let line = format!(in alloc; "error: no package of the workspace is named {name}\n")?;
-            found.errors.push_str(line.as_str())?;
+            found.unusable.push(Unusable {
+                file: None,
+                reason: format!(in alloc; "no package of the workspace is named {name}")?,
+            })?;
         }
     }
     Ok(())
@@ -372,14 +384,17 @@ pub fn find<R: Files + Env + AllocGlobal + Clone + Drop>(
     let alloc = rt.alloc();
     let mut found = Found {
         paths: Vec::new(alloc),
-        errors: String::new(alloc),
+        unusable: Vec::new(alloc),
     };
     if asked.paths.is_empty() && asked.manifests.is_empty() {
         match manifest_above(rt)? {
             Some(file) => add_meant(rt, asked, file.as_str(), &mut found)?,
             None => {
-                let line = "error: no `Cargo.toml` is here or in a folder above\n";
-                found.errors.push_str(line)?;
+                let reason = "no `Cargo.toml` is here or in a folder above";
+                found.unusable.push(Unusable {
+                    file: None,
+                    reason: String::from_str(alloc, reason)?,
+                })?;
             }
         }
     }

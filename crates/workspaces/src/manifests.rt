@@ -1,6 +1,6 @@
 //! Manifests as texts and tables, and paths beside each other.
 
-use limited_texts::{LIMIT, file_within};
+use limited_texts::file_within;
 use std::alloc::{AllocError, Global};
 use std::io::ErrorKind;
 use std::rt::Files;
@@ -74,21 +74,28 @@ fn table_of(alloc: Global, text: &str) -> Result<Option<Table>, AllocError> {
     }
 }
 
-/// The table of a manifest. There is none where it can't be read or is no TOML: who reads it next says so.
-pub fn table_at<R: Files + AllocGlobal>(rt: &R, file: &str) -> Result<Option<Table>, AllocError> {
-    match unless_refused(file_within(rt, file, LIMIT))? {
+/// The table of a manifest. There is none where it can't be read, has more bytes than the limit, or is no TOML: who
+/// reads it next says so.
+pub fn table_at<R: Files + AllocGlobal>(
+    rt: &R,
+    file: &str,
+    limit: u64,
+) -> Result<Option<Table>, AllocError> {
+    match unless_refused(file_within(rt, file, limit))? {
         Some(text) => table_of(rt.alloc(), text.as_str()),
         None => Ok(None),
     }
 }
 
-/// The table of a manifest with this word in its text: a large one without it is not read as TOML.
+/// The table of a manifest with this word in its text, as `table_at` reads it: a large one without it is not read as
+/// TOML.
 pub fn table_with_word<R: Files + AllocGlobal>(
     rt: &R,
     file: &str,
     word: &str,
+    limit: u64,
 ) -> Result<Option<Table>, AllocError> {
-    match unless_refused(file_within(rt, file, LIMIT))? {
+    match unless_refused(file_within(rt, file, limit))? {
         Some(text) => {
             if text.contains(word) {
                 table_of(rt.alloc(), text.as_str())

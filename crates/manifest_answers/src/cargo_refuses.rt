@@ -1,0 +1,83 @@
+//! What Cargo refuses of the tables of dependencies of a manifest, beside keys.
+
+use cargo_platform::shown_start;
+use lint_levels::Weight;
+use lint_reports::wrong_places;
+use manifest_documents::{Kind, table_of};
+use std::alloc::{AllocError, Global};
+use toml::{Table, Value};
+
+/// The kinds of tables of dependencies.
+const KINDS: [Kind; 3] = [Kind::Normal, Kind::Development, Kind::Build];
+
+/// Whether Cargo takes what stands at a dependency: a version, or a table.
+fn is_dependency(value: &Value) -> bool {
+    value.as_str().is_some() || value.as_table().is_some()
+}
+
+/// What is said of the first thing that Cargo refuses in the table of dependencies of this name.
+fn refused_among(alloc: Global, name: &str, value: &Value) -> Result<Option<String>, AllocError> {
+    let Some(members) = value.as_table() else {
+        return Ok(Some(format!(in alloc; "{name} is no table")?));
+    };
+    for (member, value) in members.iter() {
+        if !is_dependency(value) {
+            let member = shown_start(alloc, member.as_str())?;
+            let message = format!(in alloc; "{name}.{member} is no version and no table")?;
+            return Ok(Some(message));
+        }
+    }
+    Ok(None)
+}
+
+/// What is said of the first thing that Cargo refuses in tables of dependencies here. `before` is what stands before
+/// their names in a header.
+fn refused_in(alloc: Global, table: &Table, before: &str) -> Result<Option<String>, AllocError> {
+    for kind in KINDS {
+        if let Some(value) = table_of(table, kind) {
+            let name = kind.table_name();
+            let name = format!(in alloc; "{before}{name}")?;
+            let found = refused_among(alloc, name.as_str(), value)?;
+            if found.is_some() {
+                return Ok(found);
+            }
+        }
+    }
+    Ok(None)
+}
+
+/// What is said of the first thing that Cargo refuses below a key of `target`.
+fn refused_below(alloc: Global, manifest: &Table) -> Result<Option<String>, AllocError> {
+    let Some(Value::Table(targets)) = manifest.get("target") else {
+        return Ok(None);
+    };
+    for (key, value) in targets.iter() {
+        if let Some(table) = value.as_table() {
+            let key = shown_start(alloc, key.as_str())?;
+            let before = format!(in alloc; "target.'{key}'.")?;
+            let found = refused_in(alloc, table, before.as_str())?;
+            if found.is_some() {
+                return Ok(found);
+            }
+        }
+    }
+    Ok(None)
+}
+
+/// What is said of the first thing in a manifest that Cargo refuses, beside keys: a table or a package with a name that
+/// Cargo does not take there, a table of dependencies that is none, and a dependency that is neither a version nor a
+/// table. `None` where there is nothing of this.
+pub fn refused_by_cargo(alloc: Global, manifest: &Table) -> Result<Option<String>, AllocError> {
+    for it in &wrong_places(alloc, manifest)? {
+        if it.weight == Weight::Error {
+            let subject = it.subject.as_str();
+            let message = it.message.as_str();
+            return Ok(Some(format!(in alloc; "{subject}: {message}")?));
+        }
+    }
+    let found = refused_in(alloc, manifest, "")?;
+    if found.is_some() {
+        return Ok(found);
+    }
+    refused_below(alloc, manifest)
+}

@@ -1,0 +1,117 @@
+//! What can't be used, as `select` tells it: on lines, or as one object a line.
+
+use cargo_platform::ParseError;
+use key_answers::answer::{Answer, Status};
+use key_answers::printing::{push_json, put, put_text, text_value};
+use limited_texts::Unusable;
+use serde_json::{Map, Value, json};
+use std::alloc::{AllocError, Global};
+
+/// For which target something is asked, and how what can't be used is told.
+#[derive(Clone, Copy, Drop)]
+pub struct Asking<'a> {
+    /// The name of the target.
+    pub target: &'a str,
+    /// One object a line.
+    pub json: bool,
+}
+
+/// Why a manifest, or what a command line says beside manifests, can't be used.
+#[derive(Clone, Copy, Drop)]
+pub struct Fault<'a> {
+    /// The path of the manifest, as it is shown; none where no manifest is at fault.
+    pub manifest: Option<&'a str>,
+    /// The key of `target` that is at fault.
+    pub key: Option<&'a str>,
+    /// The number of the line on which that key first stands.
+    pub line: Option<usize>,
+    /// Where that key goes wrong, in bytes.
+    pub span: Option<(usize, usize)>,
+    pub message: &'a str,
+}
+
+impl<'a> Fault<'a> {
+    /// The fault on no key.
+    pub fn of(manifest: Option<&'a str>, message: &'a str) -> Fault<'a> {
+        Fault {
+            manifest,
+            key: None,
+            line: None,
+            span: None,
+            message,
+        }
+    }
+}
+
+/// The beginning and the end of the fault in a key, in bytes.
+pub fn span_of(key: &str, error: &ParseError) -> Option<(usize, usize)> {
+    let span = error.span_in(key)?;
+    Some((span.start, span.end))
+}
+
+/// The number, or null.
+fn number_value(alloc: Global, number: Option<usize>) -> Result<Value, AllocError> {
+    match number {
+        Some(number) => json!(in alloc; number),
+        None => Ok(Value::Null),
+    }
+}
+
+/// The beginning and the end, or null.
+fn span_value(alloc: Global, span: Option<(usize, usize)>) -> Result<Value, AllocError> {
+    match span {
+        Some((start, end)) => json!(in alloc; [start, end]),
+        None => Ok(Value::Null),
+    }
+}
+
+/// What is wrong, as JSON.
+fn error_value(alloc: Global, fault: &Fault<'_>) -> Result<Value, AllocError> {
+    let mut object = Map::new(alloc);
+    put_text(&mut object, alloc, "message", fault.message)?;
+    put(&mut object, alloc, "key", text_value(alloc, fault.key)?)?;
+    put(&mut object, alloc, "line", number_value(alloc, fault.line)?)?;
+    put(&mut object, alloc, "span", span_value(alloc, fault.span)?)?;
+    Ok(Value::Object(object))
+}
+
+impl<'a> Asking<'a> {
+    /// The answer that tells a fault: these lines, or an object.
+    pub fn tell(
+        &self,
+        alloc: Global,
+        fault: &Fault<'_>,
+        lines: &str,
+    ) -> Result<Answer, AllocError> {
+        if !self.json {
+            return Ok(Answer::unusable(alloc, String::from_str(alloc, lines)?));
+        }
+        let mut object = Map::new(alloc);
+        let manifest = text_value(alloc, fault.manifest)?;
+        put(&mut object, alloc, "manifest", manifest)?;
+        put_text(&mut object, alloc, "target", self.target)?;
+        put(&mut object, alloc, "error", error_value(alloc, fault)?)?;
+        let mut output = String::new(alloc);
+        push_json(&mut output, alloc, &Value::Object(object))?;
+        Ok(Answer::of(alloc, output, Status::Unusable))
+    }
+
+    /// The answer that tells what these lines say of the words of a command line.
+    pub fn tell_words(&self, alloc: Global, lines: &str) -> Result<Answer, AllocError> {
+        let message = lines.strip_prefix("error: ").unwrap_or(lines);
+        let message = message.strip_suffix("\n").unwrap_or(message);
+        self.tell(alloc, &Fault::of(None, message), lines)
+    }
+
+    /// The answer that tells inputs that can't be used, in their order.
+    pub fn tell_each(&self, alloc: Global, unusable: &[Unusable]) -> Result<Answer, AllocError> {
+        let mut whole = Answer::of(alloc, String::new(alloc), Status::Fine);
+        for it in unusable {
+            let line = it.line(alloc)?;
+            let file = it.file.as_ref().map(|file: &String| file.as_str());
+            let fault = Fault::of(file, it.reason.as_str());
+            whole.append(self.tell(alloc, &fault, line.as_str())?)?;
+        }
+        Ok(whole)
+    }
+}

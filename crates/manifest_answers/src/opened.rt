@@ -1,0 +1,106 @@
+//! Which names that a command line leaves open are asked for by keys.
+
+use cargo_platform::{Platform, ReadError};
+use expression_folds::values_of;
+use key_answers::printing::shown_name;
+use manifest_documents::{Targets, target_keys};
+use manifest_lints_findings::near;
+use manifest_lints_standings::rustc_names::name_in;
+use std::alloc::{AllocError, Global};
+use toml::Table;
+
+/// A name that is left open.
+#[derive(Drop)]
+struct Opened<'a> {
+    name: &'a str,
+    /// Whether a key asks for it.
+    is_asked: bool,
+    /// A name that a key asks for, and to which one edit leads from this one.
+    near: Option<String>,
+}
+
+/// The names that are left open.
+#[derive(Drop)]
+pub struct OpenNames<'a> {
+    names: Vec<Opened<'a>>,
+}
+
+impl<'a> OpenNames<'a> {
+    /// These names, before a key is seen.
+    pub fn new(alloc: Global, names: &[&'a str]) -> Result<OpenNames<'a>, AllocError> {
+        let mut opened = Vec::new(alloc);
+        for name in names {
+            opened.push(Opened {
+                name: *name,
+                is_asked: false,
+                near: None,
+            })?;
+        }
+        Ok(OpenNames { names: opened })
+    }
+
+    /// Notes that a key asks for this name.
+    fn note_name(&mut self, alloc: Global, name: &str) -> Result<(), AllocError> {
+        for opened in &mut self.names {
+            if opened.name == name {
+                opened.is_asked = true;
+            } else if opened.near.is_none() && near(opened.name, &[name]).is_some() {
+                opened.near = Some(String::from_str(alloc, name)?);
+            }
+        }
+        Ok(())
+    }
+
+    /// Notes what a key asks for. A key that is refused asks for nothing.
+    fn note_key(&mut self, alloc: Global, key: &str) -> Result<(), AllocError> {
+        match Platform::from_str(alloc, key) {
+            Ok(condition) => {
+                for fact in &values_of(alloc, &condition)? {
+                    self.note_name(alloc, name_in(fact))?;
+                }
+                Ok(())
+            }
+            Err(ReadError::Parse(_)) => Ok(()),
+            Err(ReadError::Memory(refused)) => Err(refused),
+        }
+    }
+
+    /// Notes what the keys of a manifest ask for.
+    pub fn note(&mut self, alloc: Global, manifest: &Table) -> Result<(), AllocError> {
+        if self.names.is_empty() {
+            return Ok(());
+        }
+        if let Targets::Keys(keys) = target_keys(alloc, manifest)? {
+            for key in &keys {
+                self.note_key(alloc, key.key)?;
+            }
+        }
+        Ok(())
+    }
+
+    /// What is said of the names for which no key asks, a line each.
+    pub fn unasked(&self, alloc: Global) -> Result<String, AllocError> {
+        let mut lines = String::new(alloc);
+        for opened in &self.names {
+            if !opened.is_asked {
+                let line = unasked_line(alloc, opened)?;
+                lines.push_str(line.as_str())?;
+            }
+        }
+        Ok(lines)
+    }
+}
+
+/// What is said of a name for which no key asks.
+fn unasked_line(alloc: Global, opened: &Opened<'_>) -> Result<String, AllocError> {
+    let name = shown_name(alloc, opened.name)?;
+    match &opened.near {
+        Some(near) => {
+            let near = near.as_str();
+            format!(in alloc;
+                "warning: --open {name}: no key asks for it; perhaps {near} is meant\n"
+            )
+        }
+        None => format!(in alloc; "warning: --open {name}: no key asks for it\n"),
+    }
+}

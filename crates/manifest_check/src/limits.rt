@@ -1,0 +1,46 @@
+//! Inputs, read to the limit that a command line says.
+
+use cargo_platform::shown_text;
+use clap::ArgMatches;
+use key_answers::answer::Refusal;
+use limited_texts::{LIMIT, file_within, given_within, reason_of};
+use std::alloc::Global;
+use std::io;
+use std::rt::Files;
+
+/// How many bytes an input may have.
+pub fn limit_of(matches: &ArgMatches<'_>) -> u64 {
+    matches.get_one::<u64>("limit").unwrap_or(LIMIT)
+}
+
+/// The text that was read of a file to this limit, or the line that says why there is none.
+fn text_read(
+    alloc: Global,
+    file: &str,
+    read: io::Result<String>,
+    limit: u64,
+) -> Result<String, Refusal> {
+    match read {
+        Ok(text) => Ok(text),
+        Err(error) => {
+            let file = shown_text(alloc, file)?;
+            let reason = reason_of(alloc, &error, limit)?;
+            let line = format!(in alloc; "{file}: error: {reason}\n")?;
+            Err(Refusal::Unusable(line))
+        }
+    }
+}
+
+/// The text of a file, or of standard input where it is named `-`. One of more bytes than the limit is refused.
+pub fn text_of<R: Files + Input + AllocGlobal>(
+    rt: &R,
+    file: &str,
+    limit: u64,
+) -> Result<String, Refusal> {
+    text_read(rt.alloc(), file, given_within(rt, file, limit), limit)
+}
+
+/// The text of a file. One of more bytes than the limit is refused.
+pub fn text_at<R: Files + AllocGlobal>(rt: &R, file: &str, limit: u64) -> Result<String, Refusal> {
+    text_read(rt.alloc(), file, file_within(rt, file, limit), limit)
+}
