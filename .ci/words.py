@@ -44,7 +44,8 @@ def long_sentences(text):
     """The sentences with too many words, each with the number of a line. What a link leads to counts for none."""
     for number, paragraph in paragraphs(text):
         told = HEAD.sub("", re.sub(r"\]\([^)]*\)", "]", paragraph))
-        yield from ((number, it) for it in re.split(r"(?<=[.?!]) ", told) if len(it.split()) > MOST_OF_SENTENCE)
+        sentences = re.split(r"(?<=[.?!])(?:\*\*)? ", told)
+        yield from ((number, it) for it in sentences if len(it.split()) > MOST_OF_SENTENCE)
 
 
 def faults(root):
