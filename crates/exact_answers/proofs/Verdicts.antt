@@ -1,18 +1,20 @@
 -- What a group hangs on, member by member, and what that says of the whole.
-use Rattle.std.proofs.Common.{◌≡◌, ◌∙◌, refl, sym, ap, Bool, true, false, not, ◌||◌, Option, Some, None, eqb}
+use Rattle.std.proofs.Common.{◌≡◌, ◌∙◌, refl, sym, ap, Bool, true, false, not, ◌||◌, Option, Some, None}
 use Rattle.std.proofs.Common.{List, [], ◌∷◌}
-use Rattle.cargo_platform.specs.Trees.{Tree, Not, All, Any, Trees, none, tree, trees_of}
+use Rattle.cargo_platform.specs.Trees.{Tree, Not, trees_of}
 use Rattle.cargo_platform.specs.Facts.{Pair}
 use Rattle.cargo_platform.specs.Walk.{list_tree}
-use Rattle.partial_facts.specs.Kleene.{kleene, kleene_not, kleene_and, kleene_or}
+use Rattle.partial_facts.specs.Kleene.{kleene, kleene_not}
 use Rattle.partial_facts.specs.Inside.Groups.{both}
 use Rattle.partial_facts.proofs.Neutral.{neutral_first, neutral_second, settled_first, settled_second, twice_unknown}
+use Rattle.std.specs.Borrow.{Bor}
+use Rattle.cargo_platform.specs.declared.cfg.Cfg.{Cfg}
 use Rattle.exact_answers.specs.Asking.{asks, some_asks}
 use Rattle.exact_answers.specs.Inside.Goals.{as_wanted}
 use Rattle.exact_answers.specs.Inside.Opening.{SaysVerdict, HangsOn}
 use Rattle.exact_answers.specs.declared.opening.Verdict.{Verdict}
 use Rattle.exact_answers.specs.declared.opening.Verdict.TheVariants as verdict
-use Rattle.exact_answers.proofs.Telling.{or_true, or_cases}
+use Rattle.exact_answers.proofs.Telling.{or_true}
 
 module _ (told : Pair → Option Bool) where
   -- ---- groups
@@ -86,21 +88,11 @@ module _ (told : Pair → Option Bool) where
 
   -- ---- verdicts
 
-  decided_so : (w b : Bool) → as_wanted w (Some b) ≡ Some (eqb b w)
-  decided_so true true = refl
-  decided_so true false = refl
-  decided_so false true = refl
-  decided_so false false = refl
-
   open_so : (w : Bool) → as_wanted w None ≡ None
   open_so true = refl
   open_so false = refl
 
-  pub says_decided : (w b : Bool) (whole part : Tree) → HangsOn w told whole part → kleene told part ≡ Some b
-      → kleene told whole ≡ Some (eqb b w)
-  says_decided w b whole part h k = sym h.0 ∙ ap (as_wanted w) k ∙ decided_so w b
-
-  pub says_none : (w : Bool) (whole part : Tree) → HangsOn w told whole part → kleene told part ≡ None
+  says_none : (w : Bool) (whole part : Tree) → HangsOn w told whole part → kleene told part ≡ None
       → kleene told whole ≡ None
   says_none w whole part h k = sym h.0 ∙ ap (as_wanted w) k ∙ open_so w
 
@@ -143,3 +135,9 @@ module _ (told : Pair → Option Bool) where
 
   pub open_alone : (n : Bool) (d : Tree) → kleene told d ≡ None → kleene told (list_tree n (d ∷ [])) ≡ None
   open_alone n d h = of_one n d ∙ h
+
+  -- no member after it settles the group
+  pub open_stays : (n : Bool) (c : Bor Cfg) (d : Tree) (es : List Tree) → SaysVerdict (verdict.Open c) told d
+      → kleene told (list_tree n (d ∷ [])) ≡ kleene told (list_tree n (d ∷ es))
+      → SaysVerdict (verdict.Open c) told (list_tree n (d ∷ es))
+  open_stays n c d es h k = (sym k ∙ open_alone n d h.0, (h.1.0, first_asks n d es _ h.1.1))
