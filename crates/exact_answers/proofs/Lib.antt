@@ -1,6 +1,7 @@
 pub mod Telling
 pub mod OnPath
 pub mod OpenMembers
+pub mod Verdicts
 pub mod Possible
 pub mod Searching
 pub mod Answering

@@ -3,3 +3,4 @@ pub mod Paths
 pub mod Goals
 pub mod Ahead
 pub mod Targets
+pub mod Opening
