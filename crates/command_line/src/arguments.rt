@@ -392,12 +392,22 @@ pub fn without_cargo_name(alloc: Global, words: &mut Vec<String>) -> Result<(), 
 
 /// The program's command, of which `version` is the version.
 pub fn command<'a>(alloc: Global, version: &'a str) -> Result<Command<'a>, AllocError> {
-    let mut made = Command::new(alloc, "manifest_check")
+    let made = Command::new(alloc, "manifest_check")
         .about("Answers what the target conditions of Cargo manifests mean")
         .version(version)
         .subcommand_required(true)
         .arg_required_else_help(true);
-    for it in SUBCOMMANDS {
+    with_subcommands(alloc, made, SUBCOMMANDS)
+}
+
+/// The command with these subcommands. The prover goes through the whole table where it stands by name.
+fn with_subcommands<'a>(
+    alloc: Global,
+    command: Command<'a>,
+    told: &[Subcommand],
+) -> Result<Command<'a>, AllocError> {
+    let mut made = command;
+    for it in told {
         made = made.subcommand(to_subcommand(alloc, it)?)?;
     }
     Ok(made)
