@@ -2,6 +2,7 @@
 #![tactic(auto)]
 
 mod asking;
+mod configurations;
 mod declaring;
 mod explaining;
 mod graphs;
