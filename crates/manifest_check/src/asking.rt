@@ -1,6 +1,7 @@
 //! The subcommands, asked by the words that `clap` read.
 
 use crate::explaining::{explained_code, listed_codes};
+use crate::flags::{FlagFacts, Flagged, facts_of_flags};
 use crate::graphs::{graph_answer, text_of};
 use crate::levels::command_rules;
 use crate::linting::{Asked, lint_each};
@@ -51,29 +52,57 @@ fn match_answer<R: Files + Input + AllocGlobal>(
     Ok(answered(rt.alloc(), answer)?)
 }
 
+/// What is selected where flags set these facts.
+fn selected_with<R: Files + Input + Env + AllocGlobal + Clone + Drop>(
+    rt: &R,
+    matches: &ArgMatches<'_>,
+    lines: Option<&str>,
+    flags: &FlagFacts,
+) -> Result<Answer> {
+    let alloc = rt.alloc();
+    let mut added: Vec<&str> = Vec::new(alloc);
+    for fact in matches.get_strs("cfg").unwrap_or(&[]) {
+        added.push(*fact)?;
+    }
+    for fact in &flags.facts {
+        added.push(fact.as_str())?;
+    }
+    let target = Target {
+        name: word(matches, "target"),
+        added: &added,
+        open: matches.get_strs("open").unwrap_or(&[]),
+    };
+    let Named { paths, mut answer } = named_manifests(rt, matches)?;
+    answer.errors.push_str(flags.notes.as_str())?;
+    let paths: Vec<&str> = paths.iter().map(|path| path.as_str()).collect(alloc)?;
+    let host = matches.get_str("host");
+    let json = matches.get_flag("json");
+    let selected = select_each(rt, &paths, &target, lines, host, json);
+    answer.append(answered(alloc, selected)?)?;
+    Ok(answer)
+}
+
 /// Answers `select`.
 fn select_answer<R: Files + Input + Env + AllocGlobal + Clone + Drop>(
     rt: &R,
     matches: &ArgMatches<'_>,
 ) -> Result<Answer> {
     let lines = facts_file(rt, matches)?;
-    let target = Target {
+    let lines = lines.as_ref().map(|text| text.as_str());
+    let target = Flagged {
         name: word(matches, "target"),
+        lines,
         added: matches.get_strs("cfg").unwrap_or(&[]),
-        open: matches.get_strs("open").unwrap_or(&[]),
     };
-    let Named { paths, mut answer } = named_manifests(rt, matches)?;
-    let paths: Vec<&str> = paths.iter().map(|path| path.as_str()).collect(rt.alloc())?;
-    let selected = select_each(
-        rt,
-        &paths,
-        &target,
-        lines.as_ref().map(|text| text.as_str()),
-        matches.get_str("host"),
-        matches.get_flag("json"),
-    );
-    answer.append(answered(rt.alloc(), selected)?)?;
-    Ok(answer)
+    let flags = if matches.get_flag("no-config") {
+        Ok(FlagFacts::none(rt.alloc()))
+    } else {
+        facts_of_flags(rt, &target)
+    };
+    match flags {
+        Ok(flags) => selected_with(rt, matches, lines, &flags),
+        Err(refusal) => Ok(answered(rt.alloc(), Err(refusal))?),
+    }
 }
 
 /// Answers `lint`.

@@ -5,6 +5,7 @@ mod asking;
 mod configurations;
 mod declaring;
 mod explaining;
+mod flags;
 mod graphs;
 mod levels;
 mod linting;

@@ -9,6 +9,8 @@ mod finding;
 mod folders;
 mod manifests;
 
-pub use configurations::{configuration_beside, is_configuration, manifest_beside};
+pub use configurations::{
+    configuration_beside, configurations_at_hand, is_configuration, manifest_beside,
+};
 pub use finding::{Asked, Found, find, root_of, shorter};
 pub use manifests::{table_in, table_with_word};
