@@ -204,6 +204,11 @@ const SELECT: Subcommand = Subcommand {
             given: Given::Values("NAME"),
             help: "Leaves each fact of this name or key open",
         },
+        Argument {
+            name: "no-config",
+            given: Given::Flag,
+            help: "Leaves out what flags in RUSTFLAGS and in Cargo's configuration set",
+        },
         JSON,
         MANIFEST_PATH,
         PACKAGE,

@@ -17,6 +17,9 @@ pub const MISPLACED: &str = "misplaced";
 /// The code of a table with an underscore in its name.
 pub const UNDERSCORED: &str = "underscored";
 
+/// The code of a field that Cargo does not read at a key of its own configuration.
+pub const UNREAD_FIELD: &str = "unread-field";
+
 /// What is said of a code.
 #[derive(Clone, Copy, Drop)]
 pub struct Explained {
@@ -31,7 +34,7 @@ pub struct Explained {
 }
 
 /// What is said of the codes that are not about a key.
-const OTHERS: [Explained; 4] = [
+const OTHERS: [Explained; 5] = [
     Explained {
         word: MISPLACED,
         weight: Weight::Warning,
@@ -46,6 +49,15 @@ const OTHERS: [Explained; 4] = [
         short: "`dev_dependencies` or `build_dependencies`, which Cargo warns of, or refuses",
         text: "Cargo warns of these names, and refuses them in packages of the edition of 2024. The names have a dash.\n\n\
                Example: [target.'cfg(unix)'.dev_dependencies]\nwhere `dev-dependencies` is the name.",
+    },
+    Explained {
+        word: UNREAD_FIELD,
+        weight: Weight::Warning,
+        short: "in Cargo's configuration a field of a key is not read there, or is one edit from one that is",
+        text: "At a key of `target` in `.cargo/config.toml` Cargo reads `linker`, `runner` and `rustflags`, and \
+               `rustdocflags` and tables for `links` at the name of a target alone. Of another field it warns, or \
+               refuses the file where it builds for that target. Told is what one edit mends.\n\n\
+               Example: [target.'cfg(unix)']\n         linkr = \"clang\"\nwhere `linker` is meant.",
     },
     Explained {
         word: SETTINGS,
@@ -91,7 +103,8 @@ fn text_of_error(code: Code) -> &'static str {
     match code {
         Code::Refused => {
             "The key is neither the name of a target nor an expression `cfg(..)` that can be read, so Cargo refuses \
-             the whole manifest. The two lines below the finding show where the fault lies.\n\n\
+             the whole manifest; in its own configuration it passes over the key. The two lines below the finding \
+             show where the fault lies.\n\n\
              Example: [target.'cfg(all(unix windows))'.dependencies]\nhas no comma between the two names."
         }
         _ => {

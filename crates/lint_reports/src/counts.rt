@@ -3,10 +3,11 @@
 use lint_levels::Weight;
 use std::alloc::{AllocError, Global};
 
-/// How many manifests and keys were checked, and how many findings there are of each weight.
+/// How many manifests, configurations and keys were checked, and how many findings there are of each weight.
 #[derive(Clone, Copy, Drop)]
 pub struct Counts {
     manifests: usize,
+    configurations: usize,
     keys: usize,
     errors: usize,
     warnings: usize,
@@ -27,6 +28,7 @@ impl Counts {
     pub fn none() -> Counts {
         Counts {
             manifests: 0,
+            configurations: 0,
             keys: 0,
             errors: 0,
             warnings: 0,
@@ -38,6 +40,22 @@ impl Counts {
     pub fn add_manifest(&mut self, keys: usize) {
         self.manifests = self.manifests.saturating_add(1);
         self.keys = self.keys.saturating_add(keys);
+    }
+
+    /// One more file of Cargo's configuration, with so many keys.
+    pub fn add_configuration(&mut self, keys: usize) {
+        self.configurations = self.configurations.saturating_add(1);
+        self.keys = self.keys.saturating_add(keys);
+    }
+
+    /// The files that were checked. Configurations are told where there are any.
+    fn files(self, alloc: Global) -> Result<String, AllocError> {
+        let manifests = counted(alloc, self.manifests, "manifest")?;
+        if self.configurations == 0 {
+            return Ok(manifests);
+        }
+        let configurations = counted(alloc, self.configurations, "configuration")?;
+        format!(in alloc; "{manifests}, {configurations}")
     }
 
     /// One more of this weight.
@@ -52,11 +70,11 @@ impl Counts {
 
     /// The last line, which sums up.
     pub fn line(self, alloc: Global) -> Result<String, AllocError> {
-        let manifests = counted(alloc, self.manifests, "manifest")?;
+        let files = self.files(alloc)?;
         let keys = counted(alloc, self.keys, "key")?;
         let errors = counted(alloc, self.errors, "error")?;
         let warnings = counted(alloc, self.warnings, "warning")?;
         let notes = counted(alloc, self.notes, "note")?;
-        format!(in alloc; "{manifests}, {keys} checked: {errors}, {warnings}, {notes}\n")
+        format!(in alloc; "{files}, {keys} checked: {errors}, {warnings}, {notes}\n")
     }
 }

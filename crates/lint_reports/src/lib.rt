@@ -4,6 +4,7 @@
 pub mod codes;
 mod counts;
 mod escapes;
+mod fields;
 mod formats;
 mod places;
 mod rules_told;
@@ -11,6 +12,7 @@ mod sarif;
 mod told;
 
 pub use counts::Counts;
+pub use fields::wrong_fields;
 pub use formats::{Format, Printed, Style};
 pub use places::{WrongPlace, wrong_places};
 pub use rules_told::{

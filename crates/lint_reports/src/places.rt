@@ -14,6 +14,8 @@ pub struct WrongPlace {
     pub weight: Weight,
     /// The table, as its header has it.
     pub subject: String,
+    /// The key of `target` that it is on, if it is on one. The subject is then what stands before that.
+    pub key: Option<String>,
     pub message: String,
 }
 
@@ -48,12 +50,13 @@ fn unread(alloc: Global, name: &str, meant: &str) -> Result<WrongPlace, AllocErr
         code: MISPLACED,
         weight: Weight::Warning,
         subject: name,
+        key: None,
         message: format!(in alloc; "Cargo does not read this table; perhaps `{meant}` is meant")?,
     })
 }
 
-/// Adds the tables at the top of a manifest that Cargo does not read.
-fn add_at_top(
+/// Adds the tables at the top of a manifest, or of a configuration, that Cargo does not read.
+pub fn add_at_top(
     alloc: Global,
     manifest: &Table,
     found: &mut Vec<WrongPlace>,
@@ -92,6 +95,7 @@ fn add_among_packages(
                     code: MISPLACED,
                     weight: Weight::Error,
                     subject: format!(in alloc; "{name}.'{key}'")?,
+                    key: None,
                     message: format!(in alloc;
                         "Cargo refuses this name of a package; perhaps `target.'{key}'.{name}` is meant"
                     )?,
@@ -141,6 +145,7 @@ fn add_underscored(
                 Weight::Warning
             },
             subject: format!(in alloc; "{before}{name}")?,
+            key: None,
             message,
         })?;
     }

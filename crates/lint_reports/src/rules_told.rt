@@ -2,9 +2,10 @@
 
 use crate::codes::{SETTINGS, UNNEEDED_ALLOW};
 use crate::places::WrongPlace;
-use crate::told::{Place, Told};
+use crate::told::{Place, Told, place_of_key};
 use cargo_platform::shown_start;
 use lint_levels::{Fault, Rule, Subject, TOOL, Weight};
+use manifest_documents::reading::Manifest;
 use std::alloc::{AllocError, Global};
 
 /// What is told of something that can't be used in a table of rules.
@@ -77,13 +78,20 @@ pub fn told_of_unneeded<'a>(path: &'a str, part: &'a str, message: &'a str) -> T
     told_of_part(path, part, UNNEEDED_ALLOW, Weight::Note, message)
 }
 
-/// That a table stands where it is not read.
-pub fn told_of_wrong<'a>(path: &'a str, wrong: &'a WrongPlace) -> Told<'a> {
-    told_of_part(
-        path,
+/// That something stands where it is not read.
+pub fn told_of_wrong<'a>(manifest: &'a Manifest, wrong: &'a WrongPlace) -> Told<'a> {
+    let told = told_of_part(
+        manifest.path.as_str(),
         wrong.subject.as_str(),
         wrong.code,
         wrong.weight,
         wrong.message.as_str(),
-    )
+    );
+    match &wrong.key {
+        Some(key) => Told {
+            place: place_of_key(manifest, key.as_str()),
+            ..told
+        },
+        None => told,
+    }
 }

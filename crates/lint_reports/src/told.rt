@@ -45,20 +45,24 @@ fn key_of<'k, 'a>(report: &'k Report<'a>, finding: &Finding) -> Option<&'k Targe
     report.keys.get(finding.key?)
 }
 
+/// The place of a key of a manifest.
+pub fn place_of_key<'a>(manifest: &'a Manifest, key: &'a str) -> Place<'a> {
+    let lines = &manifest.document.lines;
+    Place {
+        path: manifest.path.as_str(),
+        key: Some(key),
+        line: lines.of_key(key).map(|appearance| appearance.line),
+    }
+}
+
 /// The place of a finding of a report on a manifest.
 pub fn place_of<'a>(manifest: &'a Manifest, report: &Report<'a>, finding: &Finding) -> Place<'a> {
-    let path = manifest.path.as_str();
-    let lines = &manifest.document.lines;
     match key_of(report, finding) {
-        Some(key) => Place {
-            path,
-            key: Some(key.key),
-            line: lines.of_key(key.key).map(|appearance| appearance.line),
-        },
+        Some(key) => place_of_key(manifest, key.key),
         None => Place {
-            path,
+            path: manifest.path.as_str(),
             key: None,
-            line: lines.target,
+            line: manifest.document.lines.target,
         },
     }
 }

@@ -1,6 +1,7 @@
 //! The subcommands, asked by the words that `clap` read.
 
 use crate::explaining::{explained_code, listed_codes};
+use crate::flags::{FlagFacts, Flagged, facts_of_flags};
 use crate::graphs::graph_answer;
 use crate::levels::command_rules;
 use crate::limits::{limit_of, text_of};
@@ -57,32 +58,55 @@ fn asking_of<'a>(matches: &ArgMatches<'a>) -> Asking<'a> {
     }
 }
 
+/// What is selected where flags set these facts.
+fn selected_with<R: Files + Input + Env + AllocGlobal + Clone + Drop>(
+    rt: &R,
+    matches: &ArgMatches<'_>,
+    lines: Option<&str>,
+    flags: &FlagFacts,
+) -> Result<Answer, Refusal> {
+    let alloc = rt.alloc();
+    let asking = asking_of(matches);
+    let mut added: Vec<&str> = Vec::new(alloc);
+    for fact in matches.get_strs("cfg").unwrap_or(&[]) {
+        added.push(*fact)?;
+    }
+    for fact in &flags.facts {
+        added.push(fact.as_str())?;
+    }
+    let target = Target {
+        asking,
+        added: &added,
+        open: matches.get_strs("open").unwrap_or(&[]),
+    };
+    let Named { paths, unusable } = named_manifests(rt, matches)?;
+    let mut answer = asking.tell_each(alloc, &unusable)?;
+    answer.errors.push_str(flags.notes.as_str())?;
+    let paths: Vec<&str> = paths.iter().map(|path| path.as_str()).collect(alloc)?;
+    let host = matches.get_str("host");
+    let selected = select_each(rt, &paths, &target, lines, host, limit_of(matches))?;
+    answer.append(selected)?;
+    Ok(answer)
+}
+
 /// Answers `select`, where the words can be used.
 fn select_answer<R: Files + Input + Env + AllocGlobal + Clone + Drop>(
     rt: &R,
     matches: &ArgMatches<'_>,
 ) -> Result<Answer, Refusal> {
-    let alloc = rt.alloc();
-    let asking = asking_of(matches);
     let lines = facts_file(rt, matches)?;
-    let target = Target {
-        asking,
+    let lines = lines.as_ref().map(|text| text.as_str());
+    let target = Flagged {
+        name: word(matches, "target"),
+        lines,
         added: matches.get_strs("cfg").unwrap_or(&[]),
-        open: matches.get_strs("open").unwrap_or(&[]),
     };
-    let Named { paths, unusable } = named_manifests(rt, matches)?;
-    let mut answer = asking.tell_each(alloc, &unusable)?;
-    let paths: Vec<&str> = paths.iter().map(|path| path.as_str()).collect(alloc)?;
-    let selected = select_each(
-        rt,
-        &paths,
-        &target,
-        lines.as_ref().map(|text| text.as_str()),
-        matches.get_str("host"),
-        limit_of(matches),
-    )?;
-    answer.append(selected)?;
-    Ok(answer)
+    let flags = if matches.get_flag("no-config") {
+        FlagFacts::none(rt.alloc())
+    } else {
+        facts_of_flags(rt, &target, limit_of(matches))?
+    };
+    selected_with(rt, matches, lines, &flags)
 }
 
 /// Answers `select`, what can't be used too.

@@ -1,5 +1,6 @@
 //! `lint`: what there is to tell of the keys of a manifest.
 
+use crate::configurations::{as_manifest, reword};
 use crate::declaring::declare;
 use crate::roots::{Root, inherit_lints, is_unneeded};
 use cargo_platform::{shown_start, shown_text};
@@ -7,13 +8,15 @@ use key_answers::answer::{Answer, Status};
 use lint_levels::{Rule, Settings, Weighed, Weight, settings_at, weight_by_each};
 use lint_reports::{
     Counts, Printed, Style, Told, WrongPlace, fault_message, own_weight, place_of, status_of,
-    told_of, told_of_fault, told_of_unneeded, told_of_wrong, unneeded_message, wrong_places,
+    told_of, told_of_fault, told_of_unneeded, told_of_wrong, unneeded_message, wrong_fields,
+    wrong_places,
 };
 use manifest_answers::deep::first_deep;
 use manifest_documents::reading::{Manifest, ReadError, read_manifest};
 use manifest_lints::{Code, Report, Words, lint};
 use std::alloc::{AllocError, Global};
 use std::rt::{Env, Files};
+use workspaces::{configuration_beside, is_configuration, manifest_beside, shorter};
 
 /// What is asked of manifests.
 #[derive(Drop)]
@@ -217,7 +220,7 @@ fn told_in<'a>(
         found.push(told_of(place_of(manifest, report, finding), finding, weight))?;
     }
     for it in wrong {
-        found.push(told_of_wrong(manifest.path.as_str(), it))?;
+        found.push(told_of_wrong(manifest, it))?;
     }
     Ok(found)
 }
@@ -241,19 +244,17 @@ fn push_undecided(
     Ok(())
 }
 
-/// Tells what is found of a manifest that is read.
-fn lint_manifest(
+/// Tells what a report on a manifest has, and that it has no key.
+fn tell_report(
     alloc: Global,
-    words: &Words,
     root: &mut Root,
     telling: &mut Telling<'_>,
     settings: &Settings,
     manifest: &Manifest,
+    report: &Report<'_>,
+    wrong: &[WrongPlace],
 ) -> Result<(), AllocError> {
-    let report = lint(alloc, &manifest.document, words)?;
-    let wrong = wrong_places(alloc, &manifest.document.table)?;
-    telling.tell_found(alloc, root, settings, manifest, &report, &wrong)?;
-    telling.counts.add_manifest(report.keys.len());
+    telling.tell_found(alloc, root, settings, manifest, report, wrong)?;
     if telling.asked.is_verbose && report.keys.is_empty() {
         let path = manifest.path.as_str();
         let line = format!(in alloc; "{path}: no key of `target` to check\n")?;
@@ -263,8 +264,52 @@ fn lint_manifest(
         &mut telling.answer.errors,
         alloc,
         manifest.path.as_str(),
-        &report,
+        report,
     )
+}
+
+/// The manifest at a path. One that can't be used is told.
+fn usable_at<R: Files + Input + AllocGlobal>(
+    rt: &R,
+    path: &str,
+    telling: &mut Telling<'_>,
+) -> Result<Option<Manifest>, AllocError> {
+    let alloc = rt.alloc();
+    let line = match read_manifest(rt, path, telling.asked.limit) {
+        Ok(manifest) => match first_deep(alloc, &manifest)? {
+            Some(line) => line,
+            None => return Ok(Some(manifest)),
+        },
+        Err(ReadError::Unusable(unusable)) => unusable.line(alloc)?,
+        Err(ReadError::Memory(refused)) => return Err(refused),
+    };
+    telling.answer.append(Answer::unusable(alloc, line))?;
+    Ok(None)
+}
+
+/// Tells what is found of the configuration at a path, by what its root says, or that it can't be used.
+fn lint_configuration<R: Files + Input + AllocGlobal>(
+    rt: &R,
+    path: &str,
+    words: &Words,
+    root: &mut Root,
+    telling: &mut Telling<'_>,
+) -> Result<(), AllocError> {
+    let alloc = rt.alloc();
+    let Some(mut manifest) = usable_at(rt, path, telling)? else {
+        return Ok(());
+    };
+    let wrong = wrong_fields(alloc, &manifest.document.table)?;
+    let lints = root.lints_for_all(rt, telling.asked.limit)?;
+    let mut table = as_manifest(alloc, &manifest.document.table, lints)?;
+    declare(alloc, &mut table, &root.settings.facts)?;
+    manifest.document.table = table;
+    root.hides_lints = false;
+    let mut report = lint(alloc, &manifest.document, words)?;
+    reword(alloc, &mut report)?;
+    telling.counts.add_configuration(report.keys.len());
+    let settings = Settings::of(alloc, None, &[])?;
+    tell_report(alloc, root, telling, &settings, &manifest, &report, &wrong)
 }
 
 /// Tells what is found of the manifest at a path, or that it can't be used.
@@ -276,28 +321,68 @@ fn lint_at<R: Files + Input + AllocGlobal>(
     telling: &mut Telling<'_>,
 ) -> Result<(), AllocError> {
     let alloc = rt.alloc();
-    match read_manifest(rt, path, telling.asked.limit) {
-        Ok(mut manifest) => {
-            if let Some(line) = first_deep(alloc, &manifest)? {
-                return telling.answer.append(Answer::unusable(alloc, line));
-            }
-            let table = &mut manifest.document.table;
-            inherit_lints(alloc, root, table)?;
-            declare(alloc, table, &root.settings.facts)?;
-            let settings = Settings::of(
-                alloc,
-                settings_at(table, "package"),
-                &telling.asked.codes,
-            )?;
-            declare(alloc, table, &settings.facts)?;
-            lint_manifest(alloc, words, root, telling, &settings, &manifest)
+    let Some(mut manifest) = usable_at(rt, path, telling)? else {
+        return Ok(());
+    };
+    let table = &mut manifest.document.table;
+    inherit_lints(alloc, root, table)?;
+    declare(alloc, table, &root.settings.facts)?;
+    let settings = Settings::of(alloc, settings_at(table, "package"), &telling.asked.codes)?;
+    declare(alloc, table, &settings.facts)?;
+    let report = lint(alloc, &manifest.document, words)?;
+    let wrong = wrong_places(alloc, &manifest.document.table)?;
+    telling.counts.add_manifest(report.keys.len());
+    tell_report(alloc, root, telling, &settings, &manifest, &report, &wrong)
+}
+
+/// Whether one of the paths leads to the file.
+fn has_path(alloc: Global, paths: &[&str], file: &str) -> Result<bool, AllocError> {
+    let file = shorter(alloc, file)?;
+    for path in paths {
+        let path = shorter(alloc, path)?;
+        if path.as_str() == file.as_str() {
+            return Ok(true);
         }
-        Err(ReadError::Unusable(unusable)) => {
-            let line = unusable.line(alloc)?;
-            telling.answer.append(Answer::unusable(alloc, line))
-        }
-        Err(ReadError::Memory(refused)) => Err(refused),
     }
+    Ok(false)
+}
+
+/// Tells what is found of one of the files that are named: a configuration, or a manifest. With the manifest of a root
+/// the configuration beside it is meant too, which may be named besides.
+fn lint_named<R: Files + Input + AllocGlobal>(
+    rt: &R,
+    paths: &[&str],
+    path: &str,
+    words: &Words,
+    root: &mut Root,
+    telling: &mut Telling<'_>,
+) -> Result<(), AllocError> {
+    let alloc = rt.alloc();
+    if is_configuration(path) {
+        return lint_configuration(rt, path, words, root, telling);
+    }
+    lint_at(rt, path, words, root, telling)?;
+    if !root.is_at(alloc, path)? {
+        return Ok(());
+    }
+    root.is_asked = true;
+    match configuration_beside(rt, path)? {
+        Some(file) => {
+            if has_path(alloc, paths, file.as_str())? {
+                return Ok(());
+            }
+            lint_configuration(rt, file.as_str(), words, root, telling)
+        }
+        None => Ok(()),
+    }
+}
+
+/// The manifest to which a file belongs: of a configuration the one beside it.
+fn manifest_of(alloc: Global, path: &str) -> Result<String, AllocError> {
+    if is_configuration(path) {
+        return manifest_beside(alloc, path);
+    }
+    String::from_str(alloc, path)
 }
 
 /// The findings on the manifests that are named, in their order.
@@ -318,12 +403,12 @@ pub fn lint_each<R: Files + Input + Env + AllocGlobal>(
     };
     let mut root = Root::none(alloc)?;
     for path in paths {
-        if let Some(other) = Root::of(rt, path, &asked.codes, asked.limit, &root)? {
+        let manifest = manifest_of(alloc, path)?;
+        if let Some(other) = Root::of(rt, manifest.as_str(), &asked.codes, asked.limit, &root)? {
             telling.tell_root(alloc, &root)?;
             root = other;
         }
-        root.note_asked(alloc, path)?;
-        lint_at(rt, path, &words, &mut root, &mut telling)?;
+        lint_named(rt, paths, path, &words, &mut root, &mut telling)?;
     }
     telling.tell_root(alloc, &root)?;
     let Telling {

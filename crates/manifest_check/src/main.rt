@@ -2,8 +2,10 @@
 #![tactic(auto)]
 
 mod asking;
+mod configurations;
 mod declaring;
 mod explaining;
+mod flags;
 mod graphs;
 mod levels;
 mod limits;

@@ -97,13 +97,28 @@ impl Root {
         Ok(Some(root))
     }
 
-    /// Notes that the manifest at a path was asked.
-    pub fn note_asked(&mut self, alloc: Global, path: &str) -> Result<(), AllocError> {
+    /// Whether its manifest is the one at a path.
+    pub fn is_at(&self, alloc: Global, path: &str) -> Result<bool, AllocError> {
         let path = shorter(alloc, path)?;
-        if path.as_str() == self.file.as_str() {
-            self.is_asked = true;
+        Ok(path.as_str() == self.file.as_str())
+    }
+
+    /// The lints of what belongs to no member: those of its table `workspace`, or without any its own.
+    pub fn lints_for_all<R: Files + AllocGlobal>(
+        &self,
+        rt: &R,
+        limit: u64,
+    ) -> Result<Option<Value>, AllocError> {
+        if let Some(lints) = &self.lints {
+            return Ok(Some(lints.clone()?));
         }
-        Ok(())
+        match table_with_word(rt, self.file.as_str(), "lints", limit)? {
+            Some(manifest) => match manifest.get("lints") {
+                Some(lints) => Ok(Some(lints.clone()?)),
+                None => Ok(None),
+            },
+            None => Ok(None),
+        }
     }
 
     /// Notes which of its rules these findings need.

@@ -50,7 +50,7 @@ fn tell(found: &mut Found, alloc: Global, file: &str, reason: &str) -> Result<()
 }
 
 /// How many components the path of the folder at hand has; none where that is not known.
-fn depth_at_hand<R: Env + AllocGlobal>(rt: &R) -> Result<usize, AllocError> {
+pub fn depth_at_hand<R: Env + AllocGlobal>(rt: &R) -> Result<usize, AllocError> {
     Ok(match unless_refused(env::current_dir(rt))? {
         Some(folder) => folder.as_path().components().count(),
         None => 0,

@@ -28,6 +28,7 @@ complete -c manifest_check -n '__fish_seen_subcommand_from select' -l host -x -a
 complete -c manifest_check -n '__fish_seen_subcommand_from select' -l facts -r -F -d 'The facts of the target, as `rustc --print cfg` prints them, in place of rustc'\''s; - for standard input'
 complete -c manifest_check -n '__fish_seen_subcommand_from select' -l cfg -x -d 'One more fact of the target, as unix or key="value"'
 complete -c manifest_check -n '__fish_seen_subcommand_from select' -l open -x -d 'Leaves each fact of this name or key open'
+complete -c manifest_check -n '__fish_seen_subcommand_from select' -l no-config -d 'Leaves out what flags in RUSTFLAGS and in Cargo'\''s configuration set'
 complete -c manifest_check -n '__fish_seen_subcommand_from select' -l json -d 'Prints JSON'
 complete -c manifest_check -n '__fish_seen_subcommand_from select' -l manifest-path -r -F -d 'One more MANIFEST'
 complete -c manifest_check -n '__fish_seen_subcommand_from select' -l package -s p -x -d 'The package of this name in the workspace alone'

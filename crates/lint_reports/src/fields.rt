@@ -1,0 +1,92 @@
+//! What Cargo does not read at the keys of `target` in its own configuration.
+
+use crate::codes::UNREAD_FIELD;
+use crate::places::{WrongPlace, add_at_top};
+use cargo_platform::shown_start;
+use lint_levels::Weight;
+use manifest_lints_findings::near;
+use std::alloc::{AllocError, Global};
+use toml::{Table, Value};
+
+/// The table of the keys.
+const TARGET: &str = "target";
+
+/// The field that Cargo reads at the name of a target alone.
+const OF_NAMES: &str = "rustdocflags";
+
+/// The fields of a key. At the name of a target other members are tables for libraries of `links`.
+const FIELDS: [&str; 4] = ["linker", "runner", "rustflags", OF_NAMES];
+
+/// What is told of a field, and how much it weighs; nothing of one that Cargo reads, or that is near to no such one.
+fn unread(
+    alloc: Global,
+    key: &str,
+    name: &str,
+    value: &Value,
+) -> Result<Option<(Weight, String)>, AllocError> {
+    let is_condition = key.starts_with("cfg(");
+    if FIELDS.iter().any(|field| *field == name) {
+        if name == OF_NAMES && is_condition {
+            let message = format!(in alloc; "Cargo reads `{name}` at the name of a target alone")?;
+            return Ok(Some((Weight::Warning, message)));
+        }
+        return Ok(None);
+    }
+    let Some(meant) = near(name, &FIELDS) else {
+        return Ok(None);
+    };
+    let name = shown_start(alloc, name)?;
+    let (weight, reason) = if is_condition {
+        (
+            Weight::Warning,
+            format!(in alloc; "Cargo does not read `{name}`")?,
+        )
+    } else if value.as_table().is_some() {
+        (
+            Weight::Warning,
+            format!(in alloc; "Cargo takes `{name}` for a library of `links`")?,
+        )
+    } else {
+        (
+            Weight::Error,
+            format!(in alloc; "Cargo refuses `{name}` where it builds for the target")?,
+        )
+    };
+    let message = format!(in alloc; "{reason}; perhaps `{meant}` is meant")?;
+    Ok(Some((weight, message)))
+}
+
+/// Adds the fields of a key that are not read.
+fn add_of_key(
+    alloc: Global,
+    key: &str,
+    fields: &Table,
+    found: &mut Vec<WrongPlace>,
+) -> Result<(), AllocError> {
+    for (name, value) in fields.iter() {
+        if let Some((weight, message)) = unread(alloc, key, name.as_str(), value)? {
+            found.push(WrongPlace {
+                code: UNREAD_FIELD,
+                weight,
+                subject: String::from_str(alloc, TARGET)?,
+                key: Some(String::from_str(alloc, key)?),
+                message,
+            })?;
+        }
+    }
+    Ok(())
+}
+
+/// What Cargo does not read of a configuration: tables that are meant for targets and stand elsewhere, and fields.
+pub fn wrong_fields(alloc: Global, configuration: &Table) -> Result<Vec<WrongPlace>, AllocError> {
+    let mut found = Vec::new(alloc);
+    add_at_top(alloc, configuration, &mut found)?;
+    if let Some(Value::Table(targets)) = configuration.get(TARGET) {
+        for (key, value) in targets.iter() {
+            if let Some(fields) = value.as_table() {
+                add_of_key(alloc, key.as_str(), fields, &mut found)?;
+            }
+        }
+    }
+    Ok(found)
+}

@@ -1,0 +1,288 @@
+//! Facts that flags of rustc set, which Cargo takes from the environment or else from its configuration.
+
+use cargo_platform::shown_start;
+use key_answers::answer::{Refusal, Status};
+use manifest_answers::questions::applies;
+use manifest_documents::reading::{ReadError, read_manifest};
+use std::alloc::{AllocError, Global};
+use std::env;
+use std::rt::{Env, Files};
+use toml::{Table, Value};
+use workspaces::{configurations_at_hand, table_in};
+
+/// The variables of the environment in the order in which they win. In the first a character stands between flags that
+/// none of them has.
+const ENCODED: &str = "CARGO_ENCODED_RUSTFLAGS";
+
+const SEPARATOR: char = '\u{1f}';
+
+const PLAIN: &str = "RUSTFLAGS";
+
+/// The member with flags.
+const RUSTFLAGS: &str = "rustflags";
+
+/// A target whose facts are asked for.
+#[derive(Clone, Copy, Drop)]
+pub struct Flagged<'a> {
+    pub name: &'a str,
+    /// The lines of its facts, where it is no known target.
+    pub lines: Option<&'a str>,
+    /// Facts that a command line adds.
+    pub added: &'a [&'a str],
+}
+
+/// Facts that flags set, as they are spelled there, and where these stand, for people.
+#[derive(Drop)]
+pub struct FlagFacts {
+    pub facts: Vec<String>,
+    pub notes: String,
+}
+
+/// Flags of one place.
+#[derive(Drop)]
+struct Flags {
+    /// The place, as it is shown.
+    place: String,
+    /// The key of `target` that they are for, if they are for one.
+    key: Option<String>,
+    flags: Vec<String>,
+    /// They stand in one text, and not in an array.
+    is_text: bool,
+}
+
+impl FlagFacts {
+    /// None.
+    pub fn none(alloc: Global) -> FlagFacts {
+        FlagFacts {
+            facts: Vec::new(alloc),
+            notes: String::new(alloc),
+        }
+    }
+
+    /// Adds a fact, unless it is there.
+    fn add(&mut self, alloc: Global, fact: &str, place: &str) -> Result<(), AllocError> {
+        if self.facts.iter().any(|it| it.as_str() == fact) {
+            return Ok(());
+        }
+        self.facts.push(String::from_str(alloc, fact)?)?;
+        let fact = shown_start(alloc, fact)?;
+        let place = shown_start(alloc, place)?;
+        let note = format!(in alloc; "note: {place} sets `{fact}`; --no-config leaves it out\n")?;
+        self.notes.push_str(note.as_str())
+    }
+
+    /// Adds the facts that flags set: what follows `--cfg`, or stands behind `--cfg=`.
+    fn add_of(&mut self, alloc: Global, flags: &Flags) -> Result<(), AllocError> {
+        let mut is_next = false;
+        for flag in &flags.flags {
+            let flag = flag.as_str();
+            if is_next {
+                self.add(alloc, flag, flags.place.as_str())?;
+                is_next = false;
+            } else if flag == "--cfg" {
+                is_next = true;
+            } else if let Some(fact) = flag.strip_prefix("--cfg=") {
+                self.add(alloc, fact, flags.place.as_str())?;
+            }
+        }
+        Ok(())
+    }
+}
+
+/// Adds the words of a text.
+fn add_words(
+    alloc: Global,
+    text: &str,
+    separator: char,
+    words: &mut Vec<String>,
+) -> Result<(), AllocError> {
+    for word in text.split(separator) {
+        if !word.trim().is_empty() {
+            words.push(String::from_str(alloc, word.trim())?)?;
+        }
+    }
+    Ok(())
+}
+
+/// The flags of the environment. A variable that is set counts though it is empty.
+fn flags_of_environment<R: Env + AllocGlobal>(rt: &R) -> Result<Option<Flags>, AllocError> {
+    let alloc = rt.alloc();
+    for (name, separator) in [(ENCODED, SEPARATOR), (PLAIN, ' ')] {
+        if let Ok(text) = env::var(rt, name) {
+            let mut flags = Vec::new(alloc);
+            add_words(alloc, text.as_str(), separator, &mut flags)?;
+            return Ok(Some(Flags {
+                place: String::from_str(alloc, name)?,
+                key: None,
+                flags,
+                is_text: true,
+            }));
+        }
+    }
+    Ok(None)
+}
+
+/// The flags that stand in a value.
+fn flags_in(alloc: Global, value: &Value) -> Result<Vec<String>, AllocError> {
+    let mut flags = Vec::new(alloc);
+    match value {
+        Value::String(text) => {
+            for line in text.as_str().lines() {
+                add_words(alloc, line, ' ', &mut flags)?;
+            }
+        }
+        Value::Array(entries) => {
+            for entry in entries {
+                if let Some(flag) = entry.as_str() {
+                    flags.push(String::from_str(alloc, flag)?)?;
+                }
+            }
+        }
+        _ => {}
+    }
+    Ok(flags)
+}
+
+/// Whether flags are those of a key, or of none.
+fn is_of(flags: &Flags, key: Option<&str>) -> bool {
+    match (&flags.key, key) {
+        (Some(own), Some(key)) => own.as_str() == key,
+        (None, None) => true,
+        _ => false,
+    }
+}
+
+/// Adds the flags of a table, if it has any, behind those of configurations that are nearer: arrays count together, and
+/// of texts the nearest one counts.
+fn add_flags(
+    alloc: Global,
+    table: &Table,
+    key: Option<&str>,
+    found: &mut Vec<Flags>,
+) -> Result<(), AllocError> {
+    let Some(value) = table.get(RUSTFLAGS) else {
+        return Ok(());
+    };
+    let is_text = value.as_str().is_some();
+    if found
+        .iter()
+        .any(|it| is_of(it, key) && (it.is_text || is_text))
+    {
+        return Ok(());
+    }
+    let place = match key {
+        Some(key) => format!(in alloc; "target.'{key}'.{RUSTFLAGS}")?,
+        None => format!(in alloc; "build.{RUSTFLAGS}")?,
+    };
+    let key = match key {
+        Some(key) => Some(String::from_str(alloc, key)?),
+        None => None,
+    };
+    found.push(Flags {
+        place,
+        key,
+        flags: flags_in(alloc, value)?,
+        is_text,
+    })?;
+    Ok(())
+}
+
+/// The flags of the configurations that Cargo reads in the folder at hand.
+fn flags_of_configurations<R: Files + Input + Env + AllocGlobal>(
+    rt: &R,
+    limit: u64,
+) -> Result<Vec<Flags>, Refusal> {
+    let alloc = rt.alloc();
+    let mut found = Vec::new(alloc);
+    for file in &configurations_at_hand(rt)? {
+        let table = match read_manifest(rt, file.as_str(), limit) {
+            Ok(read) => read.document.table,
+            Err(ReadError::Unusable(unusable)) => {
+                return Err(Refusal::Unusable(unusable.line(alloc)?));
+            }
+            Err(ReadError::Memory(refused)) => return Err(Refusal::Memory(refused)),
+        };
+        if let Some(build) = table_in(&table, "build") {
+            add_flags(alloc, build, None, &mut found)?;
+        }
+        if let Some(targets) = table_in(&table, "target") {
+            for (key, value) in targets.iter() {
+                if let Some(fields) = value.as_table() {
+                    add_flags(alloc, fields, Some(key.as_str()), &mut found)?;
+                }
+            }
+        }
+    }
+    Ok(found)
+}
+
+/// Whether flags are for a target that has these facts besides; of no facts it is only asked if they are for its name.
+fn are_for(
+    alloc: Global,
+    flags: &Flags,
+    target: &Flagged<'_>,
+    facts: Option<&FlagFacts>,
+) -> Result<bool, AllocError> {
+    let Some(key) = &flags.key else {
+        return Ok(false);
+    };
+    let Some(facts) = facts else {
+        return Ok(key.as_str() == target.name);
+    };
+    let mut added = Vec::new(alloc);
+    for fact in target.added {
+        added.push(*fact)?;
+    }
+    for fact in &facts.facts {
+        added.push(fact.as_str())?;
+    }
+    match applies(alloc, key.as_str(), target.name, target.lines, &added) {
+        Ok(answer) => Ok(answer.status == Status::Fine),
+        Err(Refusal::Unusable(_)) => Ok(false),
+        Err(Refusal::Memory(refused)) => Err(refused),
+    }
+}
+
+/// The facts that configurations set for a target: those of its keys, or where these have no flags those of `build`.
+/// Keys are asked by the facts that are there before.
+fn facts_by(
+    alloc: Global,
+    found: &[Flags],
+    target: &Flagged<'_>,
+    before: Option<&FlagFacts>,
+) -> Result<FlagFacts, AllocError> {
+    let mut facts = FlagFacts::none(alloc);
+    let mut has_flags = false;
+    for flags in found {
+        if are_for(alloc, flags, target, before)? && !flags.flags.is_empty() {
+            has_flags = true;
+            facts.add_of(alloc, flags)?;
+        }
+    }
+    if !has_flags {
+        for flags in found {
+            if flags.key.is_none() {
+                facts.add_of(alloc, flags)?;
+            }
+        }
+    }
+    Ok(facts)
+}
+
+/// The facts that flags set for a target, as Cargo takes these: those of the environment, or else those of its
+/// configuration. There Cargo asks twice: what the target's name alone sets, and what is set where that is there.
+pub fn facts_of_flags<R: Files + Input + Env + AllocGlobal>(
+    rt: &R,
+    target: &Flagged<'_>,
+    limit: u64,
+) -> Result<FlagFacts, Refusal> {
+    let alloc = rt.alloc();
+    if let Some(flags) = flags_of_environment(rt)? {
+        let mut facts = FlagFacts::none(alloc);
+        facts.add_of(alloc, &flags)?;
+        return Ok(facts);
+    }
+    let found = flags_of_configurations(rt, limit)?;
+    let first = facts_by(alloc, &found, target, None)?;
+    Ok(facts_by(alloc, &found, target, Some(&first))?)
+}
