@@ -45,8 +45,8 @@ fn meant_feature(text: &str) -> Option<&'static str> {
     one_near(text)
 }
 
-/// The condition that may be meant by a value of `target_feature` that rustc has for no architecture. `+` and `-` before
-/// it are those of the flag: with the feature, and without it.
+/// The condition that may be meant by a value of `target_feature` that rustc has for no architecture. `+` and `-`
+/// before it are those of the flag: with the feature, and without it.
 pub fn feature_instead_of(alloc: Global, value: &str) -> Result<Option<String>, AllocError> {
     if let Some(feature) = value.strip_prefix("-").and_then(meant_feature) {
         return Ok(Some(format!(in alloc; "not(target_feature = \"{feature}\")")?));
