@@ -214,11 +214,31 @@ fn nowhere_message(alloc: Global) -> Result<String, AllocError> {
     )
 }
 
-/// What is told of facts that only flags set.
+/// What is told of facts that only flags set, and of those that only unstable features set.
 fn custom_message(alloc: Global, key: &KnownKey<'_>) -> Result<String, AllocError> {
-    let names = listed(alloc, &key.of_sort(alloc, Sort::Custom)?)?;
+    let mut flagged = Vec::new(alloc);
+    let mut unstable = Vec::new(alloc);
+    for asked in &key.of_sort(alloc, Sort::Custom)? {
+        if asked.standing == Standing::Unstable {
+            unstable.push(*asked)?;
+        } else {
+            flagged.push(*asked)?;
+        }
+    }
+    let names = listed(alloc, &unstable)?;
+    let prints = format!(in alloc;
+        "rustc {RUSTC_VERSION} prints {names} only with unstable features"
+    )?;
+    if flagged.is_empty() {
+        return Ok(prints);
+    }
+    let names = listed(alloc, &flagged)?;
     let unknown = no_target(alloc)?;
-    format!(in alloc;
+    let told = format!(in alloc;
         "{unknown} has {names}: only `--cfg` in RUSTFLAGS can set it, and no build script"
-    )
+    )?;
+    if unstable.is_empty() {
+        return Ok(told);
+    }
+    format!(in alloc; "{told}; {prints}")
 }

@@ -19,6 +19,7 @@ use Rattle.manifest_lints_standings.specs.declared.asked_facts.AskedFact.{AskedF
 use Rattle.manifest_lints_standings.specs.declared.asked_facts.TheConstants.{OPEN}
 use Rattle.manifest_lints_standings.specs.declared.rustc_names.TheConstants.{VALUED, FLAGGED, PLAIN}
 use Rattle.manifest_lints_standings.specs.declared.rustc_names.TheConstants.{SHORTENED, OF_PROFILES, OTHER_WORDS}
+use Rattle.manifest_lints_standings.specs.declared.rustc_names.TheConstants.{UNSTABLE_NAMES, UNSTABLE_KEYS}
 use Rattle.manifest_lints_standings.specs.declared.target_features.TheConstants.{TARGET_FEATURES}
 use Rattle.manifest_lints_standings.specs.declared.standing.Sort.{Sort}
 use Rattle.manifest_lints_standings.specs.declared.standing.Sort.TheVariants as sort
@@ -35,6 +36,13 @@ flagged = map (λ w. w.now) FLAGGED
 
 abbrev pub plain_names : List (List ℕ)
 plain_names = map (λ w. w.now) PLAIN
+
+-- the names, and the keys of pairs, that only unstable features of rustc set
+abbrev pub unstable_names : List (List ℕ)
+unstable_names = map (λ w. w.now) UNSTABLE_NAMES
+
+abbrev pub unstable_keys : List (List ℕ)
+unstable_keys = map (λ w. w.now) UNSTABLE_KEYS
 
 abbrev pub named_by_value : List (List ℕ)
 named_by_value = map (λ w. w.now) NAMED_BY_VALUE
@@ -87,16 +95,18 @@ sort_of_pair key value had =
     (cond (is_named key flagged) sort.Rustcs
     (cond (is_named key valued) (cond had sort.Rustcs sort.Mistaken)
     (cond (is_named key plain_names) sort.Mistaken
-    (cond (bytes_eq key (codes "target")) sort.Mistaken (sort_of_other key))))))
+    (cond (bytes_eq key (codes "target")) sort.Mistaken
+    (cond (is_named key unstable_keys) sort.Custom (sort_of_other key)))))))
 
 -- what a name or pair is, whatever is declared
 abbrev pub sort_of : CfgValue → Sort
 sort_of (Alone n) =
     cond (is_unsupported_name n) sort.Unsupported
     (cond (is_named n.name plain_names) sort.Rustcs
+    (cond (is_named n.name unstable_names) sort.Custom
     (cond (is_named n.name valued) sort.Mistaken
     (cond (is_named n.name flagged) sort.Custom
-    (cond (list_any (has_as_value n.name) named_by_value) sort.Mistaken (sort_of_other n.name)))))
+    (cond (list_any (has_as_value n.name) named_by_value) sort.Mistaken (sort_of_other n.name))))))
 sort_of (KeyPair k v) = sort_of_pair k.name v (is_had table_keys (KeyPair k v))
 
 -- the same of what is declared, or is not
@@ -119,6 +129,7 @@ sort_in standing.Shortened = sort.Mistaken
 sort_in standing.OfProfile = sort.Mistaken
 sort_in standing.OtherWord = sort.Mistaken
 sort_in (standing.Near word) = sort.Mistaken
+sort_in standing.Unstable = sort.Custom
 sort_in standing.Custom = sort.Custom
 sort_in standing.Declared = sort.Declared
 
@@ -130,7 +141,8 @@ is_sort sort.Custom sort.Custom = true
 is_sort sort.Declared sort.Declared = true
 is_sort _ _ = false
 
--- of what Cargo warns of, of what only `--cfg` sets, and of what is declared, it is open whether a target has it
+-- of what Cargo warns of, of what only `--cfg` or an unstable feature sets, and of what is declared, it is open whether
+-- a target has it
 abbrev pub is_open_sort : Sort → Bool
 is_open_sort sort.Rustcs = false
 is_open_sort sort.Unsupported = true
@@ -169,7 +181,8 @@ flag_names = map (λ w. w.now) OPEN
 abbrev pub opened_by : Sorted → List (List ℕ)
 opened_by f = cond (is_open_sort f.1) ((name_in f.0).name ∷ []) []
 
--- open are the names and keys of flags, those that Cargo warns of, and those that only `--cfg` sets
+-- open are the names and keys of flags, those that Cargo warns of, and those that only `--cfg` or an unstable feature
+-- sets
 abbrev pub open_in : List Sorted → List (List ℕ)
 open_in fs = flag_names ++ flat_map opened_by fs
 

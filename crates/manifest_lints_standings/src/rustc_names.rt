@@ -31,6 +31,34 @@ pub const FLAGGED: [&str; 2] = ["panic", "target_feature"];
 /// The names that rustc sets without a value.
 pub const PLAIN: [&str; 3] = ["debug_assertions", "unix", "windows"];
 
+/// The names that rustc prints, or knows without printing them, only with unstable features.
+pub const UNSTABLE_NAMES: [&str; 15] = [
+    "contract_checks",
+    "emscripten_wasm_eh",
+    "miri",
+    "overflow_checks",
+    "sanitizer_cfi_generalize_pointers",
+    "sanitizer_cfi_normalize_integers",
+    "target_has_atomic",
+    "target_has_atomic_equal_alignment",
+    "target_has_atomic_load_store",
+    "target_has_reliable_f128",
+    "target_has_reliable_f128_math",
+    "target_has_reliable_f16",
+    "target_has_reliable_f16_math",
+    "target_thread_local",
+    "ub_checks",
+];
+
+/// The keys that rustc prints with a value only with unstable features.
+pub const UNSTABLE_KEYS: [&str; 5] = [
+    "fmt_debug",
+    "relocation_model",
+    "sanitize",
+    "target_has_atomic_equal_alignment",
+    "target_has_atomic_load_store",
+];
+
 /// Rustc's keys without `target_`, as people write them, and the word for all of these.
 pub const SHORTENED: [&str; 9] = [
     "abi",

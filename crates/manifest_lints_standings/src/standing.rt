@@ -14,7 +14,8 @@ ghost use Rattle.manifest_lints_standings.specs.Standings.{beside, is_sort, is_o
 ghost use Rattle.manifest_lints_standings.specs.Standings.{IsUnknownTarget};
 
 use crate::rustc_names::{
-    FLAGGED, OF_PROFILES, OTHER_WORDS, PLAIN, SHORTENED, VALUED, is_target_feature, pair,
+    FLAGGED, OF_PROFILES, OTHER_WORDS, PLAIN, SHORTENED, UNSTABLE_KEYS, UNSTABLE_NAMES, VALUED,
+    is_target_feature, pair,
 };
 use cargo_platform::{Cfg, Platform};
 use known_targets::{KnownTarget, having};
@@ -63,6 +64,8 @@ pub enum Standing {
     OtherWord,
     /// A name or key that is one edit away from this one of rustc's.
     Near(&'static str),
+    /// Only unstable features of rustc set it.
+    Unstable,
     /// Only `--cfg` sets it.
     Custom,
     /// The manifest declares it: `--cfg` sets it, or a rustc of its own.
@@ -78,7 +81,7 @@ pub enum Sort {
     Unsupported,
     /// It is taken for a fact of rustc's, and none, and the manifest does not declare it.
     Mistaken,
-    /// Only `--cfg` sets it, and the manifest does not declare it.
+    /// Only `--cfg` or an unstable feature sets it, and the manifest does not declare it.
     Custom,
     /// No known target has it, and the manifest declares it.
     Declared,
@@ -101,6 +104,7 @@ impl Standing {
             | Standing::OfProfile
             | Standing::OtherWord
             | Standing::Near(_) => Sort::Mistaken,
+            Standing::Unstable => Sort::Custom,
             Standing::Custom => Sort::Custom,
             Standing::Declared => Sort::Declared,
         }
@@ -111,6 +115,7 @@ impl Standing {
         ensures { sort_in result ≡ beside is_declared (sort_in self) }
     {
         match self {
+            Standing::Unstable if is_declared => Standing::Declared,
             Standing::Custom if is_declared => Standing::Declared,
             _ if is_declared && self.sort().is(Sort::Mistaken) => Standing::Declared,
             _ => self,
@@ -252,6 +257,9 @@ fn standing_of_name(alloc: Global, name: &str) -> Result<Standing, AllocError>
     if is_among(name, &PLAIN) {
         return Ok(Standing::Rustc);
     }
+    if is_among(name, &UNSTABLE_NAMES) {
+        return Ok(Standing::Unstable);
+    }
     if is_among(name, &VALUED) {
         return Ok(Standing::NoValue);
     }
@@ -299,6 +307,9 @@ fn standing_of_pair(alloc: Global, c: &Cfg, key: &str, value: &str) -> Result<St
     }
     if key == "target" {
         return Ok(Standing::TargetKey);
+    }
+    if is_among(key, &UNSTABLE_KEYS) {
+        return Ok(Standing::Unstable);
     }
     other(alloc, key)
 }
