@@ -93,7 +93,8 @@ fn short_of(code: Code) -> &'static str {
         Code::Equivalent => "as true as an earlier key over every set of facts",
         Code::Always => "every set of facts makes the condition true",
         Code::Everywhere => "the condition holds at every known target",
-        Code::Custom => "only `--cfg` sets a name or pair, and the manifest does not declare it",
+        Code::Custom =>
+            "only `--cfg` or an unstable feature sets a name or pair, and the manifest does not declare it",
         Code::NotCanonical => "the canonical form is another text; not told unless it is asked for",
     }
 }
@@ -140,9 +141,10 @@ fn text_of_names(code: Code) -> &'static str {
              Example: [target.'cfg(target_os = \"darwin\")'.dependencies]\nwhere `target_os = \"macos\"` is meant."
         }
         _ => {
-            "The condition asks for a name or pair that rustc does not set. Only `--cfg` in RUSTFLAGS sets it for \
-             dependencies: what a build script prints comes too late. A name that the manifest declares in \
-             `lints.rust.unexpected_cfgs.check-cfg` is not told.\n\n\
+            "The condition asks for a name or pair that no known target has. Only `--cfg` in RUSTFLAGS sets it for \
+             dependencies: what a build script prints comes too late. Or rustc prints it only with unstable features, \
+             as `overflow_checks`. A name that the manifest declares in `lints.rust.unexpected_cfgs.check-cfg` is not \
+             told.\n\n\
              Example: [target.'cfg(loom)'.dependencies]"
         }
     }

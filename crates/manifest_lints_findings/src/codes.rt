@@ -41,7 +41,7 @@ pub enum Code {
     Always,
     /// The condition holds at every known target.
     Everywhere,
-    /// What only flags of rustc set.
+    /// What only flags or unstable features of rustc set.
     Custom,
     /// The canonical form is another text.
     NotCanonical,

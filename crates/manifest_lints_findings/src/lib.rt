@@ -7,6 +7,7 @@ pub mod known_keys;
 pub mod laws;
 pub mod making;
 mod meant;
+mod meant_features;
 mod messages;
 mod no_tables;
 pub mod readings;

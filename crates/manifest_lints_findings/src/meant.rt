@@ -35,7 +35,7 @@ fn is_same_but_case(text: &[u8], word: &[u8]) -> bool {
 
 /// Whether one edit leads from a text to a word: a byte is changed, put in or left out, or two that stand side by side
 /// change places. Letter case alone is one edit too.
-fn is_one_edit(text: &str, word: &str) -> bool {
+pub fn is_one_edit(text: &str, word: &str) -> bool {
     if text.len() < SHORTEST || text.len().abs_diff(word.len()) > 1 {
         return false;
     }

@@ -140,6 +140,48 @@ fn unknown_target_message(alloc: Global, meant: &Option<String>) -> Result<Strin
     with_meant(alloc, message.as_str(), meant)
 }
 
+/// Whether it is a pair of `target_feature`, which no target specification of one's own can have either.
+fn is_of_features(fact: &Cfg) -> bool {
+    match fact {
+        Cfg::KeyPair(key, _) => key.as_str() == "target_feature",
+        Cfg::Name(_) => false,
+    }
+}
+
+/// A mistaken fact with what may be meant.
+fn mistake(alloc: Global, words: &Words, asked: &AskedFact<'_>) -> Result<String, AllocError> {
+    let text = quoted_fact(alloc, asked.fact)?;
+    if let Some(other) = instead_of(alloc, words, asked)? {
+        let other = quoted(alloc, other.as_str())?;
+        return format!(in alloc; "{text} (perhaps {other} is meant)");
+    }
+    if asked.standing == Standing::OfProfile {
+        return format!(in alloc; "{text} (no profile selects dependencies)");
+    }
+    Ok(text)
+}
+
+/// The first of the mistakes that are features, or that are none, and how many more there are. Empty where there are
+/// none.
+fn mistakes_listed(
+    alloc: Global,
+    words: &Words,
+    mistakes: &[AskedFact<'_>],
+    are_features: bool,
+) -> Result<String, AllocError> {
+    let mut chosen = Vec::new(alloc);
+    for asked in mistakes {
+        if is_of_features(asked.fact) == are_features {
+            chosen.push(*asked)?;
+        }
+    }
+    let mut texts = Vec::new(alloc);
+    for asked in chosen.iter().take(TOLD) {
+        texts.push(mistake(alloc, words, asked)?)?;
+    }
+    joined(alloc, &texts, chosen.len(), ", ")
+}
+
 /// What is told of mistaken facts, each with what may be meant.
 fn unknown_fact_message(
     alloc: Global,
@@ -147,20 +189,21 @@ fn unknown_fact_message(
     key: &KnownKey<'_>,
 ) -> Result<String, AllocError> {
     let mistakes = key.of_sort(alloc, Sort::Mistaken)?;
-    let mut texts = Vec::new(alloc);
-    for asked in mistakes.iter().take(TOLD) {
-        let mut text = quoted_fact(alloc, asked.fact)?;
-        if let Some(other) = instead_of(alloc, words, asked)? {
-            let other = quoted(alloc, other.as_str())?;
-            text = format!(in alloc; "{text} (perhaps {other} is meant)")?;
-        } else if asked.standing == Standing::OfProfile {
-            text = format!(in alloc; "{text} (no profile selects dependencies)")?;
-        }
-        texts.push(text)?;
-    }
-    let texts = joined(alloc, &texts, mistakes.len(), ", ")?;
+    let facts = mistakes_listed(alloc, words, &mistakes, false)?;
+    let features = mistakes_listed(alloc, words, &mistakes, true)?;
     let unknown = no_target(alloc)?;
-    format!(in alloc; "{unknown} has {texts}{OWN}")
+    let facts = if facts.is_empty() {
+        facts
+    } else {
+        format!(in alloc; "{unknown} has {facts}{OWN}")?
+    };
+    if features.is_empty() {
+        return Ok(facts);
+    }
+    let mark = if facts.is_empty() { "" } else { "; " };
+    format!(in alloc;
+        "{facts}{mark}no architecture that rustc {RUSTC_VERSION} knows has {features}"
+    )
 }
 
 /// What is told of a condition that holds at no known target.
@@ -171,11 +214,31 @@ fn nowhere_message(alloc: Global) -> Result<String, AllocError> {
     )
 }
 
-/// What is told of facts that only flags set.
+/// What is told of facts that only flags set, and of those that only unstable features set.
 fn custom_message(alloc: Global, key: &KnownKey<'_>) -> Result<String, AllocError> {
-    let names = listed(alloc, &key.of_sort(alloc, Sort::Custom)?)?;
+    let mut flagged = Vec::new(alloc);
+    let mut unstable = Vec::new(alloc);
+    for asked in &key.of_sort(alloc, Sort::Custom)? {
+        if asked.standing == Standing::Unstable {
+            unstable.push(*asked)?;
+        } else {
+            flagged.push(*asked)?;
+        }
+    }
+    let names = listed(alloc, &unstable)?;
+    let prints = format!(in alloc;
+        "rustc {RUSTC_VERSION} prints {names} only with unstable features"
+    )?;
+    if flagged.is_empty() {
+        return Ok(prints);
+    }
+    let names = listed(alloc, &flagged)?;
     let unknown = no_target(alloc)?;
-    format!(in alloc;
+    let told = format!(in alloc;
         "{unknown} has {names}: only `--cfg` in RUSTFLAGS can set it, and no build script"
-    )
+    )?;
+    if unstable.is_empty() {
+        return Ok(told);
+    }
+    format!(in alloc; "{told}; {prints}")
 }

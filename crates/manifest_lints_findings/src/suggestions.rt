@@ -7,6 +7,7 @@ ghost use Rattle.manifest_lints_findings.specs.Shown.{IsRidOf, IsMended};
 use crate::codes::Code;
 use crate::known_keys::KnownKey;
 use crate::meant::{meant_value, near, nearest_target};
+use crate::meant_features::feature_instead_of;
 use crate::readings::{ReadKey, Spelled};
 use cargo_platform::{Cfg, CfgExpr, Platform, ReadError};
 use known_targets::{KnownFact, KnownTarget, all_facts};
@@ -131,6 +132,12 @@ fn fact_instead_of(
     key: &str,
     value: &str,
 ) -> Result<Option<String>, AllocError> {
+    if key == "target_feature" {
+        return match feature_instead_of(alloc, value)? {
+            Some(other) => Ok(Some(other)),
+            None => by_value_of_other(alloc, key, value),
+        };
+    }
     if let Some(other) = meant_value(alloc, key, value)? {
         return with_value(alloc, key, other);
     }

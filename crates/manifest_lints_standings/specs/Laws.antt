@@ -2,6 +2,7 @@
 use Rattle.std.specs.Prelude.{◌≡◌, List, [], ◌∷◌, codes}
 use Rattle.manifest_lints_standings.specs.declared.standing.TheConstants.{SHORTEST}
 use Rattle.manifest_lints_standings.specs.Standings.{valued, flagged, plain_names, named_by_value, flag_names}
+use Rattle.manifest_lints_standings.specs.Standings.{unstable_names, unstable_keys}
 
 -- the keys that rustc sets with a value, whatever the flags are
 abbrev pub AreValued : Type 0
@@ -17,6 +18,22 @@ AreFlagged = flagged ≡ codes "panic" ∷ codes "target_feature" ∷ []
 -- the names that rustc sets without a value
 abbrev pub ArePlain : Type 0
 ArePlain = plain_names ≡ codes "debug_assertions" ∷ codes "unix" ∷ codes "windows" ∷ []
+
+-- the names, and the keys of pairs, that only unstable features of rustc set
+abbrev pub AreUnstableNames : Type 0
+AreUnstableNames =
+    unstable_names
+    ≡ codes "contract_checks" ∷ codes "emscripten_wasm_eh" ∷ codes "miri" ∷ codes "overflow_checks"
+    ∷ codes "sanitizer_cfi_generalize_pointers" ∷ codes "sanitizer_cfi_normalize_integers" ∷ codes "target_has_atomic"
+    ∷ codes "target_has_atomic_equal_alignment" ∷ codes "target_has_atomic_load_store"
+    ∷ codes "target_has_reliable_f128" ∷ codes "target_has_reliable_f128_math" ∷ codes "target_has_reliable_f16"
+    ∷ codes "target_has_reliable_f16_math" ∷ codes "target_thread_local" ∷ codes "ub_checks" ∷ []
+
+abbrev pub AreUnstableKeys : Type 0
+AreUnstableKeys =
+    unstable_keys
+    ≡ codes "fmt_debug" ∷ codes "relocation_model" ∷ codes "sanitize" ∷ codes "target_has_atomic_equal_alignment"
+    ∷ codes "target_has_atomic_load_store" ∷ []
 
 -- the keys among whose values a name is looked for, in order
 abbrev pub AreNamedByValue : Type 0

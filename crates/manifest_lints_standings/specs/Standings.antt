@@ -19,6 +19,8 @@ use Rattle.manifest_lints_standings.specs.declared.asked_facts.AskedFact.{AskedF
 use Rattle.manifest_lints_standings.specs.declared.asked_facts.TheConstants.{OPEN}
 use Rattle.manifest_lints_standings.specs.declared.rustc_names.TheConstants.{VALUED, FLAGGED, PLAIN}
 use Rattle.manifest_lints_standings.specs.declared.rustc_names.TheConstants.{SHORTENED, OF_PROFILES, OTHER_WORDS}
+use Rattle.manifest_lints_standings.specs.declared.rustc_names.TheConstants.{UNSTABLE_NAMES, UNSTABLE_KEYS}
+use Rattle.manifest_lints_standings.specs.declared.target_features.TheConstants.{TARGET_FEATURES}
 use Rattle.manifest_lints_standings.specs.declared.standing.Sort.{Sort}
 use Rattle.manifest_lints_standings.specs.declared.standing.Sort.TheVariants as sort
 use Rattle.manifest_lints_standings.specs.declared.standing.TheConstants.{NAMED_BY_VALUE, SHORTEST}
@@ -35,8 +37,19 @@ flagged = map (λ w. w.now) FLAGGED
 abbrev pub plain_names : List (List ℕ)
 plain_names = map (λ w. w.now) PLAIN
 
+-- the names, and the keys of pairs, that only unstable features of rustc set
+abbrev pub unstable_names : List (List ℕ)
+unstable_names = map (λ w. w.now) UNSTABLE_NAMES
+
+abbrev pub unstable_keys : List (List ℕ)
+unstable_keys = map (λ w. w.now) UNSTABLE_KEYS
+
 abbrev pub named_by_value : List (List ℕ)
 named_by_value = map (λ w. w.now) NAMED_BY_VALUE
+
+-- the features that rustc has for some architecture
+unfoldable pub target_features : List (List ℕ)
+target_features = map (λ w. w.now) TARGET_FEATURES
 
 -- some known target has this value of the key
 abbrev pub has_as_value : List ℕ → List ℕ → Bool
@@ -70,24 +83,31 @@ is_taken_for_rustcs name = is_named name (map (λ w. w.now) SHORTENED)
 abbrev pub sort_of_other : List ℕ → Sort
 sort_of_other name = cond (is_taken_for_rustcs name) sort.Mistaken (cond (is_near name) sort.Mistaken sort.Custom)
 
--- what a pair with this key is, by whether some known target has it
-abbrev pub sort_of_key : List ℕ → Bool → Sort
-sort_of_key key had =
+-- what a value of `target_feature` is
+abbrev pub sort_of_feature : List ℕ → Sort
+sort_of_feature value = cond (is_named value target_features) sort.Rustcs sort.Mistaken
+
+-- what a pair with this key and value is, by whether some known target has it
+abbrev pub sort_of_pair : List ℕ → List ℕ → Bool → Sort
+sort_of_pair key value had =
     cond (bytes_eq key (codes "feature")) sort.Unsupported
+    (cond (bytes_eq key (codes "target_feature")) (sort_of_feature value)
     (cond (is_named key flagged) sort.Rustcs
     (cond (is_named key valued) (cond had sort.Rustcs sort.Mistaken)
     (cond (is_named key plain_names) sort.Mistaken
-    (cond (bytes_eq key (codes "target")) sort.Mistaken (sort_of_other key)))))
+    (cond (bytes_eq key (codes "target")) sort.Mistaken
+    (cond (is_named key unstable_keys) sort.Custom (sort_of_other key)))))))
 
 -- what a name or pair is, whatever is declared
 abbrev pub sort_of : CfgValue → Sort
 sort_of (Alone n) =
     cond (is_unsupported_name n) sort.Unsupported
     (cond (is_named n.name plain_names) sort.Rustcs
+    (cond (is_named n.name unstable_names) sort.Custom
     (cond (is_named n.name valued) sort.Mistaken
     (cond (is_named n.name flagged) sort.Custom
-    (cond (list_any (has_as_value n.name) named_by_value) sort.Mistaken (sort_of_other n.name)))))
-sort_of (KeyPair k v) = sort_of_key k.name (is_had table_keys (KeyPair k v))
+    (cond (list_any (has_as_value n.name) named_by_value) sort.Mistaken (sort_of_other n.name))))))
+sort_of (KeyPair k v) = sort_of_pair k.name v (is_had table_keys (KeyPair k v))
 
 -- the same of what is declared, or is not
 abbrev pub beside : Bool → Sort → Sort
@@ -109,6 +129,7 @@ sort_in standing.Shortened = sort.Mistaken
 sort_in standing.OfProfile = sort.Mistaken
 sort_in standing.OtherWord = sort.Mistaken
 sort_in (standing.Near word) = sort.Mistaken
+sort_in standing.Unstable = sort.Custom
 sort_in standing.Custom = sort.Custom
 sort_in standing.Declared = sort.Declared
 
@@ -120,7 +141,8 @@ is_sort sort.Custom sort.Custom = true
 is_sort sort.Declared sort.Declared = true
 is_sort _ _ = false
 
--- of what Cargo warns of, of what only `--cfg` sets, and of what is declared, it is open whether a target has it
+-- of what Cargo warns of, of what only `--cfg` or an unstable feature sets, and of what is declared, it is open whether
+-- a target has it
 abbrev pub is_open_sort : Sort → Bool
 is_open_sort sort.Rustcs = false
 is_open_sort sort.Unsupported = true
@@ -159,7 +181,8 @@ flag_names = map (λ w. w.now) OPEN
 abbrev pub opened_by : Sorted → List (List ℕ)
 opened_by f = cond (is_open_sort f.1) ((name_in f.0).name ∷ []) []
 
--- open are the names and keys of flags, those that Cargo warns of, and those that only `--cfg` sets
+-- open are the names and keys of flags, those that Cargo warns of, and those that only `--cfg` or an unstable feature
+-- sets
 abbrev pub open_in : List Sorted → List (List ℕ)
 open_in fs = flag_names ++ flat_map opened_by fs
 

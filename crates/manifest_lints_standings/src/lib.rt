@@ -6,3 +6,4 @@ pub mod key_spans;
 pub mod laws;
 pub mod rustc_names;
 pub mod standing;
+pub mod target_features;

@@ -3,9 +3,13 @@
 ghost use Rattle.std.specs.Prelude.{◌≡◌, IfOk};
 ghost use Rattle.cargo_platform.specs.Trees.{KeyPair, value_of};
 ghost use Rattle.cargo_platform.specs.Spelling.{name_in};
+ghost use Rattle.partial_facts.specs.Partly.{is_named, names_of};
 ghost use Rattle.known_targets.specs.Rows.{plain};
+ghost use Rattle.manifest_lints_standings.specs.Standings.{target_features};
 
+use crate::target_features::TARGET_FEATURES;
 use cargo_platform::{Cfg, Ident};
+use partial_facts::names::is_among;
 use std::alloc::{AllocError, Global};
 
 /// The keys that rustc sets with a value, whatever the flags are.
@@ -27,6 +31,34 @@ pub const FLAGGED: [&str; 2] = ["panic", "target_feature"];
 /// The names that rustc sets without a value.
 pub const PLAIN: [&str; 3] = ["debug_assertions", "unix", "windows"];
 
+/// The names that rustc prints, or knows without printing them, only with unstable features.
+pub const UNSTABLE_NAMES: [&str; 15] = [
+    "contract_checks",
+    "emscripten_wasm_eh",
+    "miri",
+    "overflow_checks",
+    "sanitizer_cfi_generalize_pointers",
+    "sanitizer_cfi_normalize_integers",
+    "target_has_atomic",
+    "target_has_atomic_equal_alignment",
+    "target_has_atomic_load_store",
+    "target_has_reliable_f128",
+    "target_has_reliable_f128_math",
+    "target_has_reliable_f16",
+    "target_has_reliable_f16_math",
+    "target_thread_local",
+    "ub_checks",
+];
+
+/// The keys that rustc prints with a value only with unstable features.
+pub const UNSTABLE_KEYS: [&str; 5] = [
+    "fmt_debug",
+    "relocation_model",
+    "sanitize",
+    "target_has_atomic_equal_alignment",
+    "target_has_atomic_load_store",
+];
+
 /// Rustc's keys without `target_`, as people write them, and the word for all of these.
 pub const SHORTENED: [&str; 9] = [
     "abi",
@@ -45,6 +77,20 @@ pub const OF_PROFILES: [&str; 3] = ["debug", "opt_level", "release"];
 
 /// Other words for facts of rustc's.
 pub const OTHER_WORDS: [&str; 5] = ["darwin", "macosx", "osx", "win32", "win64"];
+
+/// The features that rustc has for some architecture: the values of `target_feature`.
+pub fn target_features() -> &'static [&'static str]
+    ensures { names_of result.now ≡ target_features }
+{
+    &TARGET_FEATURES
+}
+
+/// Whether rustc has the feature for some architecture.
+pub fn is_target_feature(name: &str) -> bool
+    ensures { result ≡ is_named name.now target_features }
+{
+    is_among(name, target_features())
+}
 
 /// The pair of this key and value.
 pub fn pair(alloc: Global, key: &str, value: &str) -> Result<Cfg, AllocError>

@@ -9,11 +9,14 @@ ghost use Rattle.partial_facts.specs.Partly.{names_of};
 ghost use Rattle.known_targets.specs.Rows.{plain};
 ghost use Rattle.known_targets.specs.Table.{table_keys};
 ghost use Rattle.manifest_lints_standings.specs.Standings.{has_as_value, is_near_one, is_one_edit_from, sort_of};
-ghost use Rattle.manifest_lints_standings.specs.Standings.{sort_in, sort_of_key, sort_of_other, is_sort, is_open_sort};
-ghost use Rattle.manifest_lints_standings.specs.Standings.{beside, is_taken_for_rustcs};
+ghost use Rattle.manifest_lints_standings.specs.Standings.{sort_in, sort_of_feature, sort_of_pair, sort_of_other};
+ghost use Rattle.manifest_lints_standings.specs.Standings.{beside, is_sort, is_open_sort, is_taken_for_rustcs};
 ghost use Rattle.manifest_lints_standings.specs.Standings.{IsUnknownTarget};
 
-use crate::rustc_names::{FLAGGED, OF_PROFILES, OTHER_WORDS, PLAIN, SHORTENED, VALUED, pair};
+use crate::rustc_names::{
+    FLAGGED, OF_PROFILES, OTHER_WORDS, PLAIN, SHORTENED, UNSTABLE_KEYS, UNSTABLE_NAMES, VALUED,
+    is_target_feature, pair,
+};
 use cargo_platform::{Cfg, Platform};
 use known_targets::{KnownTarget, having};
 use partial_facts::names::is_among;
@@ -49,7 +52,7 @@ pub enum Standing {
     NoValue,
     /// A name that has no value, with one.
     WithValue,
-    /// A value that no known target has of the key.
+    /// A value that no known target has of the key, or a feature that rustc has for no architecture.
     OtherValue,
     /// A value of the key `target`.
     TargetKey,
@@ -61,6 +64,8 @@ pub enum Standing {
     OtherWord,
     /// A name or key that is one edit away from this one of rustc's.
     Near(&'static str),
+    /// Only unstable features of rustc set it.
+    Unstable,
     /// Only `--cfg` sets it.
     Custom,
     /// The manifest declares it: `--cfg` sets it, or a rustc of its own.
@@ -76,7 +81,7 @@ pub enum Sort {
     Unsupported,
     /// It is taken for a fact of rustc's, and none, and the manifest does not declare it.
     Mistaken,
-    /// Only `--cfg` sets it, and the manifest does not declare it.
+    /// Only `--cfg` or an unstable feature sets it, and the manifest does not declare it.
     Custom,
     /// No known target has it, and the manifest declares it.
     Declared,
@@ -99,6 +104,7 @@ impl Standing {
             | Standing::OfProfile
             | Standing::OtherWord
             | Standing::Near(_) => Sort::Mistaken,
+            Standing::Unstable => Sort::Custom,
             Standing::Custom => Sort::Custom,
             Standing::Declared => Sort::Declared,
         }
@@ -109,6 +115,7 @@ impl Standing {
         ensures { sort_in result ≡ beside is_declared (sort_in self) }
     {
         match self {
+            Standing::Unstable if is_declared => Standing::Declared,
             Standing::Custom if is_declared => Standing::Declared,
             _ if is_declared && self.sort().is(Sort::Mistaken) => Standing::Declared,
             _ => self,
@@ -250,6 +257,9 @@ fn standing_of_name(alloc: Global, name: &str) -> Result<Standing, AllocError>
     if is_among(name, &PLAIN) {
         return Ok(Standing::Rustc);
     }
+    if is_among(name, &UNSTABLE_NAMES) {
+        return Ok(Standing::Unstable);
+    }
     if is_among(name, &VALUED) {
         return Ok(Standing::NoValue);
     }
@@ -262,12 +272,26 @@ fn standing_of_name(alloc: Global, name: &str) -> Result<Standing, AllocError>
     }
 }
 
-/// What a pair with this key is.
-fn standing_of_pair(alloc: Global, c: &Cfg, key: &str) -> Result<Standing, AllocError>
-    ensures { IfOk result (λ s. sort_in s ≡ sort_of_key key.now (is_had table_keys (value_of c.now))) }
+/// What a value of `target_feature` is.
+fn standing_of_feature(value: &str) -> Standing
+    ensures { sort_in result ≡ sort_of_feature value.now }
+{
+    if is_target_feature(value) {
+        Standing::Rustc
+    } else {
+        Standing::OtherValue
+    }
+}
+
+/// What a pair with this key and value is.
+fn standing_of_pair(alloc: Global, c: &Cfg, key: &str, value: &str) -> Result<Standing, AllocError>
+    ensures { IfOk result (λ s. sort_in s ≡ sort_of_pair key.now value.now (is_had table_keys (value_of c.now))) }
 {
     if key == "feature" {
         return Ok(Standing::Unsupported);
+    }
+    if key == "target_feature" {
+        return Ok(standing_of_feature(value));
     }
     if is_among(key, &FLAGGED) {
         return Ok(Standing::Rustc);
@@ -284,6 +308,9 @@ fn standing_of_pair(alloc: Global, c: &Cfg, key: &str) -> Result<Standing, Alloc
     if key == "target" {
         return Ok(Standing::TargetKey);
     }
+    if is_among(key, &UNSTABLE_KEYS) {
+        return Ok(Standing::Unstable);
+    }
     other(alloc, key)
 }
 
@@ -293,7 +320,7 @@ pub fn standing_of(alloc: Global, c: &Cfg) -> Result<Standing, AllocError>
 {
     match c {
         Cfg::Name(name) => standing_of_name(alloc, name.as_str()),
-        Cfg::KeyPair(key, _) => standing_of_pair(alloc, c, key.as_str()),
+        Cfg::KeyPair(key, value) => standing_of_pair(alloc, c, key.as_str(), value.as_str()),
     }
 }
 

@@ -1,0 +1,58 @@
+//! What people mean by values of `target_feature` that rustc has for no architecture.
+
+use crate::meant::is_one_edit;
+use manifest_lints_standings::rustc_names::target_features;
+use std::alloc::{AllocError, Global};
+
+/// Whether it stands between the parts of a feature's name.
+fn is_mark(byte: u8) -> bool {
+    matches!(byte, b'-' | b'_' | b'.')
+}
+
+/// Whether both are the same but for the case of letters and the marks between.
+fn is_same_but_marks(text: &str, word: &str) -> bool {
+    let mut others = word.bytes().filter(|byte| !is_mark(*byte));
+    for byte in text.bytes().filter(|byte| !is_mark(*byte)) {
+        match others.next() {
+            Some(other) if other.eq_ignore_ascii_case(&byte) => {}
+            _ => return false,
+        }
+    }
+    others.next().is_none()
+}
+
+/// The one feature to which one edit leads. Of several none is meant.
+fn one_near(text: &str) -> Option<&'static str> {
+    let mut found = None;
+    for feature in target_features() {
+        if is_one_edit(text, feature) {
+            if found.is_some() {
+                return None;
+            }
+            found = Some(*feature);
+        }
+    }
+    found
+}
+
+/// The feature that is meant by a text: but for letter case and the marks between, or where one edit leads there.
+fn meant_feature(text: &str) -> Option<&'static str> {
+    for feature in target_features() {
+        if is_same_but_marks(text, feature) {
+            return Some(*feature);
+        }
+    }
+    one_near(text)
+}
+
+/// The condition that may be meant by a value of `target_feature` that rustc has for no architecture. `+` and `-`
+/// before it are those of the flag: with the feature, and without it.
+pub fn feature_instead_of(alloc: Global, value: &str) -> Result<Option<String>, AllocError> {
+    if let Some(feature) = value.strip_prefix("-").and_then(meant_feature) {
+        return Ok(Some(format!(in alloc; "not(target_feature = \"{feature}\")")?));
+    }
+    match meant_feature(value.strip_prefix("+").unwrap_or(value)) {
+        Some(feature) => Ok(Some(format!(in alloc; "target_feature = \"{feature}\"")?)),
+        None => Ok(None),
+    }
+}
