@@ -67,13 +67,7 @@ fn selected_with<R: Files + Input + Env + AllocGlobal + Clone + Drop>(
 ) -> Result<Answer, Refusal> {
     let alloc = rt.alloc();
     let asking = asking_of(matches);
-    let mut added: Vec<&str> = Vec::new(alloc);
-    for fact in matches.get_strs("cfg").unwrap_or(&[]) {
-        added.push(*fact)?;
-    }
-    for fact in &flags.facts {
-        added.push(fact.as_str())?;
-    }
+    let added = flags.behind(alloc, matches.get_strs("cfg").unwrap_or(&[]))?;
     let target = Target {
         asking,
         added: &added,

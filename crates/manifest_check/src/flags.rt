@@ -59,6 +59,22 @@ impl FlagFacts {
         }
     }
 
+    /// The facts behind these.
+    pub fn behind<'a>(
+        &'a self,
+        alloc: Global,
+        added: &[&'a str],
+    ) -> Result<Vec<&'a str>, AllocError> {
+        let mut facts = Vec::new(alloc);
+        for fact in added {
+            facts.push(*fact)?;
+        }
+        for fact in &self.facts {
+            facts.push(fact.as_str())?;
+        }
+        Ok(facts)
+    }
+
     /// Adds a fact, unless it is there.
     fn add(&mut self, alloc: Global, fact: &str, place: &str) -> Result<(), AllocError> {
         if self.facts.iter().any(|it| it.as_str() == fact) {
@@ -229,13 +245,7 @@ fn are_for(
     let Some(facts) = facts else {
         return Ok(key.as_str() == target.name);
     };
-    let mut added = Vec::new(alloc);
-    for fact in target.added {
-        added.push(*fact)?;
-    }
-    for fact in &facts.facts {
-        added.push(fact.as_str())?;
-    }
+    let added = facts.behind(alloc, target.added)?;
     match applies(alloc, key.as_str(), target.name, target.lines, &added) {
         Ok(answer) => Ok(answer.status == Status::Fine),
         Err(Refusal::Unusable(_)) => Ok(false),
