@@ -99,5 +99,5 @@ wanted_of_kind field =
 
 -- at a field at which this is wanted stands something else, or nothing
 pub record IsWrongIn (wanted_of : List ℕ → Option Wanted) (d : Data) (wrong : Wrong) : Type 0 where
-  pub wanted : wanted_of wrong.field.now ≡ Some wrong.wanted
-  pub wrong : IsWrong d wrong
+  pub table : wanted_of wrong.field.now ≡ Some wrong.wanted
+  pub misfits : IsWrong d wrong
