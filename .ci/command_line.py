@@ -117,4 +117,4 @@ def subcommands():
     text = SOURCE.read_text(encoding="utf-8")
     for name, value in re.findall(r"^const (\w+): [^=]+ =\s+(.*?);\n\n", text, re.S | re.M):
         constants[name] = Reader(value, constants).value()
-    return constants["SUBCOMMANDS"]
+    return [*constants["ON_MANIFESTS"], *constants["ON_KEYS"], *constants["ON_GRAPHS"]]

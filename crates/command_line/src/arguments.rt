@@ -379,8 +379,12 @@ const GRAPH: Subcommand = Subcommand {
     ],
 };
 
-/// The subcommands, in the order of the help.
-const SUBCOMMANDS: &[Subcommand] = &[LINT, SELECT, MATCH, TARGETS, FACTS_OF, COMPARE, GRAPH];
+/// The subcommands on manifests, keys and graphs, in the order of the help.
+const ON_MANIFESTS: &[Subcommand] = &[LINT, SELECT];
+
+const ON_KEYS: &[Subcommand] = &[MATCH, TARGETS, FACTS_OF, COMPARE];
+
+const ON_GRAPHS: &[Subcommand] = &[GRAPH];
 
 /// How its users call the program as a command of Cargo's.
 const CARGO_COMMAND: &str = "cargo manifest-check";
@@ -402,10 +406,26 @@ pub fn command<'a>(alloc: Global, version: &'a str) -> Result<Command<'a>, Alloc
         .version(version)
         .subcommand_required(true)
         .arg_required_else_help(true);
-    with_subcommands(alloc, made, SUBCOMMANDS)
+    let made = on_manifests(alloc, made)?;
+    let made = on_keys(alloc, made)?;
+    on_graphs(alloc, made)
 }
 
-/// The command with these subcommands. The prover goes through the whole table where it stands by name.
+// The prover goes through a table where it stands by name. So each has a function of its own.
+
+fn on_manifests<'a>(alloc: Global, command: Command<'a>) -> Result<Command<'a>, AllocError> {
+    with_subcommands(alloc, command, ON_MANIFESTS)
+}
+
+fn on_keys<'a>(alloc: Global, command: Command<'a>) -> Result<Command<'a>, AllocError> {
+    with_subcommands(alloc, command, ON_KEYS)
+}
+
+fn on_graphs<'a>(alloc: Global, command: Command<'a>) -> Result<Command<'a>, AllocError> {
+    with_subcommands(alloc, command, ON_GRAPHS)
+}
+
+/// The command with these subcommands.
 fn with_subcommands<'a>(
     alloc: Global,
     command: Command<'a>,
