@@ -116,10 +116,10 @@ fn choose_roots<'a>(linked: &mut Linked<'_>, names: &[&'a str]) -> Result<(), &'
 
 /// The packages of a graph: a line of JSON for each, with the known targets at which it is in the build, as
 /// `manifest_check graph --json` prints them. Builds run on the host, or on the target itself without one.
-pub fn package_lines(
+pub fn package_lines<'a>(
     alloc: Global,
-    metadata: Metadata<'_>,
-    linked: Linked<'_>,
+    metadata: Metadata<'a>,
+    linked: Linked<'a>,
     host: Option<KnownTarget>,
 ) -> Result<String, AllocError> {
     let asked = Asked::packages_on(host);
