@@ -18,7 +18,7 @@ pub struct Asking<'a> {
 
 /// Why a manifest, or what a command line says beside manifests, can't be used.
 #[derive(Clone, Copy, Drop)]
-pub struct Fault<'a> {
+pub struct Fault<'a, 'm> {
     /// The path of the manifest, as it is shown; none where no manifest is at fault.
     pub manifest: Option<&'a str>,
     /// The key of `target` that is at fault.
@@ -27,12 +27,12 @@ pub struct Fault<'a> {
     pub line: Option<usize>,
     /// Where that key goes wrong, in bytes.
     pub span: Option<(usize, usize)>,
-    pub message: &'a str,
+    pub message: &'m str,
 }
 
-impl<'a> Fault<'a> {
+impl<'a, 'm> Fault<'a, 'm> {
     /// The fault on no key.
-    pub fn of(manifest: Option<&'a str>, message: &'a str) -> Fault<'a> {
+    pub fn of(manifest: Option<&'a str>, message: &'m str) -> Fault<'a, 'm> {
         Fault {
             manifest,
             key: None,
@@ -66,7 +66,7 @@ fn span_value(alloc: Global, span: Option<(usize, usize)>) -> Result<Value, Allo
 }
 
 /// What is wrong, as JSON.
-fn error_value(alloc: Global, fault: &Fault<'_>) -> Result<Value, AllocError> {
+fn error_value(alloc: Global, fault: &Fault<'_, '_>) -> Result<Value, AllocError> {
     let mut object = Map::new(alloc);
     put_text(&mut object, alloc, "message", fault.message)?;
     put(&mut object, alloc, "key", text_value(alloc, fault.key)?)?;
@@ -80,7 +80,7 @@ impl<'a> Asking<'a> {
     pub fn tell(
         &self,
         alloc: Global,
-        fault: &Fault<'_>,
+        fault: &Fault<'_, '_>,
         lines: &str,
     ) -> Result<Answer, AllocError> {
         if !self.json {

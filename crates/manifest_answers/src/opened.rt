@@ -11,8 +11,8 @@ use toml::Table;
 
 /// A name that is left open.
 #[derive(Drop)]
-struct Opened<'a> {
-    name: &'a str,
+struct Opened {
+    name: String,
     /// Whether a key asks for it.
     is_asked: bool,
     /// A name that a key asks for, and to which one edit leads from this one.
@@ -21,17 +21,17 @@ struct Opened<'a> {
 
 /// The names that are left open.
 #[derive(Drop)]
-pub struct OpenNames<'a> {
-    names: Vec<Opened<'a>>,
+pub struct OpenNames {
+    names: Vec<Opened>,
 }
 
-impl<'a> OpenNames<'a> {
+impl OpenNames {
     /// These names, before a key is seen.
-    pub fn new(alloc: Global, names: &[&'a str]) -> Result<OpenNames<'a>, AllocError> {
+    pub fn new(alloc: Global, names: &[&str]) -> Result<OpenNames, AllocError> {
         let mut opened = Vec::new(alloc);
         for name in names {
             opened.push(Opened {
-                name: *name,
+                name: String::from_str(alloc, name)?,
                 is_asked: false,
                 near: None,
             })?;
@@ -42,9 +42,9 @@ impl<'a> OpenNames<'a> {
     /// Notes that a key asks for this name.
     fn note_name(&mut self, alloc: Global, name: &str) -> Result<(), AllocError> {
         for opened in &mut self.names {
-            if opened.name == name {
+            if opened.name.as_str() == name {
                 opened.is_asked = true;
-            } else if opened.near.is_none() && near(opened.name, &[name]).is_some() {
+            } else if opened.near.is_none() && near(opened.name.as_str(), &[name]).is_some() {
                 opened.near = Some(String::from_str(alloc, name)?);
             }
         }
@@ -92,8 +92,8 @@ impl<'a> OpenNames<'a> {
 }
 
 /// What is said of a name for which no key asks.
-fn unasked_line(alloc: Global, opened: &Opened<'_>) -> Result<String, AllocError> {
-    let name = shown_name(alloc, opened.name)?;
+fn unasked_line(alloc: Global, opened: &Opened) -> Result<String, AllocError> {
+    let name = shown_name(alloc, opened.name.as_str())?;
     match &opened.near {
         Some(near) => {
             let near = near.as_str();

@@ -136,31 +136,50 @@ fn refused_lines(alloc: Global, path: &str, error: &SelectError<'_>) -> Result<S
     }
 }
 
+/// What is said of it in an object.
+fn refused_message(alloc: Global, error: &SelectError<'_>) -> Result<String, AllocError> {
+    match error {
+        SelectError::Memory(_) => Err(AllocError),
+        SelectError::TargetIsNoTable => String::from_str(alloc, "`target` is no table"),
+        SelectError::KeyIsNoTable(_) => String::from_str(alloc, "it is no table"),
+        SelectError::Refused(_, error) => {
+            let kind = error.kind();
+            format!(in alloc; "the key spells no condition: {kind}")
+        }
+    }
+}
+
+/// The key that is at fault, if one is, and where it goes wrong.
+fn key_at_fault<'a>(error: &SelectError<'a>) -> (Option<&'a str>, Option<(usize, usize)>) {
+    match error {
+        SelectError::Memory(_) | SelectError::TargetIsNoTable => (None, None),
+        SelectError::KeyIsNoTable(key) => (Some(*key), None),
+        SelectError::Refused(key, error) => (Some(*key), span_of(key, error)),
+    }
+}
+
 /// The answer on a manifest from which nothing is selected.
-fn refused(
+fn refused<'a>(
     alloc: Global,
     asking: &Asking<'_>,
-    manifest: &Manifest,
-    error: &SelectError<'_>,
+    manifest: &'a Manifest,
+    error: &SelectError<'a>,
 ) -> Result<Answer, AllocError> {
     let path = manifest.path.as_str();
     let lines = refused_lines(alloc, path, error)?;
-    let mut message = String::from_str(alloc, "it is no table")?;
-    let mut fault = Fault::of(Some(path), "`target` is no table");
-    match error {
-        SelectError::Memory(_) | SelectError::TargetIsNoTable => {}
-        SelectError::KeyIsNoTable(key) => fault.key = Some(*key),
-        SelectError::Refused(key, error) => {
-            let kind = error.kind();
-            message = format!(in alloc; "the key spells no condition: {kind}")?;
-            fault.key = Some(*key);
-            fault.span = span_of(key, error);
-        }
-    }
-    if let Some(key) = fault.key {
-        fault.message = message.as_str();
-        fault.line = first_line(&manifest.document, key);
-    }
+    let message = refused_message(alloc, error)?;
+    let (key, span) = key_at_fault(error);
+    let line = match key {
+        Some(key) => first_line(&manifest.document, key),
+        None => None,
+    };
+    let fault = Fault {
+        manifest: Some(path),
+        key,
+        line,
+        span,
+        message: message.as_str(),
+    };
     asking.tell(alloc, &fault, lines.as_str())
 }
 
@@ -200,7 +219,7 @@ struct Selecting<'a> {
     known: &'a Asked<'a>,
     host: Option<KnownTarget>,
     /// The names that are left open.
-    opened: OpenNames<'a>,
+    opened: OpenNames,
 }
 
 impl<'a> Question for Selecting<'a> {
