@@ -5,10 +5,9 @@ use key_answers::answer::{Refusal, Status};
 use manifest_answers::questions::applies;
 use manifest_documents::reading::{ReadError, read_manifest};
 use std::alloc::{AllocError, Global};
-use std::env;
 use std::rt::{Env, Files};
 use toml::{Table, Value};
-use workspaces::{configurations_at_hand, table_in};
+use workspaces::{configurations_at_hand, table_in, variable};
 
 /// The variables of the environment in the order in which they win. In the first a character stands between flags that
 /// none of them has.
@@ -124,7 +123,7 @@ fn add_words(
 fn flags_of_environment<R: Env + AllocGlobal>(rt: &R) -> Result<Option<Flags>, AllocError> {
     let alloc = rt.alloc();
     for (name, separator) in [(ENCODED, SEPARATOR), (PLAIN, ' ')] {
-        if let Ok(text) = env::var(rt, name) {
+        if let Some(text) = variable(rt, name)? {
             let mut flags = Vec::new(alloc);
             add_words(alloc, text.as_str(), separator, &mut flags)?;
             return Ok(Some(Flags {

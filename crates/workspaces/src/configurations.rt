@@ -51,16 +51,25 @@ pub fn configuration_beside<R: Files + AllocGlobal>(
     configuration_in(rt, folder.as_str())
 }
 
+/// The value of a variable of the environment. Where it has none, or one that is no UTF-8, it is none.
+pub fn variable<R: Env + AllocGlobal>(rt: &R, name: &str) -> Result<Option<String>, AllocError> {
+    match env::var(rt, name) {
+        Ok(value) => Ok(Some(value)),
+        Err(env::VarError::OutOfMemory) => Err(AllocError),
+        Err(_) => Ok(None),
+    }
+}
+
 /// The folder of the user's own configuration, where it is known.
 fn home<R: Env + AllocGlobal>(rt: &R) -> Result<Option<String>, AllocError> {
-    if let Ok(folder) = env::var(rt, "CARGO_HOME") {
+    if let Some(folder) = variable(rt, "CARGO_HOME")? {
         if !folder.is_empty() {
             return Ok(Some(folder));
         }
     }
-    match env::var(rt, "HOME") {
-        Ok(folder) => Ok(Some(inside(rt.alloc(), folder.as_str(), FOLDER)?)),
-        Err(_) => Ok(None),
+    match variable(rt, "HOME")? {
+        Some(folder) => Ok(Some(inside(rt.alloc(), folder.as_str(), FOLDER)?)),
+        None => Ok(None),
     }
 }
 

@@ -10,7 +10,7 @@ mod folders;
 mod manifests;
 
 pub use configurations::{
-    configuration_beside, configurations_at_hand, is_configuration, manifest_beside,
+    configuration_beside, configurations_at_hand, is_configuration, manifest_beside, variable,
 };
 pub use finding::{Asked, Found, find, root_of, shorter};
 pub use manifests::{table_in, table_with_word};
