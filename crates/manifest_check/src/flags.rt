@@ -210,17 +210,18 @@ fn flags_of_configurations<R: Files + Input + Env + AllocGlobal>(
     let alloc = rt.alloc();
     let mut found = Vec::new(alloc);
     for file in &configurations_at_hand(rt)? {
-        let table = match read_manifest(rt, file.as_str(), limit) {
-            Ok(read) => read.document.table,
+        let read = match read_manifest(rt, file.as_str(), limit) {
+            Ok(read) => read,
             Err(ReadError::Unusable(unusable)) => {
                 return Err(Refusal::Unusable(unusable.line(alloc)?));
             }
             Err(ReadError::Memory(refused)) => return Err(Refusal::Memory(refused)),
         };
-        if let Some(build) = table_in(&table, "build") {
+        let table = &read.document.table;
+        if let Some(build) = table_in(table, "build") {
             add_flags(alloc, build, None, &mut found)?;
         }
-        if let Some(targets) = table_in(&table, "target") {
+        if let Some(targets) = table_in(table, "target") {
             for (key, value) in targets.iter() {
                 if let Some(fields) = value.as_table() {
                     add_flags(alloc, fields, Some(key.as_str()), &mut found)?;
