@@ -78,8 +78,8 @@ impl Side {
         }
     }
 
-    /// Whether a dependency of this kind, of a package on this side, is one of the host: what the host needs, and what a
-    /// build script does.
+    /// Whether a dependency of this kind, of a package on this side, is one of the host: what the host needs, and what
+    /// a build script does.
     pub fn asks_host(self, kind: Kind) -> bool
         ensures { result ≡ is_of_host self kind }
     {
