@@ -141,3 +141,7 @@ module _ (told : Pair → Option Bool) where
       → kleene told (list_tree n (d ∷ [])) ≡ kleene told (list_tree n (d ∷ es))
       → SaysVerdict (verdict.Open c) told (list_tree n (d ∷ es))
   open_stays n c d es h k = (sym k ∙ open_alone n d h.0, (h.1.0, first_asks n d es _ h.1.1))
+
+pub ruleset group_members = (hangs_itself, hangs_through, hangs_passed, hangs_on_last, settles, says_of_whole)
+
+pub ruleset members_after_open = (open_passed, open_settled, open_stays)
