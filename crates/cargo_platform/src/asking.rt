@@ -1,6 +1,7 @@
 //! Asks of a holder of facts, and how many there are.
 //!
-//! Matching knows its holder as `Asked` alone, whose one call counts each ask.
+//! Matching knows its holder as `Asked` alone, whose one call counts each ask. What counts is a type that matching knows
+//! nothing of: so it can make none, and what it was given counts each ask.
 
 ghost use Rattle.std.specs.Prelude.{◌≡◌, ℕ, ◌-◌, ◌^◌};
 ghost use Rattle.std.specs.FinSet.{contains};
@@ -72,22 +73,22 @@ impl Tally for Uncounted {
     fn add_one(&mut self) {}
 }
 
-/// A holder of facts whose asks are counted.
-pub(crate) trait Asked {
+/// A holder of facts whose asks are counted by a `T`, and by nothing else.
+pub(crate) trait Asked<T: Tally> {
     // The finite set of pairs that the holder means.
     ghost meant: { Self → FactSet };
 
     /// Whether the holder has the fact, for which it is asked once.
-    fn ask<T: Tally>(&self, tally: &mut T, c: &Cfg) -> bool
+    fn ask(&self, tally: &mut T, c: &Cfg) -> bool
         ensures answer { result ≡ contains (meant self.now) (pair_of (value_of c.now)) }
         ensures count { Counts 1 0 (T.asks tally.old) (T.asks tally.new) };
 }
 
-impl<F: Facts> Asked for F {
+impl<F: Facts, T: Tally> Asked<T> for F {
     ghost meant = { F.meant };
 
     #[inline(never)]
-    fn ask<T: Tally>(&self, tally: &mut T, c: &Cfg) -> bool {
+    fn ask(&self, tally: &mut T, c: &Cfg) -> bool {
         tally.add_one();
         self.holds(c)
     }

@@ -127,11 +127,11 @@ impl KeyValue {
 #[derive(Clone, Copy)]
 struct SoughtName<'a>(&'a Ident);
 
-impl<'a> Sought<Ident> for SoughtName<'a> {
+impl<'a, T: Tally> Sought<Ident, T> for SoughtName<'a> {
     ghost order = { λ sought name. length_cmp (alone name) (alone sought.0.now) };
 
     #[inline(always)]
-    fn compare<T: Tally>(&self, tally: &mut T, name: &Ident) -> Ordering {
+    fn compare(&self, tally: &mut T, name: &Ident) -> Ordering {
         tally.add_one();
         by_length(name, self.0)
     }
@@ -141,11 +141,11 @@ impl<'a> Sought<Ident> for SoughtName<'a> {
 #[derive(Clone, Copy)]
 struct SoughtPair<'a>(&'a Ident, &'a str);
 
-impl<'a> Sought<KeyValue> for SoughtPair<'a> {
+impl<'a, T: Tally> Sought<KeyValue, T> for SoughtPair<'a> {
     ghost order = { λ sought pair. length_cmp (key_value pair) (KeyPair (name_of sought.0.now) sought.1.now) };
 
     #[inline(always)]
-    fn compare<T: Tally>(&self, tally: &mut T, pair: &KeyValue) -> Ordering {
+    fn compare(&self, tally: &mut T, pair: &KeyValue) -> Ordering {
         tally.add_one();
         pair.by_length(self.0, self.1)
     }
@@ -244,7 +244,7 @@ impl CfgExpr {
     // in a function of its own, so that a level of the recursion takes few bytes.
     #[cycle(matches)]
     #[tactic(auto, using(crate::proofs::LastMembers::asked_not))]
-    fn is_true_in<F: Asked, T: Tally>(&self, facts: &F, tally: &mut T) -> bool
+    fn is_true_in<F: Asked<T>, T: Tally>(&self, facts: &F, tally: &mut T) -> bool
         ensures truth { result ≡ truth (F.meant facts.now) (tree_of self.now) }
         ensures asks { Counts (asks (F.meant facts.now) (tree_of self.now)) 0 (T.asks tally.old) (T.asks tally.new) }
     {
@@ -273,7 +273,7 @@ impl CfgExpr {
     /// Without recursion where it is a name or a pair.
     #[cycle(matches)]
     #[inline(always)]
-    fn is_true_member<F: Asked, T: Tally>(&self, facts: &F, tally: &mut T) -> bool
+    fn is_true_member<F: Asked<T>, T: Tally>(&self, facts: &F, tally: &mut T) -> bool
         ensures truth { result ≡ truth (F.meant facts.now) (tree_of self.now) }
         ensures asks { Counts (asks (F.meant facts.now) (tree_of self.now)) 0 (T.asks tally.old) (T.asks tally.new) }
     {
@@ -287,7 +287,7 @@ impl CfgExpr {
     #[cycle(matches)]
     #[inline(always)]
     #[tactic(auto, using(crate::proofs::LastMembers::and_true))]
-    fn all_but_last<'a, F: Asked, T: Tally>(
+    fn all_but_last<'a, F: Asked<T>, T: Tally>(
         members: &'a [CfgExpr],
         facts: &F,
         tally: &mut T,
@@ -320,7 +320,7 @@ impl CfgExpr {
     #[cycle(matches)]
     #[inline(always)]
     #[tactic(auto, using(crate::proofs::LastMembers::or_false))]
-    fn any_but_last<'a, F: Asked, T: Tally>(
+    fn any_but_last<'a, F: Asked<T>, T: Tally>(
         members: &'a [CfgExpr],
         facts: &F,
         tally: &mut T,

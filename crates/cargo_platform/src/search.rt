@@ -1,6 +1,7 @@
 //! The search of a list that is in order.
 //!
-//! The search knows what is looked for as `Sought` alone, whose one call counts each comparison. A `Sorted` list can be
+//! The search knows what is looked for as `Sought` alone, whose one call counts each comparison by a type that the search
+//! can make no value of. A `Sorted` list can be
 //! searched, and read in no other way.
 
 ghost use Rattle.std.specs.Prelude.{◌≡◌, ℕ, ◌+◌, ◌-◌, ◌*◌, ◌^◌, ◌≤◌, length};
@@ -14,12 +15,12 @@ use crate::asking::Tally;
 use std::cmp::Ordering;
 
 /// What is looked for in a list that is in order.
-pub(crate) trait Sought<A> {
+pub(crate) trait Sought<A, T: Tally> {
     // The order of a member of the list and what is looked for.
     ghost order: { Self → A → Ordering };
 
     /// The order of a member and what is looked for, for which they are compared once.
-    fn compare<T: Tally>(&self, tally: &mut T, member: &A) -> Ordering
+    fn compare(&self, tally: &mut T, member: &A) -> Ordering
         ensures order { result ≡ order self.now member.now }
         ensures count { Counts 1 0 (T.asks tally.old) (T.asks tally.new) };
 }
@@ -41,7 +42,7 @@ impl<A> Sorted<A> {
     /// Whether a member is what is looked for. There are at most as many comparisons as the logarithm to base 2 of the
     /// number of members, rounded down, and one; of no members there are none.
     #[inline(always)]
-    pub fn has<S: Sought<A>, T: Tally>(&self, sought: &S, tally: &mut T) -> bool
+    pub fn has<S: Sought<A, T>, T: Tally>(&self, sought: &S, tally: &mut T) -> bool
         requires { IsNonDecreasingBy (λ a. ordering_index (S.order sought.now a)) self.now.members.items }
         ensures found { result ≡ list_any (λ a. is_eq (S.order sought.now a)) self.now.members.items }
         ensures comparisons { 2 ^ (T.asks tally.new - T.asks tally.old) ≤ 2 * length self.now.members.items + 1 }
