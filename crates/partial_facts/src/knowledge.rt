@@ -22,6 +22,7 @@ pub trait Knowledge {
     /// Whether the pair of `c`, its name or its key and value without the raw mark, is a fact; `None` where that is not
     /// known.
     fn tells(&self, c: &Cfg) -> Option<bool>
+        // It answers what is told of the pair.
         ensures { result ≡ told self.now (pair_of (value_of c.now)) };
 
     // Some set is.
@@ -39,10 +40,12 @@ impl<'a, F: Facts> Knowledge for Complete<'a, F> {
     ghost use Rattle.std.specs.Prelude.{refl};
     ghost use Rattle.std.proofs.Common.{ap};
 
+    // It allows the set of its holder alone.
     ghost allows = { λ k s. s ≡ F.meant k.0.now };
 
     ghost example = { λ k. F.meant k.0.now };
 
+    // It tells of a pair whether it holds, where all allowed sets agree on that.
     ghost told = { λ k p. Some (contains (F.meant k.0.now) p) };
 
     fn tells(&self, c: &Cfg) -> Option<bool> {
@@ -70,10 +73,12 @@ impl<'a> Knowledge for Partial<'a> {
     ghost use Rattle.cargo_platform.specs.Facts.{fact_set};
     ghost use Rattle.partial_facts.specs.Partly.{IsPartlyKnown, partly_told, partly_possible, partly_sound};
 
+    // It allows the sets that have the listed facts, and of complete names and keys no others.
     ghost allows = { λ k s. IsPartlyKnown (fact_set (map value_of k.facts.now)) (map (λ t. t.now) k.complete.now) s };
 
     ghost example = { λ k. fact_set (map value_of k.facts.now) };
 
+    // It tells of a pair whether it holds, where all allowed sets agree on that.
     ghost told = { λ k p. partly_told (fact_set (map value_of k.facts.now)) (map (λ t. t.now) k.complete.now) p };
 
     fn tells(&self, c: &Cfg) -> Option<bool> {

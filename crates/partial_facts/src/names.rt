@@ -10,6 +10,7 @@ use cargo_platform::{Cfg, Ident};
 
 /// Whether the text is among these.
 pub fn is_among(text: &str, texts: &[&str]) -> bool
+    // It is yes exactly if the text is one of them.
     ensures { result ≡ is_named text.now (names_of texts.now) }
 {
     for other in texts {
@@ -22,6 +23,7 @@ pub fn is_among(text: &str, texts: &[&str]) -> bool
 
 /// Whether the name or key is among the texts. Its raw mark plays no part.
 pub fn is_named(name: &Ident, texts: &[&str]) -> bool
+    // It is yes exactly if the name, without its mark, is one of the texts.
     ensures { result ≡ is_named (string_bytes name.now.name) (names_of texts.now) }
 {
     is_among(name.as_str(), texts)
@@ -29,6 +31,7 @@ pub fn is_named(name: &Ident, texts: &[&str]) -> bool
 
 /// Whether the fact is the key with some value. Raw marks play no part.
 pub fn is_value(fact: &Cfg, key: &Ident) -> bool
+    // It is yes exactly if the fact is a pair with this key.
     ensures { result ≡ is_value (string_bytes key.now.name) (pair_of (value_of fact.now)) }
 {
     match fact {
@@ -39,6 +42,7 @@ pub fn is_value(fact: &Cfg, key: &Ident) -> bool
 
 /// Whether some fact is the key with some value. Raw marks play no part.
 pub fn has_value(facts: &[Cfg], key: &Ident) -> bool
+    // It is yes exactly if some fact is a pair with this key.
     ensures { result ≡ has_value (string_bytes key.now.name) (map pair_of (map value_of facts.now)) }
 {
     for fact in facts {

@@ -37,11 +37,14 @@ impl<'a> Knowledge for OneValued<'a> {
     ghost use Rattle.partial_facts.specs.OneValued.{IsOneValued, one_valued_told};
     ghost use Rattle.partial_facts.specs.OneValued.{one_valued_possible, one_valued_sound};
 
+    // It allows those that `Partial` does, with at most one value of a key in `single`: where several are listed, those
+    // alone.
     ghost allows = { λ k s. IsOneValued (fact_set (map value_of k.facts.now)) (map (λ t. t.now) k.complete.now)
         (map (λ t. t.now) k.single.now) s };
 
     ghost example = { λ k. fact_set (map value_of k.facts.now) };
 
+    // It tells of a pair whether it holds, where all allowed sets agree on that.
     ghost told = { λ k p. one_valued_told (map value_of k.facts.now) (map (λ t. t.now) k.complete.now)
         (map (λ t. t.now) k.single.now) p };
 

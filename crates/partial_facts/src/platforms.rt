@@ -24,8 +24,10 @@ pub fn decide_platform<K: Knowledge>(
     name: Option<&str>,
     known: &K,
 ) -> Option<bool>
+    // The answer is the truth in Kleene's strong logic, by what is known.
     ensures exact { result
         ≡ kleene_condition (option_copied name.entry) (K.told known.now) (condition_of platform.now) }
+    // An answer is the truth at each possible target, whatever its name where none is given.
     ensures sound { (target : List ℕ) (s : FactSet) → IfSome name.entry (λ n. target ≡ n.now) → K.allows known.now s
         → IfSome result (λ b. IsTrueCondition target s (condition_of platform.now) ↔ IsTrue b) }
 {
@@ -58,17 +60,23 @@ pub fn residual_platform<K: Knowledge>(
     name: Option<&str>,
     known: &K,
 ) -> Result<Platform, AllocError>
+    // What is known is left out, as the definition says.
     ensures exact { IfOk result (λ r.
         condition_of r ≡ residual_condition (option_copied name.entry) (K.told known.now) (condition_of platform.now)) }
+    // At each possible target, what is left is as true as the whole.
     ensures sound { (target : List ℕ) (s : FactSet) → IfSome name.entry (λ n. target ≡ n.now) → K.allows known.now s
         → IfOk result (λ r.
         IsTrueCondition target s (condition_of r) ↔ IsTrueCondition target s (condition_of platform.now)) }
+    // It is a literal exactly if the whole is decided, with that truth.
     ensures decided { IfOk result (λ r. condition_literal_truth (condition_of r)
         ≡ kleene_condition (option_copied name.entry) (K.told known.now) (condition_of platform.now)) }
+    // Else it has only open names and pairs, no literal inside, and no group of fewer than two members.
     ensures open { IfOk result (λ r.
         IsLiteralOrOpenCondition (option_copied name.entry) (K.told known.now) (condition_of r)) }
+    // Its names and pairs stand in the whole, in that order.
     ensures in_order { IfOk result (λ r.
         IsSubsequence (condition_values (condition_of r)) (condition_values (condition_of platform.now))) }
+    // It is well-formed if the whole is, no larger and no deeper.
     ensures well_formed { IsWellFormedCondition (condition_of platform.now)
         → IfOk result (λ r. IsWellFormedCondition (condition_of r)) }
     ensures no_larger { IfOk result (λ r.

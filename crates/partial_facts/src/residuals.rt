@@ -23,12 +23,18 @@ use std::alloc::{AllocError, Global};
 /// one member left that member stands alone. Its names and pairs stand in `e` in that order, with these raw marks, and
 /// it is well-formed where `e` is, so that its text reads back. It refuses only where memory is refused.
 pub fn residual<K: Knowledge>(alloc: Global, e: &CfgExpr, known: &K) -> Result<CfgExpr, AllocError>
+    // What is known is left out, as the definition says.
     ensures exact { IfOk result (λ r. tree_of r ≡ residual_tree (K.told known.now) (tree_of e.now)) }
+    // At each possible target, what is left is as true as the whole.
     ensures sound { (s : FactSet) → K.allows known.now s
         → IfOk result (λ r. truth s (tree_of r) ≡ truth s (tree_of e.now)) }
+    // It is a literal exactly if the whole is decided, with that truth.
     ensures decided { IfOk result (λ r. literal_truth (tree_of r) ≡ kleene (K.told known.now) (tree_of e.now)) }
+    // Else it has only open names and pairs, no literal inside, and no group of fewer than two members.
     ensures open { IfOk result (λ r. IsLiteralOrOpen (K.told known.now) (tree_of r)) }
+    // Its names and pairs stand in the whole, in that order.
     ensures in_order { IfOk result (λ r. IsSubsequence (values (tree_of r)) (values (tree_of e.now))) }
+    // It is well-formed if the whole is, no larger and no deeper.
     ensures well_formed { IsWellFormed (tree_of e.now) → IfOk result (λ r. IsWellFormed (tree_of r)) }
     ensures no_larger { IfOk result (λ r. size (tree_of r) ≤ size (tree_of e.now)) }
     ensures no_deeper { IfOk result (λ r. depth (tree_of r) ≤ depth (tree_of e.now)) }

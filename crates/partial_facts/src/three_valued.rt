@@ -18,7 +18,9 @@ use std::mem;
 /// where each is known to be. It is sound and not complete, since it takes each name or pair by itself: where `loom` is
 /// not known, neither is `any(loom, not(loom))`.
 pub fn decide<K: Knowledge>(e: &CfgExpr, known: &K) -> Option<bool>
+    // The answer is the truth in Kleene's strong logic, by what is known.
     ensures exact { result ≡ kleene (K.told known.now) (tree_of e.now) }
+    // An answer is the truth at each possible target, whatever its name where none is given.
     ensures sound { (s : FactSet) → K.allows known.now s → IfSome result (λ b. truth s (tree_of e.now) ≡ b) }
 {
     evaluate(e, known)
