@@ -61,9 +61,11 @@ fn same_exception(a: &Option<String>, b: &Option<String>) -> bool
 
 impl Licence {
     /// Whether this licence, as an entry of a list of allowed ones, allows another: one of the same identifier,
-    /// whatever the case of its letters, and of the same exception. `-or-later` is `+`, and `-only` is neither. What is offered
-    /// in later versions is allowed by either form of the entry, and else only one that names no later versions.
+    /// whatever the case of its letters, and of the same exception. `-or-later` is `+`, and `-only` is neither. What is
+    /// offered in later versions is allowed by either form of the entry, and else only one that names no later
+    /// versions.
     pub fn allows(&self, licence: &Licence) -> bool
+        // An entry allows a licence of its stem and exception; an entry with later versions allows only one with them.
         ensures { result ≡ allows (term_of self.now) (term_of licence.now) }
     {
         same_text(stem(self.id.as_bytes()), stem(licence.id.as_bytes()))
@@ -166,6 +168,7 @@ impl LicenceExpression {
     /// Whether it is satisfied by a list of allowed licences: both sides of each `AND`, one side of each `OR`, and each
     /// licence by some entry that `allows` it. It goes over the parts once, and over the list for each licence.
     pub fn is_satisfied(&self, allowed: &[Licence]) -> bool
+        // The answer is the truth of the spelled tree, with a licence true exactly if some entry allows it.
         ensures { (t : Tree) → Spells 0 t self.now → result ≡ truth (is_allowed (map term_of allowed.now)) t }
     {
         walk_over(self.parts(), allowed)

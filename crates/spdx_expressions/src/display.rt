@@ -10,6 +10,7 @@ impl fmt::Display for Licence {
     ghost use Rattle.spdx_expressions.specs.Trees.{term_of};
     ghost use Rattle.spdx_expressions.specs.Print.{print_term};
 
+    // It prints exactly the bytes of the definition.
     ghost output = { λ l. Some (print_term (term_of l)) };
 
     fn fmt<W: fmt::Write>(&self, f: &mut fmt::Formatter<W>) -> fmt::Result {
@@ -32,6 +33,7 @@ impl fmt::Display for Part {
     ghost use Rattle.spdx_expressions.specs.Trees.{piece_of};
     ghost use Rattle.spdx_expressions.specs.Print.{print_piece};
 
+    // It prints exactly the bytes of the definition.
     ghost output = { λ p. Some (print_piece (piece_of p)) };
 
     fn fmt<W: fmt::Write>(&self, f: &mut fmt::Formatter<W>) -> fmt::Result {
@@ -49,6 +51,7 @@ impl fmt::Display for LicenceExpression {
     ghost use Rattle.std.specs.Prelude.{Some};
     ghost use Rattle.spdx_expressions.specs.Print.{print};
 
+    // It prints exactly the bytes of the definition.
     ghost output = { λ e. Some (print e) };
 
     fn fmt<W: fmt::Write>(&self, f: &mut fmt::Formatter<W>) -> fmt::Result {
@@ -60,6 +63,7 @@ impl fmt::Display for Expected {
     ghost use Rattle.std.specs.Prelude.{Some};
     ghost use Rattle.spdx_expressions.specs.Print.{print_expected};
 
+    // It prints exactly the bytes of the definition.
     ghost output = { λ e. Some (print_expected e) };
 
     fn fmt<W: fmt::Write>(&self, f: &mut fmt::Formatter<W>) -> fmt::Result {
@@ -77,6 +81,7 @@ impl fmt::Display for Found {
     ghost use Rattle.std.specs.Prelude.{Some};
     ghost use Rattle.spdx_expressions.specs.Print.{print_found};
 
+    // It prints exactly the bytes of the definition.
     ghost output = { λ e. Some (print_found e) };
 
     fn fmt<W: fmt::Write>(&self, f: &mut fmt::Formatter<W>) -> fmt::Result {
@@ -98,6 +103,7 @@ impl fmt::Display for ParseError {
     ghost use Rattle.std.specs.Prelude.{Some};
     ghost use Rattle.spdx_expressions.specs.Print.{print_error};
 
+    // It prints exactly the bytes of the definition.
     ghost output = { λ e. Some (print_error e) };
 
     fn fmt<W: fmt::Write>(&self, f: &mut fmt::Formatter<W>) -> fmt::Result {
@@ -116,6 +122,7 @@ impl std::error::Error for ParseError {}
 impl fmt::Display for ReadError {
     ghost use Rattle.spdx_expressions.specs.Print.{print_refusal};
 
+    // But for `Memory`, it prints exactly the bytes of the definition.
     ghost output = { λ e. print_refusal e };
 
     fn fmt<W: fmt::Write>(&self, f: &mut fmt::Formatter<W>) -> fmt::Result {

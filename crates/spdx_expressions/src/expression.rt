@@ -38,15 +38,15 @@ impl LicenceExpression {
     /// it, or the end that comes too early. Where memory is refused the answer is `ReadError::Memory`, whatever the
     /// text.
     pub fn from_str(alloc: Global, text: &str) -> Result<LicenceExpression, ReadError>
-        // What is read is what the text is written as, and spells a tree.
+        // `Ok` has the parts that the text is written as, and they spell its tree.
         ensures parts { IfOk result (λ e. AreWritten e (tokens text.now)) }
         ensures tree { IfOk result (λ e. (t : Tree) × IsTreeText text.now t × Spells 0 t e) }
-        // No text that spells a tree is refused.
+        // `Parse` comes only of a text that spells none.
         ensures refused { IfParse result (λ _. (t : Tree) → IsTreeText text.now t → ⊥) }
-        // The error is of this text, and is its fault.
+        // The error has the text, and its fault.
         ensures text { IfParse result (λ e. string_bytes e.text ≡ text.now) }
         ensures fault { IfParse result (λ e. IsFault text.now e.expected e.found e.span) }
-        // The print of an expression that is read is answered by that very expression.
+        // Answers are well-formed, and what is well-formed reads back from its print.
         ensures well_formed { IfOk result (λ e. IsWellFormed e) }
         ensures reads_back { (ps : List Piece) → IsWellFormed ps → text.now ≡ print ps
             → IfOk result (λ e. e ≡ ps) × IfParse result (λ _. ⊥) }
@@ -59,6 +59,7 @@ impl LicenceExpression {
 
     /// The parts, from left to right.
     pub fn parts(&self) -> &[Part]
+        // They are the parts of the expression.
         ensures { pieces result.now ≡ self.now }
     {
         &self.parts

@@ -17,11 +17,11 @@ impl Licence {
     /// Reads one licence: its identifier, with `+` directly behind it where it has that, and `WITH` and an exception
     /// where it has one.
     pub fn from_str(alloc: Global, text: &str) -> Result<Licence, ReadError>
-        // What is read is the licence that the text spells.
+        // `Ok` has the licence that the text spells.
         ensures licence { IfOk result (λ l. IsLicenceText text.now (term_of l)) }
-        // No text that spells one is refused.
+        // `Parse` comes only of a text that spells none.
         ensures refused { IfParse result (λ _. (t : Term) → IsLicenceText text.now t → ⊥) }
-        // The error is of this text, and is its fault.
+        // The error has the text, and its fault.
         ensures text { IfParse result (λ e. string_bytes e.text ≡ text.now) }
         ensures fault { IfParse result (λ e. IsFaultOfOne text.now e.expected e.found e.span) }
     {
