@@ -22,7 +22,9 @@ pub fn derived(
     given: Vec<TargetSet>,
     rules: &[Rule],
 ) -> Result<Vec<TargetSet>, AllocError>
+    // There is a set for each fact.
     ensures count { IfOk result (λ sets. vec_len sets ≡ vec_len given) }
+    // A target is in a fact's set exactly if a finite tree of rules leads there from what is given.
     ensures exact { IfOk result (λ sets. (n k : ℕ) → n < vec_len given → k < COUNT
         → IsTrue (is_in sets.items n k) ↔ IsDerived given.items rules.now k n) }
 {
@@ -44,9 +46,12 @@ pub fn derived_counted(
     given: Vec<TargetSet>,
     rules: &[Rule],
 ) -> Result<Counted, AllocError>
+    // There is a set for each fact.
     ensures count { IfOk result (λ c. vec_len c.sets ≡ vec_len given) }
+    // A target is in a fact's set exactly if a finite tree of rules leads there from what is given.
     ensures exact { IfOk result (λ c. (n k : ℕ) → n < vec_len given → k < COUNT
         → IsTrue (is_in c.sets.items n k) ↔ IsDerived given.items rules.now k n) }
+    // The rules of each fact are applied at most once for each known target.
     ensures rounds { IfOk result (λ c. (n : ℕ) → slice_index c.rounds.items n ≤ COUNT) }
 {
     let count = given.len();
