@@ -11,6 +11,7 @@ pub const MOST_OPEN: usize = 10_000;
 
 /// Whether more parentheses than `MOST_OPEN` are open at once. Those within quotes do not count.
 pub fn is_too_deep(text: &str) -> bool
+    // It is yes exactly if more than `MOST_OPEN` parentheses are open at once.
     ensures deep { result ≡ true → IsTooDeep text.now }
     ensures shallow { result ≡ false → IsTooDeep text.now → ⊥ }
 {

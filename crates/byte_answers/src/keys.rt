@@ -22,12 +22,18 @@ use std::alloc::Global;
 /// `REFUSED` where the key spells none, with the message in the buffer and the span of the fault in the key. `TOO_DEEP`
 /// where more than `MOST_OPEN` parentheses are open at once.
 pub fn canonical(alloc: Global, key: &[u8], out: &mut [u8]) -> Outcome
+    // `DONE` comes with the print of the condition that the key spells.
     ensures done { result.code ≡ DONE → IsCanonical key.now result.needed out.old out.new }
+    // `REFUSED` comes only of a key that spells no condition, with the message and where the fault lies in the key.
     ensures refused { result.code ≡ REFUSED → IsRefusal key.now result out.old out.new }
     ensures spelled { result.code ≡ REFUSED → (p : Condition) → IsConditionText key.now p → ⊥ }
+    // `NOT_UTF8` comes exactly of a key that is no UTF-8, and `TOO_DEEP` of any other with more than `MOST_OPEN`
+    // parentheses open at once.
     ensures not_utf8 { result.code ≡ NOT_UTF8 ↔ (IsUtf8 key.now → ⊥) }
     ensures too_deep { result.code ≡ TOO_DEEP ↔ (IsUtf8 key.now × IsTooDeep key.now) }
+    // But for promised texts, nothing is written.
     ensures silent { result.code ≢ DONE → result.code ≢ REFUSED → IsSilent result out.old out.new }
+    // No other code comes but `NO_MEMORY`, and `argument` is 0.
     ensures argument { result.argument ≡ 0 }
     ensures codes { IsTrue (ends_key_call result.code) }
 {
@@ -44,12 +50,18 @@ pub fn canonical(alloc: Global, key: &[u8], out: &mut [u8]) -> Outcome
 ///
 /// It refuses as `canonical` does.
 pub fn read_key(alloc: Global, key: &[u8], out: &mut [u8]) -> Outcome
+    // `DONE` comes with the flat form of the condition that the key spells.
     ensures done { result.code ≡ DONE → IsFlatOf key.now result.needed out.old out.new }
+    // `REFUSED` comes only of a key that spells no condition, with the message and where the fault lies in the key.
     ensures refused { result.code ≡ REFUSED → IsRefusal key.now result out.old out.new }
     ensures spelled { result.code ≡ REFUSED → (p : Condition) → IsConditionText key.now p → ⊥ }
+    // `NOT_UTF8` comes exactly of a key that is no UTF-8, and `TOO_DEEP` of any other with more than `MOST_OPEN`
+    // parentheses open at once.
     ensures not_utf8 { result.code ≡ NOT_UTF8 ↔ (IsUtf8 key.now → ⊥) }
     ensures too_deep { result.code ≡ TOO_DEEP ↔ (IsUtf8 key.now × IsTooDeep key.now) }
+    // But for promised texts, nothing is written.
     ensures silent { result.code ≢ DONE → result.code ≢ REFUSED → IsSilent result out.old out.new }
+    // No other code comes but `NO_MEMORY`, and `argument` is 0.
     ensures argument { result.argument ≡ 0 }
     ensures codes { IsTrue (ends_key_call result.code) }
 {
@@ -92,12 +104,18 @@ fn shown(alloc: Global, error: &ParseError, key: &str, out: &mut [u8]) -> Outcom
 /// `REFUSED` where the key spells no condition; the span is that of the fault in the key. `DONE`, with no bytes, where
 /// it spells one. `canonical` writes the fault's message.
 pub fn fault(alloc: Global, key: &[u8], out: &mut [u8]) -> Outcome
+    // `DONE` comes only of a key that spells a condition.
     ensures done { result.code ≡ DONE → (p : Condition) × IsConditionText key.now p }
+    // `REFUSED` comes only of a key that spells no condition, with the snippet and where the fault lies in the key.
     ensures refused { result.code ≡ REFUSED → IsShownRefusal key.now result out.old out.new }
     ensures spelled { result.code ≡ REFUSED → (p : Condition) → IsConditionText key.now p → ⊥ }
+    // `NOT_UTF8` comes exactly of a key that is no UTF-8, and `TOO_DEEP` of any other with more than `MOST_OPEN`
+    // parentheses open at once.
     ensures not_utf8 { result.code ≡ NOT_UTF8 ↔ (IsUtf8 key.now → ⊥) }
     ensures too_deep { result.code ≡ TOO_DEEP ↔ (IsUtf8 key.now × IsTooDeep key.now) }
+    // But for promised texts, nothing is written.
     ensures silent { result.code ≢ REFUSED → IsSilent result out.old out.new }
+    // No other code comes but `NO_MEMORY`, and `argument` is 0.
     ensures argument { result.argument ≡ 0 }
     ensures codes { IsTrue (ends_key_call result.code) }
 {

@@ -24,13 +24,20 @@ use std::alloc::{AllocError, Global};
 ///
 /// It refuses as `canonical` does, and then leaves the words as they are.
 pub fn targets(alloc: Global, key: &[u8], words: &mut [u64; WORDS], out: &mut [u8]) -> Outcome
+    // `DONE` comes with exactly the known targets at which the condition that the key spells holds.
     ensures done { result.code ≡ DONE → AreTargets key.now words.new }
+    // `REFUSED` comes only of a key that spells no condition, with the message and where the fault lies in the key.
     ensures refused { result.code ≡ REFUSED → IsRefusal key.now result out.old out.new }
     ensures spelled { result.code ≡ REFUSED → (p : Condition) → IsConditionText key.now p → ⊥ }
+    // `NOT_UTF8` comes exactly of a key that is no UTF-8, and `TOO_DEEP` of any other with more than `MOST_OPEN`
+    // parentheses open at once.
     ensures not_utf8 { result.code ≡ NOT_UTF8 ↔ (IsUtf8 key.now → ⊥) }
     ensures too_deep { result.code ≡ TOO_DEEP ↔ (IsUtf8 key.now × IsTooDeep key.now) }
+    // But for promised texts, nothing is written.
     ensures silent { result.code ≢ REFUSED → IsSilent result out.old out.new }
+    // But for `DONE`, the words stay as they were.
     ensures words_kept { result.code ≢ DONE → words.new ≡ words.old }
+    // No other code comes but `NO_MEMORY`, and `argument` is 0.
     ensures argument { result.argument ≡ 0 }
     ensures codes { IsTrue (ends_key_call result.code) }
 {
@@ -50,10 +57,13 @@ pub fn targets(alloc: Global, key: &[u8], words: &mut [u64; WORDS], out: &mut [u
 ///
 /// `UNKNOWN_TARGET` where the place is no less than `COUNT`.
 pub fn target_name(place: usize, out: &mut [u8]) -> Outcome
+    // Each place below `COUNT` has `DONE`, and with it comes the name of the target there.
     ensures done { result.code ≡ DONE → IsWritten (target_name place) result.needed out.old out.new }
     ensures known { place < COUNT → result.code ≡ DONE }
+    // `UNKNOWN_TARGET` comes of each other place, and writes nothing.
     ensures unknown { COUNT ≤ place → result.code ≡ UNKNOWN_TARGET }
     ensures silent { COUNT ≤ place → IsSilent result out.old out.new }
+    // `argument` is 0.
     ensures argument { result.argument ≡ 0 }
 {
     let names = names();
@@ -78,10 +88,15 @@ fn facts_text(alloc: Global, target: KnownTarget) -> Result<String, AllocError>
 ///
 /// `UNKNOWN_TARGET` where no known target has the name.
 pub fn facts(alloc: Global, name: &[u8], out: &mut [u8]) -> Outcome
+    // `DONE` comes with the facts of the known target of this name, one a line.
     ensures done { result.code ≡ DONE → AreFactsOf name.now result.needed out.old out.new }
+    // `UNKNOWN_TARGET` comes only where no known target has the name.
     ensures unknown { result.code ≡ UNKNOWN_TARGET → (k : ℕ) → k < COUNT → target_name k ≢ name.now }
+    // `NOT_UTF8` comes exactly of a name that is no UTF-8.
     ensures not_utf8 { result.code ≡ NOT_UTF8 ↔ (IsUtf8 name.now → ⊥) }
+    // But for promised texts, nothing is written.
     ensures silent { result.code ≢ DONE → IsSilent result out.old out.new }
+    // No other code comes but `NO_MEMORY`, and `argument` is 0.
     ensures argument { result.argument ≡ 0 }
     ensures codes { IsTrue (ends_target_call result.code) }
 {

@@ -86,21 +86,34 @@ fn match_lines(
 /// with the message in the buffer, where the key spells no condition (`argument` 0), or a line spells no fact
 /// (`argument` 2). `NOT_UTF8` tells by `argument` which text is none.
 pub fn matches(alloc: Global, key: &[u8], name: &[u8], lines: &[u8], out: &mut [u8]) -> Outcome
+    // `DONE` comes with whether the condition that the key spells holds for the name and the facts that the lines
+    // spell.
     ensures done { result.code ≡ DONE → IsMatch key.now name.now lines.now result.holds }
+    // `REFUSED` with `argument` 0 comes only of a key that spells no condition, with the message and where the fault
+    // lies in the key.
     ensures refused { result.code ≡ REFUSED → result.argument ≡ 0 → IsRefusal key.now result out.old out.new }
     ensures spelled { result.code ≡ REFUSED → result.argument ≡ 0
         → (p : Condition) → IsConditionText key.now p → ⊥ }
+    // `REFUSED` with `argument` 2 comes only of lines of which one spells no fact, with the message and where the first
+    // one's fault lies.
     ensures line { result.code ≡ REFUSED → result.argument ≡ 2 → IsRefusedLine lines.now result out.old out.new }
+    // No other text is refused.
     ensures refused_text { result.code ≡ REFUSED → IsTrue (result.argument == 0 || result.argument == 2) }
+    // `NOT_UTF8` comes only where some text is none, and `DONE` only where all are UTF-8.
     ensures not_utf8 { result.code ≡ NOT_UTF8 → IsUtf8 key.now → IsUtf8 name.now → IsUtf8 lines.now → ⊥ }
     ensures utf8 { result.code ≡ DONE → IsUtf8 key.now × IsUtf8 name.now × IsUtf8 lines.now }
+    // `argument` is 0, 1 or 2, and with `NOT_UTF8` tells a text that is none.
     ensures argument { IsTrue (result.argument == 0 || result.argument == 1 || result.argument == 2) }
     ensures not_utf8_key { result.code ≡ NOT_UTF8 → result.argument ≡ 0 → IsUtf8 key.now → ⊥ }
     ensures not_utf8_name { result.code ≡ NOT_UTF8 → result.argument ≡ 1 → IsUtf8 name.now → ⊥ }
     ensures not_utf8_lines { result.code ≡ NOT_UTF8 → result.argument ≡ 2 → IsUtf8 lines.now → ⊥ }
+    // `TOO_DEEP` comes exactly of a key that is UTF-8 with more than `MOST_OPEN` parentheses open at once; `argument`
+    // is 0.
     ensures too_deep { result.code ≡ TOO_DEEP ↔ (IsUtf8 key.now × IsTooDeep key.now) }
     ensures too_deep_key { result.code ≡ TOO_DEEP → result.argument ≡ 0 }
+    // But for a refusal, nothing is written.
     ensures silent { result.code ≢ REFUSED → IsSilent result out.old out.new }
+    // No other code comes but `NO_MEMORY`.
     ensures codes { IsTrue (ends_key_call result.code) }
 {
     let platform = match read_condition(alloc, 0, key, out) {

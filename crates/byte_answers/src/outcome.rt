@@ -43,6 +43,7 @@ pub struct Outcome {
 impl Outcome {
     /// A call that ends with no answer, because of this text.
     pub fn ended(code: u32, argument: u32) -> Outcome
+        // It has this code and this text, and nothing else.
         ensures { result ≡ record {
           code = code;
           argument = argument;
@@ -66,6 +67,7 @@ impl Outcome {
 
     /// An answer of so many bytes.
     pub fn done(needed: usize) -> Outcome
+        // It has `DONE` and so many bytes, and nothing else.
         ensures { result ≡ record {
           code = DONE;
           argument = 0;
@@ -113,6 +115,7 @@ impl Outcome {
 
 /// Writes the text to the start of the buffer, where it fits. Answers how many bytes it has.
 pub fn write(text: &[u8], out: &mut [u8]) -> usize
+    // The answer is the text's length. A buffer that has as many bytes begins with the text, and is else as it was.
     ensures { IsWritten text.now result out.old out.new }
 {
     let needed = text.len();

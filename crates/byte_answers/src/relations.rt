@@ -178,23 +178,32 @@ pub fn relates(
     budget: u64,
     out: &mut [u8],
 ) -> Outcome
+    // `DONE` tells whether the relation holds, over every set of facts that rustc's rules allow. A no comes with an
+    // example, which is possible.
     ensures done { result.code ≡ DONE → AreRelated relation a.now b.now result out.old out.new }
+    // `REFUSED` comes with the message on the key that `argument` tells, and where its fault lies in that key.
     ensures first { result.code ≡ REFUSED → result.argument ≡ 0 → IsRefusal a.now result out.old out.new }
     ensures second { result.code ≡ REFUSED → result.argument ≡ 1 → IsRefusal b.now result out.old out.new }
+    // `UNDECIDED` comes only where the budget is too small.
     ensures undecided { result.code ≡ UNDECIDED → AreUndecided a.now b.now budget }
+    // `REFUSED`, `NOT_UTF8` and `TOO_DEEP` come only where some key spells no condition, is no UTF-8 or is too deep.
     ensures spelled { result.code ≡ REFUSED
         → (p q : Condition) → IsConditionText a.now p → IsConditionText b.now q → ⊥ }
     ensures not_utf8 { result.code ≡ NOT_UTF8 → IsUtf8 a.now → IsUtf8 b.now → ⊥ }
     ensures too_deep { result.code ≡ TOO_DEEP → (IsTooDeep a.now → ⊥) → IsTooDeep b.now }
+    // `argument` is 0 or 1, and with `NOT_UTF8` or `TOO_DEEP` tells a key that is such.
     ensures argument { IsTrue (result.argument == 0 || result.argument == 1) }
     ensures not_utf8_first { result.code ≡ NOT_UTF8 → result.argument ≡ 0 → IsUtf8 a.now → ⊥ }
     ensures not_utf8_second { result.code ≡ NOT_UTF8 → result.argument ≡ 1 → IsUtf8 b.now → ⊥ }
     ensures too_deep_first { result.code ≡ TOO_DEEP → result.argument ≡ 0 → IsTooDeep a.now }
     ensures too_deep_second { result.code ≡ TOO_DEEP → result.argument ≡ 1 → IsTooDeep b.now }
+    // `DONE` and `UNDECIDED` come only where both keys are UTF-8 and not too deep.
     ensures read { result.code ≡ DONE → IsReadable a.now × IsReadable b.now }
     ensures read_undecided { result.code ≡ UNDECIDED → IsReadable a.now × IsReadable b.now }
+    // But for a no and a refusal, nothing is written.
     ensures silent { result.code ≢ DONE → result.code ≢ REFUSED → IsSilent result out.old out.new }
     ensures silent_yes { result.code ≡ DONE → result.holds ≡ true → IsSilent result out.old out.new }
+    // No other code comes but `NO_MEMORY`.
     ensures codes { IsTrue (ends_comparison result.code) }
 {
     let first = match read_condition(alloc, 0, a, out) {
@@ -258,14 +267,22 @@ fn possible(alloc: Global, platform: &Platform, budget: u64, out: &mut [u8]) -> 
 /// one first: with `is_named` the first is its name, and each other one a fact. `UNDECIDED` where the search took more
 /// splits than the budget. It refuses as `canonical` does.
 pub fn can_hold(alloc: Global, key: &[u8], budget: u64, out: &mut [u8]) -> Outcome
+    // `DONE` tells whether the key holds over some set of facts that rustc's rules allow. A yes comes with an example,
+    // which is possible.
     ensures done { result.code ≡ DONE → IsPossibleKey key.now result out.old out.new }
+    // `UNDECIDED` comes only where the budget is too small.
     ensures undecided { result.code ≡ UNDECIDED → IsUndecided key.now budget }
+    // `REFUSED` comes only of a key that spells no condition, with the message and where the fault lies in the key.
     ensures refused { result.code ≡ REFUSED → IsRefusal key.now result out.old out.new }
     ensures spelled { result.code ≡ REFUSED → (p : Condition) → IsConditionText key.now p → ⊥ }
+    // `NOT_UTF8` comes exactly of a key that is no UTF-8, and `TOO_DEEP` of any other with more than `MOST_OPEN`
+    // parentheses open at once.
     ensures not_utf8 { result.code ≡ NOT_UTF8 ↔ (IsUtf8 key.now → ⊥) }
     ensures too_deep { result.code ≡ TOO_DEEP ↔ (IsUtf8 key.now × IsTooDeep key.now) }
+    // But for promised texts, nothing is written.
     ensures silent { result.code ≢ DONE → result.code ≢ REFUSED → IsSilent result out.old out.new }
     ensures silent_no { result.code ≡ DONE → result.holds ≡ false → IsSilent result out.old out.new }
+    // No other code comes but `NO_MEMORY`, and `argument` is 0.
     ensures argument { result.argument ≡ 0 }
     ensures codes { IsTrue (ends_comparison result.code) }
 {

@@ -10,6 +10,7 @@ pub const VERSION: &str = "0.1.0";
 
 /// Writes the version of the library, as three numbers with dots between them.
 pub fn version(out: &mut [u8]) -> Outcome
+    // `DONE` comes with the version, always.
     ensures written { IsWritten VERSION.now result.needed out.old out.new }
     ensures done { result.code ≡ DONE }
 {
