@@ -1,5 +1,6 @@
 -- Laws over the definitions.
-use Rattle.std.specs.Prelude.{ℕ, ◌≡◌, List}
+use Rattle.std.specs.Prelude.{ℕ, ◌≡◌, ◌≤◌, ◌<◌, ◌+◌, ◌-◌, List}
+use Rattle.cargo_platform.specs.Snippets.{first_shown, end_shown}
 use Rattle.platform_answers.specs.declared.Outcome.{Outcome}
 use Rattle.platform_answers.specs.Answering.{IsAnswer}
 
@@ -11,3 +12,24 @@ HasAnswer bs = (output : List ℕ) × (outcome : Outcome) × IsAnswer bs output 
 abbrev pub HasOneAnswer : List ℕ → Type 0
 HasOneAnswer bs = (output other : List ℕ) (outcome another : Outcome) → IsAnswer bs output outcome
     → IsAnswer bs other another → (output ≡ other) × (outcome ≡ another)
+
+-- ---- what is shown of a text of so many characters, where so many stand before the span and so many in it
+
+abbrev pub ShowsWhole : ℕ → ℕ → ℕ → Type 0
+ShowsWhole size before inside =
+    size ≤ 100 → (first_shown size before ≡ 0) × (end_shown size before inside ≡ size)
+
+abbrev pub ShowsFew : ℕ → ℕ → ℕ → Type 0
+ShowsFew size before inside =
+    (end_shown size before inside - first_shown size before ≤ 100) × (end_shown size before inside ≤ size)
+
+abbrev pub ShowsStart : ℕ → ℕ → Type 0
+ShowsStart size before = first_shown size before ≤ before
+
+abbrev pub ShowsShortSpan : ℕ → ℕ → ℕ → Type 0
+ShowsShortSpan size before inside =
+    inside ≤ 40 → before + inside ≤ size → before + inside ≤ end_shown size before inside
+
+abbrev pub ShowsLongSpan : ℕ → ℕ → ℕ → Type 0
+ShowsLongSpan size before inside =
+    40 < inside → before + inside ≤ size → before + 40 ≤ end_shown size before inside
