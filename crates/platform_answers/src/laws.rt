@@ -10,12 +10,10 @@ pub fn one_answer()
     ensures only { (bs : List ℕ) → HasOneAnswer bs }
 {}
 
-/// What a snippet shows of a refused text.
+/// A snippet shows all of at most 100 characters, and else 100 at most, with the first 40 of the span.
 pub fn shown_part()
-    // A text of at most 100 characters is shown whole, and of any other at most 100 of its characters.
     ensures whole { (size before inside : ℕ) → ShowsWhole size before inside }
     ensures few { (size before inside : ℕ) → ShowsFew size before inside }
-    // The span is shown from its start on: whole if it has at most 40 characters, and else its first 40.
     ensures start { (size before : ℕ) → ShowsStart size before }
     ensures short_span { (size before inside : ℕ) → ShowsShortSpan size before inside }
     ensures long_span { (size before inside : ℕ) → ShowsLongSpan size before inside }
