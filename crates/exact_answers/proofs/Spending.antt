@@ -235,6 +235,14 @@ module _ (k : Base) (ps : List Pair) where
         let some = at_least_one (open_on k ds ps) in
         turned_spends ds ts used h were asked (omega (arith, low, some))
 
+    -- what is used is less than all splits
+    pub at_most_all : (ds : List Turn) (used : ℕ) → WereOpen k ds → AreAsked es ds → used ≤ spent ds
+        → used + 1 ≤ 2 ^ open_on k [] ps
+    at_most_all ds used were asked low =
+        let bound = within ds were asked in
+        let some = at_least_one (open_on k ds ps) in
+        omega (arith, bound, some, low)
+
     -- where one more pair is to be split, the budget was less than all splits
     pub needs_more : (ds : List Turn) (used : ℕ) (p : Pair) → WereOpen k ds → AreAsked es ds → used ≤ spent ds
         → told_on k ds p ≡ None → some_asks es p ≡ true → used + 1 < 2 ^ open_on k [] ps

@@ -7,6 +7,7 @@ ghost use Rattle.exact_answers.specs.Answers.{SaysCan, SaysMust};
 ghost use Rattle.exact_answers.specs.Inside.Goals.{SaysFound};
 
 use crate::known::Known;
+use crate::path::Path;
 use crate::search::{Found, Goal, search};
 use cargo_platform::{Cfg, CfgExpr};
 use std::alloc::{AllocError, Global};
@@ -185,7 +186,8 @@ fn search_any<'a>(alloc: Global, known: &'a Known<'a>, budget: u64) -> Result<Fo
         e: known.assumed,
         wanted: true,
     }];
-    search(alloc, &goals, known, budget)
+    let mut path = Path::new(alloc, known);
+    search(alloc, &goals, &mut path, budget)
 }
 
 /// Searches for a possible set of facts over which the expression has the truth that is wanted.
@@ -207,7 +209,8 @@ fn search_one<'a>(
         },
         Goal { e, wanted },
     ];
-    search(alloc, &goals, known, budget)
+    let mut path = Path::new(alloc, known);
+    search(alloc, &goals, &mut path, budget)
 }
 
 /// Searches for a possible set of facts over which both expressions have the truths that are wanted.
@@ -238,5 +241,6 @@ pub fn search_both<'a>(
             wanted: b_wanted,
         },
     ];
-    search(alloc, &goals, known, budget)
+    let mut path = Path::new(alloc, known);
+    search(alloc, &goals, &mut path, budget)
 }

@@ -1,7 +1,7 @@
 //! The splits that lead to a part of the possible sets of facts, and what is known there.
 
-ghost use Rattle.std.specs.Prelude.{◌≡◌, ◌++◌, ◌∷◌, [], true, false, Some, None, map, reverse, string_bytes};
-ghost use Rattle.std.specs.Prelude.{IfOk, OnOk};
+ghost use Rattle.std.specs.Prelude.{◌≡◌, ◌<◌, ◌+◌, ◌^◌, ◌++◌, ◌∷◌, [], true, false, Some, None, map, reverse};
+ghost use Rattle.std.specs.Prelude.{IfOk, OnOk, string_bytes};
 ghost use Rattle.std.specs.Bool.{MatchBool};
 ghost use Rattle.std.specs.List.{All};
 ghost use Rattle.cargo_platform.specs.Trees.{name_of, value_of};
@@ -68,6 +68,8 @@ fn takes_value(splits: &[Split<'_>], key: &Ident) -> bool
 pub struct Path<'a> {
     known: &'a Known<'a>,
     splits: Vec<Split<'a>>,
+    /// How many splits were made on it, those that were undone since too.
+    made: u64,
 }
 
 impl<'a> Knowledge for Path<'a> {
@@ -99,11 +101,20 @@ impl<'a> Path<'a> {
     pub fn new(alloc: Global, known: &'a Known<'a>) -> Path<'a>
         ensures known { result.known.now ≡ known.now }
         ensures none { turns result ≡ [] }
+        ensures none_made { result.made ≡ 0 }
     {
         Path {
             known,
             splits: Vec::new(alloc),
+            made: 0,
         }
+    }
+
+    /// How many splits were made.
+    pub fn made(&self) -> u64
+        ensures { result ≡ self.now.made }
+    {
+        self.made
     }
 
     /// Whether the pair of `c` is a fact so far.
@@ -143,21 +154,27 @@ impl<'a> Path<'a> {
         takes_value(&self.splits, key) || has_value(self.known.facts, key)
     }
 
-    /// Takes an open pair as none.
+    /// Takes an open pair as none: this is one split. Nothing else splits a pair, and nothing else counts.
     pub fn split(&mut self, fact: &'a Cfg) -> Result<(), AllocError>
+        requires { self.old.made + 1 < 2 ^ 64 }
         ensures known { self.new.known.now ≡ self.old.known.now }
+        ensures counted { self.new.made ≡ self.old.made + 1 }
         ensures split { OnOk result (turns self.new
             ≡ record { pair = pair_of (value_of fact.now); holds = false } ∷ turns self.old) }
     {
+        self.made += 1;
         self.splits.push(Split { fact, holds: false })?;
         Ok(())
     }
 
-    /// Goes back to the last pair that is taken as none, and takes it as a fact. `false` where there is no such pair.
+    /// Goes back to the last pair that is taken as none, and takes it as a fact. `false` where there is no such pair:
+    /// each split is undone then.
     pub fn turn(&mut self) -> Result<bool, AllocError>
         ensures known { self.new.known.now ≡ self.old.known.now }
+        ensures counted { self.new.made ≡ self.old.made }
         ensures turned { IfOk result (λ is_turned. MatchBool is_turned
             (turned (turns self.old) ≡ Some (turns self.new)) (turned (turns self.old) ≡ None)) }
+        ensures undone { IfOk result (λ is_turned. is_turned ≡ false → turns self.new ≡ []) }
     {
         'splits: while let Some(split) = self.splits.pop() {
             if !split.holds {
@@ -172,15 +189,22 @@ impl<'a> Path<'a> {
     }
 
     /// The pairs that are taken as facts, the last one first, and the facts that are listed, all without marks.
-    pub fn facts(self, alloc: Global) -> Result<Vec<Cfg>, AllocError>
+    pub fn facts(&self, alloc: Global) -> Result<Vec<Cfg>, AllocError>
         ensures pairs { IfOk result (λ facts. map pair_of (map value_of facts.items)
-            ≡ facts_on (base_of self.entry.known.now) (turns self.entry)) }
+            ≡ facts_on (base_of self.now.known.now) (turns self.now)) }
         ensures unmarked { IfOk result (λ facts. All IsUnmarked (map value_of facts.items)) }
     {
-        let Path { known, splits } = self;
+        let splits = copied(alloc, &self.splits)?;
         let taken = taken_facts(alloc, splits)?;
-        with_copies(alloc, taken, known.facts)
+        with_copies(alloc, taken, self.known.facts)
     }
+}
+
+/// A copy of the splits.
+fn copied<'a>(alloc: Global, splits: &[Split<'a>]) -> Result<Vec<Split<'a>>, AllocError>
+    ensures { IfOk result (λ copy. copy.items ≡ splits.now) }
+{
+    Vec::from_slice(alloc, splits)
 }
 
 /// The pairs that are taken as facts, the last one first, without marks.

@@ -7,11 +7,12 @@ use Rattle.std.specs.FinSet.{contains, from_list}
 use Rattle.cargo_platform.specs.Trees.{CfgValue, Trees, none, tree, tree_of, value_of}
 use Rattle.cargo_platform.specs.Facts.{Pair, FactSet, pair_of, pair_cmp, fact_set, truth}
 use Rattle.partial_facts.specs.Kleene.{kleene, kleene_not, kleene_and}
-use Rattle.exact_answers.specs.Inside.Paths.{Base, IsOver, Turn, set_on, told_on, Agrees}
+use Rattle.exact_answers.specs.Inside.Paths.{Base, IsOver, Turn, set_on, told_on, Agrees, facts_on, base_of, turns}
 use Rattle.exact_answers.specs.Possible.{IsAllowed}
 use Rattle.exact_answers.specs.Asking.{some_asks, one_if, HasAll, NeedsMore}
 use Rattle.exact_answers.specs.Answers.{IsUnmarked, IsFactOfExample}
 use Rattle.exact_answers.specs.declared.known.Known.{Known}
+use Rattle.exact_answers.specs.declared.path.Path.{Path}
 use Rattle.exact_answers.specs.declared.search.Goal.{Goal}
 use Rattle.exact_answers.specs.declared.search.Found.{Found}
 use Rattle.exact_answers.specs.declared.search.Found.TheVariants as found
@@ -98,3 +99,10 @@ abbrev pub Searched : Base → List Goal → ℕ → Found → Type 0
 Searched k gs budget r =
     SaysFoundAmong (λ s. IsOver k s) (λ c. MayBeFound k (goal_trees gs) c) r (λ s. goals_true s gs ≡ true)
     (λ s. goals_true s gs ≡ false) (NeedsMoreOn k (goal_trees gs) budget)
+
+-- how the path stands at the end of a search: the facts are those on it; nothing is left on it, where there is no set;
+-- or it has counted as many splits as the budget has
+abbrev pub Ends : Found → Path → ℕ → Type 0
+Ends (found.Facts facts) p budget = map pair_of (map value_of facts.items) ≡ facts_on (base_of p.known.now) (turns p)
+Ends found.Nothing p budget = turns p ≡ []
+Ends found.Undecided p budget = p.made ≡ budget

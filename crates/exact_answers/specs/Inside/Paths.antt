@@ -110,3 +110,7 @@ turns p = reverse (map turn_of p.splits.items)
 
 abbrev pub told_by_path : Path → Pair → Option Bool
 told_by_path p q = told_on (base_of p.known.now) (turns p) q
+
+-- nothing is split so far, and no split was made
+abbrev pub IsFresh : Path → Type 0
+IsFresh p = (turns p ≡ []) × (p.made ≡ 0)
