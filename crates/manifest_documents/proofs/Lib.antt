@@ -1,3 +1,4 @@
 pub mod Stepping
 pub mod Lexemes
 pub mod Texts
+pub mod Written

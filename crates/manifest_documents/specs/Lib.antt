@@ -3,3 +3,4 @@ pub mod Tables
 pub mod Declarations
 pub mod Steps
 pub mod Documents
+pub mod Laws

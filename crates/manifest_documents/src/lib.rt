@@ -4,6 +4,7 @@
 
 mod declared;
 pub mod document;
+pub mod laws;
 pub mod lines;
 pub mod reading;
 pub mod tables;
