@@ -1,1 +1,3 @@
 pub mod Standings
+pub mod Rules
+pub mod Had
