@@ -7,7 +7,7 @@ ghost use Rattle.cargo_platform.specs.Trees.{condition_of};
 ghost use Rattle.manifest_lints_questions.specs.Earlier.{is_same, is_equivalent, noted, Notes, AddsMember};
 ghost use Rattle.manifest_lints_questions.specs.Earlier.{HasEquivalentMember};
 
-use crate::sample_sets::truths;
+use crate::sample_sets::{beyond_targets, truths};
 use cargo_platform::{CfgExpr, Platform};
 use exact_answers::{Known, MustSelect, equivalent_platform};
 use known_targets::TargetSet;
@@ -46,8 +46,18 @@ impl Earlier {
     }
 }
 
-/// What equivalent conditions share: their truths at the known targets and over the sets of facts that are tried.
-type Class = [u64; 6];
+/// What equivalent conditions share: their truths at the known targets and over the sets of facts that are tried, and
+/// of which part of these conditions a class is.
+type Class = [u64; 8];
+
+/// All conditions that share these truths.
+const ALL: u64 = 0;
+
+/// Those of them that share a number too, which stands behind.
+const NUMBERED: u64 = 1;
+
+/// Those of them whose number is not known.
+const NOT_NUMBERED: u64 = 2;
 
 /// Keys in their order, each with what its class has.
 #[derive(Drop)]
@@ -128,20 +138,42 @@ impl<'a> Keys<'a> {
             return Ok(Earlier::Unlike);
         };
         let class = class_of(alloc, targets, e)?;
-        let found = self.as_true(alloc, &class, platform, known, budget)?;
+        let number = beyond_targets(alloc, platform, e)?;
+        let found = match number {
+            Some(_) => self.as_true_in_part(alloc, class, number, platform, known, budget)?,
+            None => self.as_true(alloc, &class, platform, known, budget)?,
+        };
         if found != Earlier::Unlike {
             return Ok(found);
         }
         let place = self.members.len();
         self.members.push((index, platform))?;
-        if let Some(others) = self.classes.get_mut(&class) {
-            others.push(place)?;
-            return Ok(Earlier::Unlike);
-        }
-        let mut places = Vec::new(alloc);
-        places.push(place)?;
-        let _none = self.classes.insert(class, places)?;
+        put(alloc, &mut self.classes, class, place)?;
+        put(alloc, &mut self.classes, part_of(class, number), place)?;
         Ok(Earlier::Unlike)
+    }
+
+    /// Which member of a class is as true as a condition that has a number: one that shares it, or has none.
+    fn as_true_in_part(
+        &self,
+        alloc: Global,
+        class: Class,
+        number: Option<u64>,
+        platform: &'a Platform,
+        known: &'a Known<'a>,
+        budget: Option<u64>,
+    ) -> Result<Earlier, AllocError>
+        ensures other { IfOk result (λ r. is_same r ≡ false) }
+        ensures equivalent { IfOk result (λ r. IsTrue (is_equivalent r)
+            → HasEquivalentMember known.now self.now (condition_of platform.entry.now)) }
+    {
+        let part = part_of(class, number);
+        let found = self.as_true(alloc, &part, platform, known, budget)?;
+        if found != Earlier::Unlike {
+            return Ok(found);
+        }
+        let part = part_of(class, None);
+        self.as_true(alloc, &part, platform, known, budget)
     }
 
     /// Which member of a class is as true as a condition.
@@ -182,9 +214,39 @@ impl<'a> Keys<'a> {
     }
 }
 
+/// The part of a class whose conditions share a number, or have none.
+fn part_of(class: Class, number: Option<u64>) -> Class {
+    let mut part = class;
+    match number {
+        Some(number) => {
+            part[6] = NUMBERED;
+            part[7] = number;
+        }
+        None => part[6] = NOT_NUMBERED,
+    }
+    part
+}
+
+/// Puts a place among those of a class.
+fn put(
+    alloc: Global,
+    classes: &mut BTreeMap<Class, Vec<usize>>,
+    class: Class,
+    place: usize,
+) -> Result<(), AllocError> {
+    if let Some(others) = classes.get_mut(&class) {
+        others.push(place)?;
+        return Ok(());
+    }
+    let mut places = Vec::new(alloc);
+    places.push(place)?;
+    let _none = classes.insert(class, places)?;
+    Ok(())
+}
+
 /// The class of an expression that holds at these known targets.
 fn class_of(alloc: Global, targets: TargetSet, e: &CfgExpr) -> Result<Class, AllocError> {
-    let mut class = [0; 6];
+    let mut class = [0; 8];
     for target in targets.iter() {
         let index = target.index();
         if let Some(word) = class.get_mut(index / 64) {
@@ -192,5 +254,6 @@ fn class_of(alloc: Global, targets: TargetSet, e: &CfgExpr) -> Result<Class, All
         }
     }
     class[5] = truths(alloc, e)?;
+    class[6] = ALL;
     Ok(class)
 }

@@ -66,14 +66,40 @@ fn facts_at(alloc: Global, platform: &Platform, place: u32) -> Result<Vec<Cfg>, 
 /// The truths of an expression over 64 sets of facts that are possible, one a bit. Each has the facts of a known target
 /// and some that are no fact of rustc's.
 pub fn truths(alloc: Global, e: &CfgExpr) -> Result<u64, AllocError> {
-    fold_expression(alloc, e, &OverSamples)
+    fold_expression(alloc, e, &OverSamples { other: None })
 }
 
 /// The 64 sets of facts, each a bit of what is made. Nothing is promised of the truths: what they show is asked again.
 #[derive(Clone, Copy, Drop)]
-struct OverSamples;
+struct OverSamples<'a> {
+    /// What stands in each set in place of the pair of its key.
+    other: Option<Other<'a>>,
+}
 
-impl Fold for OverSamples {
+/// A key with one value, and what it is in place of that of a known target; where it is none, no pair is a fact.
+#[derive(Clone, Copy, Drop)]
+struct Other<'a> {
+    key: &'a str,
+    value: Option<&'a str>,
+}
+
+impl<'a> OverSamples<'a> {
+    /// The truths of a name or pair.
+    fn truths_at(&self, c: &Cfg) -> u64 {
+        let Some(other) = self.other else {
+            return truths_of(c);
+        };
+        match c {
+            Cfg::KeyPair(key, value) if key.as_str() == other.key => match other.value {
+                Some(only) => everywhere(value.as_str() == only),
+                None => 0,
+            },
+            _ => truths_of(c),
+        }
+    }
+}
+
+impl<'a> Fold for OverSamples<'a> {
     type Part = u64;
 
     /// The truths of the group so far.
@@ -84,7 +110,7 @@ impl Fold for OverSamples {
     ghost gathers = { λ _ _ _ _. Unit {0} };
 
     fn value(&self, c: &Cfg) -> Result<u64, AllocError> {
-        Ok(truths_of(c))
+        Ok(self.truths_at(c))
     }
 
     fn literal(&self, truth: bool) -> u64 {
@@ -111,6 +137,94 @@ impl Fold for OverSamples {
     fn group(&self, _neutral: bool, members: u64) -> u64 {
         members
     }
+}
+
+/// A pair of one value with its key, as texts.
+type Pair<'a> = (&'a str, &'a str);
+
+/// Of so many values that no known target has it is asked what a condition is worth there.
+const FEW: usize = 8;
+
+/// A value that no known target has, of a key that has one value.
+fn unknown_value(c: &Cfg) -> Option<Pair<'_>> {
+    let Cfg::KeyPair(key, value) = c else {
+        return None;
+    };
+    if is_among(key.as_str(), ONE_VALUED) && having(c).is_empty() {
+        return Some((key.as_str(), value.as_str()));
+    }
+    None
+}
+
+/// Whether a pair is among these.
+fn has_pair(pairs: &[Pair<'_>], pair: Pair<'_>) -> bool {
+    for (key, value) in pairs {
+        if *key == pair.0 && *value == pair.1 {
+            return true;
+        }
+    }
+    false
+}
+
+/// The values of a condition that no known target has, of keys that have one value; each once, and none where they are
+/// many.
+fn unknown_values<'a>(
+    alloc: Global,
+    platform: &'a Platform,
+) -> Result<Option<Vec<Pair<'a>>>, AllocError> {
+    let mut found: Vec<Pair<'a>> = Vec::new(alloc);
+    for each in &values_of(alloc, platform)? {
+        let c: &'a Cfg = *each;
+        if let Some(pair) = unknown_value(c) {
+            if !has_pair(&found, pair) {
+                if found.len() == FEW {
+                    return Ok(None);
+                }
+                found.push(pair)?;
+            }
+        }
+    }
+    Ok(Some(found))
+}
+
+/// What the truths of an expression hang on where a key has this value: none where they are those without the value.
+fn apart(alloc: Global, e: &CfgExpr, pair: Pair<'_>) -> Result<u64, AllocError> {
+    let (key, value) = pair;
+    let without = Other { key, value: None };
+    let without = fold_expression(
+        alloc,
+        e,
+        &OverSamples {
+            other: Some(without),
+        },
+    )?;
+    let with = Other {
+        key,
+        value: Some(value),
+    };
+    let with = fold_expression(alloc, e, &OverSamples { other: Some(with) })?;
+    if with == without {
+        return Ok(0);
+    }
+    let number = mixed(spread(with), key);
+    Ok(spread(mixed(number.wrapping_add(1), value)))
+}
+
+/// A number that conditions share which are as true over each possible set of facts. It hangs on their truths over sets
+/// where a key has a value that no known target has; where these values are many, it is not known.
+pub fn beyond_targets(
+    alloc: Global,
+    platform: &Platform,
+    e: &CfgExpr,
+) -> Result<Option<u64>, AllocError> {
+    let Some(values) = unknown_values(alloc, platform)? else {
+        return Ok(None);
+    };
+    let mut sum: u64 = 0;
+    for pair in &values {
+        sum = sum.wrapping_add(apart(alloc, e, *pair)?);
+    }
+    Ok(Some(sum))
 }
 
 /// The same truth over each of the sets.
