@@ -86,8 +86,13 @@ fn target_of(alloc: Global, name: &str) -> Result<Result<KnownTarget, Answer>, A
         Some(target) => Ok(Ok(target)),
         None => {
             let shown = shown_name(alloc, name)?;
+            let hint = if name.ends_with(".json") {
+                "; `graph` takes no target specification, and `select` its facts"
+            } else {
+                ""
+            };
             let text = format!(in alloc;
-                "error: no target that rustc {RUSTC_VERSION} knows is named {shown}\n"
+                "error: no target that rustc {RUSTC_VERSION} knows is named {shown}{hint}\n"
             )?;
             Ok(Err(Answer::unusable(alloc, text)))
         }

@@ -4,7 +4,7 @@ ghost use Rattle.std.specs.Prelude.{◌↔◌, IsTrue, IfOk, map};
 ghost use Rattle.cargo_platform.specs.Trees.{value_of, condition_of};
 ghost use Rattle.cargo_platform.specs.Facts.{fact_set, IsTrueCondition};
 
-use cargo_platform::{Cfg, FactIndex, FactsError, Platform, ReadError, read_facts};
+use cargo_platform::{Cfg, FactIndex, FactsError, Platform, ReadError, read_facts, shown_start};
 use key_answers::answer::{Answer, Refusal, Status};
 use key_answers::conditions::read_key;
 use key_answers::printing::{fact_lines, refused_cfg, refused_fact, shown_name};
@@ -26,6 +26,28 @@ pub fn unknown_name(alloc: Global, name: &str) -> Result<String, AllocError> {
             )
         }
     }
+}
+
+/// The name that Cargo gives the target of a specification in this file: the file's own without its end.
+fn name_of_specification(file: &str) -> Option<&str> {
+    let name = match file.rsplit_once('/') {
+        Some((_, name)) => name,
+        None => file,
+    };
+    name.strip_suffix(".json")
+}
+
+/// What is said of a target whose facts are neither known nor given: of the file of a specification how to ask for it.
+fn without_facts(alloc: Global, name: &str) -> Result<String, AllocError> {
+    let Some(own) = name_of_specification(name) else {
+        return unknown_name(alloc, name);
+    };
+    let file = shown_start(alloc, name)?;
+    let own = shown_name(alloc, own)?;
+    let command = format!(in alloc; "rustc -Z unstable-options --print cfg --target {file}")?;
+    format!(in alloc;
+        "error: {file} is no known target; ask for --target {own} with --facts FILE, or --facts -: {command}\n"
+    )
 }
 
 /// Whether `match` tells a finding of this code: not what only `--cfg` sets, where facts are given.
@@ -218,7 +240,7 @@ pub fn table_or_lines(alloc: Global, name: &str, lines: Option<&str>) -> Result<
         },
         None => match KnownTarget::by_name(name) {
             Some(target) => Ok(target.facts(alloc)?),
-            None => Err(Refusal::Unusable(unknown_name(alloc, name)?)),
+            None => Err(Refusal::Unusable(without_facts(alloc, name)?)),
         },
     }
 }
