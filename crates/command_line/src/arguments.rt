@@ -63,7 +63,7 @@ const JSON: Argument = Argument {
 const TARGET: Argument = Argument {
     name: "target",
     given: Given::Needed("NAME"),
-    help: "The name of the target",
+    help: "The name of the target; of a specification that of its file, without .json and with --facts",
 };
 
 const FACTS: Argument = Argument {
@@ -207,7 +207,7 @@ const SELECT: Subcommand = Subcommand {
         Argument {
             name: "no-config",
             given: Given::Flag,
-            help: "Leaves out what flags in RUSTFLAGS and in Cargo's configuration set",
+            help: "Leaves out what flags in the environment, as RUSTFLAGS, and in Cargo's configuration set",
         },
         JSON,
         MANIFEST_PATH,

@@ -1,13 +1,13 @@
 //! Facts that flags of rustc set, which Cargo takes from the environment or else from its configuration.
 
-use cargo_platform::shown_start;
+use cargo_platform::{shown_start, shown_text};
 use key_answers::answer::{Refusal, Status};
 use manifest_answers::questions::applies;
 use manifest_documents::reading::{ReadError, read_manifest};
 use std::alloc::{AllocError, Global};
 use std::rt::{Env, Files};
 use toml::{Table, Value};
-use workspaces::{configurations_at_hand, table_in, variable};
+use workspaces::{configurations_at_hand, folder_of, inside, is_file, table_in, text_in, variable};
 
 /// The variables of the environment in the order in which they win. In the first a character stands between flags that
 /// none of them has.
@@ -104,19 +104,24 @@ impl FlagFacts {
     }
 }
 
-/// Adds the words of a text.
-fn add_words(
-    alloc: Global,
-    text: &str,
-    separator: char,
-    words: &mut Vec<String>,
-) -> Result<(), AllocError> {
-    for word in text.split(separator) {
-        if !word.trim().is_empty() {
-            words.push(String::from_str(alloc, word.trim())?)?;
+/// The parts of a text between separators that are not blank.
+fn parts_of(alloc: Global, text: &str, separator: char) -> Result<Vec<String>, AllocError> {
+    let mut parts = Vec::new(alloc);
+    for part in text.split(separator) {
+        if !part.trim().is_empty() {
+            parts.push(String::from_str(alloc, part.trim())?)?;
         }
     }
-    Ok(())
+    Ok(parts)
+}
+
+/// The words of a text, which white space parts.
+fn words_of(alloc: Global, text: &str) -> Result<Vec<String>, AllocError> {
+    let mut words = Vec::new(alloc);
+    for word in text.split_whitespace() {
+        words.push(String::from_str(alloc, word)?)?;
+    }
+    Ok(words)
 }
 
 /// The flags of the environment. A variable that is set counts though it is empty.
@@ -124,12 +129,10 @@ fn flags_of_environment<R: Env + AllocGlobal>(rt: &R) -> Result<Option<Flags>, A
     let alloc = rt.alloc();
     for (name, separator) in [(ENCODED, SEPARATOR), (PLAIN, ' ')] {
         if let Some(text) = variable(rt, name)? {
-            let mut flags = Vec::new(alloc);
-            add_words(alloc, text.as_str(), separator, &mut flags)?;
             return Ok(Some(Flags {
                 place: String::from_str(alloc, name)?,
                 key: None,
-                flags,
+                flags: parts_of(alloc, text.as_str(), separator)?,
                 is_text: true,
             }));
         }
@@ -137,25 +140,58 @@ fn flags_of_environment<R: Env + AllocGlobal>(rt: &R) -> Result<Option<Flags>, A
     Ok(None)
 }
 
+/// The variable that stands for the flags of a target in a configuration.
+fn variable_of(alloc: Global, target: &str) -> Result<String, AllocError> {
+    let mut name = String::from_str(alloc, "CARGO_TARGET_")?;
+    for letter in target.chars() {
+        match letter {
+            '-' | '.' => name.push('_')?,
+            _ => name.push(letter.to_ascii_uppercase())?,
+        }
+    }
+    name.push_str("_RUSTFLAGS")?;
+    Ok(name)
+}
+
+/// Adds the flags of a variable that stands for a member of a configuration. They count besides those of the member.
+fn add_variable<R: Env + AllocGlobal>(
+    rt: &R,
+    name: String,
+    key: Option<&str>,
+    found: &mut Vec<Flags>,
+) -> Result<(), AllocError> {
+    let alloc = rt.alloc();
+    let Some(text) = variable(rt, name.as_str())? else {
+        return Ok(());
+    };
+    let key = match key {
+        Some(key) => Some(String::from_str(alloc, key)?),
+        None => None,
+    };
+    found.push(Flags {
+        place: name,
+        key,
+        flags: words_of(alloc, text.as_str())?,
+        is_text: true,
+    })?;
+    Ok(())
+}
+
 /// The flags that stand in a value.
 fn flags_in(alloc: Global, value: &Value) -> Result<Vec<String>, AllocError> {
-    let mut flags = Vec::new(alloc);
     match value {
-        Value::String(text) => {
-            for line in text.as_str().lines() {
-                add_words(alloc, line, ' ', &mut flags)?;
-            }
-        }
+        Value::String(text) => words_of(alloc, text.as_str()),
         Value::Array(entries) => {
+            let mut flags = Vec::new(alloc);
             for entry in entries {
                 if let Some(flag) = entry.as_str() {
                     flags.push(String::from_str(alloc, flag)?)?;
                 }
             }
+            Ok(flags)
         }
-        _ => {}
+        _ => Ok(Vec::new(alloc)),
     }
-    Ok(flags)
 }
 
 /// Whether flags are those of a key, or of none.
@@ -202,14 +238,97 @@ fn add_flags(
     Ok(())
 }
 
-/// The flags of the configurations that Cargo reads in the folder at hand.
+/// Adds the flags of a configuration.
+fn add_configuration(
+    alloc: Global,
+    table: &Table,
+    found: &mut Vec<Flags>,
+) -> Result<(), AllocError> {
+    if let Some(build) = table_in(table, "build") {
+        add_flags(alloc, build, None, found)?;
+    }
+    if let Some(targets) = table_in(table, "target") {
+        for (key, value) in targets.iter() {
+            if let Some(fields) = value.as_table() {
+                add_flags(alloc, fields, Some(key.as_str()), found)?;
+            }
+        }
+    }
+    Ok(())
+}
+
+/// What is said of a configuration whose `include` Cargo does not take, for a reason.
+fn refused_include(alloc: Global, file: &str, reason: &str) -> Result<Refusal, AllocError> {
+    let file = shown_text(alloc, file)?;
+    Ok(Refusal::Unusable(format!(in alloc; "{file}: error: include: {reason}\n")?))
+}
+
+/// The file that a member of `include` names, and whether it may be missing.
+fn included(member: &Value) -> Option<(&str, bool)> {
+    match member {
+        Value::String(path) => Some((path.as_str(), false)),
+        Value::Table(fields) => {
+            let is_optional = match fields.get("optional") {
+                Some(value) => value.as_bool().unwrap_or(false),
+                None => false,
+            };
+            Some((text_in(fields, "path")?, is_optional))
+        }
+        _ => None,
+    }
+}
+
+/// Adds the files that a configuration includes, in their order.
+fn add_included<R: Files + AllocGlobal>(
+    rt: &R,
+    file: &str,
+    table: &Table,
+    files: &mut Vec<String>,
+) -> Result<(), Refusal> {
+    let alloc = rt.alloc();
+    let Some(value) = table.get("include") else {
+        return Ok(());
+    };
+    let Some(members) = value.as_array() else {
+        return Err(refused_include(alloc, file, "it is no array")?);
+    };
+    for member in members {
+        match included(member) {
+            Some((path, is_optional)) if path.ends_with(".toml") => {
+                let folder = if path.starts_with('/') {
+                    ""
+                } else {
+                    folder_of(file)
+                };
+                let path = inside(alloc, folder, path)?;
+                if !is_optional || is_file(rt, path.as_str())? {
+                    files.push(path).map_err(AllocError::from)?;
+                }
+            }
+            _ => return Err(refused_include(alloc, file, "a member names no file `.toml`")?),
+        }
+    }
+    Ok(())
+}
+
+/// So many configurations are read at most.
+const MOST: usize = 1024;
+
+/// The flags of the configurations that Cargo reads in the folder at hand, and of those that they include. What stands
+/// in a file wins over what it includes, and there the later over the earlier.
 fn flags_of_configurations<R: Files + Input + Env + AllocGlobal>(
     rt: &R,
     limit: u64,
 ) -> Result<Vec<Flags>, Refusal> {
     let alloc = rt.alloc();
     let mut found = Vec::new(alloc);
-    for file in &configurations_at_hand(rt)? {
+    // The last of them is read next.
+    let mut files = configurations_at_hand(rt)?;
+    files.reverse();
+    for _ in 0..MOST {
+        let Some(file) = files.pop() else {
+            return Ok(found);
+        };
         let read = match read_manifest(rt, file.as_str(), limit) {
             Ok(read) => read,
             Err(ReadError::Unusable(unusable)) => {
@@ -218,18 +337,13 @@ fn flags_of_configurations<R: Files + Input + Env + AllocGlobal>(
             Err(ReadError::Memory(refused)) => return Err(Refusal::Memory(refused)),
         };
         let table = &read.document.table;
-        if let Some(build) = table_in(table, "build") {
-            add_flags(alloc, build, None, &mut found)?;
-        }
-        if let Some(targets) = table_in(table, "target") {
-            for (key, value) in targets.iter() {
-                if let Some(fields) = value.as_table() {
-                    add_flags(alloc, fields, Some(key.as_str()), &mut found)?;
-                }
-            }
-        }
+        add_configuration(alloc, table, &mut found)?;
+        add_included(rt, file.as_str(), table, &mut files)?;
     }
-    Ok(found)
+    match files.pop() {
+        Some(file) => Err(refused_include(alloc, file.as_str(), "files include each other")?),
+        None => Ok(found),
+    }
 }
 
 /// Whether flags are for a target that has these facts besides; of no facts it is only asked if they are for its name.
@@ -292,7 +406,11 @@ pub fn facts_of_flags<R: Files + Input + Env + AllocGlobal>(
         facts.add_of(alloc, &flags)?;
         return Ok(facts);
     }
-    let found = flags_of_configurations(rt, limit)?;
+    let mut found = flags_of_configurations(rt, limit)?;
+    let name = variable_of(alloc, target.name)?;
+    add_variable(rt, name, Some(target.name), &mut found)?;
+    let name = String::from_str(alloc, "CARGO_BUILD_RUSTFLAGS")?;
+    add_variable(rt, name, None, &mut found)?;
     let first = facts_by(alloc, &found, target, None)?;
     Ok(facts_by(alloc, &found, target, Some(&first))?)
 }

@@ -13,4 +13,4 @@ pub use configurations::{
     configuration_beside, configurations_at_hand, is_configuration, manifest_beside, variable,
 };
 pub use finding::{Asked, Found, find, root_of, shorter};
-pub use manifests::{table_in, table_with_word};
+pub use manifests::{folder_of, inside, is_file, table_in, table_with_word, text_in};

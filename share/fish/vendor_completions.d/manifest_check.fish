@@ -23,12 +23,12 @@ complete -c manifest_check -n '__fish_seen_subcommand_from lint' -l exclude -x -
 complete -c manifest_check -n '__fish_seen_subcommand_from lint' -l workspace -d 'All members of the workspace, from a member too'
 complete -c manifest_check -n '__fish_seen_subcommand_from lint' -l limit -x -d 'How many bytes an input may have; 64 MiB without it'
 complete -c manifest_check -n '__fish_seen_subcommand_from lint' -F
-complete -c manifest_check -n '__fish_seen_subcommand_from select' -l target -x -a '(manifest_check targets '\''cfg(all())'\'' 2>/dev/null | sed '\''$d'\'')' -d 'The name of the target'
+complete -c manifest_check -n '__fish_seen_subcommand_from select' -l target -x -a '(manifest_check targets '\''cfg(all())'\'' 2>/dev/null | sed '\''$d'\'')' -d 'The name of the target; of a specification that of its file, without .json and with --facts'
 complete -c manifest_check -n '__fish_seen_subcommand_from select' -l host -x -a '(manifest_check targets '\''cfg(all())'\'' 2>/dev/null | sed '\''$d'\'')' -d 'The target of build-dependencies; without it those under a key are open'
 complete -c manifest_check -n '__fish_seen_subcommand_from select' -l facts -r -F -d 'The facts of the target, as `rustc --print cfg` prints them, in place of rustc'\''s; - for standard input'
 complete -c manifest_check -n '__fish_seen_subcommand_from select' -l cfg -x -d 'One more fact of the target, as unix or key="value"'
 complete -c manifest_check -n '__fish_seen_subcommand_from select' -l open -x -d 'Leaves each fact of this name or key open'
-complete -c manifest_check -n '__fish_seen_subcommand_from select' -l no-config -d 'Leaves out what flags in RUSTFLAGS and in Cargo'\''s configuration set'
+complete -c manifest_check -n '__fish_seen_subcommand_from select' -l no-config -d 'Leaves out what flags in the environment, as RUSTFLAGS, and in Cargo'\''s configuration set'
 complete -c manifest_check -n '__fish_seen_subcommand_from select' -l json -d 'Prints JSON'
 complete -c manifest_check -n '__fish_seen_subcommand_from select' -l manifest-path -r -F -d 'One more MANIFEST'
 complete -c manifest_check -n '__fish_seen_subcommand_from select' -l package -s p -x -d 'The package of this name in the workspace alone'
@@ -36,7 +36,7 @@ complete -c manifest_check -n '__fish_seen_subcommand_from select' -l exclude -x
 complete -c manifest_check -n '__fish_seen_subcommand_from select' -l workspace -d 'All members of the workspace, from a member too'
 complete -c manifest_check -n '__fish_seen_subcommand_from select' -l limit -x -d 'How many bytes an input may have; 64 MiB without it'
 complete -c manifest_check -n '__fish_seen_subcommand_from select' -F
-complete -c manifest_check -n '__fish_seen_subcommand_from match' -l target -x -a '(manifest_check targets '\''cfg(all())'\'' 2>/dev/null | sed '\''$d'\'')' -d 'The name of the target'
+complete -c manifest_check -n '__fish_seen_subcommand_from match' -l target -x -a '(manifest_check targets '\''cfg(all())'\'' 2>/dev/null | sed '\''$d'\'')' -d 'The name of the target; of a specification that of its file, without .json and with --facts'
 complete -c manifest_check -n '__fish_seen_subcommand_from match' -l facts -r -F -d 'The facts of the target, as `rustc --print cfg` prints them, in place of rustc'\''s; - for standard input'
 complete -c manifest_check -n '__fish_seen_subcommand_from match' -l cfg -x -d 'One more fact of the target, as unix or key="value"'
 complete -c manifest_check -n '__fish_seen_subcommand_from match' -l limit -x -d 'How many bytes an input may have; 64 MiB without it'
