@@ -1,13 +1,13 @@
 -- The codes that hold of a key are right.
 use Rattle.std.proofs.Common.{◌≡◌, ◌∙◌, ◌↔◌, refl, sym, ap, subst, true, false, true≢false, not, ◌||◌, ◌&&◌, ℕ, Bool}
-use Rattle.std.proofs.Common.{List, [], IsTrue, inl, inr}
+use Rattle.std.proofs.Common.{List, [], IsTrue, ◌⊎◌, inl, inr, length, ◌<◌}
 use Rattle.std.specs.Prelude.{bytes_eq, string_bytes}
 use Rattle.cargo_platform.specs.Trees.{Condition, condition_of}
 use Rattle.cargo_platform.specs.declared.Platform.{Platform}
 use Rattle.exact_answers.specs.declared.known.Known.{Known}
 use Rattle.manifest_documents.specs.Declarations.{DeclaredEntry}
 use Rattle.manifest_lints_standings.specs.declared.standing.Sort.TheVariants as sort
-use Rattle.manifest_lints_standings.specs.Standings.{sorted_by, sorted_in, has_sort}
+use Rattle.manifest_lints_standings.specs.Standings.{sorted_by, sorted_in, open_in, has_sort}
 use Rattle.manifest_lints_findings.specs.declared.codes.Code.{Code}
 use Rattle.manifest_lints_findings.specs.declared.codes.Code.TheVariants as code
 use Rattle.manifest_lints_findings.specs.declared.known_keys.KnownKey.{KnownKey}
@@ -20,18 +20,31 @@ use Rattle.manifest_lints_findings.specs.NoTables.{is_no_table}
 use Rattle.manifest_lints_findings.specs.Spells.{IsSpelledAs, SpellsNothing, IsRead, entry_read}
 use Rattle.manifest_lints_questions.specs.Truths.{IsNever, IsAlways, CanHold, CanFail}
 use Rattle.manifest_lints_questions.specs.Earlier.{is_same, is_equivalent}
+use Rattle.manifest_lints_questions.specs.declared.deciding.TheConstants.{MANY}
 use Rattle.manifest_lints_questions.specs.declared.earlier.Earlier.{Earlier}
 use Rattle.manifest_documents.specs.Entries.{Entry}
 use Rattle.manifest_lints.specs.declared.found.Answers.{Answers}
 use Rattle.manifest_lints.specs.declared.found.Found.{Found}
 use Rattle.manifest_lints.specs.declared.found.TheConstants.{NONE}
 use Rattle.manifest_lints.specs.Founds.{AnswersFor, found_codes}
-use Rattle.manifest_lints.specs.Reports.{Settles, Holds, HoldsUnspelled, IsFound}
-use Rattle.manifest_lints.specs.Sames.{HasSame, HasEquivalent}
+use Rattle.manifest_lints.specs.Reports.{Settles, Holds, HoldsUnspelled, IsFound, MayBeOpen}
+use Rattle.manifest_lints.specs.Sames.{HasSame, HasEquivalent, NamesRightly}
 
 pub left_false : (a b : Bool) → (a || b) ≡ false → a ≡ false
 left_false true b h = absurd (true≢false h)
 left_false false b h = refl
+
+pub left_or : (a b : Bool) → a ≡ true → (a || b) ≡ true
+left_or true b h = refl
+left_or false b h = absurd (true≢false (sym h))
+
+pub right_or : (a b : Bool) → b ≡ true → (a || b) ≡ true
+right_or true b h = refl
+right_or false b h = h
+
+pub one_or : (a b : Bool) → (a || b) ≡ true → (a ≡ true) ⊎ (b ≡ true)
+one_or true b h = inl refl
+one_or false b h = inr h
 
 not_not : (b : Bool) → not (not b) ≡ b
 not_not true = refl
@@ -54,6 +67,7 @@ beside_others k ds c a earlier open_too now_open is f = record {
   always = subst (λ o. Settles o a.always (IsAlways k c) (CanFail k c)) (sym is)
       (still_settles a.is_open open_too a.always (IsAlways k c) (CanFail k c) f.always);
   nowhere = f.nowhere;
+  many = λ h. is ∙ left_or a.is_open open_too (f.many h);
   everywhere = f.everywhere;
 }
 
@@ -88,7 +102,9 @@ module _ (k : Known) (ds : List DeclaredEntry) (r : ReadKey) (key : KnownKey) (k
   module _ (es : List Entry) (a : Answers) (p : Platform) (is : r.spelled ≡ spelled.Condition p)
       (answers : AnswersFor k ds (condition_of p) a)
       (same : IsTrue (is_same a.earlier) ↔ HasSame es (condition_of p))
-      (alike : IsTrue (is_equivalent a.earlier) → HasEquivalent k es (condition_of p)) where
+      (alike : IsTrue (is_equivalent a.earlier) → HasEquivalent k es (condition_of p))
+      (named : NamesRightly k es (condition_of p) a.earlier)
+      (left_open : IsTrue a.is_open → MayBeOpen k ds es r.text.now (condition_of p)) where
     asked_is : sorted_by key.asked.items ≡ sorted_in ds (condition_of p)
     asked_is = known.asked ∙ ap (sorted_of_spelled ds) is
 
@@ -117,12 +133,15 @@ module _ (k : Known) (ds : List DeclaredEntry) (r : ReadKey) (key : KnownKey) (k
         && not (bytes_eq ((known.canonical ∙ ap print_spelled is) i) ((ap (λ z. z.text.now) known.read) i)))
 
     pub found_spelled : IsRead r
-        → IsFound k ds es (entry_read r) (found_codes (record { key = key; answers = a })) a.is_open
+        → IsFound k ds es (entry_read r) (found_codes (record { key = key; answers = a })) a.earlier a.is_open
     unfolding found
     found_spelled read = inl (record {
       condition = condition_of p;
       spelled = subst (IsSpelledAs r.text.now) is read;
       holds = of_spelled;
+      named = named;
+      left_open = left_open;
+      many = answers.many;
     })
 
   module _ (es : List Entry) (s : Spelled) (is : r.spelled ≡ s) (none : is_condition s ≡ false) where
@@ -155,11 +174,12 @@ module _ (k : Known) (ds : List DeclaredEntry) (r : ReadKey) (key : KnownKey) (k
         (ap is_condition (spelled_is ∙ is) ∙ none)
 
     pub found_unspelled : IsRead r
-        → IsFound k ds es (entry_read r) (found_codes (record { key = key; answers = NONE })) NONE.is_open
+        → IsFound k ds es (entry_read r) (found_codes (record { key = key; answers = NONE })) NONE.earlier NONE.is_open
     unfolding unspelled
     found_unspelled read = inr (record {
       nothing = spells_nothing r.text.now s none (subst (IsSpelledAs r.text.now) is read);
       is_refused = is_refused s;
       holds = of_unspelled;
+      unlike = refl;
       settled = refl;
     })

@@ -1,41 +1,123 @@
 -- One more key among those that later ones are compared with.
-use Rattle.std.proofs.Common.{◌≡◌, refl, sym, subst, ℕ, Bool, List, [], ◌∷◌, ◌++◌, inl, inr}
-use Rattle.std.specs.Prelude.{IsTrue}
+use Rattle.std.proofs.Common.{◌≡◌, ◌∙◌, refl, sym, ap, subst, ℕ, ◌+◌, ◌≤◌, ◌<◌, Bool, true, false, true≢false, not, ◌&&◌, arith}
+use Rattle.std.proofs.Common.{List, [], ◌∷◌, ◌++◌, length, length-append, get_or, ◌⊎◌, inl, inr, Option, Some, None}
+use Rattle.std.specs.Prelude.{IsTrue, IfSome, MatchOption}
 use Rattle.std.specs.Borrow.{Bor}
+use Rattle.std.specs.List.{All, Any}
 use Rattle.std.proofs.lemmas.List.Elements.{All-nil, All-same, All-push, All-weaker}
 use Rattle.cargo_platform.specs.declared.Platform.{Platform}
+use Rattle.cargo_platform.specs.Nesting.{IsNestedBeyond}
 use Rattle.cargo_platform.specs.Trees.{Condition, condition_of}
 use Rattle.cargo_platform.specs.Platforms.{IsConditionText}
+use Rattle.exact_answers.specs.Asking.{NeedsMore}
+use Rattle.exact_answers.specs.Targets.{asked_trees}
 use Rattle.exact_answers.specs.declared.known.Known.{Known}
+use Rattle.manifest_lints_questions.specs.declared.deciding.TheConstants.{LEVELS}
 use Rattle.manifest_lints_questions.specs.declared.earlier.Keys.{Keys}
+use Rattle.manifest_lints_questions.specs.declared.earlier.TheConstants.{MOST}
+use Rattle.manifest_lints_questions.specs.Earlier.{AddsMember, AreEquivalent, HasEquivalentMember, MayBeUndecided}
+use Rattle.manifest_lints_questions.specs.Truths.{budget_of}
+use Rattle.manifest_documents.specs.Declarations.{DeclaredEntry}
 use Rattle.manifest_documents.specs.Entries.{Entry}
-use Rattle.manifest_lints.proofs.MoreSames.{has_more, has_so}
-use Rattle.manifest_lints.specs.Sames.{HasSpelled, AreMembers, HasEquivalent}
-use Rattle.manifest_lints_questions.specs.Earlier.{AddsMember, AreEquivalent, HasEquivalentMember}
+use Rattle.manifest_lints_standings.specs.Standings.{sorted_in}
+use Rattle.manifest_lints.specs.Reports.{MayBeOpen, too_deep, few_beside, many_before, budget_in}
+use Rattle.manifest_lints.specs.Sames.{HasOne, IsOneAt, IsSpelledAt, AreMembers}
+use Rattle.manifest_lints.proofs.MoreSames.{at_has, at_more, at_last, at_so}
 
 abbrev IsSpelledBy : List Entry → ℕ × Bor Platform → Type 0
-IsSpelledBy es m = HasSpelled es (condition_of m.1.now)
+IsSpelledBy es m = IsSpelledAt es (condition_of m.1.now) m.0
 
 pub no_members : (keys : Keys) → keys.members.items ≡ [] → AreMembers [] keys
-no_members keys none = All-same (IsSpelledBy []) keys.members.items [] none (All-nil (IsSpelledBy []))
+no_members keys none =
+    let long : length keys.members.items ≡ 0 = ap length none in
+    record {
+      spelled = All-same (IsSpelledBy []) keys.members.items [] none (All-nil (IsSpelledBy []));
+      most = omega arith;
+    }
+
+spelled_more : (es : List Entry) (e : Entry) (keys : Keys) → AreMembers es keys
+    → All (IsSpelledBy (es ++ e ∷ [])) keys.members.items
+spelled_more es e keys before =
+    All-weaker (IsSpelledBy es) (IsSpelledBy (es ++ e ∷ []))
+    (λ m h. at_more (λ d. d ≡ condition_of m.1.now) es e m.0 h) keys.members.items before.spelled
 
 pub more_members : (es : List Entry) (e : Entry) (keys : Keys) → AreMembers es keys → AreMembers (es ++ e ∷ []) keys
-more_members es e keys =
-    All-weaker (IsSpelledBy es) (IsSpelledBy (es ++ e ∷ []))
-    (λ m h. has_more (λ d. d ≡ condition_of m.1.now) es e (inr h)) keys.members.items
+more_members es e keys before =
+    let most : length keys.members.items ≤ length es = before.most in
+    let long : length (es ++ e ∷ []) ≡ length es + 1 = length-append es (e ∷ []) in
+    record { spelled = spelled_more es e keys before; most = omega arith }
 
 pub one_member : (es : List Entry) (e : Entry) (old new : Keys) (n : ℕ) (p : Bor Platform) → AddsMember old new n p
-    → AreMembers es old → IsConditionText e.0 (condition_of p.now) → AreMembers (es ++ e ∷ []) new
-one_member es e old new n p (inl same) before text =
-    All-same (IsSpelledBy (es ++ e ∷ [])) new.members.items old.members.items same (more_members es e old before)
-one_member es e old new n p (inr more) before text =
-    All-same (IsSpelledBy (es ++ e ∷ [])) new.members.items (old.members.items ++ (n, p) ∷ []) more
-    (All-push (IsSpelledBy (es ++ e ∷ [])) old.members.items (n, p) (more_members es e old before)
-    (has_more (λ d. d ≡ condition_of p.now) es e (inl (condition_of p.now, text, refl))))
+    → AreMembers es old → IsConditionText e.0 (condition_of p.now) → length es ≡ n → AreMembers (es ++ e ∷ []) new
+one_member es e old new n p (inl same) before text place =
+    let most : length old.members.items ≤ length es = before.most in
+    let long : length (es ++ e ∷ []) ≡ length es + 1 = length-append es (e ∷ []) in
+    let as_many : length new.members.items ≡ length old.members.items = ap length same in
+    record {
+      spelled = All-same (IsSpelledBy (es ++ e ∷ [])) new.members.items old.members.items same
+          (spelled_more es e old before);
+      most = omega arith;
+    }
+one_member es e old new n p (inr more) before text place =
+    let most : length old.members.items ≤ length es = before.most in
+    let long : length (es ++ e ∷ []) ≡ length es + 1 = length-append es (e ∷ []) in
+    let as_many : length new.members.items ≡ length old.members.items + 1 =
+    ap length more ∙ length-append old.members.items ((n, p) ∷ []) in
+    record {
+      spelled = All-same (IsSpelledBy (es ++ e ∷ [])) new.members.items (old.members.items ++ (n, p) ∷ []) more
+          (All-push (IsSpelledBy (es ++ e ∷ [])) old.members.items (n, p) (spelled_more es e old before)
+          (at_last (λ d. d ≡ condition_of p.now) es e n place (condition_of p.now, text, refl)));
+      most = omega arith;
+    }
 
-pub tells_equivalent : (k : Known) (es : List Entry) (old : Keys) (c : Condition) (b : Bool) → AreMembers es old
-    → (IsTrue b → HasEquivalentMember k old c) → IsTrue b → HasEquivalent k es c
-tells_equivalent k es old c b before told holds =
-    let m = told holds in
-    has_so (λ x. x ≡ condition_of m.1.1.now) (λ x. AreEquivalent k x c) es
-    (λ x is. subst (λ y. AreEquivalent k y c) (sym is) m.4) (subst (IsSpelledBy es) m.3 (before m.0 m.1 m.2))
+-- ---- what is told of these keys
+
+module _ (k : Known) (es : List Entry) (old : Keys) (c : Condition) (before : AreMembers es old) where
+  -- where something holds of a condition, it holds of what the key spells
+  as_spelled : (Q : Condition → Type 0) (i : ℕ) (m : ℕ × Bor Platform) → i < length old.members.items
+      → get_or old.members.items i m ≡ m → Q (condition_of m.1.now) → IsOneAt Q es m.0
+  as_spelled Q i m within at so =
+      at_so (λ x. x ≡ condition_of m.1.now) Q es m.0 (λ x is. subst Q (sym is) so)
+      (subst (IsSpelledBy es) at (before.spelled i m within))
+
+  equivalent_at : (n : ℕ) → HasEquivalentMember k old c n → IsOneAt (λ d. AreEquivalent k d c) es n
+  equivalent_at n (i, m, within, at, (place, alike)) =
+      subst (IsOneAt (λ d. AreEquivalent k d c) es) place (as_spelled (λ d. AreEquivalent k d c) i m within at alike)
+
+  pub equivalent_one : (o : Option ℕ) → IfSome o (HasEquivalentMember k old c)
+      → IfSome o (IsOneAt (λ d. AreEquivalent k d c) es)
+  equivalent_one (Some n) has = equivalent_at n has
+  equivalent_one None has = tt
+
+  few_at : (splits : ℕ)
+      → Any (λ (m : ℕ × Bor Platform). NeedsMore k (asked_trees (condition_of m.1.now ∷ c ∷ [])) splits)
+      old.members.items → HasOne (λ d. NeedsMore k (asked_trees (d ∷ c ∷ [])) splits) es
+  few_at splits (i, m, within, at, more) =
+      let Q : Condition → Type 0 = λ d. NeedsMore k (asked_trees (d ∷ c ∷ [])) splits in
+      at_has Q es m.0 (as_spelled Q i m within at more)
+
+  left_true : (a b : Bool) → (a && b) ≡ true → a ≡ true
+  left_true true b h = refl
+  left_true false b h = h
+
+  right_true : (a b : Bool) → (a && b) ≡ true → b ≡ true
+  right_true true b h = h
+  right_true false b h = absurd (true≢false (sym h))
+
+  -- why it is not known how a key stands to these
+  pub open_beside : (ds : List DeclaredEntry) (text : List ℕ) (budget : Option ℕ) (decides undecided : Bool) (n : ℕ)
+      → MatchOption budget ((decides ≡ true) ⊎ IsNestedBeyond text LEVELS) (λ splits. splits ≡ budget_of n)
+      → n ≡ length (sorted_in ds c) → (IsTrue undecided → MayBeUndecided k budget old c)
+      → (undecided && not decides) ≡ true → MayBeOpen k ds es text c
+  open_beside ds text None decides undecided n (inl decided) long told is =
+      absurd (true≢false (sym (right_true undecided (not decides) is) ∙ ap not decided))
+  open_beside ds text None decides undecided n (inr deep) long told is = too_deep deep
+  open_beside ds text (Some splits) decides undecided n budget long told is =
+      elim (told (left_true undecided (not decides) is)) [
+        | inl few ↦
+            few_beside (subst (λ b. HasOne (λ d. NeedsMore k (asked_trees (d ∷ c ∷ [])) b) es)
+            (budget ∙ ap budget_of long) (few_at splits few))
+        | inr more ↦
+            let most : length old.members.items ≤ length es = before.most in
+            many_before (omega arith)
+      ]

@@ -1,20 +1,27 @@
 -- One more key, and one more code, of a report.
 use Rattle.std.proofs.Common.{◌≡◌, ◌∙◌, refl, sym, ap, subst, ℕ, ◌+◌, ◌<◌, ◌≤◌, Bool, true, false, arith}
-use Rattle.std.proofs.Common.{List, [], ◌∷◌, ◌++◌, append_assoc, map, take, length, get_or, Some}
-use Rattle.std.specs.List.{filter}
+use Rattle.std.proofs.Common.{List, [], ◌∷◌, ◌++◌, append_assoc, map, take, length, get_or, Option, Some, None, inl, inr}
+use Rattle.std.specs.Prelude.{IfSome, string_bytes}
+use Rattle.std.specs.List.{All, filter}
 use Rattle.std.proofs.lemmas.List.{take_all, take_more, map-append, append-nil, length-map, length-take-le}
-use Rattle.std.proofs.lemmas.List.Elements.{filter-append}
+use Rattle.std.proofs.lemmas.List.{get_or-take, get_or-map}
+use Rattle.std.proofs.lemmas.List.Elements.{filter-append, All-nil, All-push, All-append, All-weaker}
 use Rattle.std.proofs.Math.Bool.{cond}
 use Rattle.exact_answers.specs.declared.known.Known.{Known}
+use Rattle.manifest_lints_questions.specs.declared.earlier.Earlier.{Earlier}
 use Rattle.manifest_lints_findings.specs.declared.codes.Code.{Code}
 use Rattle.manifest_lints_findings.specs.declared.findings.Finding.{Finding}
 use Rattle.manifest_lints_findings.specs.declared.readings.ReadKey.{ReadKey}
 use Rattle.manifest_lints_findings.specs.Codes.{CodeSet}
+use Rattle.manifest_lints_findings.specs.Marks.{Mark, mark, marks}
+use Rattle.manifest_lints_findings.specs.Messages.{NamesKey}
 use Rattle.manifest_lints_findings.specs.Spells.{entry_read}
 use Rattle.manifest_documents.specs.Declarations.{DeclaredEntry}
-use Rattle.manifest_lints.specs.Reports.{AreFindingsOn, on_more, IsFound}
-use Rattle.manifest_lints_findings.specs.Marks.{Mark, mark, marks}
+use Rattle.manifest_documents.specs.Entries.{Entry}
+use Rattle.manifest_lints.specs.Reports.{AreFindingsOn, on_more, IsFound, AreTold, NamesEarlier, AddsFindings}
 use Rattle.manifest_lints.specs.Reports.{told_marks, left_open}
+use Rattle.manifest_lints.specs.Sames.{named_place}
+use Rattle.manifest_lints.proofs.MoreSames.{named_within}
 
 -- the keys before a place, and the one at it
 pub next_entries : (reads : List ReadKey) (i : ℕ) (d : ReadKey) → i < length reads
@@ -23,62 +30,135 @@ next_entries reads i d within =
     sym (map-append entry_read (take i reads) (get_or reads i d ∷ []))
     ∙ ap (map entry_read) (sym (take_more reads i d within))
 
-pub one_more : (k : Known) (ds : List DeclaredEntry) (reads : List ReadKey) (i : ℕ) (d : ReadKey) (codes : CodeSet)
-    (is_open : Bool) (old new : List Mark) (before_open now_open : List ℕ) → i < length reads
-    → AreFindingsOn k ds (map entry_read (take i reads)) old before_open
-    → IsFound k ds (map entry_read (take i reads)) (entry_read (get_or reads i d)) codes is_open
-    → new ≡ old ++ told_marks i codes → now_open ≡ before_open ++ left_open i is_open
-    → AreFindingsOn k ds (map entry_read (take (i + 1) reads)) new now_open
-one_more k ds reads i d codes is_open old new before_open now_open within before found now opened =
-    let x = get_or reads i d in
-    let es = map entry_read (take i reads) in
-    let long : length es ≡ i = length-map (take i reads) entry_read ∙ length-take-le i reads (omega arith) in
-    let more : AreFindingsOn k ds (es ++ entry_read x ∷ []) (old ++ told_marks (length es) codes)
-    (before_open ++ left_open (length es) is_open) =
-    on_more es (entry_read x) codes is_open old before_open before found in
-    subst (λ fs. AreFindingsOn k ds fs new now_open) (next_entries reads i d within)
-    (subst (λ ms. AreFindingsOn k ds (es ++ entry_read x ∷ []) ms now_open)
-    (ap (λ n. old ++ told_marks n codes) long ∙ sym now)
-    (subst (λ ns. AreFindingsOn k ds (es ++ entry_read x ∷ []) (old ++ told_marks (length es) codes) ns)
-    (ap (λ n. before_open ++ left_open n is_open) long ∙ sym opened) more))
+-- a key that is named stands before
+found_within : (k : Known) (ds : List DeclaredEntry) (es : List Entry) (e : Entry) (codes : CodeSet)
+    (earlier : Earlier) (is_open : Bool) → IsFound k ds es e codes earlier is_open
+    → IfSome (named_place earlier) (λ n. n < length es)
+found_within k ds es e codes earlier is_open (inl spelled) = named_within k es spelled.condition earlier spelled.named
+found_within k ds es e codes earlier is_open (inr unspelled) =
+    subst (λ a. IfSome (named_place a) (λ n. n < length es)) (sym unspelled.unlike) tt
+
+module _ (reads : List ReadKey) (i : ℕ) (d : ReadKey) (within : i < length reads) (other : List ℕ) where
+  long : length (map entry_read (take i reads)) ≡ i
+  long = length-map (take i reads) entry_read ∙ length-take-le i reads (omega arith)
+
+  -- a key before a place stands at the same place among all keys
+  before_is : (n : ℕ) (e : Entry) → n < length (map entry_read (take i reads))
+      → get_or (map entry_read reads) n e ≡ get_or (map entry_read (take i reads)) n e
+  before_is n e before =
+      let long = length-take-le i reads (omega arith) in
+      let mapped = length-map (take i reads) entry_read in
+      get_or-map entry_read reads n d e (omega arith)
+      ∙ ap entry_read (sym (get_or-take i reads n d (omega arith)))
+      ∙ sym (get_or-map entry_read (take i reads) n d e (omega arith))
+
+  names_by : (o : Option ℕ) (f : Finding) → IfSome o (λ n. n < length (map entry_read (take i reads)))
+      → IfSome o (λ n. n < length reads → (e : Entry) → other ≡ (get_or (map entry_read reads) n e).0)
+      → NamesKey f.code other (string_bytes f.message)
+      → IfSome o (λ n. (e : Entry)
+      → NamesKey f.code (get_or (map entry_read (take i reads)) n e).0 (string_bytes f.message))
+  names_by (Some n) f before is names = λ e.
+      let at : n < i = subst (λ m. n < m) long before in
+      subst (λ t. NamesKey f.code t (string_bytes f.message))
+      (is (omega arith) e ∙ ap (λ (x : Entry). x.0) (before_is n e before)) names
+  names_by None f before is names = tt
+
+  pub one_more : (k : Known) (ds : List DeclaredEntry) (codes : CodeSet) (earlier : Earlier) (is_open : Bool)
+      (old new : List Finding) (before_open now_open : List ℕ)
+      → AreFindingsOn k ds (map entry_read (take i reads)) old before_open
+      → IsFound k ds (map entry_read (take i reads)) (entry_read (get_or reads i d)) codes earlier is_open
+      → IfSome (named_place earlier)
+      (λ n. n < length reads → (e : Entry) → other ≡ (get_or (map entry_read reads) n e).0)
+      → AddsFindings (told_marks i codes) other old new → now_open ≡ before_open ++ left_open i is_open
+      → AreFindingsOn k ds (map entry_read (take (i + 1) reads)) new now_open
+  one_more k ds codes earlier is_open old new before_open now_open before found other_is adds opened =
+      let x = get_or reads i d in
+      let es = map entry_read (take i reads) in
+      let told : AreTold es codes earlier adds.added = record {
+        marks_are = adds.marks_are ∙ ap (λ n. told_marks n codes) (sym long);
+        named = All-weaker (λ f. NamesKey f.code other (string_bytes f.message)) (NamesEarlier es earlier)
+            (λ f names. names_by (named_place earlier) f (found_within k ds es (entry_read x) codes earlier is_open found)
+            other_is names) adds.added adds.named;
+      } in
+      let more : AreFindingsOn k ds (es ++ entry_read x ∷ []) (old ++ adds.added)
+      (before_open ++ left_open (length es) is_open) =
+      on_more es (entry_read x) codes earlier is_open old adds.added before_open before found told in
+      subst (λ fs. AreFindingsOn k ds fs new now_open) (next_entries reads i d within)
+      (subst (λ fs. AreFindingsOn k ds (es ++ entry_read x ∷ []) fs now_open) (sym adds.are)
+      (subst (λ ns. AreFindingsOn k ds (es ++ entry_read x ∷ []) (old ++ adds.added) ns)
+      (ap (λ n. before_open ++ left_open n is_open) long ∙ sym opened) more))
 
 abbrev marked : ℕ → List Code → List Mark
 marked n cs = map (λ c. (Some n, c)) cs
 
-module _ (p : Code → Bool) (n : ℕ) (cs : List Code) (i : ℕ) (d : Code) (init old new : List Mark)
-    (within : i < length cs) (before : old ≡ init ++ marked n (filter p (take i cs))) where
-  at_next : (xs : List Code) → filter p (get_or cs i d ∷ []) ≡ xs → new ≡ old ++ marked n xs
-      → new ≡ init ++ marked n (filter p (take (i + 1) cs))
-  at_next xs is now =
-      now ∙ ap (λ zs. zs ++ marked n xs) before ∙ append_assoc init (marked n (filter p (take i cs))) (marked n xs)
-      ∙ ap (λ zs. init ++ zs)
-      (sym (map-append (λ c. (Some n, c)) (filter p (take i cs)) xs)
+-- ---- what adds findings
+
+pub adds_none : (other : List ℕ) (fs : List Finding) → AddsFindings [] other fs fs
+adds_none other fs = record {
+  added = [];
+  are = sym (append-nil fs);
+  marks_are = refl;
+  named = All-nil (λ f. NamesKey f.code other (string_bytes f.message));
+}
+
+adds_more : (ms ns : List Mark) (other : List ℕ) (fs gs hs : List Finding) → AddsFindings ms other fs gs
+    → AddsFindings ns other gs hs → AddsFindings (ms ++ ns) other fs hs
+adds_more ms ns other fs gs hs a b = record {
+  added = a.added ++ b.added;
+  are = b.are ∙ ap (λ zs. zs ++ b.added) a.are ∙ append_assoc fs a.added b.added;
+  marks_are = map-append mark a.added b.added ∙ (λ j. a.marks_are j ++ b.marks_are j);
+  named = All-append (λ f. NamesKey f.code other (string_bytes f.message)) a.added b.added a.named b.named;
+}
+
+module _ (p : Code → Bool) (n : ℕ) (cs : List Code) (i : ℕ) (d : Code) (within : i < length cs) where
+  at_next : (xs : List Code) → filter p (get_or cs i d ∷ []) ≡ xs
+      → marked n (filter p (take i cs)) ++ marked n xs ≡ marked n (filter p (take (i + 1) cs))
+  at_next xs is =
+      sym (map-append (λ c. (Some n, c)) (filter p (take i cs)) xs)
       ∙ ap (λ ys. marked n (filter p (take i cs) ++ ys)) (sym is)
       ∙ ap (marked n)
-      (sym (filter-append p (take i cs) (get_or cs i d ∷ [])) ∙ ap (filter p) (sym (take_more cs i d within))))
+      (sym (filter-append p (take i cs) (get_or cs i d ∷ [])) ∙ ap (filter p) (sym (take_more cs i d within)))
 
-  pub one_code : new ≡ old ++ cond (p (get_or cs i d)) ((Some n, get_or cs i d) ∷ []) []
-      → new ≡ init ++ marked n (filter p (take (i + 1) cs))
-  one_code now =
+  next_code : marked n (filter p (take i cs)) ++ cond (p (get_or cs i d)) ((Some n, get_or cs i d) ∷ []) []
+      ≡ marked n (filter p (take (i + 1) cs))
+  next_code =
       let x = get_or cs i d in
       elim (p x)
-      as (λ b. p x ≡ b → new ≡ old ++ cond b ((Some n, x) ∷ []) []
-      → new ≡ init ++ marked n (filter p (take (i + 1) cs))) [
-        | true ↦ λ e h. at_next (x ∷ []) (ap (λ b. cond b (x ∷ []) []) e) h
-        | false ↦ λ e h. at_next [] (ap (λ b. cond b (x ∷ []) []) e) h
-      ] refl now
+      as (λ b. p x ≡ b → marked n (filter p (take i cs)) ++ cond b ((Some n, x) ∷ []) []
+      ≡ marked n (filter p (take (i + 1) cs))) [
+        | true ↦ λ e. at_next (x ∷ []) (ap (λ b. cond b (x ∷ []) []) e)
+        | false ↦ λ e. at_next [] (ap (λ b. cond b (x ∷ []) []) e)
+      ] refl
+
+  pub one_code : (other : List ℕ) (init old new : List Finding)
+      → AddsFindings (marked n (filter p (take i cs))) other init old
+      → AddsFindings (cond (p (get_or cs i d)) ((Some n, get_or cs i d) ∷ []) []) other old new
+      → AddsFindings (marked n (filter p (take (i + 1) cs))) other init new
+  one_code other init old new before now =
+      subst (λ ms. AddsFindings ms other init new) next_code
+      (adds_more (marked n (filter p (take i cs))) (cond (p (get_or cs i d)) ((Some n, get_or cs i d) ∷ []) []) other
+      init old new before now)
 
 -- all codes were gone through
-pub all_codes : (p : Code → Bool) (n i : ℕ) (cs : List Code) (init new : List Mark) → length cs ≤ i
-    → new ≡ init ++ marked n (filter p (take i cs)) → new ≡ init ++ marked n (filter p cs)
-all_codes p n i cs init new done now = now ∙ ap (λ xs. init ++ marked n (filter p xs)) (take_all i cs done)
+pub all_codes : (p : Code → Bool) (n i : ℕ) (cs : List Code) (other : List ℕ) (init new : List Finding)
+    → length cs ≤ i → AddsFindings (marked n (filter p (take i cs))) other init new
+    → AddsFindings (marked n (filter p cs)) other init new
+all_codes p n i cs other init new done =
+    subst (λ xs. AddsFindings (marked n (filter p xs)) other init new) (take_all i cs done)
 
-pub one_told : (fs gs : List Finding) (f : Finding) (b : Bool) (m : Mark) → gs ≡ fs ++ f ∷ [] → mark f ≡ m
-    → b ≡ true → marks gs ≡ marks fs ++ cond b (m ∷ []) []
-one_told fs gs f b m pushed is told =
-    ap marks pushed ∙ map-append mark fs (f ∷ []) ∙ ap (λ y. marks fs ++ y ∷ []) is
-    ∙ sym (ap (λ c. marks fs ++ cond c (m ∷ []) []) told)
+pub one_told : (fs gs : List Finding) (f : Finding) (b : Bool) (m : Mark) (other : List ℕ) → gs ≡ fs ++ f ∷ []
+    → mark f ≡ m → b ≡ true → NamesKey m.1 other (string_bytes f.message)
+    → AddsFindings (cond b (m ∷ []) []) other fs gs
+one_told fs gs f b m other pushed is told names = record {
+  added = f ∷ [];
+  are = pushed;
+  marks_are = ap (λ y. y ∷ []) is ∙ sym (ap (λ c. cond c (m ∷ []) []) told);
+  named = All-push (λ g. NamesKey g.code other (string_bytes g.message)) [] f
+      (All-nil (λ g. NamesKey g.code other (string_bytes g.message)))
+      (subst (λ c. NamesKey c other (string_bytes f.message)) (sym (ap (λ (x : Mark). x.1) is)) names);
+}
 
-pub none_told : (fs : List Finding) (b : Bool) (m : Mark) → b ≡ false → marks fs ≡ marks fs ++ cond b (m ∷ []) []
-none_told fs b m hidden =
-    sym (append-nil (marks fs)) ∙ sym (ap (λ c. marks fs ++ cond c (m ∷ []) []) hidden)
+pub none_told : (fs : List Finding) (b : Bool) (m : Mark) (other : List ℕ) → b ≡ false
+    → AddsFindings (cond b (m ∷ []) []) other fs fs
+none_told fs b m other hidden =
+    subst (λ ms. AddsFindings ms other fs fs) (sym (ap (λ c. cond c (m ∷ []) []) hidden)) (adds_none other fs)

@@ -1,5 +1,5 @@
 -- What is answered of a key, and the codes that hold of it. What is promised of a report hangs on none of these words.
-use Rattle.std.specs.Prelude.{List}
+use Rattle.std.specs.Prelude.{◌<◌, ℕ, List, IsTrue, length}
 use Rattle.cargo_platform.specs.Trees.{Condition}
 use Rattle.exact_answers.specs.declared.known.Known.{Known}
 use Rattle.manifest_documents.specs.Declarations.{DeclaredEntry}
@@ -7,6 +7,7 @@ use Rattle.manifest_lints_standings.specs.Standings.{sorted_in, open_in}
 use Rattle.manifest_lints_findings.specs.declared.codes.Code.TheVariants as code
 use Rattle.manifest_lints_findings.specs.Codes.{CodeSet}
 use Rattle.manifest_lints_findings.specs.Known.{holds_alone}
+use Rattle.manifest_lints_questions.specs.declared.deciding.TheConstants.{MANY}
 use Rattle.manifest_lints_questions.specs.Truths.{IsNever, IsAlways, CanHold, CanFail, IsNowhere, IsEverywhere}
 use Rattle.manifest_lints_questions.specs.Earlier.{is_same, is_equivalent}
 use Rattle.manifest_lints.specs.declared.found.Answers.{Answers}
@@ -19,6 +20,7 @@ pub record AnswersFor (k : Known) (ds : List DeclaredEntry) (c : Condition) (a :
   pub always : Settles a.is_open a.always (IsAlways k c) (CanFail k c)
   pub nowhere : SettlesFew (open_in (sorted_in ds c)) a.nowhere (IsNowhere (open_in (sorted_in ds c)) c)
   pub everywhere : SettlesFew (open_in (sorted_in ds c)) a.everywhere (IsEverywhere (open_in (sorted_in ds c)) c)
+  pub many : MANY < length (open_in (sorted_in ds c)) → IsTrue a.is_open
 
 -- the codes that hold of a key: those of its answers, and those that hold of it by itself
 abbrev pub found_codes : Found → CodeSet

@@ -1,9 +1,12 @@
 -- What is found of the keys of a manifest, code by code, and which findings are told of them.
-use Rattle.std.specs.Prelude.{◌≡◌, ◌≤◌, ◌⊎◌, ◌↔◌, ℕ, Bool, false, not, IsTrue, List}
-use Rattle.std.specs.Prelude.{[], ◌∷◌, ◌++◌, map, length, cond, bytes_eq, Option, Some, None}
+use Rattle.std.specs.Prelude.{◌≡◌, ◌≤◌, ◌<◌, ◌⊎◌, ◌↔◌, ℕ, Bool, false, not, IsTrue, List}
+use Rattle.std.specs.Prelude.{[], ◌∷◌, ◌++◌, map, length, get_or, cond, bytes_eq, string_bytes, Option, Some, None}
+use Rattle.std.specs.Prelude.{IfSome}
+use Rattle.std.specs.List.{All}
 use Rattle.std.specs.List.Sorted.{IsPermutation}
 use Rattle.cargo_platform.specs.Trees.{Condition}
 use Rattle.cargo_platform.specs.Facts.{FactSet, fact_set}
+use Rattle.cargo_platform.specs.Nesting.{IsNestedBeyond}
 use Rattle.cargo_platform.specs.Platforms.{IsConditionText}
 use Rattle.cargo_platform.specs.Print.{print_condition}
 use Rattle.toml.specs.Data.{Members}
@@ -11,21 +14,29 @@ use Rattle.exact_answers.specs.declared.known.Known.{Known}
 use Rattle.partial_facts.specs.declared.one_valued.TheConstants.{ONE_VALUED}
 use Rattle.exact_answers.specs.Possible.{HasOneValue, IsAllowed}
 use Rattle.exact_answers.specs.Families.{KeepsFamilyRule}
+use Rattle.exact_answers.specs.Asking.{NeedsMore}
+use Rattle.exact_answers.specs.Targets.{asked_trees}
 use Rattle.manifest_documents.specs.Declarations.{DeclaredEntry, IsDeclaredBy}
 pub use Rattle.manifest_documents.specs.Entries.{Entry, entry_of}
 use Rattle.manifest_lints_standings.specs.declared.standing.Sort.TheVariants as sort
 use Rattle.manifest_lints_standings.specs.Standings.{has_sort, sorted_in, open_in, IsUnknownTarget}
 use Rattle.manifest_lints_findings.specs.declared.codes.Code.{Code}
 use Rattle.manifest_lints_findings.specs.declared.codes.Code.TheVariants as code
+use Rattle.manifest_lints_findings.specs.declared.findings.Finding.{Finding}
 use Rattle.manifest_lints_findings.specs.declared.findings.Report.{Report}
 use Rattle.manifest_lints_findings.specs.Codes.{CodeSet, is_told, told_codes}
 use Rattle.manifest_lints_findings.specs.Known.{has_marked_literal}
 use Rattle.manifest_lints_findings.specs.Marks.{Mark, marks}
+use Rattle.manifest_lints_findings.specs.Messages.{NamesKey}
 use Rattle.manifest_lints_findings.specs.NoTables.{is_no_table}
 use Rattle.manifest_lints_findings.specs.Spells.{SpellsNothing}
-use Rattle.manifest_lints_questions.specs.declared.deciding.TheConstants.{MANY}
+use Rattle.manifest_lints_questions.specs.declared.deciding.TheConstants.{MANY, LEVELS}
+use Rattle.manifest_lints_questions.specs.declared.earlier.TheConstants.{MOST}
+use Rattle.manifest_lints_questions.specs.declared.earlier.Earlier.{Earlier}
+use Rattle.manifest_lints_questions.specs.declared.earlier.Earlier.TheVariants.{Unlike}
 use Rattle.manifest_lints_questions.specs.Truths.{IsNever, IsAlways, CanHold, CanFail, IsNowhere, IsEverywhere}
-use Rattle.manifest_lints.specs.Sames.{HasSame, HasEquivalent}
+use Rattle.manifest_lints_questions.specs.Truths.{budget_of, NeedsMoreFor}
+use Rattle.manifest_lints.specs.Sames.{HasOne, HasSame, HasEquivalent, NamesRightly, named_place}
 
 -- ---- the sets of facts that are asked about
 
@@ -47,6 +58,21 @@ Settles is_open b Is IsNot = (IsTrue b → Is) × (b ≡ false → is_open ≡ f
 -- it holds where it is right, and only there, unless too many names are open
 abbrev pub SettlesFew : List (List ℕ) → Bool → Type 0 → Type 0
 SettlesFew open_keys b Is = (IsTrue b → Is) × (length open_keys ≤ MANY → Is → IsTrue b)
+
+-- how many splits are made for a condition
+abbrev pub budget_in : List DeclaredEntry → Condition → ℕ
+budget_in ds c = budget_of (length (sorted_in ds c))
+
+-- why something may be left open of a key after others that spells a condition: too many parentheses lie in one another,
+-- or too many names and keys are open; the splits are too few for the condition, or for it beside that of a key before
+-- it; or too many keys stand before it
+pub data MayBeOpen (k : Known) (ds : List DeclaredEntry) (es : List Entry) (text : List ℕ) (c : Condition) : Type 0
+  where
+    too_deep : IsNestedBeyond text LEVELS → MayBeOpen k ds es text c
+    many_open : MANY < length (open_in (sorted_in ds c)) → MayBeOpen k ds es text c
+    few_splits : NeedsMoreFor k c (budget_in ds c) → MayBeOpen k ds es text c
+    few_beside : HasOne (λ d. NeedsMore k (asked_trees (d ∷ c ∷ [])) (budget_in ds c)) es → MayBeOpen k ds es text c
+    many_before : MOST < length es → MayBeOpen k ds es text c
 
 -- by what is known of each target and what is declared, of a key after others that spells a condition, of which
 -- something is left open or not: whether a code holds
@@ -75,21 +101,27 @@ HoldsUnspelled is_refused e code.NoTable b = b ≡ is_no_table e.1
 HoldsUnspelled is_refused e code.ReadOtherwise b = b ≡ not is_refused
 HoldsUnspelled is_refused e _ b = b ≡ false
 
--- the codes that hold of a key that spells a condition, and of one that spells none
+-- the codes that hold of a key that spells a condition, which earlier key is named, and whether something is left open;
+-- and the same of a key that spells none
 pub record IsFoundSpelled (k : Known) (ds : List DeclaredEntry) (es : List Entry) (e : Entry) (codes : CodeSet)
-    (is_open : Bool) : Type 0 where
+    (earlier : Earlier) (is_open : Bool) : Type 0 where
   pub condition : Condition
   pub spelled : IsConditionText e.0 condition
   pub holds : (c : Code) → Holds k ds es e condition is_open c (codes c)
+  pub named : NamesRightly k es condition earlier
+  pub left_open : IsTrue is_open → MayBeOpen k ds es e.0 condition
+  pub many : MANY < length (open_in (sorted_in ds condition)) → IsTrue is_open
 
-pub record IsFoundUnspelled (e : Entry) (codes : CodeSet) (is_open : Bool) : Type 0 where
+pub record IsFoundUnspelled (e : Entry) (codes : CodeSet) (earlier : Earlier) (is_open : Bool) : Type 0 where
   pub nothing : SpellsNothing e.0
   pub is_refused : Bool
   pub holds : (c : Code) → HoldsUnspelled is_refused e c (codes c)
+  pub unlike : earlier ≡ Unlike
   pub settled : is_open ≡ false
 
-abbrev pub IsFound : Known → List DeclaredEntry → List Entry → Entry → CodeSet → Bool → Type 0
-IsFound k ds es e codes is_open = IsFoundSpelled k ds es e codes is_open ⊎ IsFoundUnspelled e codes is_open
+abbrev pub IsFound : Known → List DeclaredEntry → List Entry → Entry → CodeSet → Earlier → Bool → Type 0
+IsFound k ds es e codes earlier is_open =
+    IsFoundSpelled k ds es e codes earlier is_open ⊎ IsFoundUnspelled e codes earlier is_open
 
 -- ---- the findings
 
@@ -105,17 +137,35 @@ told_marks n codes = map (λ c. (Some n, c)) (told_codes codes)
 abbrev pub left_open : ℕ → Bool → List ℕ
 left_open n is_open = cond is_open (n ∷ []) []
 
+-- the message of a finding `same` or `equivalent` ends with the text of the key at the place that is named
+abbrev pub NamesEarlier : List Entry → Earlier → Finding → Type 0
+NamesEarlier es earlier f =
+    IfSome (named_place earlier) (λ n. (d : Entry) → NamesKey f.code (get_or es n d).0 (string_bytes f.message))
+
+-- the findings on a key after others are those that are told of it, and they name that key
+pub record AreTold (es : List Entry) (codes : CodeSet) (earlier : Earlier) (fs : List Finding) : Type 0 where
+  pub marks_are : marks fs ≡ told_marks (length es) codes
+  pub named : All (NamesEarlier es earlier) fs
+
 -- the findings on some keys are those that are told of each, in the order of the keys; and the places are those of the
 -- keys that are left open
-pub data AreFindingsOn (k : Known) (ds : List DeclaredEntry) : List Entry → List Mark → List ℕ → Type 0 where
+pub data AreFindingsOn (k : Known) (ds : List DeclaredEntry) : List Entry → List Finding → List ℕ → Type 0 where
   on_none : AreFindingsOn k ds [] [] []
-  on_more : (es : List Entry) (e : Entry) (codes : CodeSet) (is_open : Bool) (ms : List Mark) (ns : List ℕ)
-      → AreFindingsOn k ds es ms ns → IsFound k ds es e codes is_open
-      → AreFindingsOn k ds (es ++ e ∷ []) (ms ++ told_marks (length es) codes) (ns ++ left_open (length es) is_open)
+  on_more : (es : List Entry) (e : Entry) (codes : CodeSet) (earlier : Earlier) (is_open : Bool)
+      (fs told : List Finding) (ns : List ℕ) → AreFindingsOn k ds es fs ns
+      → IsFound k ds es e codes earlier is_open → AreTold es codes earlier told
+      → AreFindingsOn k ds (es ++ e ∷ []) (fs ++ told) (ns ++ left_open (length es) is_open)
 
 -- the same, by what is known of each target
-abbrev pub AreFindings : List DeclaredEntry → List Entry → List Mark → List ℕ → Type 0
-AreFindings ds es ms ns = (k : Known) × (AllowsRustcs k × AreFindingsOn k ds es ms ns)
+abbrev pub AreFindings : List DeclaredEntry → List Entry → List Finding → List ℕ → Type 0
+AreFindings ds es fs ns = (k : Known) × (AllowsRustcs k × AreFindingsOn k ds es fs ns)
+
+-- behind the old findings stand those with these marks, which name this key
+pub record AddsFindings (ms : List Mark) (other : List ℕ) (old new : List Finding) : Type 0 where
+  pub added : List Finding
+  pub are : new ≡ old ++ added
+  pub marks_are : marks added ≡ ms
+  pub named : All (λ f. NamesKey f.code other (string_bytes f.message)) added
 
 -- ---- the report
 
@@ -125,7 +175,7 @@ IsReportOn ms es r =
     IsPermutation es (map entry_of r.keys.items)
     × ((ds : List DeclaredEntry)
     × IsDeclaredBy ms ds
-    × AreFindings ds (map entry_of r.keys.items) (marks r.findings.items) r.undecided.items)
+    × AreFindings ds (map entry_of r.keys.items) r.findings.items r.undecided.items)
 
 -- of no table: no keys, and these findings
 abbrev pub IsReportOf : List Mark → Report → Type 0

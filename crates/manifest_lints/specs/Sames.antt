@@ -1,5 +1,5 @@
 -- The same conditions at earlier keys, raw marks aside, and those that are as true.
-use Rattle.std.specs.Prelude.{◌≡◌, ◌⊎◌, ◌↔◌, ℕ, List, [], ◌∷◌, IsSome}
+use Rattle.std.specs.Prelude.{◌≡◌, ◌⊎◌, ◌≤◌, ℕ, List, [], ◌∷◌, ◌++◌, length, Option, Some, None}
 use Rattle.std.specs.List.{All}
 use Rattle.std.specs.Borrow.{Bor}
 use Rattle.cargo_platform.specs.declared.Platform.{Platform}
@@ -7,6 +7,8 @@ use Rattle.cargo_platform.specs.Trees.{Condition, condition_of}
 use Rattle.cargo_platform.specs.Key.{condition_key}
 use Rattle.cargo_platform.specs.Platforms.{IsConditionText}
 use Rattle.exact_answers.specs.declared.known.Known.{Known}
+use Rattle.manifest_lints_questions.specs.declared.earlier.Earlier.{Earlier}
+use Rattle.manifest_lints_questions.specs.declared.earlier.Earlier.TheVariants as earlier
 use Rattle.manifest_lints_questions.specs.declared.earlier.Keys.{Keys}
 use Rattle.manifest_lints_questions.specs.Earlier.{noted, AreEquivalent}
 use Rattle.manifest_documents.specs.Entries.{Entry}
@@ -20,15 +22,33 @@ abbrev pub HasOne : (Condition → Type 0) → List Entry → Type 0
 HasOne P [] = ⊥
 HasOne P (e ∷ es) = SpellsOne P e.0 ⊎ HasOne P es
 
+-- the key at this place does
+pub record IsOneAt (P : Condition → Type 0) (es : List Entry) (n : ℕ) : Type 0 where
+  pub before : List Entry
+  pub key : Entry
+  pub after : List Entry
+  pub are : es ≡ before ++ key ∷ after
+  pub place : length before ≡ n
+  pub spells : SpellsOne P key.0
+
+-- the key at this place does, and no key before it
+pub record IsFirstAt (P : Condition → Type 0) (es : List Entry) (n : ℕ) : Type 0 where
+  pub one : IsOneAt P es n
+  pub first : HasOne P one.before → ⊥
+
+abbrev pub IsFirst : (Condition → Type 0) → List Entry → Option ℕ → Type 0
+IsFirst P es (Some n) = IsFirstAt P es n
+IsFirst P es None = HasOne P es → ⊥
+
 abbrev pub IsSameAs : Condition → Condition → Type 0
 IsSameAs c d = condition_key d ≡ condition_key c
 
 abbrev pub HasSame : List Entry → Condition → Type 0
 HasSame es c = HasOne (IsSameAs c) es
 
--- noted are the conditions of these keys
+-- what is noted for a condition is the place of the first of these keys that spells the same
 abbrev pub AreNoted : List Entry → Keys → Type 0
-AreNoted es keys = (q : Bor Platform) → IsSome (noted keys q) ↔ HasSame es (condition_of q.now)
+AreNoted es keys = (q : Bor Platform) → IsFirst (IsSameAs (condition_of q.now)) es (noted keys q)
 
 -- ---- conditions that are as true
 
@@ -36,9 +56,26 @@ AreNoted es keys = (q : Bor Platform) → IsSome (noted keys q) ↔ HasSame es (
 abbrev pub HasEquivalent : Known → List Entry → Condition → Type 0
 HasEquivalent k es c = HasOne (λ d. AreEquivalent k d c) es
 
-abbrev pub HasSpelled : List Entry → Condition → Type 0
-HasSpelled es c = HasOne (λ d. d ≡ c) es
+abbrev pub IsSpelledAt : List Entry → Condition → ℕ → Type 0
+IsSpelledAt es c n = IsOneAt (λ d. d ≡ c) es n
 
--- each of them is spelled by one of the keys
-abbrev pub AreMembers : List Entry → Keys → Type 0
-AreMembers es keys = All (λ m. HasSpelled es (condition_of m.1.now)) keys.members.items
+-- each of them is spelled by the key at its place, and there are no more than keys
+pub record AreMembers (es : List Entry) (keys : Keys) : Type 0 where
+  pub spelled : All (λ m. IsSpelledAt es (condition_of m.1.now) m.0) keys.members.items
+  pub most : length keys.members.items ≤ length es
+
+-- ---- the key that is named
+
+-- the place that an answer names is that of the first key that spells the same condition as this one, or that of a key
+-- that spells one which is as true for each possible target
+abbrev pub NamesRightly : Known → List Entry → Condition → Earlier → Type 0
+NamesRightly k es c (earlier.Same n) = IsFirstAt (IsSameAs c) es n
+NamesRightly k es c (earlier.Equivalent n) = IsOneAt (λ d. AreEquivalent k d c) es n
+NamesRightly k es c earlier.Unlike = Unit {0}
+NamesRightly k es c earlier.Undecided = Unit {0}
+
+abbrev pub named_place : Earlier → Option ℕ
+named_place (earlier.Same n) = Some n
+named_place (earlier.Equivalent n) = Some n
+named_place earlier.Unlike = None
+named_place earlier.Undecided = None

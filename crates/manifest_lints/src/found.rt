@@ -1,16 +1,20 @@
 //! A key with what is found of it: by itself, over sets of facts, and beside the keys before it.
 
-ghost use Rattle.std.specs.Prelude.{◌≡◌, ◌↔◌, ◌++◌, ◌∷◌, [], List, IsTrue, IsSome, IfOk, OnOk};
+ghost use Rattle.std.specs.Prelude.{◌≡◌, ◌⊎◌, ◌↔◌, ◌<◌, ◌++◌, ◌∷◌, ◌&&◌, [], List, IsTrue, true, not, length};
+ghost use Rattle.std.specs.Prelude.{IfOk, OnOk, IfSome, MatchOption};
 ghost use Rattle.cargo_platform.specs.Trees.{condition_of};
+ghost use Rattle.cargo_platform.specs.Nesting.{IsNestedBeyond};
 ghost use Rattle.manifest_documents.specs.Declarations.{declarations_of};
 ghost use Rattle.manifest_documents.specs.Entries.{Entry};
 ghost use Rattle.manifest_lints_findings.specs.Codes.{is_told};
 ghost use Rattle.manifest_lints_findings.specs.Known.{IsKnown};
 ghost use Rattle.manifest_lints_findings.specs.Spells.{IsRead, entry_read};
 ghost use Rattle.manifest_lints_questions.specs.Earlier.{noted, Notes, AddsMember, HasEquivalentMember};
-ghost use Rattle.manifest_lints_questions.specs.Earlier.{is_same, is_equivalent};
+ghost use Rattle.manifest_lints_questions.specs.Earlier.{same_place, equivalent_place, is_undecided};
+ghost use Rattle.manifest_lints_questions.specs.Truths.{budget_of};
+ghost use Rattle.manifest_lints_questions.specs.declared.deciding.TheConstants.{LEVELS, MANY};
 ghost use Rattle.manifest_lints.specs.Founds.{found_codes, AnswersFor};
-ghost use Rattle.manifest_lints.specs.Reports.{IsFound};
+ghost use Rattle.manifest_lints.specs.Reports.{IsFound, MayBeOpen};
 ghost use Rattle.manifest_lints.specs.Sames.{AreNoted, AreMembers};
 
 use cargo_platform::Platform;
@@ -99,15 +103,19 @@ fn answers_alone<'a>(
     key: &KnownKey<'a>,
     condition: &'a Platform,
 ) -> Result<Answers, AllocError>
-    ensures { (IsKnown (declarations_of asking.now.declared.now) key.now.read.now key.now)
+    ensures alone { (IsKnown (declarations_of asking.now.declared.now) key.now.read.now key.now)
         → key.now.read.now.spelled ≡ Spelled.Condition condition.now
         → IfOk result (λ a. AnswersFor asking.now.known.now (declarations_of asking.now.declared.now)
         (condition_of condition.now) a) }
+    ensures left_open { (IsKnown (declarations_of asking.now.declared.now) key.now.read.now key.now)
+        → key.now.read.now.spelled ≡ Spelled.Condition condition.now → (es : List Entry)
+        → IfOk result (λ a. IsTrue a.is_open → MayBeOpen asking.now.known.now (declarations_of asking.now.declared.now)
+        es key.now.read.now.text.now (condition_of condition.now)) }
 {
     let open = open_names(alloc, &key.asked)?;
     let (nowhere, everywhere) = places(alloc, condition, &open)?;
     let budget = budget_for(key.asked.len());
-    let may_ask = may_ask(key.levels);
+    let may_ask = may_ask(key.levels, key.read.text);
     let (never, always, unknown) = asked(alloc, condition, asking.known, budget, may_ask)?;
     Ok(Answers {
         never,
@@ -115,8 +123,33 @@ fn answers_alone<'a>(
         nowhere,
         everywhere,
         earlier: Earlier::Unlike,
-        is_open: either(unknown, open.len() > MANY),
+        is_open: either(unknown, are_many(&open)),
     })
+}
+
+/// Whether so many names and keys are too many.
+fn are_many(open: &[&str]) -> bool
+    ensures { IsTrue result ↔ (MANY < length open.now) }
+{
+    open.len() > MANY
+}
+
+/// How many splits may be made for a key beside another one: none, where that is not asked of it.
+fn budget_beside(key: &KnownKey<'_>, decides: bool) -> Option<u64>
+    ensures { MatchOption result ((decides ≡ true) ⊎ IsNestedBeyond key.now.read.now.text.now LEVELS)
+        (λ splits. splits ≡ budget_of (length key.now.asked.items)) }
+{
+    if decides || !may_ask(key.levels, key.read.text) {
+        return None;
+    }
+    Some(budget_for(key.asked.len()))
+}
+
+/// Whether it stays open how a key stands to those before it: it is not known, and hidden by nothing.
+fn stays_open(earlier: Earlier, decides: bool) -> bool
+    ensures { result ≡ (is_undecided earlier && not decides) }
+{
+    earlier.is_undecided() && !decides
 }
 
 /// What is answered of a condition, by itself and beside those before it.
@@ -131,22 +164,22 @@ fn answers_of<'a>(
         → key.now.read.now.spelled ≡ Spelled.Condition condition.now
         → IfOk result (λ a. AnswersFor asking.now.known.now (declarations_of asking.now.declared.now)
         (condition_of condition.now) a) }
-    ensures same { IfOk result (λ a. IsTrue (is_same a.earlier) ↔ IsSome (noted before.old condition.entry)) }
-    ensures equivalent { IfOk result (λ a. IsTrue (is_equivalent a.earlier)
-        → HasEquivalentMember asking.now.known.now before.old (condition_of condition.entry.now)) }
-    ensures notes { OnOk result (Notes before.old before.new condition.entry) }
+    ensures left_open { (IsKnown (declarations_of asking.now.declared.now) key.now.read.now key.now)
+        → key.now.read.now.spelled ≡ Spelled.Condition condition.now → (es : List Entry) → AreMembers es before.old
+        → IfOk result (λ a. IsTrue a.is_open → MayBeOpen asking.now.known.now (declarations_of asking.now.declared.now)
+        es key.now.read.now.text.now (condition_of condition.now)) }
+    ensures same { IfOk result (λ a. same_place a.earlier ≡ noted before.old condition.entry) }
+    ensures equivalent { IfOk result (λ a. IfSome (equivalent_place a.earlier)
+        (HasEquivalentMember asking.now.known.now before.old (condition_of condition.entry.now))) }
+    ensures notes { OnOk result (Notes before.old before.new key.now.place condition.entry) }
     ensures members { OnOk result (AddsMember before.old before.new key.now.place condition.entry) }
 {
     let mut answers = answers_alone(alloc, asking, key, condition)?;
     let decides = answers.never || answers.always;
-    let budget = if may_ask(key.levels) && !decides {
-        Some(budget_for(key.asked.len()))
-    } else {
-        None
-    };
+    let budget = budget_beside(key, decides);
     let known = asking.known;
     answers.earlier = before.add(alloc, key.place, condition, key.targets, known, budget)?;
-    let is_open = answers.earlier == Earlier::Undecided && !decides;
+    let is_open = stays_open(answers.earlier, decides);
     answers.is_open = either(answers.is_open, is_open);
     Ok(answers)
 }
@@ -170,9 +203,10 @@ pub fn found_of<'a>(
     before: &mut Keys<'a>,
 ) -> Result<Found<'a>, AllocError>
     ensures place { IfOk result (λ f. f.key.place ≡ place) }
-    ensures found { IsRead read.now → (es : List Entry) → AreNoted es before.old → AreMembers es before.old
-        → IfOk result (λ f. IsFound asking.now.known.now (declarations_of asking.now.declared.now) es
-        (entry_read read.now) (found_codes f) f.answers.is_open × AreNoted (es ++ entry_read read.now ∷ []) before.new
+    ensures found { IsRead read.now → (es : List Entry) → length es ≡ place → AreNoted es before.old
+        → AreMembers es before.old → IfOk result (λ f. IsFound asking.now.known.now
+        (declarations_of asking.now.declared.now) es (entry_read read.now) (found_codes f) f.answers.earlier
+        f.answers.is_open × AreNoted (es ++ entry_read read.now ∷ []) before.new
         × AreMembers (es ++ entry_read read.now ∷ []) before.new) }
 {
     let key = KnownKey::of(alloc, read, place, asking.declared)?;

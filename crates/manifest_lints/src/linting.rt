@@ -1,12 +1,13 @@
 //! What there is to tell of the keys of a manifest.
 
-ghost use Rattle.std.specs.Prelude.{◌≡◌, ◌++◌, IfOk, OnOk, Some, List, [], map};
+ghost use Rattle.std.specs.Prelude.{◌≡◌, ◌<◌, ◌++◌, IfOk, OnOk, IfSome, List, [], map, length, get_or};
 ghost use Rattle.std.specs.List.{All};
 ghost use Rattle.manifest_documents.specs.Declarations.{DeclaredEntry, IsDeclaredBy, declarations_of};
-ghost use Rattle.manifest_lints_findings.specs.Marks.{mark, marks};
+ghost use Rattle.manifest_documents.specs.Entries.{Entry};
 ghost use Rattle.manifest_lints_findings.specs.Spells.{IsRead, entry_read};
 ghost use Rattle.manifest_lints.specs.Founds.{found_codes};
-ghost use Rattle.manifest_lints.specs.Reports.{told_mark, told_marks, left_open};
+ghost use Rattle.manifest_lints.specs.Reports.{told_mark, told_marks, left_open, AddsFindings};
+ghost use Rattle.manifest_lints.specs.Sames.{named_place};
 ghost use Rattle.toml.specs.View.{table_view};
 ghost use Rattle.manifest_lints.specs.Reports.{entry_of, AreFindingsOn, AreFindings, IsReport};
 ghost use Rattle.manifest_documents.specs.Tables.{target_of};
@@ -23,13 +24,23 @@ use manifest_lints_questions::earlier::{Earlier, Keys};
 use std::alloc::{AllocError, Global};
 
 /// The earlier key that is the same or as true.
-fn earlier_key<'a>(read: &'a [ReadKey<'a>], earlier: Earlier) -> &'a str {
+fn earlier_key<'a>(read: &'a [ReadKey<'a>], earlier: Earlier) -> &'a str
+    ensures { IfSome (named_place earlier) (λ n. n < length read.now → (d : Entry)
+        → result.now ≡ (get_or (map entry_read read.now) n d).0) }
+{
     match earlier {
-        Earlier::Same(first) | Earlier::Equivalent(first) => match read.get(first) {
-            Some(read) => read.text,
-            None => "",
-        },
+        Earlier::Same(first) | Earlier::Equivalent(first) => key_at(read, first),
         Earlier::Unlike | Earlier::Undecided => "",
+    }
+}
+
+/// The key at a place.
+fn key_at<'a>(read: &'a [ReadKey<'a>], place: usize) -> &'a str
+    ensures { place < length read.now → (d : Entry) → result.now ≡ (get_or (map entry_read read.now) place d).0 }
+{
+    match read.get(place) {
+        Some(read) => read.text,
+        None => "",
     }
 }
 
@@ -43,8 +54,8 @@ fn add_finding(
     code: Code,
     findings: &mut Vec<Finding>,
 ) -> Result<(), AllocError>
-    ensures { OnOk result (marks findings.new.items
-        ≡ marks findings.old.items ++ told_mark found.now.key.place (found_codes found.now) code) }
+    ensures { OnOk result (AddsFindings (told_mark found.now.key.place (found_codes found.now) code) other.now
+        findings.old.items findings.new.items) }
 {
     if !found.is_told(code) {
         return Ok(());
@@ -62,8 +73,8 @@ fn add_findings(
     other: &str,
     findings: &mut Vec<Finding>,
 ) -> Result<(), AllocError>
-    ensures { OnOk result (marks findings.new.items
-        ≡ marks findings.old.items ++ told_marks found.now.key.place (found_codes found.now)) }
+    ensures { OnOk result (AddsFindings (told_marks found.now.key.place (found_codes found.now)) other.now
+        findings.old.items findings.new.items) }
 {
     'codes: for code in CODES {
         add_finding(alloc, words, found, other, code, findings)?;
@@ -103,7 +114,7 @@ fn findings_on<'a>(
 ) -> Result<(Vec<Finding>, Vec<usize>), AllocError>
     ensures { All IsRead read.now
         → IfOk result (λ r. AreFindingsOn asking.now.known.now (declarations_of asking.now.declared.now)
-        (map entry_read read.now) (marks r.0.items) r.1.items) }
+        (map entry_read read.now) r.0.items r.1.items) }
 {
     let mut findings = Vec::new(alloc);
     let mut undecided = Vec::new(alloc);
@@ -127,7 +138,7 @@ fn report_on<'a>(
     ensures keys { IfOk result (λ r. r.keys.items ≡ keys.entry.items) }
     ensures findings { IfOk result (λ r. (ds : List DeclaredEntry)
         × IsDeclaredBy (table_view manifest.now) ds
-        × AreFindings ds (map entry_of keys.entry.items) (marks r.findings.items) r.undecided.items) }
+        × AreFindings ds (map entry_of keys.entry.items) r.findings.items r.undecided.items) }
 {
     let rule = family_rule(alloc)?;
     let known = Known {

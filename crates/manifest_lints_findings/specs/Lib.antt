@@ -6,3 +6,4 @@ pub mod Known
 pub mod Unknown
 pub mod Shown
 pub mod Laws
+pub mod Messages

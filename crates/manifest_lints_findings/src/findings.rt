@@ -35,7 +35,8 @@ pub struct Report<'a> {
     pub keys: Vec<TargetKey<'a>>,
     /// The findings, by the keys in their order, and of one key by their codes.
     pub findings: Vec<Finding>,
-    /// The places of the keys of which `never`, `always` or `equivalent` is not known, as the budget is used up.
+    /// The places of the keys of which something is not known: the splits are too few, or too many parentheses lie in
+    /// one another, names and keys are open, or keys stand before it.
     pub undecided: Vec<usize>,
 }
 

@@ -1,5 +1,8 @@
 //! What the findings tell, code by code.
 
+ghost use Rattle.std.specs.Prelude.{IfOk, string_bytes};
+ghost use Rattle.manifest_lints_findings.specs.Messages.{EndsWithKey, NamesKey};
+
 use crate::codes::Code;
 use crate::known_keys::KnownKey;
 use crate::readings::Spelled;
@@ -20,7 +23,9 @@ pub fn message_of(
     other: &str,
     meant: &Option<String>,
     code: Code,
-) -> Result<String, AllocError> {
+) -> Result<String, AllocError>
+    ensures { IfOk result (λ message. NamesKey code other.now (string_bytes message)) }
+{
     match code {
         Code::Refused => refused_message(alloc, key),
         Code::NoTable => joined(alloc, &key.no_tables, key.no_tables.len(), ", "),
@@ -30,14 +35,8 @@ pub fn message_of(
         Code::UnknownTarget => unknown_target_message(alloc, meant),
         Code::UnknownFact => unknown_fact_message(alloc, words, key),
         Code::Nowhere => nowhere_message(alloc),
-        Code::Same => {
-            let other = quoted(alloc, other)?;
-            format!(in alloc; "the same condition as the earlier key {other}")
-        }
-        Code::Equivalent => {
-            let other = quoted(alloc, other)?;
-            format!(in alloc; "true over the same sets of facts as the earlier key {other}")
-        }
+        Code::Same => same_message(alloc, other),
+        Code::Equivalent => equivalent_message(alloc, other),
         Code::Always => String::from_str(alloc, "every set of facts makes the condition true"),
         Code::Everywhere => format!(in alloc;
             "the condition holds at every target that rustc {RUSTC_VERSION} knows"
@@ -48,6 +47,22 @@ pub fn message_of(
             format!(in alloc; "the canonical form is {form}")
         }
     }
+}
+
+/// What is told of a key with the same condition as an earlier one.
+fn same_message(alloc: Global, other: &str) -> Result<String, AllocError>
+    ensures { IfOk result (λ message. EndsWithKey other.now (string_bytes message)) }
+{
+    let other = quoted(alloc, other)?;
+    format!(in alloc; "the same condition as the earlier key {other}")
+}
+
+/// What is told of a key that is as true as an earlier one.
+fn equivalent_message(alloc: Global, other: &str) -> Result<String, AllocError>
+    ensures { IfOk result (λ message. EndsWithKey other.now (string_bytes message)) }
+{
+    let other = quoted(alloc, other)?;
+    format!(in alloc; "true over the same sets of facts as the earlier key {other}")
 }
 
 /// `no target that rustc .. knows`

@@ -1,5 +1,8 @@
 //! The words of findings.
 
+ghost use Rattle.std.specs.Prelude.{◌≡◌, IfOk, string_bytes};
+ghost use Rattle.manifest_lints_findings.specs.Messages.{quoted_text};
+
 use cargo_platform::{Cfg, shown_start};
 use std::alloc::{AllocError, Global};
 
@@ -10,7 +13,9 @@ pub const TOLD: usize = 3;
 pub const OWN: &str = "; a target specification of one's own may have it";
 
 /// The text in backquotes, shown and cut.
-pub fn quoted(alloc: Global, text: &str) -> Result<String, AllocError> {
+pub fn quoted(alloc: Global, text: &str) -> Result<String, AllocError>
+    ensures { IfOk result (λ s. string_bytes s ≡ quoted_text text.now) }
+{
     let shown = shown_start(alloc, text)?;
     format!(in alloc; "`{shown}`")
 }

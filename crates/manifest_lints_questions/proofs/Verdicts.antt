@@ -1,6 +1,6 @@
 -- What is said to hold of a condition.
 use Rattle.std.proofs.Common.{◌≡◌, refl, true, false, true≢false, sym, ap, ℕ, List, [], ◌∷◌, length, map, ◌||◌}
-use Rattle.std.proofs.Common.{Option, Some, None, arith, subst, Result, IfOk}
+use Rattle.std.proofs.Common.{Option, Some, None, arith, subst, Result, Ok, Err, IfOk, Bool, ◌⊎◌, inr, IsTrue}
 use Rattle.std.specs.Prelude.{String, string_bytes}
 use Rattle.std.specs.declared.alloc.Global.{Global}
 use Rattle.cargo_platform.specs.Trees.{Condition, Target, Expression, value_of}
@@ -14,6 +14,10 @@ use Rattle.manifest_lints_questions.specs.Truths.{IsNever, IsAlways, CanHold, Ca
 
 pub as_ok : {A E : Type 0} (P : A → Type 0) (r s : Result A E) → r ≡ s → IfOk s P → IfOk r P
 as_ok P r s is h = subst (λ z. IfOk z P) (sym is) h
+
+pub each_ok : {A E : Type 0} (P : A → Type 0) (r : Result A E) → ((x : A) → P x) → IfOk r P
+each_ok P (Ok x) all = all x
+each_ok P (Err e) all = tt
 
 -- an example has some name
 name_of : (o : Option (String Global)) (c : Condition) → (name : List ℕ) × MayHaveName o (c ∷ []) name
@@ -55,4 +59,10 @@ can_fail_so k c decided.Yes decided.Unknown h not_yes is = absurd (true≢false 
 can_fail_so k c decided.No decided.Unknown h not_yes is = absurd (true≢false is)
 can_fail_so k c decided.Unknown decided.Unknown h not_yes is = absurd (true≢false is)
 
-pub ruleset verdicts = (never_so, always_so, can_hold_so, can_fail_so)
+-- what is not known needs more
+pub unknown_so : (N : Type 0) (may_ask d e : Bool) → (IsTrue d → N) → (IsTrue e → N) → (d || e) ≡ true
+    → (may_ask ≡ false) ⊎ N
+unknown_so N may_ask true e f g is = inr (f refl)
+unknown_so N may_ask false e f g is = inr (g is)
+
+pub ruleset verdicts = (never_so, always_so, can_hold_so, can_fail_so, unknown_so)

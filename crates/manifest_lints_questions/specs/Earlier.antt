@@ -1,5 +1,6 @@
 -- How a condition stands to earlier ones: which is the same, raw marks aside, and which are as true.
-use Rattle.std.specs.Prelude.{◌≡◌, ◌⊎◌, ◌↔◌, ℕ, Bool, true, false, [], ◌∷◌, ◌++◌, Option, Some, None, IsSome}
+use Rattle.std.specs.Prelude.{◌≡◌, ◌⊎◌, ◌↔◌, ◌<◌, ℕ, Bool, true, false, [], ◌∷◌, ◌++◌, length, Option, Some, None}
+use Rattle.std.specs.Prelude.{IfSome}
 use Rattle.std.specs.List.{Any}
 use Rattle.std.specs.Borrow.{Bor}
 use Rattle.std.specs.BTreeMap as ordered
@@ -8,10 +9,12 @@ use Rattle.cargo_platform.specs.Trees.{Condition, condition_of}
 use Rattle.cargo_platform.specs.Key.{condition_key, condition_cmp}
 use Rattle.cargo_platform.specs.Facts.{IsTrueCondition}
 use Rattle.exact_answers.specs.declared.known.Known.{Known}
-use Rattle.exact_answers.specs.Targets.{ForEach}
+use Rattle.exact_answers.specs.Asking.{NeedsMore}
+use Rattle.exact_answers.specs.Targets.{ForEach, asked_trees}
 use Rattle.manifest_lints_questions.specs.declared.earlier.Earlier.{Earlier}
 use Rattle.manifest_lints_questions.specs.declared.earlier.Earlier.TheVariants as earlier
 use Rattle.manifest_lints_questions.specs.declared.earlier.Keys.{Keys}
+use Rattle.manifest_lints_questions.specs.declared.earlier.TheConstants.{MOST}
 
 abbrev pub is_same : Earlier → Bool
 is_same (earlier.Same first) = true
@@ -25,29 +28,56 @@ is_equivalent earlier.Unlike = false
 is_equivalent (earlier.Equivalent first) = true
 is_equivalent earlier.Undecided = false
 
+abbrev pub is_undecided : Earlier → Bool
+is_undecided (earlier.Same first) = false
+is_undecided earlier.Unlike = false
+is_undecided (earlier.Equivalent first) = false
+is_undecided earlier.Undecided = true
+
+-- the place of the earlier key that is said to be the same, and of the one that is said to be as true
+abbrev pub same_place : Earlier → Option ℕ
+same_place (earlier.Same first) = Some first
+same_place earlier.Unlike = None
+same_place (earlier.Equivalent first) = None
+same_place earlier.Undecided = None
+
+abbrev pub equivalent_place : Earlier → Option ℕ
+equivalent_place (earlier.Same first) = None
+equivalent_place earlier.Unlike = None
+equivalent_place (earlier.Equivalent first) = Some first
+equivalent_place earlier.Undecided = None
+
 -- the place that was noted for a condition, if one was
 abbrev pub noted : Keys → Bor Platform → Option ℕ
 noted keys q = ordered.get (λ a b. condition_cmp (condition_of a.now) (condition_of b.now)) keys.seen q
 
--- a condition is noted besides those that were, unless it was: then nothing changes
-abbrev pub NotesBy : Option ℕ → Keys → Keys → Condition → Type 0
-NotesBy (Some first) old new c = (q : Bor Platform) → noted new q ≡ noted old q
-NotesBy None old new c =
+-- a condition is noted at a place besides those that were, unless it was: then nothing changes
+abbrev pub NotesBy : Option ℕ → Keys → Keys → ℕ → Condition → Type 0
+NotesBy (Some first) old new n c = (q : Bor Platform) → noted new q ≡ noted old q
+NotesBy None old new n c =
     (q : Bor Platform)
-    → IsSome (noted new q)
-    ↔ ((condition_key c ≡ condition_key (condition_of q.now)) ⊎ IsSome (noted old q))
+    → (condition_key c ≡ condition_key (condition_of q.now) → noted new q ≡ Some n)
+    × ((condition_key c ≡ condition_key (condition_of q.now) → ⊥) → noted new q ≡ noted old q)
 
-abbrev pub Notes : Keys → Keys → Bor Platform → Type 0
-Notes old new p = NotesBy (noted old p) old new (condition_of p.now)
+abbrev pub Notes : Keys → Keys → ℕ → Bor Platform → Type 0
+Notes old new n p = NotesBy (noted old p) old new n (condition_of p.now)
 
 -- ---- conditions that are as true
 
 abbrev pub AreEquivalent : Known → Condition → Condition → Type 0
 AreEquivalent k c d = ForEach k (λ name s. IsTrueCondition name s c ↔ IsTrueCondition name s d)
 
--- a condition that later ones are compared with is as true
-abbrev pub HasEquivalentMember : Known → Keys → Condition → Type 0
-HasEquivalentMember k keys c = Any (λ m. AreEquivalent k (condition_of m.1.now) c) keys.members.items
+-- a condition that later ones are compared with, of the key at this place, is as true
+abbrev pub HasEquivalentMember : Known → Keys → Condition → ℕ → Type 0
+HasEquivalentMember k keys c n =
+    Any (λ m. (m.0 ≡ n) × AreEquivalent k (condition_of m.1.now) c) keys.members.items
+
+-- why it may not be known whether one of them is: the splits are too few for one, or there are too many
+abbrev pub MayBeUndecided : Known → Option ℕ → Keys → Condition → Type 0
+MayBeUndecided k None keys c = Unit {0}
+MayBeUndecided k (Some splits) keys c =
+    Any (λ m. NeedsMore k (asked_trees (condition_of m.1.now ∷ c ∷ [])) splits) keys.members.items
+    ⊎ (MOST < length keys.members.items)
 
 -- to these none is added, or one
 abbrev pub AddsMember : Keys → Keys → ℕ → Bor Platform → Type 0

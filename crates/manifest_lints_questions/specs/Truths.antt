@@ -1,14 +1,17 @@
 -- What it is for a condition to be never, always, nowhere and everywhere true.
-use Rattle.std.specs.Prelude.{◌≡◌, ◌<◌, ℕ, Bool, true, false, List, Option, Some}
+use Rattle.std.specs.Prelude.{◌≡◌, ◌<◌, ℕ, ◌*◌, ◌/◌, max, Bool, true, false, cond, nat_le, List, [], ◌∷◌}
+use Rattle.std.specs.Prelude.{Option, Some}
 use Rattle.cargo_platform.specs.Trees.{Condition}
 use Rattle.cargo_platform.specs.Facts.{FactSet, IsTrueCondition}
 use Rattle.partial_facts.specs.Conditions.{kleene_condition}
 use Rattle.exact_answers.specs.declared.known.Known.{Known}
 use Rattle.exact_answers.specs.Possible.{IsAllowed}
-use Rattle.exact_answers.specs.Targets.{ForEach}
+use Rattle.exact_answers.specs.Asking.{NeedsMore}
+use Rattle.exact_answers.specs.Targets.{ForEach, asked_trees}
 use Rattle.known_targets.specs.Open.{open_told}
 use Rattle.known_targets.specs.Table.{target_name, target_facts}
 use Rattle.known_targets.specs.declared.table.TheConstants.{COUNT}
+use Rattle.manifest_lints_questions.specs.declared.deciding.TheConstants.{FEW, SPLITS}
 use Rattle.manifest_lints_questions.specs.declared.deciding.Decided.{Decided}
 use Rattle.manifest_lints_questions.specs.declared.deciding.Decided.TheVariants as decided
 
@@ -58,6 +61,14 @@ abbrev pub is_unknown : Decided → Bool
 is_unknown decided.Yes = false
 is_unknown decided.No = false
 is_unknown decided.Unknown = true
+
+-- how many splits a search of a condition with so many names and pairs may make
+abbrev pub budget_of : ℕ → ℕ
+budget_of facts = cond (nat_le facts FEW) SPLITS (max (SPLITS * 64 / facts) 8)
+
+-- so many splits are too few for the condition
+abbrev pub NeedsMoreFor : Known → Condition → ℕ → Type 0
+NeedsMoreFor k c budget = NeedsMore k (asked_trees (c ∷ [])) budget
 
 -- whether it holds at a known target, where that does not hang on the facts of open names and keys
 abbrev pub at_target : List (List ℕ) → Condition → ℕ → Option Bool

@@ -1,13 +1,15 @@
 //! Whether a condition is never or always true, and whether it holds at no or every known target.
 
-ghost use Rattle.std.specs.Prelude.{◌≡◌, ◌≤◌, ◌↔◌, ◌||◌, false, length, IsTrue, IfOk};
+ghost use Rattle.std.specs.Prelude.{◌≡◌, ◌≤◌, ◌↔◌, ◌⊎◌, ◌||◌, false, length, IsTrue, IfOk};
 ghost use Rattle.cargo_platform.specs.Trees.{condition_of};
+ghost use Rattle.cargo_platform.specs.Nesting.{IsNestedBeyond};
 ghost use Rattle.partial_facts.specs.Partly.{names_of};
 ghost use Rattle.manifest_lints_questions.specs.Truths.{SaysNever, SaysAlways, SaysNeverIs, is_yes, is_unknown};
+ghost use Rattle.manifest_lints_questions.specs.Truths.{budget_of, NeedsMoreFor};
 ghost use Rattle.manifest_lints_questions.specs.Truths.{IsNever, IsAlways, CanHold, CanFail, IsNowhere, IsEverywhere};
 
 use crate::shown_by_samples::is_shown;
-use cargo_platform::Platform;
+use cargo_platform::{Platform, nesting_beyond};
 use exact_answers::{CanSelect, Known, MustSelect, always_platform, can_hold_platform};
 use known_targets::{certainly_matching, possibly_matching};
 use std::alloc::{AllocError, Global};
@@ -51,13 +53,24 @@ fn is_unknown(decided: Decided) -> bool
     }
 }
 
-/// Whether it may be asked what holds of a condition over every set of facts: it has no more such levels than these.
-pub fn may_ask(levels: usize) -> bool {
-    levels <= LEVELS
+/// Whether it may be asked what holds of the condition of a key over every set of facts: it has no more such levels than
+/// these. The key of one with more has more parentheses in one another.
+pub fn may_ask(levels: usize, key: &str) -> bool
+    ensures { result ≡ false → IsNestedBeyond key.now LEVELS }
+{
+    if levels <= LEVELS {
+        return true;
+    }
+    match nesting_beyond(key, LEVELS) {
+        Some(_) => false,
+        None => true,
+    }
 }
 
 /// How many splits a search of a condition with so many facts may make.
-pub fn budget_for(facts: usize) -> u64 {
+pub fn budget_for(facts: usize) -> u64
+    ensures { result ≡ budget_of facts }
+{
     if facts <= FEW {
         return SPLITS;
     }
@@ -71,7 +84,9 @@ fn is_never<'a>(
     known: &'a Known<'a>,
     budget: u64,
 ) -> Result<Decided, AllocError>
-    ensures { IfOk result (λ d. SaysNever d known.now (condition_of platform.now)) }
+    ensures says { IfOk result (λ d. SaysNever d known.now (condition_of platform.now)) }
+    ensures unknown { IfOk result
+        (λ d. IsTrue (is_unknown d) → NeedsMoreFor known.now (condition_of platform.now) budget) }
 {
     match can_hold_platform(alloc, platform, known, budget)? {
         CanSelect::No => Ok(Decided::Yes),
@@ -87,7 +102,9 @@ fn is_always<'a>(
     known: &'a Known<'a>,
     budget: u64,
 ) -> Result<Decided, AllocError>
-    ensures { IfOk result (λ d. SaysAlways d known.now (condition_of platform.now)) }
+    ensures says { IfOk result (λ d. SaysAlways d known.now (condition_of platform.now)) }
+    ensures unknown { IfOk result
+        (λ d. IsTrue (is_unknown d) → NeedsMoreFor known.now (condition_of platform.now) budget) }
 {
     match always_platform(alloc, platform, known, budget)? {
         MustSelect::Yes => Ok(Decided::Yes),
@@ -120,6 +137,10 @@ fn settled<'a>(
 ) -> Result<(Decided, Decided), AllocError>
     ensures never { IfOk result (λ d. SaysNever d.0 known.now (condition_of platform.now)) }
     ensures always { IfOk result (λ d. SaysAlways d.1 known.now (condition_of platform.now)) }
+    ensures unknown_never { IfOk result
+        (λ d. IsTrue (is_unknown d.0) → NeedsMoreFor known.now (condition_of platform.now) budget) }
+    ensures unknown_always { IfOk result
+        (λ d. IsTrue (is_unknown d.1) → NeedsMoreFor known.now (condition_of platform.now) budget) }
 {
     let never = is_never(alloc, platform, known, budget)?;
     let always = is_always(alloc, platform, known, budget)?;
@@ -179,6 +200,8 @@ pub fn asked<'a>(
     ensures always { IfOk result (λ h. IsTrue h.1 → IsAlways known.now (condition_of platform.now)) }
     ensures can_hold { IfOk result (λ h. h.0 ≡ false → h.2 ≡ false → CanHold known.now (condition_of platform.now)) }
     ensures can_fail { IfOk result (λ h. h.1 ≡ false → h.2 ≡ false → CanFail known.now (condition_of platform.now)) }
+    ensures unknown { IfOk result (λ h. IsTrue h.2
+        → (may_ask ≡ false) ⊎ NeedsMoreFor known.now (condition_of platform.now) budget) }
 {
     if !may_ask {
         return Ok((false, false, true));

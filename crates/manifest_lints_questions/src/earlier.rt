@@ -1,11 +1,12 @@
 //! How a key stands to those before it: the same condition, or one that is as true.
 
-ghost use Rattle.std.specs.Prelude.{◌≡◌, ◌↔◌, false, None, [], IfOk, OnOk, IsTrue, IsSome};
+ghost use Rattle.std.specs.Prelude.{◌≡◌, None, [], IfOk, OnOk, IfSome, IsTrue};
 ghost use Rattle.std.specs.Borrow.{Bor};
 ghost use Rattle.cargo_platform.specs.declared.Platform.{Platform as Shown};
 ghost use Rattle.cargo_platform.specs.Trees.{condition_of};
-ghost use Rattle.manifest_lints_questions.specs.Earlier.{is_same, is_equivalent, noted, Notes, AddsMember};
-ghost use Rattle.manifest_lints_questions.specs.Earlier.{HasEquivalentMember};
+ghost use Rattle.manifest_lints_questions.specs.Earlier.{is_same, is_equivalent, is_undecided, noted, Notes};
+ghost use Rattle.manifest_lints_questions.specs.Earlier.{same_place, equivalent_place, AddsMember};
+ghost use Rattle.manifest_lints_questions.specs.Earlier.{HasEquivalentMember, MayBeUndecided};
 
 use crate::sample_sets::{beyond_targets, truths};
 use cargo_platform::{CfgExpr, Platform};
@@ -43,6 +44,13 @@ impl Earlier {
         ensures { result ≡ is_equivalent self }
     {
         matches!(self, Earlier::Equivalent(_))
+    }
+
+    /// Whether it is not known.
+    pub fn is_undecided(self) -> bool
+        ensures { result ≡ is_undecided self }
+    {
+        matches!(self, Earlier::Undecided)
     }
 }
 
@@ -93,10 +101,12 @@ impl<'a> Keys<'a> {
         known: &'a Known<'a>,
         budget: Option<u64>,
     ) -> Result<Earlier, AllocError>
-        ensures same { IfOk result (λ r. IsTrue (is_same r) ↔ IsSome (noted self.old platform.entry)) }
-        ensures equivalent { IfOk result (λ r. IsTrue (is_equivalent r)
-            → HasEquivalentMember known.now self.old (condition_of platform.entry.now)) }
-        ensures notes { OnOk result (Notes self.old self.new platform.entry) }
+        ensures same { IfOk result (λ r. same_place r ≡ noted self.old platform.entry) }
+        ensures equivalent { IfOk result (λ r. IfSome (equivalent_place r)
+            (HasEquivalentMember known.now self.old (condition_of platform.entry.now))) }
+        ensures undecided { IfOk result (λ r. IsTrue (is_undecided r)
+            → MayBeUndecided known.now budget self.old (condition_of platform.entry.now)) }
+        ensures notes { OnOk result (Notes self.old self.new index platform.entry) }
         ensures members { OnOk result (AddsMember self.old self.new index platform.entry) }
     {
         match self.note(index, platform)? {
@@ -108,7 +118,7 @@ impl<'a> Keys<'a> {
     /// Notes a condition, and answers the place of the same one where there is one.
     fn note(&mut self, index: usize, platform: &'a Platform) -> Result<Option<usize>, AllocError>
         ensures first { IfOk result (λ first. first ≡ noted self.old platform.entry) }
-        ensures notes { OnOk result (Notes self.old self.new platform.entry) }
+        ensures notes { OnOk result (Notes self.old self.new index platform.entry) }
         ensures members { OnOk result (self.new.members.items ≡ self.old.members.items) }
     {
         if let Some(first) = self.seen.get(&platform) {
@@ -128,9 +138,11 @@ impl<'a> Keys<'a> {
         known: &'a Known<'a>,
         budget: Option<u64>,
     ) -> Result<Earlier, AllocError>
-        ensures other { IfOk result (λ r. is_same r ≡ false) }
-        ensures equivalent { IfOk result (λ r. IsTrue (is_equivalent r)
-            → HasEquivalentMember known.now self.old (condition_of platform.entry.now)) }
+        ensures other { IfOk result (λ r. same_place r ≡ None) }
+        ensures equivalent { IfOk result (λ r. IfSome (equivalent_place r)
+            (HasEquivalentMember known.now self.old (condition_of platform.entry.now))) }
+        ensures undecided { IfOk result (λ r. IsTrue (is_undecided r)
+            → MayBeUndecided known.now budget self.old (condition_of platform.entry.now)) }
         ensures noted { OnOk result ((q : Bor Shown) → noted self.new q ≡ noted self.old q) }
         ensures members { OnOk result (AddsMember self.old self.new index platform.entry) }
     {
@@ -185,9 +197,11 @@ impl<'a> Keys<'a> {
         known: &'a Known<'a>,
         budget: Option<u64>,
     ) -> Result<Earlier, AllocError>
-        ensures other { IfOk result (λ r. is_same r ≡ false) }
-        ensures equivalent { IfOk result (λ r. IsTrue (is_equivalent r)
-            → HasEquivalentMember known.now self.now (condition_of platform.entry.now)) }
+        ensures other { IfOk result (λ r. same_place r ≡ None) }
+        ensures equivalent { IfOk result (λ r. IfSome (equivalent_place r)
+            (HasEquivalentMember known.now self.now (condition_of platform.entry.now))) }
+        ensures undecided { IfOk result (λ r. IsTrue (is_undecided r)
+            → MayBeUndecided known.now budget self.now (condition_of platform.entry.now)) }
     {
         let Some(places) = self.classes.get(class) else {
             return Ok(Earlier::Unlike);
@@ -197,7 +211,7 @@ impl<'a> Keys<'a> {
         };
         let mut asked: usize = 0;
         for place in places {
-            if asked == MOST {
+            if asked == MOST && self.members.len() > MOST {
                 return Ok(Earlier::Undecided);
             }
             asked = asked.saturating_add(1);

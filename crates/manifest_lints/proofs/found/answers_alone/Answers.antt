@@ -1,27 +1,36 @@
-use Rattle.std.proofs.Common.{◌≡◌, ◌∙◌, ◌≤◌, sym, ap, subst, length}
+use Rattle.std.proofs.Common.{◌≡◌, ◌∙◌, ◌≤◌, ◌<◌, sym, ap, subst, length, List, ℕ, inl, inr}
+use Rattle.std.specs.Borrow.{Bor}
 use Rattle.std.proofs.lemmas.List.{length-map}
 use Rattle.cargo_platform.specs.Trees.{condition_of}
 use Rattle.partial_facts.specs.Partly.{names_of}
 use Rattle.manifest_documents.specs.Declarations.{declarations_of}
-use Rattle.manifest_lints_standings.specs.Standings.{open_in, sorted_by, sorted_in}
+use Rattle.manifest_lints_standings.specs.Standings.{open_in, sorted_by, sorted_of, sorted_in}
 use Rattle.manifest_lints_findings.specs.Known.{sorted_of_spelled}
 use Rattle.manifest_lints_questions.specs.declared.deciding.TheConstants.{MANY}
-use Rattle.manifest_lints_questions.specs.Truths.{IsNowhere, IsEverywhere}
-use Rattle.manifest_lints.proofs.Founds.{left_false}
+use Rattle.manifest_lints_questions.specs.Truths.{IsNowhere, IsEverywhere, NeedsMoreFor, budget_of}
+use Rattle.manifest_lints.specs.Reports.{too_deep, many_open, few_splits}
+use Rattle.manifest_lints.proofs.Founds.{left_false, right_or, one_or}
 use Rattle.manifest_lints.proofs.found.answers_alone.Goals as goal
 
-pub returns : goal.returns
-returns c = λ known is.
+-- as many names and keys are open as stand in a slice of them
+as_many : (ts : List (Bor (List ℕ))) (ns : List (List ℕ)) → names_of ts ≡ ns → length ns ≡ length ts
+as_many ts ns is = sym (ap length is) ∙ length-map ts (λ t. t.now)
+
+pub returns-clause-alone : goal.returns-clause-alone
+returns-clause-alone c = λ known is.
     let ds = declarations_of c.args.asking.now.declared.now in
     let p = condition_of c.args.condition.now in
     let asked = c.in_ok-never.ensures in
     let places = c.in_ok-nowhere.ensures in
     let open_keys = c.deref-2.result.now in
-    let names : names_of open_keys ≡ open_in (sorted_in ds p) =
-    ap names_of c.deref-2.ensures.value ∙ c.in_ok-open.ensures ∙ ap (λ fs. open_in (sorted_by fs)) c.deref.ensures.value
+    let sorted = ap (λ fs. open_in (sorted_by fs)) c.deref.ensures.value
     ∙ ap open_in (known.asked ∙ ap (sorted_of_spelled ds) is) in
+    let names : names_of open_keys ≡ open_in (sorted_in ds p) =
+    ap names_of c.deref-2.ensures.value ∙ c.in_ok-open.ensures ∙ sorted in
+    let names_too : names_of c.deref-3.result.now ≡ open_in (sorted_in ds p) =
+    ap names_of c.deref-3.ensures.value ∙ c.in_ok-open.ensures ∙ sorted in
     let few = λ (is : length (open_in (sorted_in ds p)) ≤ MANY).
-    subst (λ n. n ≤ MANY) (sym (ap length names) ∙ length-map open_keys (λ t. t.now)) is in
+    subst (λ n. n ≤ MANY) (as_many open_keys (open_in (sorted_in ds p)) names) is in
     record {
       never = (asked.never, λ no settled. asked.can_hold no (left_false _ _ (sym c.either.ensures ∙ settled)));
       always = (asked.always, λ no settled. asked.can_fail no (left_false _ _ (sym c.either.ensures ∙ settled)));
@@ -33,4 +42,30 @@ returns c = λ known is.
         λ b. subst (λ ns. IsEverywhere ns p) names (places.everywhere b),
         λ is at. (places.all (few is)).1 (subst (λ ns. IsEverywhere ns p) (sym names) at),
       );
+      many = λ is. c.either.ensures
+          ∙ right_or _ _ (c.are_many.ensures.1
+          (subst (λ n. MANY < n) (as_many c.deref-3.result.now (open_in (sorted_in ds p)) names_too) is));
     }
+
+pub returns-clause-left_open : goal.returns-clause-left_open
+returns-clause-left_open c = λ known is es holds.
+    let k = c.args.asking.now.known.now in
+    let ds = declarations_of c.args.asking.now.declared.now in
+    let p = condition_of c.args.condition.now in
+    let asked_is = known.asked ∙ ap (sorted_of_spelled ds) is in
+    let names : names_of c.deref-3.result.now ≡ open_in (sorted_in ds p) =
+    ap names_of c.deref-3.ensures.value ∙ c.in_ok-open.ensures
+    ∙ ap (λ fs. open_in (sorted_by fs)) c.deref.ensures.value ∙ ap open_in asked_is in
+    let long : length c.args.key.now.asked.items ≡ length (sorted_in ds p) =
+    sym (length-map c.args.key.now.asked.items sorted_of) ∙ ap length asked_is in
+    elim (one_or _ _ (sym c.either.ensures ∙ holds)) [
+      | inl unknown ↦
+          elim (c.in_ok-never.ensures.unknown unknown) [
+            | inl not_asked ↦ too_deep (c.may_ask-may_ask.ensures not_asked)
+            | inr more ↦
+                few_splits (subst (λ b. NeedsMoreFor k p b) (c.budget_for-budget.ensures ∙ ap budget_of long) more)
+          ]
+      | inr many ↦
+          many_open (subst (λ n. MANY < n)
+          (sym (as_many c.deref-3.result.now (open_in (sorted_in ds p)) names)) (c.are_many.ensures.0 many))
+    ]

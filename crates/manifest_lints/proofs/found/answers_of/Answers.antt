@@ -1,10 +1,32 @@
+use Rattle.std.proofs.Common.{◌≡◌, ◌∙◌, sym, ap, length}
+use Rattle.std.proofs.lemmas.List.{length-map}
 use Rattle.cargo_platform.specs.Trees.{condition_of}
 use Rattle.manifest_documents.specs.Declarations.{declarations_of}
-use Rattle.manifest_lints.proofs.Founds.{beside_others}
+use Rattle.manifest_lints_standings.specs.Standings.{sorted_of, sorted_in}
+use Rattle.manifest_lints_findings.specs.Known.{sorted_of_spelled}
+use Rattle.manifest_lints_questions.specs.Earlier.{is_undecided}
+use Rattle.manifest_lints.proofs.Founds.{beside_others, one_or}
+use Rattle.manifest_lints.proofs.MoreEquivalents.{open_beside}
 use Rattle.manifest_lints.proofs.found.answers_of.Goals as goal
 
 pub returns-clause-alone : goal.returns-clause-alone
 returns-clause-alone c = λ known is.
     beside_others c.args.asking.now.known.now (declarations_of c.args.asking.now.declared.now)
-    (condition_of c.args.condition.now) c.in_ok-answers.answers c.in_ok-answers-2.field-0 c.if-eq.is_open
+    (condition_of c.args.condition.now) c.in_ok-answers.answers c.in_ok-answers-2.field-0 c.stays_open-is_open.result
     c.either.result c.either.ensures (c.in_ok-answers.ensures known is)
+
+pub returns-clause-left_open : goal.returns-clause-left_open
+returns-clause-left_open c = λ known is es members holds.
+    let k = c.args.asking.now.known.now in
+    let ds = declarations_of c.args.asking.now.declared.now in
+    let p = condition_of c.args.condition.now in
+    let key = c.args.key.now in
+    let long : length key.asked.items ≡ length (sorted_in ds p) =
+    sym (length-map key.asked.items sorted_of) ∙ ap length (known.asked ∙ ap (sorted_of_spelled ds) is) in
+    elim (one_or _ _ (sym c.either.ensures ∙ holds)) [
+      | inl alone ↦ c.in_ok-answers.ensures.left_open known is es alone
+      | inr beside ↦
+          open_beside k es c.args.before.now p members ds key.read.now.text.now c.budget_beside-budget.result _ _
+          (length key.asked.items) c.budget_beside-budget.ensures long c.in_ok-answers-2.ensures.undecided
+          (sym c.stays_open-is_open.ensures ∙ beside)
+    ]

@@ -1,4 +1,4 @@
-use Rattle.std.proofs.Common.{◌≡◌, ◌∙◌, ◌+◌, refl, sym, ap, subst, false, inl, inr}
+use Rattle.std.proofs.Common.{◌≡◌, ◌∙◌, ◌+◌, refl, sym, ap, subst, false, IsTrue, inl, inr}
 use Rattle.std.specs.Borrow.{Bor}
 use Rattle.cargo_platform.specs.declared.Platform.{Platform}
 use Rattle.cargo_platform.specs.Trees.{condition_of}
@@ -6,14 +6,16 @@ use Rattle.cargo_platform.specs.Platforms.{IsConditionText}
 use Rattle.manifest_documents.specs.Declarations.{declarations_of}
 use Rattle.manifest_lints_findings.specs.Known.{IsKnown, is_condition}
 use Rattle.manifest_lints_findings.specs.Spells.{IsSpelledAs, entry_read}
-use Rattle.manifest_lints_questions.specs.Earlier.{is_same, is_equivalent}
+use Rattle.manifest_lints_questions.specs.Earlier.{same_place, equivalent_place, noted}
+use Rattle.manifest_lints.specs.Reports.{MayBeOpen}
 use Rattle.manifest_lints.proofs.Founds.{found_spelled, found_unspelled, spells_nothing}
-use Rattle.manifest_lints.proofs.MoreSames.{one_noted, tells_same, none_more}
-use Rattle.manifest_lints.proofs.MoreEquivalents.{one_member, tells_equivalent, more_members}
+use Rattle.manifest_lints.specs.Sames.{IsFirst, IsSameAs}
+use Rattle.manifest_lints.proofs.MoreSames.{one_noted, tells_same, tells_equivalent, names_rightly, none_more}
+use Rattle.manifest_lints.proofs.MoreEquivalents.{one_member, equivalent_one, more_members}
 use Rattle.manifest_lints.proofs.found.found_of.Goals as goal
 
 pub returns-in_ok-answers-in-Condition-clause-found : goal.returns-in_ok-answers-in-Condition-clause-found
-returns-in_ok-answers-in-Condition-clause-found c = λ read es noted members.
+returns-in_ok-answers-in-Condition-clause-found c = λ read es long are_noted members.
     let k = c.args.asking.now.known.now in
     let ds = declarations_of c.args.asking.now.declared.now in
     let r = c.args.read.now in
@@ -27,17 +29,24 @@ returns-in_ok-answers-in-Condition-clause-found c = λ read es noted members.
     let says = c.in_ok-answers-in-Condition.ensures in
     let old = c.args.before.now in
     let new = c.answers_of.new.before in
-    let alone = says.alone (subst (λ z. IsKnown ds z key) (sym known.read) known)
-    (ap (λ z. z.spelled) known.read ∙ c.in-Condition.is) in (
-      found_spelled k ds r key known es a p.now c.in-Condition.is alone
-          (tells_same es e old new p noted text (is_same a.earlier) says.same)
-          (tells_equivalent k es old (condition_of p.now) (is_equivalent a.earlier) members says.equivalent) read,
-      one_noted es e old new p noted text says.notes,
-      one_member es e old new _ p says.members members text,
+    let by_itself = subst (λ z. IsKnown ds z key) (sym known.read) known in
+    let spelled = ap (λ z. z.spelled) known.read ∙ c.in-Condition.is in
+    let place = long ∙ sym c.in_ok-key.ensures.place in
+    let same : IsFirst (IsSameAs (condition_of p.now)) es (same_place a.earlier) =
+    subst (IsFirst (IsSameAs (condition_of p.now)) es) (sym says.same) (are_noted p) in
+    let alike = equivalent_one k es old (condition_of p.now) members (equivalent_place a.earlier) says.equivalent in
+    let left_open = subst (λ z. IsTrue a.is_open → MayBeOpen k ds es z.text.now (condition_of p.now)) known.read
+    (says.left_open by_itself spelled es members) in (
+      found_spelled k ds r key known es a p.now c.in-Condition.is (says.alone by_itself spelled)
+          (tells_same k es (condition_of p.now) a.earlier same)
+          (tells_equivalent k es (condition_of p.now) a.earlier alike)
+          (names_rightly k es (condition_of p.now) a.earlier same alike) left_open read,
+      one_noted es e old new _ p are_noted text place says.notes,
+      one_member es e old new _ p says.members members text place,
     )
 
 pub returns-in-ByCargo-clause-found : goal.returns-in-ByCargo-clause-found
-returns-in-ByCargo-clause-found c = λ read es noted members.
+returns-in-ByCargo-clause-found c = λ read es long are_noted members.
     let k = c.args.asking.now.known.now in
     let ds = declarations_of c.args.asking.now.declared.now in
     let r = c.args.read.now in
@@ -47,6 +56,6 @@ returns-in-ByCargo-clause-found c = λ read es noted members.
       | inr refused ↦ ap is_condition refused.1
     ] in (
       found_unspelled k ds r c.in_ok-key.key c.in_ok-key.ensures.known es r.spelled refl none read,
-      none_more es e c.args.before.now noted (spells_nothing e.0 r.spelled none read),
+      none_more es e c.args.before.now are_noted (spells_nothing e.0 r.spelled none read),
       more_members es e c.args.before.now members,
     )

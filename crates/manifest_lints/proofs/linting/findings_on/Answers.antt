@@ -1,23 +1,23 @@
-use Rattle.std.proofs.Common.{◌≡◌, ◌∙◌, sym, ap, subst, ℕ, List, [], ◌∷◌, ◌++◌, take, map}
+use Rattle.std.proofs.Common.{◌≡◌, ◌∙◌, sym, ap, subst, ℕ, List, [], ◌∷◌, ◌++◌, take, map, length, arith}
+use Rattle.std.proofs.lemmas.List.{length-map, length-take-le}
 use Rattle.std.specs.List.{All}
 use Rattle.exact_answers.specs.declared.known.Known.{Known}
 use Rattle.manifest_documents.specs.Declarations.{DeclaredEntry, declarations_of}
 use Rattle.manifest_lints_findings.specs.declared.findings.Finding.{Finding}
 use Rattle.manifest_lints_findings.specs.declared.readings.ReadKey.{ReadKey}
-use Rattle.manifest_lints_findings.specs.Marks.{marks}
 use Rattle.manifest_lints_findings.specs.Spells.{IsRead, entry_read}
 use Rattle.manifest_lints.specs.Founds.{found_codes}
 use Rattle.manifest_lints.specs.Sames.{AreNoted, AreMembers}
-use Rattle.manifest_lints.specs.Reports.{AreFindingsOn, on_none, IsFound, told_marks, left_open}
+use Rattle.manifest_lints.specs.Reports.{AreFindingsOn, on_none, IsFound, AddsFindings, told_marks, left_open}
 use Rattle.manifest_lints.proofs.MoreSames.{none_noted}
 use Rattle.manifest_lints.proofs.MoreEquivalents.{no_members}
 use Rattle.manifest_lints.proofs.Reports.{one_more, next_entries}
 use Rattle.manifest_lints.proofs.linting.findings_on.Goals as goal
 
 none_yet : (k : Known) (ds : List DeclaredEntry) (fs : List Finding) (ns : List ℕ) → fs ≡ [] → ns ≡ []
-    → AreFindingsOn k ds [] (marks fs) ns
+    → AreFindingsOn k ds [] fs ns
 none_yet k ds fs ns is open_is =
-    subst (λ gs. AreFindingsOn k ds [] (marks gs) ns) (sym is) (subst (AreFindingsOn k ds [] []) (sym open_is) on_none)
+    subst (λ gs. AreFindingsOn k ds [] gs ns) (sym is) (subst (AreFindingsOn k ds [] []) (sym open_is) on_none)
 
 pub keys-init : goal.keys-init
 keys-init c = record {
@@ -37,20 +37,25 @@ keys-preserved c =
     let i = c.keys.place in
     let es = map entry_read (take i c.args.read.now) in
     let new = c.found_of.new.before in
-    let F : ReadKey → Type 0 = λ r. IsRead r → AreNoted es c.keys.before → AreMembers es c.keys.before
-    → IsFound k ds es (entry_read r) (found_codes f) f.answers.is_open × AreNoted (es ++ entry_read r ∷ []) new
-    × AreMembers (es ++ entry_read r ∷ []) new in
+    let long : length es ≡ i = length-map (take i c.args.read.now) entry_read
+    ∙ length-take-le i c.args.read.now (omega arith) in
+    let F : ReadKey → Type 0 = λ r. IsRead r → length es ≡ i → AreNoted es c.keys.before
+    → AreMembers es c.keys.before
+    → IsFound k ds es (entry_read r) (found_codes f) f.answers.earlier f.answers.is_open
+    × AreNoted (es ++ entry_read r ∷ []) new × AreMembers (es ++ entry_read r ∷ []) new in
     let next = subst F c.index-read-place.is (λ r. c.in_ok-found.ensures.found r es) in
     let entries = next_entries c.args.read.now i c.index-read-place.result c.keys-test.true in
     let now = λ (all : All IsRead c.args.read.now).
-    next (all i c.index-read-place.result c.keys-test.true) (c.keys.invariant.noted_keys all)
+    next (all i c.index-read-place.result c.keys-test.true) long (c.keys.invariant.noted_keys all)
     (c.keys.invariant.members all) in
     record {
       findings = λ all.
-          one_more k ds c.args.read.now i c.index-read-place.result (found_codes f) f.answers.is_open _ _ _ _
-          c.keys-test.true (c.keys.invariant.findings all) (now all).0
-          (c.in_ok-add_findings.ensures
-          ∙ ap (λ n. marks c.keys.findings.items ++ told_marks n (found_codes f)) c.in_ok-found.ensures.place)
+          one_more c.args.read.now i c.index-read-place.result c.keys-test.true c.earlier_key-other.result.now k ds
+          (found_codes f) f.answers.earlier f.answers.is_open _ _ _ _ (c.keys.invariant.findings all) (now all).0
+          c.earlier_key-other.ensures
+          (subst (λ n. AddsFindings (told_marks n (found_codes f)) c.earlier_key-other.result.now
+          c.keys.findings.items c.add_findings.new.findings.items) c.in_ok-found.ensures.place
+          c.in_ok-add_findings.ensures)
           (c.in_ok-note_undecided.ensures
           ∙ ap (λ n. c.keys.undecided.items ++ left_open n f.answers.is_open) c.in_ok-found.ensures.place);
       noted_keys = λ all. subst (λ fs. AreNoted fs new) entries (now all).1;

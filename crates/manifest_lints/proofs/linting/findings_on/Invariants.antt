@@ -1,7 +1,6 @@
 use Rattle.std.proofs.Common.{map, take}
 use Rattle.std.specs.List.{All}
 use Rattle.manifest_documents.specs.Declarations.{declarations_of}
-use Rattle.manifest_lints_findings.specs.Marks.{marks}
 use Rattle.manifest_lints_findings.specs.Spells.{IsRead, entry_read}
 use Rattle.manifest_lints.specs.Reports.{AreFindingsOn}
 use Rattle.manifest_lints.specs.Sames.{AreNoted, AreMembers}
@@ -12,7 +11,7 @@ invariant-keys l = record {
   findings :
       All IsRead l.read
       → AreFindingsOn l.asking.known.now (declarations_of l.asking.declared.now) (map entry_read (take l.place l.read))
-      (marks l.findings.items) l.undecided.items;
+      l.findings.items l.undecided.items;
   noted_keys : All IsRead l.read → AreNoted (map entry_read (take l.place l.read)) l.before;
   members : All IsRead l.read → AreMembers (map entry_read (take l.place l.read)) l.before;
 }

@@ -8,7 +8,6 @@ use Rattle.manifest_documents.specs.declared.tables.TargetKey.{TargetKey}
 use Rattle.manifest_documents.specs.declared.tables.Targets.{Targets}
 use Rattle.manifest_documents.specs.Tables.{target_of, target_told}
 use Rattle.manifest_lints_findings.specs.declared.findings.Report.{Report}
-use Rattle.manifest_lints_findings.specs.Marks.{marks}
 use Rattle.manifest_lints.specs.Reports.{Entry, entry_of, AreFindings, IsReport}
 use Rattle.manifest_lints.proofs.linting.lint.Goals as goal
 
@@ -16,12 +15,12 @@ use Rattle.manifest_lints.proofs.linting.lint.Goals as goal
 reported : {E : Type 0} (ms : Members) (t : Option (Option (List Entry))) (keys : List TargetKey) (r : Result Report E)
     → AreInSomeOrder t (Some (Some (map entry_of keys))) → IfOk r (λ r. r.keys.items ≡ keys)
     → IfOk r (λ r. (ds : List DeclaredEntry) × IsDeclaredBy ms ds
-    × AreFindings ds (map entry_of keys) (marks r.findings.items) r.undecided.items)
+    × AreFindings ds (map entry_of keys) r.findings.items r.undecided.items)
     → IfOk r (λ r. IsReport ms t r)
 reported ms (Some (Some es)) keys (Ok r) order same found =
     let is = sym (ap (map entry_of) same) in (
       subst (IsPermutation es) is order,
-      (found.0, found.1, subst (λ fs. AreFindings found.0 fs (marks r.findings.items) r.undecided.items) is found.2),
+      (found.0, found.1, subst (λ fs. AreFindings found.0 fs r.findings.items r.undecided.items) is found.2),
     )
 reported ms (Some None) keys r order same found = absurd order
 reported ms None keys r order same found = absurd order

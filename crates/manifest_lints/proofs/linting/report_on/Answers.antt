@@ -9,20 +9,20 @@ use Rattle.partial_facts.specs.declared.one_valued.TheConstants.{ONE_VALUED}
 use Rattle.toml.specs.Data.{Members}
 use Rattle.toml.specs.View.{table_view}
 use Rattle.manifest_documents.specs.Declarations.{DeclaredEntry, IsDeclaredBy}
-use Rattle.manifest_lints_findings.specs.Marks.{Mark}
+use Rattle.manifest_lints_findings.specs.declared.findings.Finding.{Finding}
 use Rattle.manifest_lints_findings.specs.Spells.{IsRead, entry_read}
 use Rattle.manifest_lints.specs.Reports.{Entry, entry_of, AreFindings, AreFindingsOn}
 use Rattle.manifest_lints.proofs.Rustcs.{allows_rustcs}
 use Rattle.manifest_lints.proofs.linting.report_on.Goals as goal
 
-of_keys : (k : Known) (ms : Members) (ds : List DeclaredEntry) (es fs : List Entry) (marks : List Mark) (ns : List ℕ)
-    → AreFindingsOn k ds es marks ns → IsDeclaredBy ms ds → es ≡ fs → k.facts.now ≡ [] → k.complete.now ≡ []
+of_keys : (k : Known) (ms : Members) (ds : List DeclaredEntry) (es fs : List Entry) (found : List Finding) (ns : List ℕ)
+    → AreFindingsOn k ds es found ns → IsDeclaredBy ms ds → es ≡ fs → k.facts.now ≡ [] → k.complete.now ≡ []
     → map (λ t. t.now) k.single.now ≡ map (λ t. t.now) ONE_VALUED.now
     → ((s : FactSet) → (truth s (tree_of k.assumed.now) ≡ true) ↔ KeepsFamilyRule s)
-    → (ds : List DeclaredEntry) × IsDeclaredBy ms ds × AreFindings ds fs marks ns
-of_keys k ms ds es fs marks ns found declared same facts complete single rule =
+    → (ds : List DeclaredEntry) × IsDeclaredBy ms ds × AreFindings ds fs found ns
+of_keys k ms ds es fs found ns on declared same facts complete single rule =
     let allows = allows_rustcs k facts complete single rule in
-    (ds, declared, (k, (allows, subst (λ xs. AreFindingsOn k ds xs marks ns) same found)))
+    (ds, declared, (k, (allows, subst (λ xs. AreFindingsOn k ds xs found ns) same on)))
 
 pub returns-clause-findings : goal.returns-clause-findings
 returns-clause-findings c =
