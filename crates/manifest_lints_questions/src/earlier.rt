@@ -175,9 +175,11 @@ impl<'a> Keys<'a> {
         known: &'a Known<'a>,
         budget: Option<u64>,
     ) -> Result<Earlier, AllocError>
-        ensures other { IfOk result (λ r. is_same r ≡ false) }
-        ensures equivalent { IfOk result (λ r. IsTrue (is_equivalent r)
-            → HasEquivalentMember known.now self.now (condition_of platform.entry.now)) }
+        ensures other { IfOk result (λ r. same_place r ≡ None) }
+        ensures equivalent { IfOk result (λ r. IfSome (equivalent_place r)
+            (HasEquivalentMember known.now self.now (condition_of platform.entry.now))) }
+        ensures undecided { IfOk result (λ r. IsTrue (is_undecided r)
+            → MayBeUndecided known.now budget self.now (condition_of platform.entry.now)) }
     {
         let part = part_of(class, number);
         let found = self.as_true(alloc, &part, platform, known, budget)?;
