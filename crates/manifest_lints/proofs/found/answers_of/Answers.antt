@@ -1,4 +1,4 @@
-use Rattle.std.proofs.Common.{◌≡◌, ◌∙◌, sym, ap, length}
+use Rattle.std.proofs.Common.{◌≡◌, ◌∙◌, sym, ap, length, inl, inr}
 use Rattle.std.proofs.lemmas.List.{length-map}
 use Rattle.cargo_platform.specs.Trees.{condition_of}
 use Rattle.manifest_documents.specs.Declarations.{declarations_of}
@@ -13,7 +13,7 @@ pub returns-clause-alone : goal.returns-clause-alone
 returns-clause-alone c = λ known is.
     beside_others c.args.asking.now.known.now (declarations_of c.args.asking.now.declared.now)
     (condition_of c.args.condition.now) c.in_ok-answers.answers c.in_ok-answers-2.field-0 c.stays_open-is_open.result
-    c.either.result c.either.ensures (c.in_ok-answers.ensures known is)
+    c.either.result c.either.ensures (c.in_ok-answers.ensures.alone known is)
 
 pub returns-clause-left_open : goal.returns-clause-left_open
 returns-clause-left_open c = λ known is es members holds.
