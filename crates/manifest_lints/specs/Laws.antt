@@ -1,5 +1,5 @@
 -- What reports are by, by value.
-use Rattle.std.specs.Prelude.{◌≡◌, List, [], ◌∷◌, codes, map}
+use Rattle.std.specs.Prelude.{◌≡◌, [], ◌∷◌, codes, map}
 use Rattle.partial_facts.specs.declared.one_valued.TheConstants.{ONE_VALUED}
 use Rattle.manifest_lints_questions.specs.declared.deciding.TheConstants.{MANY, LEVELS}
 use Rattle.manifest_lints_questions.specs.declared.earlier.TheConstants.{MOST}

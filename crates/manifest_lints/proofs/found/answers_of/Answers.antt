@@ -4,7 +4,6 @@ use Rattle.cargo_platform.specs.Trees.{condition_of}
 use Rattle.manifest_documents.specs.Declarations.{declarations_of}
 use Rattle.manifest_lints_standings.specs.Standings.{sorted_of, sorted_in}
 use Rattle.manifest_lints_findings.specs.Known.{sorted_of_spelled}
-use Rattle.manifest_lints_questions.specs.Earlier.{is_undecided}
 use Rattle.manifest_lints.proofs.Founds.{beside_others, one_or}
 use Rattle.manifest_lints.proofs.MoreEquivalents.{open_beside}
 use Rattle.manifest_lints.proofs.found.answers_of.Goals as goal
