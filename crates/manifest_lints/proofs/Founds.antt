@@ -1,13 +1,13 @@
 -- The codes that hold of a key are right.
 use Rattle.std.proofs.Common.{◌≡◌, ◌∙◌, ◌↔◌, refl, sym, ap, subst, true, false, true≢false, not, ◌||◌, ◌&&◌, ℕ, Bool}
-use Rattle.std.proofs.Common.{List, [], IsTrue, ◌⊎◌, inl, inr, length, ◌<◌}
+use Rattle.std.proofs.Common.{List, [], IsTrue, ◌⊎◌, inl, inr}
 use Rattle.std.specs.Prelude.{bytes_eq, string_bytes}
 use Rattle.cargo_platform.specs.Trees.{Condition, condition_of}
 use Rattle.cargo_platform.specs.declared.Platform.{Platform}
 use Rattle.exact_answers.specs.declared.known.Known.{Known}
 use Rattle.manifest_documents.specs.Declarations.{DeclaredEntry}
 use Rattle.manifest_lints_standings.specs.declared.standing.Sort.TheVariants as sort
-use Rattle.manifest_lints_standings.specs.Standings.{sorted_by, sorted_in, open_in, has_sort}
+use Rattle.manifest_lints_standings.specs.Standings.{sorted_by, sorted_in, has_sort}
 use Rattle.manifest_lints_findings.specs.declared.codes.Code.{Code}
 use Rattle.manifest_lints_findings.specs.declared.codes.Code.TheVariants as code
 use Rattle.manifest_lints_findings.specs.declared.known_keys.KnownKey.{KnownKey}
@@ -20,7 +20,6 @@ use Rattle.manifest_lints_findings.specs.NoTables.{is_no_table}
 use Rattle.manifest_lints_findings.specs.Spells.{IsSpelledAs, SpellsNothing, IsRead, entry_read}
 use Rattle.manifest_lints_questions.specs.Truths.{IsNever, IsAlways, CanHold, CanFail}
 use Rattle.manifest_lints_questions.specs.Earlier.{is_same, is_equivalent}
-use Rattle.manifest_lints_questions.specs.declared.deciding.TheConstants.{MANY}
 use Rattle.manifest_lints_questions.specs.declared.earlier.Earlier.{Earlier}
 use Rattle.manifest_documents.specs.Entries.{Entry}
 use Rattle.manifest_lints.specs.declared.found.Answers.{Answers}

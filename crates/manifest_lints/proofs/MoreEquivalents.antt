@@ -14,13 +14,12 @@ use Rattle.exact_answers.specs.Targets.{asked_trees}
 use Rattle.exact_answers.specs.declared.known.Known.{Known}
 use Rattle.manifest_lints_questions.specs.declared.deciding.TheConstants.{LEVELS}
 use Rattle.manifest_lints_questions.specs.declared.earlier.Keys.{Keys}
-use Rattle.manifest_lints_questions.specs.declared.earlier.TheConstants.{MOST}
 use Rattle.manifest_lints_questions.specs.Earlier.{AddsMember, AreEquivalent, HasEquivalentMember, MayBeUndecided}
 use Rattle.manifest_lints_questions.specs.Truths.{budget_of}
 use Rattle.manifest_documents.specs.Declarations.{DeclaredEntry}
 use Rattle.manifest_documents.specs.Entries.{Entry}
 use Rattle.manifest_lints_standings.specs.Standings.{sorted_in}
-use Rattle.manifest_lints.specs.Reports.{MayBeOpen, too_deep, few_beside, many_before, budget_in}
+use Rattle.manifest_lints.specs.Reports.{MayBeOpen, too_deep, few_beside, many_before}
 use Rattle.manifest_lints.specs.Sames.{HasOne, IsOneAt, IsSpelledAt, AreMembers}
 use Rattle.manifest_lints.proofs.MoreSames.{at_has, at_more, at_last, at_so}
 

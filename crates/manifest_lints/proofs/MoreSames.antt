@@ -1,5 +1,5 @@
 -- One more key among those that were noted.
-use Rattle.std.proofs.Common.{◌≡◌, ◌∙◌, refl, sym, ap, subst, ℕ, ◌<◌, Bool, true≢false, List, [], ◌∷◌, length, arith}
+use Rattle.std.proofs.Common.{◌≡◌, ◌∙◌, refl, sym, ap, subst, ℕ, ◌<◌, true≢false, List, [], ◌∷◌, length, arith}
 use Rattle.std.proofs.Common.{◌++◌, append_assoc, length-append, ◌↔◌, ◌⊎◌, inl, inr, Option, Some, None, IsTrue}
 use Rattle.std.specs.Prelude.{IfSome}
 use Rattle.std.specs.Borrow.{Bor}
@@ -19,7 +19,7 @@ use Rattle.manifest_documents.specs.Entries.{Entry}
 use Rattle.manifest_lints_findings.specs.Spells.{SpellsNothing}
 use Rattle.manifest_lints_questions.specs.Earlier.{noted, NotesBy, Notes, is_same, is_equivalent}
 use Rattle.manifest_lints_questions.specs.Earlier.{same_place, equivalent_place, AreEquivalent}
-use Rattle.manifest_lints.specs.Sames.{SpellsOne, HasOne, IsOneAt, IsFirstAt, IsFirst, IsSameAs, HasSame, AreNoted}
+use Rattle.manifest_lints.specs.Sames.{SpellsOne, HasOne, IsOneAt, IsFirst, IsSameAs, HasSame, AreNoted}
 use Rattle.manifest_lints.specs.Sames.{HasEquivalent, NamesRightly, named_place}
 
 module _ (P : Condition → Type 0) where

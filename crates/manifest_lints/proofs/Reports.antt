@@ -2,7 +2,7 @@
 use Rattle.std.proofs.Common.{◌≡◌, ◌∙◌, refl, sym, ap, subst, ℕ, ◌+◌, ◌<◌, ◌≤◌, Bool, true, false, arith}
 use Rattle.std.proofs.Common.{List, [], ◌∷◌, ◌++◌, append_assoc, map, take, length, get_or, Option, Some, None, inl, inr}
 use Rattle.std.specs.Prelude.{IfSome, string_bytes}
-use Rattle.std.specs.List.{All, filter}
+use Rattle.std.specs.List.{filter}
 use Rattle.std.proofs.lemmas.List.{take_all, take_more, map-append, append-nil, length-map, length-take-le}
 use Rattle.std.proofs.lemmas.List.{get_or-take, get_or-map}
 use Rattle.std.proofs.lemmas.List.Elements.{filter-append, All-nil, All-push, All-append, All-weaker}
@@ -13,7 +13,7 @@ use Rattle.manifest_lints_findings.specs.declared.codes.Code.{Code}
 use Rattle.manifest_lints_findings.specs.declared.findings.Finding.{Finding}
 use Rattle.manifest_lints_findings.specs.declared.readings.ReadKey.{ReadKey}
 use Rattle.manifest_lints_findings.specs.Codes.{CodeSet}
-use Rattle.manifest_lints_findings.specs.Marks.{Mark, mark, marks}
+use Rattle.manifest_lints_findings.specs.Marks.{Mark, mark}
 use Rattle.manifest_lints_findings.specs.Messages.{NamesKey}
 use Rattle.manifest_lints_findings.specs.Spells.{entry_read}
 use Rattle.manifest_documents.specs.Declarations.{DeclaredEntry}

@@ -1,5 +1,5 @@
 -- What is answered of a key, and the codes that hold of it. What is promised of a report hangs on none of these words.
-use Rattle.std.specs.Prelude.{◌<◌, ℕ, List, IsTrue, length}
+use Rattle.std.specs.Prelude.{◌<◌, List, IsTrue, length}
 use Rattle.cargo_platform.specs.Trees.{Condition}
 use Rattle.exact_answers.specs.declared.known.Known.{Known}
 use Rattle.manifest_documents.specs.Declarations.{DeclaredEntry}

@@ -139,7 +139,10 @@ fn budget_beside(key: &KnownKey<'_>, decides: bool) -> Option<u64>
     ensures { MatchOption result ((decides ≡ true) ⊎ IsNestedBeyond key.now.read.now.text.now LEVELS)
         (λ splits. splits ≡ budget_of (length key.now.asked.items)) }
 {
-    if decides || !may_ask(key.levels, key.read.text) {
+    if decides {
+        return None;
+    }
+    if !may_ask(key.levels, key.read.text) {
         return None;
     }
     Some(budget_for(key.asked.len()))

@@ -1,9 +1,11 @@
 //! Laws over the definitions. The function does nothing: its contract is the laws.
 
-ghost use Rattle.manifest_lints.specs.Laws.{AreOneValued, AreMany};
+ghost use Rattle.manifest_lints.specs.Laws.{AreOneValued, AreMany, AreLevels, AreCompared};
 
 /// The constants that the contract of `lint` cites have these values.
 pub fn constants()
     ensures one_valued { AreOneValued }
     ensures many { AreMany }
+    ensures levels { AreLevels }
+    ensures compared { AreCompared }
 {}

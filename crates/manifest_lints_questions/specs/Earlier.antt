@@ -1,6 +1,5 @@
 -- How a condition stands to earlier ones: which is the same, raw marks aside, and which are as true.
 use Rattle.std.specs.Prelude.{◌≡◌, ◌⊎◌, ◌↔◌, ◌<◌, ℕ, Bool, true, false, [], ◌∷◌, ◌++◌, length, Option, Some, None}
-use Rattle.std.specs.Prelude.{IfSome}
 use Rattle.std.specs.List.{Any}
 use Rattle.std.specs.Borrow.{Bor}
 use Rattle.std.specs.BTreeMap as ordered

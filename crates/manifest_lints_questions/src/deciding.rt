@@ -20,7 +20,7 @@ const SPLITS: u64 = 1024;
 const FEW: usize = 64;
 
 /// Of a condition with more members that others follow in one another nothing is asked: the stack has no room for them.
-const LEVELS: usize = 20_000;
+pub const LEVELS: usize = 20_000;
 
 /// Of a condition with more open names and keys it is not asked whether it holds nowhere or everywhere.
 pub const MANY: usize = 4096;

@@ -16,7 +16,7 @@ use std::alloc::{AllocError, Global};
 use std::collections::BTreeMap;
 
 /// So many keys of its class a key is compared with at most.
-const MOST: usize = 64;
+pub const MOST: usize = 64;
 
 /// What is known of an earlier key.
 #[derive(Clone, Copy, Debug, PartialEq, Eq, Drop)]

@@ -1,4 +1,4 @@
-use Rattle.std.proofs.Common.{◌≡◌, ◌∙◌, ◌≤◌, ◌<◌, sym, ap, subst, length, List, ℕ, inl, inr}
+use Rattle.std.proofs.Common.{rules, ◌≡◌, ◌∙◌, ◌≤◌, ◌<◌, sym, ap, subst, length, List, ℕ, inl, inr}
 use Rattle.std.specs.Borrow.{Bor}
 use Rattle.std.proofs.lemmas.List.{length-map}
 use Rattle.cargo_platform.specs.Trees.{condition_of}
@@ -58,12 +58,13 @@ returns-clause-left_open c = λ known is es holds.
     ∙ ap (λ fs. open_in (sorted_by fs)) c.deref.ensures.value ∙ ap open_in asked_is in
     let long : length c.args.key.now.asked.items ≡ length (sorted_in ds p) =
     sym (length-map c.args.key.now.asked.items sorted_of) ∙ ap length asked_is in
+    let counted : c.len.result ≡ length c.args.key.now.asked.items = search rules in
     elim (one_or _ _ (sym c.either.ensures ∙ holds)) [
       | inl unknown ↦
           elim (c.in_ok-never.ensures.unknown unknown) [
             | inl not_asked ↦ too_deep (c.may_ask-may_ask.ensures not_asked)
             | inr more ↦
-                few_splits (subst (λ b. NeedsMoreFor k p b) (c.budget_for-budget.ensures ∙ ap budget_of long) more)
+                few_splits (subst (λ b. NeedsMoreFor k p b) (c.budget_for-budget.ensures ∙ ap budget_of (counted ∙ long)) more)
           ]
       | inr many ↦
           many_open (subst (λ n. MANY < n)

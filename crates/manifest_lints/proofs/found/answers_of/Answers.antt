@@ -1,10 +1,9 @@
-use Rattle.std.proofs.Common.{◌≡◌, ◌∙◌, sym, ap, length}
+use Rattle.std.proofs.Common.{◌≡◌, ◌∙◌, sym, ap, length, inl, inr}
 use Rattle.std.proofs.lemmas.List.{length-map}
 use Rattle.cargo_platform.specs.Trees.{condition_of}
 use Rattle.manifest_documents.specs.Declarations.{declarations_of}
 use Rattle.manifest_lints_standings.specs.Standings.{sorted_of, sorted_in}
 use Rattle.manifest_lints_findings.specs.Known.{sorted_of_spelled}
-use Rattle.manifest_lints_questions.specs.Earlier.{is_undecided}
 use Rattle.manifest_lints.proofs.Founds.{beside_others, one_or}
 use Rattle.manifest_lints.proofs.MoreEquivalents.{open_beside}
 use Rattle.manifest_lints.proofs.found.answers_of.Goals as goal
@@ -13,7 +12,7 @@ pub returns-clause-alone : goal.returns-clause-alone
 returns-clause-alone c = λ known is.
     beside_others c.args.asking.now.known.now (declarations_of c.args.asking.now.declared.now)
     (condition_of c.args.condition.now) c.in_ok-answers.answers c.in_ok-answers-2.field-0 c.stays_open-is_open.result
-    c.either.result c.either.ensures (c.in_ok-answers.ensures known is)
+    c.either.result c.either.ensures (c.in_ok-answers.ensures.alone known is)
 
 pub returns-clause-left_open : goal.returns-clause-left_open
 returns-clause-left_open c = λ known is es members holds.

@@ -6,7 +6,7 @@ use Rattle.cargo_platform.specs.Platforms.{IsConditionText}
 use Rattle.manifest_documents.specs.Declarations.{declarations_of}
 use Rattle.manifest_lints_findings.specs.Known.{IsKnown, is_condition}
 use Rattle.manifest_lints_findings.specs.Spells.{IsSpelledAs, entry_read}
-use Rattle.manifest_lints_questions.specs.Earlier.{same_place, equivalent_place, noted}
+use Rattle.manifest_lints_questions.specs.Earlier.{same_place, equivalent_place}
 use Rattle.manifest_lints.specs.Reports.{MayBeOpen}
 use Rattle.manifest_lints.proofs.Founds.{found_spelled, found_unspelled, spells_nothing}
 use Rattle.manifest_lints.specs.Sames.{IsFirst, IsSameAs}
