@@ -31,13 +31,16 @@ typedef struct {
 
 typedef uint32_t call(const question *, uint8_t *, size_t, nevgrasi_outcome *);
 
+/* How many splits a comparison may make. */
+static _Thread_local uint64_t splits = 1000;
+
 #define ONE(export) \
     static uint32_t export(const question *q, uint8_t *out, size_t size, nevgrasi_outcome *o) { \
         return nevgrasi_##export(q->texts[0], q->lengths[0], out, size, o); \
     }
 #define TWO(export) \
     static uint32_t export(const question *q, uint8_t *out, size_t size, nevgrasi_outcome *o) { \
-        return nevgrasi_##export(q->texts[0], q->lengths[0], q->texts[1], q->lengths[1], 1000, out, size, o); \
+        return nevgrasi_##export(q->texts[0], q->lengths[0], q->texts[1], q->lengths[1], splits, out, size, o); \
     }
 static uint32_t version(const question *q, uint8_t *out, size_t size, nevgrasi_outcome *o) {
     (void)q;
@@ -52,7 +55,7 @@ TWO(implies)
 TWO(equivalent)
 TWO(excludes)
 static uint32_t can_hold(const question *q, uint8_t *out, size_t size, nevgrasi_outcome *o) {
-    return nevgrasi_can_hold(q->texts[0], q->lengths[0], 1000, out, size, o);
+    return nevgrasi_can_hold(q->texts[0], q->lengths[0], splits, out, size, o);
 }
 static uint32_t matches(const question *q, uint8_t *out, size_t size, nevgrasi_outcome *o) {
     return nevgrasi_matches(q->texts[0], q->lengths[0], q->texts[1], q->lengths[1], q->texts[2], q->lengths[2], out,
@@ -224,6 +227,16 @@ static void try_graph(void) {
     try_deep_graph(NEVGRASI_MOST_OPEN - 1, NEVGRASI_DONE);
     try_deep_graph(NEVGRASI_MOST_OPEN, NEVGRASI_TOO_DEEP);
     try_deep_graph(100 * NEVGRASI_MOST_OPEN, NEVGRASI_TOO_DEEP);
+}
+
+/* What hangs on the fact `a`, of which nothing is known, takes a split at least. */
+static void try_budget(void) {
+    splits = 0;
+    try_call(implies, asked("implies without splits", "cfg(a)", "cfg(b)", ""), NEVGRASI_UNDECIDED, "");
+    try_call(equivalent, asked("equivalent without splits", "cfg(a)", "cfg(b)", ""), NEVGRASI_UNDECIDED, "");
+    try_call(excludes, asked("excludes without splits", "cfg(a)", "cfg(b)", ""), NEVGRASI_UNDECIDED, "");
+    try_call(can_hold, asked("can_hold without splits", "cfg(a)", "", ""), NEVGRASI_UNDECIDED, "");
+    splits = 1000;
 }
 
 static void try_answers(void) {
@@ -480,6 +493,7 @@ int main(int count, char **words) {
     if (count != 2) return 2;
     expect(nevgrasi_abi() == NEVGRASI_ABI, "abi", "another number");
     try_answers();
+    try_budget();
     try_graph();
     try_places();
     question flat = asked("flat_matches", "", "x", "");

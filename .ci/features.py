@@ -130,19 +130,25 @@ class Build:
 
     # ---- the dependencies that are used
 
+    def edges(self, package, side):
+        """The dependencies that a package uses where it is built for a side, each with the side that it leads to."""
+        for one in self.declared[package]:
+            if one.kind not in self.kinds or (one.kind == "dev" and package not in self.roots):
+                continue
+            if one.optional and one.name not in self.turned_on[self.key(package, side)]:
+                continue
+            to = self.leads_to(package, side, one)
+            if to:
+                yield one, to
+
     def used(self):
         """The packages that are built, each with its side."""
         found = {(root, "host" if self.is_macro(root) else "target") for root in self.roots}
         waiting = list(found)
         while waiting:
             package, side = waiting.pop()
-            for one in self.declared[package]:
-                if one.kind not in self.kinds or (one.kind == "dev" and package not in self.roots):
-                    continue
-                if one.optional and one.name not in self.turned_on[self.key(package, side)]:
-                    continue
-                to = self.leads_to(package, side, one)
-                if to and (one.to, to) not in found:
+            for one, to in self.edges(package, side):
+                if (one.to, to) not in found:
                     found.add((one.to, to))
                     waiting.append((one.to, to))
         return found
