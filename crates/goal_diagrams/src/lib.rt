@@ -4,6 +4,8 @@
 
 mod answers;
 mod making;
+#[cfg(test)]
+mod tests;
 
 pub use answers::{Outcome, find_way};
 pub use decision_diagrams::Choice;
