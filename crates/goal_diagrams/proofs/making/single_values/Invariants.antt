@@ -1,0 +1,17 @@
+use Rattle.std.proofs.Common.{◌≡◌, ◌-◌, true, length}
+use Rattle.cargo_platform.specs.Facts.{FactSet}
+use Rattle.partial_facts.specs.Partly.{names_of}
+use Rattle.goal_diagrams.specs.Goals.{HasOneOpenValue}
+use Rattle.decision_diagrams.specs.Diagrams.{IsMade}
+use Rattle.goal_diagrams.specs.Inside.Making.{says}
+use Rattle.goal_diagrams.proofs.making.single_values.Given as goal
+
+abbrev pub invariant-numbers : goal.invariant-numbers
+invariant-numbers g l = record {
+  made : IsMade l.fn.table l.table l.place;
+  means : (s : FactSet) → HasOneOpenValue (g.K.Knowledge.told l.asked.known.now) (names_of l.single) s
+      → says s l.asked.pairs.now l.table l.place ≡ true;
+}
+
+abbrev pub decreases-numbers : goal.decreases-numbers
+decreases-numbers g l = length l.asked.pairs.now - l.number

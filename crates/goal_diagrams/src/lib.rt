@@ -1,0 +1,12 @@
+//! Whether expressions can have the truths that are wanted of them, by a decision diagram over sets of facts. A search
+//! that splits pair by pair takes long where a question repeats itself; here what repeats itself is made once.
+#![tactic(auto)]
+
+mod answers;
+mod making;
+#[cfg(test)]
+mod tests;
+
+pub use answers::{Outcome, find_way};
+pub use decision_diagrams::Choice;
+pub use making::Goal;
