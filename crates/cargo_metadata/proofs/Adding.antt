@@ -13,7 +13,8 @@ use Rattle.package_graphs.specs.declared.packages.Dependency.{Dependency}
 use Rattle.std.specs.Borrow.{Bor}
 use Rattle.known_targets.specs.declared.target_set.TargetSet.{TargetSet}
 use Rattle.cargo_metadata.specs.Links.{HoldsWhere, AreEdgesOf}
-use Rattle.cargo_metadata.specs.Links.{IsSpelled, IsSound, Asked, asked_as, asked_by, asked_of, IsEdge, AreEach, of_none, of_more}
+use Rattle.cargo_metadata.specs.Links.{IsSpelled, IsSound, Asked, asked_as, asked_by, asked_of, IsEdge, AreEach}
+use Rattle.cargo_metadata.specs.Links.{of_none, of_more}
 use Rattle.cargo_metadata.specs.Refusals.{IsRefusedBy, IsInDependency}
 use Rattle.cargo_metadata.specs.declared.graphs.edges.NoSet.{NoSet}
 use Rattle.cargo_metadata.specs.declared.graphs.edges.NoSet.TheVariants as no_set

@@ -1,5 +1,6 @@
 -- Places of ids, while ids are added.
-use Rattle.std.proofs.Common.{◌≡◌, refl, sym, ◌∙◌, ap, subst, ℕ, ◌+◌, ◌<◌, ◌≤◌, Bool, true, false, not, cond, List, [], map, length}
+use Rattle.std.proofs.Common.{◌≡◌, refl, sym, ◌∙◌, ap, subst, ℕ, ◌+◌, ◌<◌, ◌≤◌, Bool, true, false, not, cond, List}
+use Rattle.std.proofs.Common.{[], map, length}
 use Rattle.std.proofs.Common.{get_or, ◌⊎◌, inl, inr, Option, Some, None, IsSome, arith, below_more}
 use Rattle.std.specs.Prelude.{◌↔◌, Contains, bytes_eq}
 use Rattle.std.specs.Option.{is_some}
@@ -119,7 +120,8 @@ absent at ids q index none (k, below, same) =
 pub all_distinct : {X : Type 0} (f : X → List ℕ) (xs : List X) (at : List ℕ → Option ℕ)
     → IsIndex at (map f xs) (length (map f xs)) → AreDistinct (map f xs) (length xs)
 all_distinct f xs at index =
-    subst (λ (n : ℕ). AreDistinct (map f xs) n) (length-map xs f) (index_distinct at (map f xs) (length (map f xs)) index)
+    subst (λ (n : ℕ). AreDistinct (map f xs) n) (length-map xs f) (index_distinct at (map f xs) (length (map f xs))
+    index)
 
 -- ---- members, of which one may be there twice
 

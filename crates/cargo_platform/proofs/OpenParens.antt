@@ -368,7 +368,8 @@ first_tokens before after t = take-append-add before (t ∷ after) 1
 opened_there : (most n : ℕ) (before after : List Lexeme) (t : Lexeme) → t ≡ LeftParen → open_behind 0 before ≡ most
     → IsWithin n (before ++ t ∷ after) → most < n
 opened_there most n before after t paren is within =
-    larger most n (open_behind 0 before) (open_after (open_behind 0 before) t) (ap (open_after (open_behind 0 before)) paren)
+    larger most n (open_behind 0 before) (open_after (open_behind 0 before) t) (ap (open_after (open_behind 0 before))
+    paren)
     is
     (subst (λ z. z ≤ n) (ap (open_behind 0) (first_tokens before after t) ∙ behind_append 0 before (t ∷ []))
     (within (length before + 1)))

@@ -1,7 +1,7 @@
 //! Asks of a holder of facts, and how many there are.
 //!
-//! Matching knows its holder as `Asked` alone, whose one call counts each ask. What counts is a type that matching knows
-//! nothing of: so it can make none, and what it was given counts each ask.
+//! Matching knows its holder as `Asked` alone, whose one call counts each ask. What counts is a type that matching
+//! knows nothing of: so it can make none, and what it was given counts each ask.
 
 ghost use Rattle.std.specs.Prelude.{◌≡◌, ℕ, ◌-◌, ◌^◌};
 ghost use Rattle.std.specs.FinSet.{contains};

@@ -1,8 +1,7 @@
 //! The search of a list that is in order.
 //!
-//! The search knows what is looked for as `Sought` alone, whose one call counts each comparison by a type that the search
-//! can make no value of. A `Sorted` list can be
-//! searched, and read in no other way.
+//! The search knows what is looked for as `Sought` alone, whose one call counts each comparison by a type that the
+//! search can make no value of. A `Sorted` list can be searched, and read in no other way.
 
 ghost use Rattle.std.specs.Prelude.{◌≡◌, ℕ, ◌+◌, ◌-◌, ◌*◌, ◌^◌, ◌≤◌, length};
 ghost use Rattle.std.specs.declared.cmp.Ordering.{Ordering};

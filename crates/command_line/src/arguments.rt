@@ -389,8 +389,8 @@ const ON_GRAPHS: &[Subcommand] = &[GRAPH];
 /// How its users call the program as a command of Cargo's.
 const CARGO_COMMAND: &str = "cargo manifest-check";
 
-/// Lets go of the name that Cargo hands over before the words of its user, and takes what they typed for the name of the
-/// program, which lines of usage have.
+/// Lets go of the name that Cargo hands over before the words of its user, and takes what they typed for the name of
+/// the program, which lines of usage have.
 pub fn without_cargo_name(alloc: Global, words: &mut Vec<String>) -> Result<(), AllocError> {
     if words.len() > 1 && words[1].as_str() == CARGO_NAME {
         let _name = words.remove(1);

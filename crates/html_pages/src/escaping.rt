@@ -6,8 +6,8 @@ ghost use Rattle.html_pages.specs.Escaping.{WritesText, escape};
 
 use std::alloc::{AllocError, Global};
 
-/// The text as it is written on a page: each of `<`, `>`, `&`, `"` and `'` as its entity, each other character as it is.
-/// So it opens no tag and no entity, and ends no value of an attribute, and a browser shows the text.
+/// The text as it is written on a page: each of `<`, `>`, `&`, `"` and `'` as its entity, each other character as it
+/// is. So it opens no tag and no entity, and ends no value of an attribute, and a browser shows the text.
 pub fn escaped(alloc: Global, text: &str) -> Result<String, AllocError>
     ensures { IfOk result (λ page. WritesText (string_bytes page) text.now) }
 {

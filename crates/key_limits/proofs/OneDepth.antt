@@ -76,11 +76,13 @@ seek text most tail last before (u ∷ us) none c within here =
             },
           )
       | inr no_more ↦
-          let on = subst (λ (zs : List Placed). ComesBehind text 0 zs last tail) (sym (append_assoc before (u ∷ []) us)) c in
+          let on = subst (λ (zs : List Placed). ComesBehind text 0 zs last tail) (sym (append_assoc before (u ∷ []) us))
+          c in
           let larger = largest (most_open 0 (lexemes before)) o new most (most_open 0 (lexemes (before ++ u ∷ [])))
           within here no_more
           (ap (most_open 0) ls ∙ most_append 0 (lexemes before) (u.token ∷ [])) in
-          let there = subst (λ z. z ≤ most) (sym (ap (open_behind 0) ls ∙ behind_append 0 (lexemes before) (u.token ∷ [])))
+          let there = subst (λ z. z ≤ most) (sym (ap (open_behind 0) ls ∙ behind_append 0 (lexemes before) (u.token ∷
+          [])))
           no_more in
           seek text most tail last (before ++ u ∷ []) us none on larger there
     ]

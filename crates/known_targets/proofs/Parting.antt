@@ -1,5 +1,6 @@
 -- Classes, and the parts that a set makes of them.
-use Rattle.std.proofs.Common.{◌≡◌, refl, sym, ◌∙◌, ap, subst, ℕ, ◌+◌, ◌<◌, ◌≤◌, Bool, true, false, not, ◌&&◌, cond, List, []}
+use Rattle.std.proofs.Common.{◌≡◌, refl, sym, ◌∙◌, ap, subst, ℕ, ◌+◌, ◌<◌, ◌≤◌, Bool, true, false, not, ◌&&◌, cond}
+use Rattle.std.proofs.Common.{List, []}
 use Rattle.std.proofs.Common.{◌∷◌, ◌++◌, length, get_or, take, arith, inl, inr, Some, below_more}
 use Rattle.std.specs.Prelude.{IsTrue, All, Contains}
 use Rattle.std.proofs.lemmas.Bool.{and_parts, and_from, both_ways}
@@ -26,7 +27,8 @@ in_more sets x k (i, m, below, at, holds) = (
 
 pub part_kept : (old new : List TargetSet) (part : TargetSet) (k : ℕ) → AddsPart old new part → IsInOne old k
     → IsInOne new k
-part_kept old new part k (inl is) here = subst (λ (xs : List TargetSet). IsInOne xs k) (sym is) (in_more old part k here)
+part_kept old new part k (inl is) here = subst (λ (xs : List TargetSet). IsInOne xs k) (sym is) (in_more old part k
+    here)
 part_kept old new part k (inr none) here = subst (λ (xs : List TargetSet). IsInOne xs k) (sym none.0) here
 
 pub part_added : (old new : List TargetSet) (part : TargetSet) (k : ℕ) → k < COUNT → AddsPart old new part
@@ -80,7 +82,8 @@ both_parts set class inside outside rest old between new ins complement outs fir
     }
 
 pub parts_more : (set : TargetSet) (classes old new : List TargetSet) (i : ℕ) (d : TargetSet) → i < length classes
-    → AddsParts set (get_or classes i d) old new → ArePartsSoFar set classes old i → ArePartsSoFar set classes new (i + 1)
+    → AddsParts set (get_or classes i d) old new → ArePartsSoFar set classes old i
+    → ArePartsSoFar set classes new (i + 1)
 parts_more set classes old new i d below adds before = record {
   sound = adds.sound classes (Contains-get_or classes i d below) before.sound;
   complete = λ p class k less known here.

@@ -1,5 +1,6 @@
 -- Parts of classes, inside and outside a set.
-use Rattle.std.specs.Prelude.{◌≡◌, ◌<◌, ◌⊎◌, ◌++◌, ℕ, Bool, false, not, ◌&&◌, cond, IsTrue, List, [], ◌∷◌, All, Contains}
+use Rattle.std.specs.Prelude.{◌≡◌, ◌<◌, ◌⊎◌, ◌++◌, ℕ, Bool, false, not, ◌&&◌, cond, IsTrue, List, [], ◌∷◌, All}
+use Rattle.std.specs.Prelude.{Contains}
 use Rattle.std.specs.List.{Any, slice_index_or}
 use Rattle.known_targets.specs.Sets.{is_member}
 use Rattle.known_targets.specs.declared.table.TheConstants.{COUNT}

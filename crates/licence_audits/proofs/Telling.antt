@@ -38,6 +38,7 @@ pub goes_on_told : (allowed : List Term) (exceptions : List Exception) (subjects
     → AreTold allowed exceptions (take (i + 1) subjects) us
 goes_on_told allowed exceptions subjects i ts us t below pushed place before found =
     subst (λ (vs : List Told). AreTold allowed exceptions (take (i + 1) subjects) vs) (sym pushed)
-    (subst (λ (ss : List Subject). AreTold allowed exceptions ss (ts ++ t ∷ [])) (sym (take_more subjects i past_end below))
+    (subst (λ (ss : List Subject). AreTold allowed exceptions ss (ts ++ t ∷ [])) (sym (take_more subjects i past_end
+    below))
     (told (take i subjects) (get_or subjects i past_end) ts t before
     (place ∙ sym (length-take-le i subjects (omega arith))) found))

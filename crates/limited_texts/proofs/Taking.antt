@@ -1,5 +1,6 @@
 -- What is left of a text that was read to a limit, and did not reach it.
-use Rattle.std.proofs.Common.{◌≡◌, ℕ, ◌+◌, ◌≤◌, List, length, take, Option, Some, None, IfSome, option_map, min, ap, ◌∙◌, sym, subst, [], ◌++◌, arith}
+use Rattle.std.proofs.Common.{◌≡◌, ℕ, ◌+◌, ◌≤◌, List, length, take, Option, Some, None, IfSome, option_map, min, ap}
+use Rattle.std.proofs.Common.{◌∙◌, sym, subst, [], ◌++◌, arith}
 use Rattle.std.proofs.lemmas.List.{take_all, length-take}
 
 pub whole : (limit : ℕ) (bytes : List ℕ) (left : Option (List ℕ)) → length bytes ≤ limit
@@ -22,4 +23,5 @@ whole_of {R} remaining reader inner limit most text before bytes same plus none 
     (subst (λ b. IfSome (option_map (take most) (remaining inner)) (λ xs. bytes ≡ b ++ xs)) none got) in
     let on_reader : IfSome (option_map (take (limit + 1)) (remaining reader)) (λ xs. bytes ≡ xs) =
     subst (λ r. IfSome (option_map (take (limit + 1)) (remaining r)) (λ xs. bytes ≡ xs)) same on_inner in
-    subst (λ t. IfSome (remaining reader) (λ xs. t ≡ xs)) (sym out) (whole limit bytes (remaining reader) short on_reader)
+    subst (λ t. IfSome (remaining reader) (λ xs. t ≡ xs)) (sym out) (whole limit bytes (remaining reader) short
+    on_reader)

@@ -39,15 +39,16 @@ const OTHERS: [Explained; 5] = [
         word: MISPLACED,
         weight: Weight::Warning,
         short: "a table that is meant for targets stands where Cargo does not read it",
-        text: "A key of `target` stands at the top of the manifest, in `targets`, in `workspace.target`, or in a table of \
-               dependencies, where Cargo takes it for the name of a package and refuses the manifest.\n\n\
+        text: "A key of `target` stands at the top of the manifest, in `targets`, in `workspace.target`, or in a table \
+               of dependencies, where Cargo takes it for the name of a package and refuses the manifest.\n\n\
                Example: [targets.'cfg(unix)'.dependencies]\nwhere `[target.'cfg(unix)'.dependencies]` is meant.",
     },
     Explained {
         word: UNDERSCORED,
         weight: Weight::Warning,
         short: "`dev_dependencies` or `build_dependencies`, which Cargo warns of, or refuses",
-        text: "Cargo warns of these names, and refuses them in packages of the edition of 2024. The names have a dash.\n\n\
+        text: "Cargo warns of these names, and refuses them in packages of the edition of 2024. The names have a \
+               dash.\n\n\
                Example: [target.'cfg(unix)'.dev_dependencies]\nwhere `dev-dependencies` is the name.",
     },
     Explained {

@@ -1,7 +1,7 @@
 //! Texts of GitHub's workflow commands, and paths as URIs.
 //!
-//! In a command the toolkit of GitHub's actions writes `%`, a carriage return and a line feed as their bytes in hexadecimal, and in
-//! a property `:` and `,` too.
+//! In a command the toolkit of GitHub's actions writes `%`, a carriage return and a line feed as their bytes in
+//! hexadecimal, and in a property `:` and `,` too.
 
 use std::alloc::{AllocError, Global};
 

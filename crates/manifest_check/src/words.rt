@@ -7,7 +7,8 @@ use std::rt::Env;
 /// A word of fewer bytes is read at once.
 const SHORT: usize = 256;
 
-/// The word at a place, where there is one. Of what is no UTF-8 in it U+FFFD is left, so that it is the name of nothing.
+/// The word at a place, where there is one. Of what is no UTF-8 in it U+FFFD is left, so that it is the name of
+/// nothing.
 fn word_at<R: Env + AllocGlobal>(rt: &R, place: usize) -> Result<Option<String>, AllocError> {
     let alloc = rt.alloc();
     let mut size = SHORT;

@@ -41,7 +41,7 @@ impl Document {
     {
         match target_keys(alloc, &self.table)? {
             Targets::Keys(mut keys) => {
-                keys.sort_by_key(|key| self.lines.place_of(key.key))?;
+                keys.sort_by_cached_key(|key| self.lines.place_of(key.key))?;
                 Ok(Targets::Keys(keys))
             }
             Targets::NoTable => Ok(Targets::NoTable),

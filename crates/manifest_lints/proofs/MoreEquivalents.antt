@@ -1,5 +1,6 @@
 -- One more key among those that later ones are compared with.
-use Rattle.std.proofs.Common.{◌≡◌, ◌∙◌, refl, sym, ap, subst, ℕ, ◌+◌, ◌≤◌, ◌<◌, Bool, true, false, true≢false, not, ◌&&◌, arith}
+use Rattle.std.proofs.Common.{◌≡◌, ◌∙◌, refl, sym, ap, subst, ℕ, ◌+◌, ◌≤◌, ◌<◌, Bool, true, false, true≢false, not}
+use Rattle.std.proofs.Common.{◌&&◌, arith}
 use Rattle.std.proofs.Common.{List, [], ◌∷◌, ◌++◌, length, length-append, get_or, ◌⊎◌, inl, inr, Option, Some, None}
 use Rattle.std.specs.Prelude.{IsTrue, IfSome, MatchOption}
 use Rattle.std.specs.Borrow.{Bor}

@@ -1,6 +1,7 @@
 -- One more key, and one more code, of a report.
 use Rattle.std.proofs.Common.{◌≡◌, ◌∙◌, refl, sym, ap, subst, ℕ, ◌+◌, ◌<◌, ◌≤◌, Bool, true, false, arith}
-use Rattle.std.proofs.Common.{List, [], ◌∷◌, ◌++◌, append_assoc, map, take, length, get_or, Option, Some, None, inl, inr}
+use Rattle.std.proofs.Common.{List, [], ◌∷◌, ◌++◌, append_assoc, map, take, length, get_or, Option, Some, None, inl}
+use Rattle.std.proofs.Common.{inr}
 use Rattle.std.specs.Prelude.{IfSome, string_bytes}
 use Rattle.std.specs.List.{filter}
 use Rattle.std.proofs.lemmas.List.{take_all, take_more, map-append, append-nil, length-map, length-take-le}
@@ -77,7 +78,8 @@ module _ (reads : List ReadKey) (i : ℕ) (d : ReadKey) (within : i < length rea
       let told : AreTold es codes earlier adds.added = record {
         marks_are = adds.marks_are ∙ ap (λ n. told_marks n codes) (sym long);
         named = All-weaker (λ f. NamesKey f.code other (string_bytes f.message)) (NamesEarlier es earlier)
-            (λ f names. names_by (named_place earlier) f (found_within k ds es (entry_read x) codes earlier is_open found)
+            (λ f names. names_by (named_place earlier) f (found_within k ds es (entry_read x) codes earlier is_open
+            found)
             other_is names) adds.added adds.named;
       } in
       let more : AreFindingsOn k ds (es ++ entry_read x ∷ []) (old ++ adds.added)

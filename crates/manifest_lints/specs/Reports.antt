@@ -63,9 +63,9 @@ SettlesFew open_keys b Is = (IsTrue b → Is) × (length open_keys ≤ MANY → 
 abbrev pub budget_in : List DeclaredEntry → Condition → ℕ
 budget_in ds c = budget_of (length (sorted_in ds c))
 
--- why something may be left open of a key after others that spells a condition: too many parentheses lie in one another,
--- or too many names and keys are open; the splits are too few for the condition, or for it beside that of a key before
--- it; or too many keys stand before it
+-- why something may be left open of a key after others that spells a condition: too many parentheses lie in one
+-- another, or too many names and keys are open; the splits are too few for the condition, or for it beside that of a
+-- key before it; or too many keys stand before it
 pub data MayBeOpen (k : Known) (ds : List DeclaredEntry) (es : List Entry) (text : List ℕ) (c : Condition) : Type 0
   where
     too_deep : IsNestedBeyond text LEVELS → MayBeOpen k ds es text c

@@ -10,7 +10,8 @@ use Rattle.exact_answers.specs.declared.platforms.PossibleTarget.{PossibleTarget
 use Rattle.exact_answers.specs.Targets.{MayHaveName, IsExample}
 use Rattle.manifest_lints_questions.specs.declared.deciding.Decided.{Decided}
 use Rattle.manifest_lints_questions.specs.declared.deciding.Decided.TheVariants as decided
-use Rattle.manifest_lints_questions.specs.Truths.{IsNever, IsAlways, CanHold, CanFail, SaysNever, SaysAlways, is_yes, is_unknown}
+use Rattle.manifest_lints_questions.specs.Truths.{IsNever, IsAlways, CanHold, CanFail, SaysNever, SaysAlways, is_yes}
+use Rattle.manifest_lints_questions.specs.Truths.{is_unknown}
 
 pub as_ok : {A E : Type 0} (P : A → Type 0) (r s : Result A E) → r ≡ s → IfOk s P → IfOk r P
 as_ok P r s is h = subst (λ z. IfOk z P) (sym is) h

@@ -53,8 +53,8 @@ fn is_unknown(decided: Decided) -> bool
     }
 }
 
-/// Whether it may be asked what holds of the condition of a key over every set of facts: it has no more such levels than
-/// these. The key of one with more has more parentheses in one another.
+/// Whether it may be asked what holds of the condition of a key over every set of facts: it has no more such levels
+/// than these. The key of one with more has more parentheses in one another.
 pub fn may_ask(levels: usize, key: &str) -> bool
     ensures { result ≡ false → IsNestedBeyond key.now LEVELS }
 {

@@ -3,8 +3,8 @@
 //!
 //! The grammar is that of the annex "SPDX license expressions" of the SPDX specification 2.3, by which Cargo's
 //! reference explains the field, and has the older `/` for `OR`. An expression keeps its parts in one list, from left
-//! to right, so that no call takes stack for the depth or the length of a text. What allocates takes the allocator first
-//! and answers a `Result`.
+//! to right, so that no call takes stack for the depth or the length of a text. What allocates takes the allocator
+//! first and answers a `Result`.
 #![tactic(auto)]
 
 mod allowed;

@@ -1,9 +1,10 @@
-//! Rows of questions with their answers: how a row is read, how answers are written, and what the rows of files come to.
+//! Rows of questions with their answers: how a row is read, how answers are written, and what the rows of files come
+//! to.
 //!
 //! A program that runs rows says what it knows of each kind, by [`Kinds`]. It prints each row that came out otherwise,
 //! with what it gave, and at the end how many came out as stated. A row that states nothing is printed with its answer.
-//! The status is 0 where all came out as stated, 1 where some did not, and 9 where none did but memory was lacking, or a
-//! file can't be read.
+//! The status is 0 where all came out as stated, 1 where some did not, and 9 where none did but memory was lacking, or
+//! a file can't be read.
 #![tactic(auto)]
 
 pub mod bars;

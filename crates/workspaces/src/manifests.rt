@@ -30,8 +30,8 @@ pub fn folder_of(file: &str) -> &str {
     }
 }
 
-/// What a call on files gave, where it gave something. It refuses only where memory is refused: then nothing is known of
-/// the file.
+/// What a call on files gave, where it gave something. It refuses only where memory is refused: then nothing is known
+/// of the file.
 pub fn unless_refused<T>(given: io::Result<T>) -> Result<Option<T>, AllocError> {
     match given {
         Ok(given) => Ok(Some(given)),

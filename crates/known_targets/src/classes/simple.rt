@@ -54,8 +54,8 @@ impl Simple {
         &self.facts
     }
 
-    /// The first condition that holds at exactly the targets of the set: one of the facts, `not(..)` of one, or the name
-    /// of the only target. It refuses only where memory is refused.
+    /// The first condition that holds at exactly the targets of the set: one of the facts, `not(..)` of one, or the
+    /// name of the only target. It refuses only where memory is refused.
     pub fn condition(&self, alloc: Global, set: TargetSet) -> Result<Option<Platform>, AllocError>
         // A condition that is answered holds at each target of the set, and at no other known one.
         ensures { IfOk result (λ p. IfSome p (λ p. HoldsExactly set (condition_of p))) }

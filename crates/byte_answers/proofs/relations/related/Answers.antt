@@ -6,7 +6,8 @@ returns-clause-done c = λ done.
     let k = c.rules_alone-known in (
       k.result,
       (
-        only_rules k.result _ k.ensures.facts k.ensures.complete k.ensures.single k.ensures.assumed c.in-Ok.ensures.sets,
+        only_rules k.result _ k.ensures.facts k.ensures.complete k.ensures.single k.ensures.assumed
+            c.in-Ok.ensures.sets,
         c.related_by.ensures.yes done,
         c.related_by.ensures.no done,
       ),
@@ -17,7 +18,8 @@ returns-clause-undecided c = λ is.
     let k = c.rules_alone-known in (
       k.result,
       (
-        only_rules k.result _ k.ensures.facts k.ensures.complete k.ensures.single k.ensures.assumed c.in-Ok.ensures.sets,
+        only_rules k.result _ k.ensures.facts k.ensures.complete k.ensures.single k.ensures.assumed
+            c.in-Ok.ensures.sets,
         c.related_by.ensures.undecided is,
       ),
     )

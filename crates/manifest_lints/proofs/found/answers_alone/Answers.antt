@@ -64,7 +64,8 @@ returns-clause-left_open c = λ known is es holds.
           elim (c.in_ok-never.ensures.unknown unknown) [
             | inl not_asked ↦ too_deep (c.may_ask-may_ask.ensures not_asked)
             | inr more ↦
-                few_splits (subst (λ b. NeedsMoreFor k p b) (c.budget_for-budget.ensures ∙ ap budget_of (counted ∙ long)) more)
+                few_splits (subst (λ b. NeedsMoreFor k p b) (c.budget_for-budget.ensures ∙ ap budget_of (counted ∙
+                long)) more)
           ]
       | inr many ↦
           many_open (subst (λ n. MANY < n)

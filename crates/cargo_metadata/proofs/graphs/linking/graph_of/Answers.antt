@@ -61,7 +61,11 @@ nodes-preserved c =
     (λ h. c.requires.members.sound node.id.now (subst IsSome c.find.ensures h))
     (λ h.
     subst IsSome (sym c.find.ensures)
-    (is_member (place_at c.args.members.now) members node.id.now (λ k less. c.requires.members.complete k (omega (arith, less, length-map m.members.items (λ b. b.now)))) h)) in
+    (is_member (place_at c.args.members.now) members node.id.now (λ k less. c.requires.members.complete k (omega (
+      arith,
+      less,
+      length-map m.members.items (λ b. b.now),
+    ))) h)) in
     let this : IsPackageOf m node d unit = record {
       described = described.described;
       named = described.named ∙ sym is;

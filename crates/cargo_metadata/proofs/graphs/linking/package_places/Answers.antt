@@ -13,7 +13,8 @@ returns-in-Ok-Some c =
     let packages = c.args.metadata.now.packages in
     let i = c.packages.i in
     let below : i < length packages.items = omega (arith, c.packages-test.true, c.len-i-end.ensures, packages.ok.0) in
-    index_repeat (place_at c.packages.places) (package_ids packages.items) c.in-Ok-Some.first i c.index.result.now.id.now
+    index_repeat (place_at c.packages.places) (package_ids packages.items) c.in-Ok-Some.first i
+    c.index.result.now.id.now
     (inside_ids (λ p. p.id.now) packages.items i below)
     (id_read (λ p. p.id.now) packages.items i c.index.result.now below c.index.ensures)
     (sym c.in-Ok-Some.ensures.earlier ∙ c.in-Ok-Some.field-0-is) c.packages.invariant

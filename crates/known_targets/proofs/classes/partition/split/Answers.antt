@@ -16,5 +16,6 @@ classes-preserved c =
 pub returns : goal.returns
 returns c =
     subst (λ (cs : List TargetSet). AreParts c.args.set cs c.classes.parts.items) c.deref-class-items.ensures.value
-    (all_parts c.args.set c.deref-class-items.result.now c.classes.parts.items c.classes.class-index c.classes-test.false
+    (all_parts c.args.set c.deref-class-items.result.now c.classes.parts.items c.classes.class-index
+    c.classes-test.false
     c.classes.invariant)

@@ -11,7 +11,8 @@ pub packages-preserved : goal.packages-preserved
 packages-preserved c p side below =
     let s = c.args.self.now in
     let ds = c.args.distances.now in
-    below_more (λ p. (side : Side) → IsNear s ds (p, side)) c.packages.i (λ p less side. c.packages.invariant p side less)
+    below_more (λ p. (side : Side) → IsNear s ds (p, side)) c.packages.i (λ p less side. c.packages.invariant p side
+    less)
     (both_near s ds c.packages.i (c.are_near.ensures c.if-not-are_near.false)
     (c.are_near-in-packages.ensures c.if-not-are_near-2.false)) p below side
 

@@ -23,7 +23,8 @@ returns-in_ok-add-in-Some-clause-reading c =
     (← c.in_ok-text-in-Some.ensures.ok) c.in_ok-add-in-Some.ensures.parts in
     reads_behind c.add.new.self self.text.now place self.depth ps
     (record { mode = Behind; depth = self.depth; parts = ps }) (ap (λ b. b.now) c.in_ok-add-in-Some.ensures.same)
-    c.in_ok-add-in-Some.ensures.place c.in_ok-add-in-Some.ensures.depth c.in_ok-add-in-Some.ensures.wanted parts boundary (omega (arith, c.requires.order, c.requires.depth, order))
+    c.in_ok-add-in-Some.ensures.place c.in_ok-add-in-Some.ensures.depth c.in_ok-add-in-Some.ensures.wanted parts
+    boundary (omega (arith, c.requires.order, c.requires.depth, order))
     (reach_excepted self.text.now _ (left self.text.now place) c.in-Some.exception.word.now t self.depth
     (pieces self.parts.items) found c.requires.reached)
     (is_behind _ _ _)
