@@ -1,26 +1,36 @@
 -- One more condition among those that were noted, and one that later ones are compared with.
-use Rattle.std.proofs.Common.{◌≡◌, ◌∙◌, refl, sym, subst, ℕ, ◌<◌, true, cond, List, [], ◌∷◌, get_or, length, ltb}
+use Rattle.std.proofs.Common.{◌≡◌, ◌∙◌, refl, sym, ap, subst, ℕ, ◌+◌, ◌<◌, ◌≤◌, true, false, true≢false, cond, arith}
+use Rattle.std.proofs.Common.{List, [], ◌∷◌, ◌++◌, map, take, get_or, length, length-append, ltb}
 use Rattle.std.proofs.Common.{◌↔◌, ◌⊎◌, inl, Option, Some, None}
 use Rattle.std.proofs.Common.{Result, Ok, Err, IfOk, IsTrue}
-use Rattle.std.specs.Prelude.{IfSome}
+use Rattle.std.specs.Prelude.{IfSome, String, Vec, string_bytes}
+use Rattle.std.specs.declared.alloc.Global.{Global}
+use Rattle.std.specs.BTreeMap as ordered
+use Rattle.std.specs.Ordering.{nat_cmp}
+use Rattle.std.specs.Cmp.Lexicographic.{slice_cmp}
+use Rattle.std.proofs.lemmas.List.{take_all, take_more}
+use Rattle.std.proofs.lemmas.List.Elements.{All-nil, All-push}
 use Rattle.std.specs.Ordering.{is_eq}
 use Rattle.std.specs.Borrow.{Bor}
 use Rattle.std.specs.List.{Any}
 use Rattle.std.specs.declared.cmp.Ordering.{Ordering}
 use Rattle.std.specs.declared.cmp.Ordering.TheVariants.{Less, Equal, Greater}
-use Rattle.std.proofs.lemmas.Bool.{ltb-true}
+use Rattle.std.proofs.lemmas.Bool.{ltb-true, lt-ltb}
 use Rattle.cargo_platform.specs.declared.Platform.{Platform}
-use Rattle.cargo_platform.specs.Trees.{Condition, condition_of}
+use Rattle.cargo_platform.specs.Trees.{Condition, Target, Expression, condition_of, value_of}
+use Rattle.cargo_platform.specs.Facts.{IsTrueCondition, fact_set}
 use Rattle.cargo_platform.specs.Key.{condition_key, condition_cmp}
 use Rattle.cargo_platform.specs.OrderLaws.{condition_equal_iff}
 use Rattle.exact_answers.specs.Asking.{NeedsMore}
-use Rattle.exact_answers.specs.Targets.{asked_trees}
+use Rattle.exact_answers.specs.Targets.{asked_trees, MayHaveName, IsExample}
+use Rattle.exact_answers.specs.declared.platforms.PossibleTarget.{PossibleTarget}
 use Rattle.exact_answers.specs.declared.known.Known.{Known}
 use Rattle.manifest_lints_questions.specs.declared.earlier.Keys.{Keys}
 use Rattle.manifest_lints_questions.specs.declared.earlier.Earlier.{Earlier}
 use Rattle.manifest_lints_questions.specs.declared.earlier.TheConstants.{MOST}
 use Rattle.manifest_lints_questions.specs.Earlier.{AreEquivalent, HasEquivalentMember, MayBeUndecided}
-use Rattle.manifest_lints_questions.specs.Earlier.{equivalent_place, is_undecided}
+use Rattle.manifest_lints_questions.specs.Earlier.{equivalent_place, is_undecided, Member, IsMemberAt}
+use Rattle.manifest_lints_questions.specs.Earlier.{NoneIsEquivalent, places_in, places_of}
 
 -- a map in which one key is set
 
@@ -52,6 +62,67 @@ pub undecided_at : (k : Known) (ms : List (ℕ × Bor Platform)) (keys : Keys) (
 undecided_at k ms keys c i splits m are within at more =
     inl (subst (Any (λ (x : ℕ × Bor Platform). NeedsMore k (asked_trees (condition_of x.1.now ∷ c ∷ [])) splits)) are
     (i, m, ltb-true i (length ms) within, sym at, more))
+
+-- ---- conditions that are not as true
+
+-- an example of a target has some name
+name_beside : (o : Option (String Global)) (q p : Condition) → (name : List ℕ) × MayHaveName o (q ∷ p ∷ []) name
+name_beside (Some own) q p = (string_bytes own, refl)
+name_beside None (Target a) (Target b) =
+    let long : length (a ++ b) ≡ length a + length b = length-append a b in (
+      0 ∷ (a ++ b),
+      (
+        λ e. let l : length a ≡ length (0 ∷ (a ++ b)) = ap length e in omega arith,
+        (λ e. let l : length b ≡ length (0 ∷ (a ++ b)) = ap length e in omega arith, tt),
+      ),
+    )
+name_beside None (Target a) (Expression e) =
+    (0 ∷ a, (λ is. let l : length a ≡ length (0 ∷ a) = ap length is in omega arith, tt))
+name_beside None (Expression e) (Target b) =
+    (0 ∷ b, (λ is. let l : length b ≡ length (0 ∷ b) = ap length is in omega arith, tt))
+name_beside None (Expression e) (Expression f) = ([], tt)
+
+-- where an example tells two conditions apart, they are not as true
+pub not_alike : (k : Known) (q p : Condition) (t : PossibleTarget)
+    → IsExample t k (q ∷ p ∷ []) (λ name s. (IsTrueCondition name s q ↔ IsTrueCondition name s p) → ⊥)
+    → AreEquivalent k q p → ⊥
+not_alike k q p t is alike =
+    let n = name_beside t.name q p in
+    is.1.0 n.0 n.1 (alike n.0 (fact_set (map value_of t.facts.items)) is.0)
+
+-- the member that was found at a place is the one there
+pub not_member_at : (k : Known) (ms : List Member) (keys : Keys) (c : Condition) (i : ℕ) (m : Member)
+    → ms ≡ keys.members.items → m ≡ get_or ms i m → (AreEquivalent k (condition_of m.1.now) c → ⊥)
+    → (n : Member) → IsMemberAt keys n i → AreEquivalent k (condition_of n.1.now) c → ⊥
+not_member_at k ms keys c i m are at apart n is alike =
+    let same : n ≡ m = sym (is.1 m) ∙ sym (ap (λ (xs : List Member). get_or xs i m) are) ∙ sym at in
+    apart (subst (λ (x : Member). AreEquivalent k (condition_of x.1.now) c) same alike)
+
+-- no member stands past the last
+pub none_past : (k : Known) (ms : List Member) (keys : Keys) (c : Condition) (i : ℕ) → ms ≡ keys.members.items
+    → ltb i (length ms) ≡ false
+    → (n : Member) → IsMemberAt keys n i → AreEquivalent k (condition_of n.1.now) c → ⊥
+none_past k ms keys c i are past n is alike =
+    true≢false (sym (lt-ltb i (length ms) (subst (λ (xs : List Member). i < length xs) (sym are) is.0)) ∙ past)
+
+pub none_compared : (k : Known) (keys : Keys) (c : Condition) (ns : List ℕ) → NoneIsEquivalent k keys c (take 0 ns)
+none_compared k keys c ns =
+    All-nil (λ n. (m : Member) → IsMemberAt keys m n → AreEquivalent k (condition_of m.1.now) c → ⊥)
+
+pub one_compared : (k : Known) (keys : Keys) (c : Condition) (ns : List ℕ) (i d : ℕ) → i < length ns
+    → NoneIsEquivalent k keys c (take i ns)
+    → ((n : Member) → IsMemberAt keys n (get_or ns i d) → AreEquivalent k (condition_of n.1.now) c → ⊥)
+    → NoneIsEquivalent k keys c (take (i + 1) ns)
+one_compared k keys c ns i d within before now =
+    subst (NoneIsEquivalent k keys c) (sym (take_more ns i d within))
+    (All-push (λ n. (m : Member) → IsMemberAt keys m n → AreEquivalent k (condition_of m.1.now) c → ⊥)
+    (take i ns) (get_or ns i d) before now)
+
+pub all_compared : (k : Known) (keys : Keys) (c : Condition) (ns class : List ℕ) (i : ℕ)
+    (o : Option (Vec ℕ Global)) → length ns ≤ i → NoneIsEquivalent k keys c (take i ns) → ns ≡ places_in o
+    → o ≡ ordered.get (slice_cmp nat_cmp) keys.classes class → NoneIsEquivalent k keys c (places_of keys class)
+all_compared k keys c ns class i o past before are is =
+    subst (NoneIsEquivalent k keys c) (take_all i ns past ∙ are ∙ ap places_in is) before
 
 -- what notes a condition adds no member
 pub same_members : {E : Type 0} (k : Known) (new old : Keys) (c : Condition) (r : Result Earlier E)

@@ -1,7 +1,11 @@
 -- How a condition stands to earlier ones: which is the same, raw marks aside, and which are as true.
-use Rattle.std.specs.Prelude.{◌≡◌, ◌⊎◌, ◌↔◌, ◌<◌, ℕ, Bool, true, false, [], ◌∷◌, ◌++◌, length, Option, Some, None}
-use Rattle.std.specs.List.{Any}
+use Rattle.std.specs.Prelude.{◌≡◌, ◌⊎◌, ◌↔◌, ◌<◌, ℕ, Bool, true, false, IsTrue, List, [], ◌∷◌, ◌++◌, length, get_or, set}
+use Rattle.std.specs.Prelude.{Option, Some, None, IfSome, Vec}
+use Rattle.std.specs.declared.alloc.Global.{Global}
+use Rattle.std.specs.List.{Any, All}
 use Rattle.std.specs.Borrow.{Bor}
+use Rattle.std.specs.Ordering.{nat_cmp}
+use Rattle.std.specs.Cmp.Lexicographic.{slice_cmp}
 use Rattle.std.specs.BTreeMap as ordered
 use Rattle.cargo_platform.specs.declared.Platform.{Platform}
 use Rattle.cargo_platform.specs.Trees.{Condition, condition_of}
@@ -13,7 +17,7 @@ use Rattle.exact_answers.specs.Targets.{ForEach, asked_trees}
 use Rattle.manifest_lints_questions.specs.declared.earlier.Earlier.{Earlier}
 use Rattle.manifest_lints_questions.specs.declared.earlier.Earlier.TheVariants as earlier
 use Rattle.manifest_lints_questions.specs.declared.earlier.Keys.{Keys}
-use Rattle.manifest_lints_questions.specs.declared.earlier.TheConstants.{MOST}
+use Rattle.manifest_lints_questions.specs.declared.earlier.TheConstants.{MOST, NUMBERED, NOT_NUMBERED}
 
 abbrev pub is_same : Earlier → Bool
 is_same (earlier.Same first) = true
@@ -32,6 +36,12 @@ is_undecided (earlier.Same first) = false
 is_undecided earlier.Unlike = false
 is_undecided (earlier.Equivalent first) = false
 is_undecided earlier.Undecided = true
+
+abbrev pub is_unlike : Earlier → Bool
+is_unlike (earlier.Same first) = false
+is_unlike earlier.Unlike = true
+is_unlike (earlier.Equivalent first) = false
+is_unlike earlier.Undecided = false
 
 -- the place of the earlier key that is said to be the same, and of the one that is said to be as true
 abbrev pub same_place : Earlier → Option ℕ
@@ -77,6 +87,47 @@ MayBeUndecided k None keys c = Unit {0}
 MayBeUndecided k (Some splits) keys c =
     Any (λ m. NeedsMore k (asked_trees (condition_of m.1.now ∷ c ∷ [])) splits) keys.members.items
     ⊎ (MOST < length keys.members.items)
+
+-- what is told beside the members: none is the same, one is as true, or that is not known
+abbrev pub TellsNoSame : Earlier → Type 0
+TellsNoSame r = same_place r ≡ None
+
+abbrev pub TellsEquivalent : Known → Keys → Condition → Earlier → Type 0
+TellsEquivalent k keys c r = IfSome (equivalent_place r) (HasEquivalentMember k keys c)
+
+abbrev pub TellsUndecided : Known → Option ℕ → Keys → Condition → Earlier → Type 0
+TellsUndecided k budget keys c r = IsTrue (is_undecided r) → MayBeUndecided k budget keys c
+
+-- ---- what is compared
+
+abbrev pub Member : Type 0
+Member = ℕ × Bor Platform
+
+-- the member stands at this place among them
+abbrev pub IsMemberAt : Keys → Member → ℕ → Type 0
+IsMemberAt keys m n = (n < length keys.members.items) × ((other : Member) → get_or keys.members.items n other ≡ m)
+
+-- none that stands at one of these places is as true
+abbrev pub NoneIsEquivalent : Known → Keys → Condition → List ℕ → Type 0
+NoneIsEquivalent k keys c ns =
+    All (λ n. (m : Member) → IsMemberAt keys m n → AreEquivalent k (condition_of m.1.now) c → ⊥) ns
+
+abbrev pub places_in : Option (Vec ℕ Global) → List ℕ
+places_in None = []
+places_in (Some places) = places.items
+
+-- the places of the members of a class
+abbrev pub places_of : Keys → List ℕ → List ℕ
+places_of keys class = places_in (ordered.get (slice_cmp nat_cmp) keys.classes class)
+
+-- the part of a class whose conditions share a number, or have none
+abbrev pub part_of : List ℕ → Option ℕ → List ℕ
+part_of class (Some number) = set (set class 6 NUMBERED) 7 number
+part_of class None = set class 6 NOT_NUMBERED
+
+-- where a key is told to be unlike those of a class, none of them is as true
+abbrev pub TellsUnlike : Known → Keys → Condition → List ℕ → Earlier → Type 0
+TellsUnlike k keys c class r = IsTrue (is_unlike r) → NoneIsEquivalent k keys c (places_of keys class)
 
 -- to these none is added, or one
 abbrev pub AddsMember : Keys → Keys → ℕ → Bor Platform → Type 0

@@ -1,12 +1,13 @@
 //! How a key stands to those before it: the same condition, or one that is as true.
 
-ghost use Rattle.std.specs.Prelude.{◌≡◌, None, [], IfOk, OnOk, IfSome, IsTrue};
+ghost use Rattle.std.specs.Prelude.{◌≡◌, None, [], IfOk, OnOk, IsTrue};
 ghost use Rattle.std.specs.Borrow.{Bor};
 ghost use Rattle.cargo_platform.specs.declared.Platform.{Platform as Shown};
 ghost use Rattle.cargo_platform.specs.Trees.{condition_of};
 ghost use Rattle.manifest_lints_questions.specs.Earlier.{is_same, is_equivalent, is_undecided, noted, Notes};
-ghost use Rattle.manifest_lints_questions.specs.Earlier.{same_place, equivalent_place, AddsMember};
-ghost use Rattle.manifest_lints_questions.specs.Earlier.{HasEquivalentMember, MayBeUndecided};
+ghost use Rattle.manifest_lints_questions.specs.Earlier.{same_place, AddsMember};
+ghost use Rattle.manifest_lints_questions.specs.Earlier.{TellsNoSame, TellsEquivalent, TellsUndecided, TellsUnlike};
+ghost use Rattle.manifest_lints_questions.specs.Earlier.{is_unlike, part_of};
 
 use crate::sample_sets::{beyond_targets, truths};
 use cargo_platform::{CfgExpr, Platform};
@@ -32,6 +33,13 @@ pub enum Earlier {
 }
 
 impl Earlier {
+    /// Whether none is the same or as true.
+    fn is_unlike(self) -> bool
+        ensures { result ≡ is_unlike self }
+    {
+        matches!(self, Earlier::Unlike)
+    }
+
     /// Whether an earlier key is the same.
     pub fn is_same(self) -> bool
         ensures { result ≡ is_same self }
@@ -102,10 +110,8 @@ impl<'a> Keys<'a> {
         budget: Option<u64>,
     ) -> Result<Earlier, AllocError>
         ensures same { IfOk result (λ r. same_place r ≡ noted self.old platform.entry) }
-        ensures equivalent { IfOk result (λ r. IfSome (equivalent_place r)
-            (HasEquivalentMember known.now self.old (condition_of platform.entry.now))) }
-        ensures undecided { IfOk result (λ r. IsTrue (is_undecided r)
-            → MayBeUndecided known.now budget self.old (condition_of platform.entry.now)) }
+        ensures equivalent { IfOk result (TellsEquivalent known.now self.old (condition_of platform.entry.now)) }
+        ensures undecided { IfOk result (TellsUndecided known.now budget self.old (condition_of platform.entry.now)) }
         ensures notes { OnOk result (Notes self.old self.new index platform.entry) }
         ensures members { OnOk result (AddsMember self.old self.new index platform.entry) }
     {
@@ -138,11 +144,9 @@ impl<'a> Keys<'a> {
         known: &'a Known<'a>,
         budget: Option<u64>,
     ) -> Result<Earlier, AllocError>
-        ensures other { IfOk result (λ r. same_place r ≡ None) }
-        ensures equivalent { IfOk result (λ r. IfSome (equivalent_place r)
-            (HasEquivalentMember known.now self.old (condition_of platform.entry.now))) }
-        ensures undecided { IfOk result (λ r. IsTrue (is_undecided r)
-            → MayBeUndecided known.now budget self.old (condition_of platform.entry.now)) }
+        ensures other { IfOk result TellsNoSame }
+        ensures equivalent { IfOk result (TellsEquivalent known.now self.old (condition_of platform.entry.now)) }
+        ensures undecided { IfOk result (TellsUndecided known.now budget self.old (condition_of platform.entry.now)) }
         ensures noted { OnOk result ((q : Bor Shown) → noted self.new q ≡ noted self.old q) }
         ensures members { OnOk result (AddsMember self.old self.new index platform.entry) }
     {
@@ -155,7 +159,7 @@ impl<'a> Keys<'a> {
             Some(_) => self.as_true_in_part(alloc, class, number, platform, known, budget)?,
             None => self.as_true(alloc, &class, platform, known, budget)?,
         };
-        if found != Earlier::Unlike {
+        if !found.is_unlike() {
             return Ok(found);
         }
         let place = self.members.len();
@@ -175,15 +179,17 @@ impl<'a> Keys<'a> {
         known: &'a Known<'a>,
         budget: Option<u64>,
     ) -> Result<Earlier, AllocError>
-        ensures other { IfOk result (λ r. same_place r ≡ None) }
-        ensures equivalent { IfOk result (λ r. IfSome (equivalent_place r)
-            (HasEquivalentMember known.now self.now (condition_of platform.entry.now))) }
-        ensures undecided { IfOk result (λ r. IsTrue (is_undecided r)
-            → MayBeUndecided known.now budget self.now (condition_of platform.entry.now)) }
+        ensures other { IfOk result TellsNoSame }
+        ensures equivalent { IfOk result (TellsEquivalent known.now self.now (condition_of platform.entry.now)) }
+        ensures undecided { IfOk result (TellsUndecided known.now budget self.now (condition_of platform.entry.now)) }
+        ensures numbered { IfOk result
+            (TellsUnlike known.now self.now (condition_of platform.entry.now) (part_of class number)) }
+        ensures not_numbered { IfOk result
+            (TellsUnlike known.now self.now (condition_of platform.entry.now) (part_of class None)) }
     {
         let part = part_of(class, number);
         let found = self.as_true(alloc, &part, platform, known, budget)?;
-        if found != Earlier::Unlike {
+        if !found.is_unlike() {
             return Ok(found);
         }
         let part = part_of(class, None);
@@ -199,11 +205,11 @@ impl<'a> Keys<'a> {
         known: &'a Known<'a>,
         budget: Option<u64>,
     ) -> Result<Earlier, AllocError>
-        ensures other { IfOk result (λ r. same_place r ≡ None) }
-        ensures equivalent { IfOk result (λ r. IfSome (equivalent_place r)
-            (HasEquivalentMember known.now self.now (condition_of platform.entry.now))) }
-        ensures undecided { IfOk result (λ r. IsTrue (is_undecided r)
-            → MayBeUndecided known.now budget self.now (condition_of platform.entry.now)) }
+        ensures other { IfOk result TellsNoSame }
+        ensures equivalent { IfOk result (TellsEquivalent known.now self.now (condition_of platform.entry.now)) }
+        ensures undecided { IfOk result (TellsUndecided known.now budget self.now (condition_of platform.entry.now)) }
+        ensures unlike { IfOk result
+            (TellsUnlike known.now self.now (condition_of platform.entry.now) class.now) }
     {
         let Some(places) = self.classes.get(class) else {
             return Ok(Earlier::Unlike);
@@ -212,7 +218,7 @@ impl<'a> Keys<'a> {
             return Ok(Earlier::Undecided);
         };
         let mut asked: usize = 0;
-        for place in places {
+        'places: for place in places {
             if asked == MOST && self.members.len() > MOST {
                 return Ok(Earlier::Undecided);
             }
@@ -231,7 +237,9 @@ impl<'a> Keys<'a> {
 }
 
 /// The part of a class whose conditions share a number, or have none.
-fn part_of(class: Class, number: Option<u64>) -> Class {
+fn part_of(class: Class, number: Option<u64>) -> Class
+    ensures { result ≡ part_of class number }
+{
     let mut part = class;
     match number {
         Some(number) => {
