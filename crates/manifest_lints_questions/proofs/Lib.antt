@@ -1,3 +1,6 @@
 pub mod Verdicts
 pub mod Tried
 pub mod Noting
+pub mod Words
+pub mod Rows
+pub mod Samples

@@ -1,3 +1,4 @@
 pub mod Truths
 pub mod Doubled
 pub mod Earlier
+pub mod Samples

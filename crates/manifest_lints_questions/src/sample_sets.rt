@@ -1,13 +1,21 @@
 //! Sets of facts that are tried. Each has the facts of a known target, and some that are no fact of rustc's.
 
-ghost use Rattle.std.specs.Prelude.{◌≡◌, [], map, IfOk};
-ghost use Rattle.cargo_platform.specs.Trees.{value_of, condition_of};
-ghost use Rattle.cargo_platform.specs.Facts.{fact_set, truth_of_condition};
+ghost use Rattle.std.specs.Prelude.{◌≡◌, ◌<◌, ◌*◌, ◌==◌, ◌&&◌, ◌||◌, ℕ, true, false, [], map, IfOk, IfSome, IfNone};
+ghost use Rattle.std.specs.FinSet.{contains};
+ghost use Rattle.cargo_platform.specs.Trees.{value_of, tree_of, condition_of};
+ghost use Rattle.cargo_platform.specs.Facts.{fact_set, pair_of, truth_of_condition};
+ghost use Rattle.partial_facts.specs.OneValued.{is_single, is_value};
+ghost use Rattle.partial_facts.specs.Partly.{names_of};
+ghost use Rattle.known_targets.specs.Groups.{both};
+ghost use Rattle.known_targets.specs.Sets.{is_member};
+ghost use Rattle.known_targets.specs.Table.{target_facts};
+ghost use Rattle.known_targets.specs.declared.table.TheConstants.{COUNT};
+ghost use Rattle.manifest_lints_questions.specs.Samples.{AreBits, AreTruths, is_rustcs, holds, holds_beside, is_only};
+ghost use Rattle.manifest_lints_questions.specs.Samples.{is_set, mixed, spread, mixed_truths};
 
 use cargo_platform::{Cfg, CfgExpr, FactIndex, Platform};
 use expression_folds::{Fold, fold_expression, values_of};
 use known_targets::{KnownTarget, TargetSet, having, names};
-use manifest_lints_standings::rustc_names::{FLAGGED, PLAIN, VALUED, name_in};
 use partial_facts::ONE_VALUED;
 use partial_facts::names::is_among;
 use std::alloc::{AllocError, Global};
@@ -65,11 +73,13 @@ fn facts_at(alloc: Global, platform: &Platform, place: u32) -> Result<Vec<Cfg>, 
 
 /// The truths of an expression over 64 sets of facts that are possible, one a bit. Each has the facts of a known target
 /// and some that are no fact of rustc's.
-pub fn truths(alloc: Global, e: &CfgExpr) -> Result<u64, AllocError> {
+pub fn truths(alloc: Global, e: &CfgExpr) -> Result<u64, AllocError>
+    ensures { IfOk result (AreTruths (holds_beside None) (tree_of e.now)) }
+{
     fold_expression(alloc, e, &OverSamples { other: None })
 }
 
-/// The 64 sets of facts, each a bit of what is made. Nothing is promised of the truths: what they show is asked again.
+/// The 64 sets of facts, each a bit of what is made.
 #[derive(Clone, Copy, Drop)]
 struct OverSamples<'a> {
     /// What stands in each set in place of the pair of its key.
@@ -85,29 +95,67 @@ struct Other<'a> {
 
 impl<'a> OverSamples<'a> {
     /// The truths of a name or pair.
-    fn truths_at(&self, c: &Cfg) -> u64 {
-        let Some(other) = self.other else {
-            return truths_of(c);
-        };
-        match c {
-            Cfg::KeyPair(key, value) if key.as_str() == other.key => match other.value {
-                Some(only) => everywhere(value.as_str() == only),
-                None => 0,
-            },
-            _ => truths_of(c),
+    fn truths_at(&self, c: &Cfg) -> u64
+        ensures { AreBits (λ l. holds_beside self.now.other l (pair_of (value_of c.now))) result }
+    {
+        match self.other {
+            None => truths_of(c),
+            Some(other) => truths_beside(other, c),
         }
     }
 }
 
+/// The truths of a name or pair, where a key has another value.
+fn truths_beside(other: Other<'_>, c: &Cfg) -> u64
+    ensures { AreBits (λ l. holds_beside (Some other.entry) l (pair_of (value_of c.now))) result }
+{
+    if is_value_of(c, other.key) {
+        return everywhere(has_only(c, other.value));
+    }
+    truths_of(c)
+}
+
+/// Whether the fact is a value of this key.
+fn is_value_of(c: &Cfg, key: &str) -> bool
+    ensures { result ≡ is_value key.now (pair_of (value_of c.now)) }
+{
+    match c {
+        Cfg::Name(_) => false,
+        Cfg::KeyPair(own, _) => own.as_str() == key,
+    }
+}
+
+/// Whether the fact has this value, where there is one.
+fn has_only(c: &Cfg, only: Option<&str>) -> bool
+    ensures { result ≡ is_only only.entry (pair_of (value_of c.now)).value }
+{
+    match c {
+        Cfg::Name(_) => false,
+        Cfg::KeyPair(_, value) => is_only(only, value.as_str()),
+    }
+}
+
+/// Whether the text is this value, where there is one.
+fn is_only(only: Option<&str>, value: &str) -> bool
+    ensures { result ≡ is_only only.entry (Some value.now) }
+{
+    match only {
+        Some(only) => value == only,
+        None => false,
+    }
+}
+
 impl<'a> Fold for OverSamples<'a> {
+    ghost use Rattle.cargo_platform.specs.Walk.{list_tree};
+
     type Part = u64;
 
     /// The truths of the group so far.
     type Members = u64;
 
-    ghost makes = { λ _ _ _. Unit {0} };
+    ghost makes = { λ sets e part. AreTruths (holds_beside sets.other) e part };
 
-    ghost gathers = { λ _ _ _ _. Unit {0} };
+    ghost gathers = { λ sets neutral es so_far. AreTruths (holds_beside sets.other) (list_tree neutral es) so_far };
 
     fn value(&self, c: &Cfg) -> Result<u64, AllocError> {
         Ok(self.truths_at(c))
@@ -126,12 +174,7 @@ impl<'a> Fold for OverSamples<'a> {
     }
 
     fn add(&self, neutral: bool, so_far: u64, part: u64) -> Result<Result<u64, u64>, AllocError> {
-        let truths = if neutral {
-            so_far & part
-        } else {
-            so_far | part
-        };
-        Ok(Ok(truths))
+        Ok(Ok(joined(neutral, so_far, part)))
     }
 
     fn group(&self, _neutral: bool, members: u64) -> u64 {
@@ -227,62 +270,119 @@ pub fn beyond_targets(
     Ok(Some(sum))
 }
 
+/// The truths of a group with one more member.
+fn joined(neutral: bool, so_far: u64, part: u64) -> u64
+    ensures { AreBits (λ l. both neutral (is_set so_far l) (is_set part l)) result }
+{
+    if neutral {
+        so_far & part
+    } else {
+        so_far | part
+    }
+}
+
 /// The same truth over each of the sets.
-fn everywhere(truth: bool) -> u64 {
+fn everywhere(truth: bool) -> u64
+    ensures { AreBits (λ l. truth) result }
+{
     if truth { u64::MAX } else { 0 }
 }
 
 /// The truths of a name or pair.
-fn truths_of(c: &Cfg) -> u64 {
-    let Some(targets) = targets_of(c) else {
-        return mixed_truths(c);
-    };
+fn truths_of(c: &Cfg) -> u64
+    ensures { AreBits (λ l. holds l (pair_of (value_of c.now))) result }
+{
+    match targets_of(c) {
+        Some(targets) => sampled(targets),
+        None => mixed_truths(c),
+    }
+}
+
+/// Which of the targets whose facts are in the sets are among these, a bit for each.
+fn sampled(targets: TargetSet) -> u64
+    ensures { AreBits (λ l. is_member targets (l * STRIDE)) result }
+{
+    let words = targets.words();
     let mut truths = 0;
-    for target in targets.iter() {
-        let index = target.index();
-        if index % STRIDE == 0 {
-            truths |= 1u64 << (index / STRIDE % 64);
-        }
+    'places: for place in 0..64usize {
+        let index = place * STRIDE;
+        let is_there = (words[index / 64] >> (index % 64)) & 1 == 1;
+        truths = with_bit(truths, place, is_there);
     }
     truths
 }
 
-/// The known targets that have a name or pair, if it is one of rustc's: one that some target has, or a value of a key
-/// that has one value.
-fn targets_of(c: &Cfg) -> Option<TargetSet> {
-    let name = name_in(c);
-    if !is_among(name, &PLAIN) && !is_among(name, &VALUED) && !is_among(name, &FLAGGED) {
-        return None;
-    }
-    let targets = having(c);
-    let is_single = matches!(c, Cfg::KeyPair(_, _)) && is_among(name, ONE_VALUED);
-    if is_single || !targets.is_empty() {
-        Some(targets)
+/// The word with one more bit where that is told.
+fn with_bit(word: u64, place: usize, is_there: bool) -> u64
+    requires { place < 64 }
+    ensures { (l : ℕ) → is_set result l ≡ (((l == place) && is_there) || is_set word l) }
+{
+    if is_there {
+        word | (1u64 << place)
     } else {
-        None
+        word
     }
 }
 
-/// The truths of a name or pair that is none of rustc's.
-fn mixed_truths(c: &Cfg) -> u64 {
-    let mut truths = mixed(0xcbf2_9ce4_8422_2325, name_in(c));
-    if let Cfg::KeyPair(_, value) = c {
-        truths = mixed(truths.wrapping_add(1), value.as_str());
+/// The known targets that have a name or pair, if it is one of rustc's: one that some target has, or a value of a key
+/// that has one value.
+fn targets_of(c: &Cfg) -> Option<TargetSet>
+    ensures some { IfSome result (λ targets. is_rustcs (pair_of (value_of c.now)) ≡ true) }
+    ensures members { IfSome result (λ targets. (k : ℕ) → k < COUNT
+        → is_member targets k ≡ contains (target_facts k) (pair_of (value_of c.now))) }
+    ensures none { IfNone result (is_rustcs (pair_of (value_of c.now)) ≡ false) }
+{
+    let targets = having(c);
+    if is_of_key(c, ONE_VALUED) {
+        return Some(targets);
     }
-    spread(truths)
+    if targets.is_empty() {
+        return None;
+    }
+    Some(targets)
+}
+
+/// Whether the fact is a value of one of these keys.
+pub fn is_of_key(c: &Cfg, keys: &[&str]) -> bool
+    ensures { result ≡ is_single (names_of keys.now) (pair_of (value_of c.now)) }
+{
+    match c {
+        Cfg::Name(_) => false,
+        Cfg::KeyPair(key, _) => is_among(key.as_str(), keys),
+    }
+}
+
+/// Where the number of a name or pair begins.
+const START: u64 = 0xcbf2_9ce4_8422_2325;
+
+/// The truths of a name or pair that is none of rustc's.
+fn mixed_truths(c: &Cfg) -> u64
+    ensures { result ≡ mixed_truths (pair_of (value_of c.now)) }
+{
+    match c {
+        Cfg::Name(name) => spread(mixed(START, name.as_str())),
+        Cfg::KeyPair(key, value) => {
+            let number = mixed(START, key.as_str()).wrapping_add(1);
+            spread(mixed(number, value.as_str()))
+        }
+    }
 }
 
 /// A number that hangs on each byte of the text.
-fn mixed(start: u64, text: &str) -> u64 {
+fn mixed(start: u64, text: &str) -> u64
+    ensures { result ≡ mixed start text.now }
+{
     let mut mixed = start;
-    for byte in text.as_bytes() {
+    'bytes: for byte in text.as_bytes() {
         mixed = (mixed ^ u64::from(*byte)).wrapping_mul(0x0100_0000_01b3);
     }
     mixed
 }
 
 /// The number, each of whose bits hangs on each bit of this one.
-fn spread(number: u64) -> u64 {
+fn spread(number: u64) -> u64
+    ensures { result ≡ spread number }
+{
     let number = (number ^ (number >> 33)).wrapping_mul(0xff51_afd7_ed55_8ccd);
     let number = (number ^ (number >> 33)).wrapping_mul(0xc4ce_b9fe_1a85_ec53);
     number ^ (number >> 33)

@@ -4,15 +4,14 @@ ghost use Rattle.std.specs.Prelude.{◌≡◌, map, IfOk, IsTrue};
 ghost use Rattle.std.specs.List.{list_any};
 ghost use Rattle.cargo_platform.specs.Trees.{value_of, condition_of};
 ghost use Rattle.cargo_platform.specs.Facts.{fact_set, pair_of};
-ghost use Rattle.exact_answers.specs.Possible.{IsAllowed, is_single};
+ghost use Rattle.exact_answers.specs.Possible.{IsAllowed};
 ghost use Rattle.partial_facts.specs.Partly.{names_of};
 ghost use Rattle.manifest_lints_questions.specs.Truths.{CanBe};
 ghost use Rattle.manifest_lints_questions.specs.Doubled.{are_two, has_doubled, pairs_at};
 
-use crate::sample_sets::{holds_over, tried};
+use crate::sample_sets::{holds_over, is_of_key, tried};
 use cargo_platform::{Cfg, Platform};
 use exact_answers::Known;
-use partial_facts::names::is_among;
 use std::alloc::{AllocError, Global};
 
 /// Whether a set of facts that is tried shows that the condition can be as true as this.
@@ -66,16 +65,6 @@ fn has_doubled(facts: &[Cfg], single: &[&str]) -> bool
         }
     }
     false
-}
-
-/// Whether the fact is a value of one of these keys.
-fn is_of_key(c: &Cfg, keys: &[&str]) -> bool
-    ensures { result ≡ is_single (names_of keys.now) (pair_of (value_of c.now)) }
-{
-    match c {
-        Cfg::Name(_) => false,
-        Cfg::KeyPair(key, _) => is_among(key.as_str(), keys),
-    }
 }
 
 /// Whether one of the facts is another value of the key of this one.
