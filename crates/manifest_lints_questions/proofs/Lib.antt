@@ -4,3 +4,4 @@ pub mod Noting
 pub mod Words
 pub mod Rows
 pub mod Samples
+pub mod Classes

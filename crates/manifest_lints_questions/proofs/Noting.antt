@@ -3,7 +3,7 @@ use Rattle.std.proofs.Common.{◌≡◌, ◌∙◌, refl, sym, ap, subst, ℕ, �
 use Rattle.std.proofs.Common.{List, [], ◌∷◌, ◌++◌, map, take, get_or, length, length-append, ltb}
 use Rattle.std.proofs.Common.{◌↔◌, ◌⊎◌, inl, Option, Some, None}
 use Rattle.std.proofs.Common.{Result, Ok, Err, IfOk, IsTrue}
-use Rattle.std.specs.Prelude.{IfSome, String, Vec, string_bytes}
+use Rattle.std.specs.Prelude.{IfSome, OnOk, String, Vec, string_bytes}
 use Rattle.std.specs.declared.alloc.Global.{Global}
 use Rattle.std.specs.BTreeMap as ordered
 use Rattle.std.specs.Ordering.{nat_cmp}
@@ -30,7 +30,7 @@ use Rattle.manifest_lints_questions.specs.declared.earlier.Earlier.{Earlier}
 use Rattle.manifest_lints_questions.specs.declared.earlier.TheConstants.{MOST}
 use Rattle.manifest_lints_questions.specs.Earlier.{AreEquivalent, HasEquivalentMember, MayBeUndecided}
 use Rattle.manifest_lints_questions.specs.Earlier.{equivalent_place, is_undecided, Member, IsMemberAt}
-use Rattle.manifest_lints_questions.specs.Earlier.{NoneIsEquivalent, places_in, places_of}
+use Rattle.manifest_lints_questions.specs.Earlier.{NoneIsEquivalent, places_in, places_of, noted, NotesBy}
 
 -- a map in which one key is set
 
@@ -146,3 +146,13 @@ pub same_undecided : {E : Type 0} (k : Known) (budget : Option ℕ) (new old : K
     → IfOk r (λ a. IsTrue (is_undecided a) → MayBeUndecided k budget old c)
 same_undecided k budget new old c (Ok a) same h = λ is. undecided_too k budget new old c same (h is)
 same_undecided k budget new old c (Err e) same h = tt
+
+-- what compares a condition notes none
+pub notes_then : {A E : Type 0} (r : Result A E) (o : Option ℕ) (old mid new : Keys) (n : ℕ) (c : Condition)
+    → NotesBy o old mid n c → OnOk r ((q : Bor Platform) → noted new q ≡ noted mid q)
+    → OnOk r (NotesBy o old new n c)
+notes_then (Ok x) None old mid new n c notes same =
+    λ q. (λ h. same q ∙ (notes q).0 h, λ h. same q ∙ (notes q).1 h)
+notes_then (Ok x) (Some first) old mid new n c notes same = λ q. same q ∙ notes q
+notes_then (Err e) None old mid new n c notes same = tt
+notes_then (Err e) (Some first) old mid new n c notes same = tt

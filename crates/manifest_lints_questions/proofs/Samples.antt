@@ -5,7 +5,7 @@ use Rattle.std.proofs.Common.{◌||◌, List, [], ◌∷◌, ◌++◌, map, cond
 use Rattle.std.specs.Prelude.{codes, is_some, Contains}
 use Rattle.std.specs.List.{filter, list_any}
 use Rattle.std.specs.Ordering.{eq_by_cmp}
-use Rattle.std.specs.Cmp.{Equal-is}
+use Rattle.std.specs.Cmp.{Equal-is, both_ways}
 use Rattle.std.specs.FinSet.{contains, from_list, contains-from_list}
 use Rattle.std.proofs.lemmas.Map.Views.{any-filter_same}
 use Rattle.std.proofs.lemmas.List.Elements.{Contains-append_left, Contains-append_right, Contains-push}
@@ -23,6 +23,8 @@ use Rattle.known_targets.specs.declared.table.TheConstants.{COUNT}
 use Rattle.known_targets.proofs.Listed.{some_none, none_some}
 use Rattle.manifest_lints_questions.specs.Samples.{truth_by, all_by, any_by, one_valued, is_rustcs, holds}
 use Rattle.manifest_lints_questions.specs.Samples.{is_set, mixed_truths, holds_beside, is_only}
+use Rattle.manifest_lints_questions.specs.Classes.{is_unknown_value}
+use Rattle.manifest_lints_questions.proofs.Words.{right_true}
 use Rattle.manifest_lints_questions.specs.declared.sample_sets.Other.{Other}
 use Rattle.manifest_lints_questions.specs.declared.sample_sets.TheConstants.{STRIDE}
 
@@ -61,6 +63,10 @@ one_more false h (m ∷ es) e =
 
 -- ---- what is rustc's
 
+not_true : (b : Bool) → not b ≡ true → b ≡ false
+not_true true h = sym h
+not_true false h = refl
+
 pub single_is : (p : Pair) → is_single one_valued p ≡ true → is_rustcs p ≡ true
 single_is p is = ap (λ b. b || some_below COUNT (λ k. contains (target_facts k) p)) is
 
@@ -69,6 +75,21 @@ pub not_rustcs : (p : Pair) → is_single one_valued p ≡ false
 not_rustcs p apart missing =
     ap (λ b. b || some_below COUNT (λ k. contains (target_facts k) p)) apart
     ∙ none_some COUNT (λ k. contains (target_facts k) p) missing
+
+-- of a key with one value, a value that none has
+pub unknown_is : (p : Pair) (is_empty : Bool) → is_single one_valued p ≡ true
+    → (is_empty ≡ true → (k : ℕ) → k < COUNT → contains (target_facts k) p ≡ false)
+    → (((k : ℕ) → k < COUNT → contains (target_facts k) p ≡ false) → is_empty ≡ true)
+    → is_empty ≡ is_unknown_value p
+unknown_is p is_empty single none_has back =
+    both_ways is_empty (is_unknown_value p)
+    (λ h i. single i && not (none_some COUNT (λ k. contains (target_facts k) p) (none_has h) i))
+    (λ h. back (some_none COUNT (λ k. contains (target_facts k) p)
+    (not_true (some_below COUNT (λ k. contains (target_facts k) p))
+    (right_true (is_single one_valued p) (not (some_below COUNT (λ k. contains (target_facts k) p))) h))))
+
+pub single_not : (p : Pair) → is_single one_valued p ≡ false → is_unknown_value p ≡ false
+single_not p is = ap (λ b. b && not (some_below COUNT (λ k. contains (target_facts k) p))) is
 
 or_right : (a b : Bool) → b ≡ true → (a || b) ≡ true
 or_right true b h = refl

@@ -2,3 +2,5 @@ pub mod Truths
 pub mod Doubled
 pub mod Earlier
 pub mod Samples
+pub mod Rustcs
+pub mod Classes

@@ -1,18 +1,21 @@
 //! How a key stands to those before it: the same condition, or one that is as true.
 
-ghost use Rattle.std.specs.Prelude.{◌≡◌, None, [], IfOk, OnOk, IsTrue};
+ghost use Rattle.std.specs.Prelude.{◌≡◌, ◌<◌, ◌^◌, ◌∷◌, ℕ, get_or, None, [], IfOk, OnOk, IsTrue};
 ghost use Rattle.std.specs.Borrow.{Bor};
 ghost use Rattle.cargo_platform.specs.declared.Platform.{Platform as Shown};
-ghost use Rattle.cargo_platform.specs.Trees.{condition_of};
+ghost use Rattle.cargo_platform.specs.Trees.{Expression, tree_of, condition_of};
 ghost use Rattle.manifest_lints_questions.specs.Earlier.{is_same, is_equivalent, is_undecided, noted, Notes};
 ghost use Rattle.manifest_lints_questions.specs.Earlier.{same_place, AddsMember};
 ghost use Rattle.manifest_lints_questions.specs.Earlier.{TellsNoSame, TellsEquivalent, TellsUndecided, TellsUnlike};
 ghost use Rattle.manifest_lints_questions.specs.Earlier.{is_unlike, part_of};
+ghost use Rattle.manifest_lints_questions.specs.Rustcs.{AllowsRustcs};
+ghost use Rattle.manifest_lints_questions.specs.Classes.{AreClassed, AreUnlike, IsClassOf, PutsIn, PutsMember};
+ghost use Rattle.manifest_lints_questions.specs.Classes.{TellsNoneEquivalent};
 
 use crate::sample_sets::{beyond_targets, truths};
 use cargo_platform::{CfgExpr, Platform};
 use exact_answers::{Known, MustSelect, equivalent_platform};
-use known_targets::TargetSet;
+use known_targets::matching;
 use std::alloc::{AllocError, Global};
 use std::collections::BTreeMap;
 
@@ -90,6 +93,7 @@ impl<'a> Keys<'a> {
     pub fn new(alloc: Global) -> Keys<'a>
         ensures none { (q : Bor Shown) → noted result q ≡ None }
         ensures no_members { result.members.items ≡ [] }
+        ensures classed { AreClassed result }
     {
         Keys {
             seen: BTreeMap::new(alloc),
@@ -98,26 +102,28 @@ impl<'a> Keys<'a> {
         }
     }
 
-    /// Adds a key at a place after those that were added, and tells how it stands to them. It holds at these known
-    /// targets. With no budget it is not asked what is as true.
+    /// Adds a key at a place after those that were added, and tells how it stands to them. With no budget it is not
+    /// asked what is as true.
     pub fn add(
         &mut self,
         alloc: Global,
         index: usize,
         platform: &'a Platform,
-        targets: TargetSet,
         known: &'a Known<'a>,
         budget: Option<u64>,
     ) -> Result<Earlier, AllocError>
         ensures same { IfOk result (λ r. same_place r ≡ noted self.old platform.entry) }
         ensures equivalent { IfOk result (TellsEquivalent known.now self.old (condition_of platform.entry.now)) }
         ensures undecided { IfOk result (TellsUndecided known.now budget self.old (condition_of platform.entry.now)) }
+        ensures unlike { AllowsRustcs known.now → AreClassed self.old
+            → IfOk result (TellsNoneEquivalent known.now self.old (condition_of platform.entry.now)) }
+        ensures classed { AreClassed self.old → OnOk result (AreClassed self.new) }
         ensures notes { OnOk result (Notes self.old self.new index platform.entry) }
         ensures members { OnOk result (AddsMember self.old self.new index platform.entry) }
     {
         match self.note(index, platform)? {
             Some(first) => Ok(Earlier::Same(first)),
-            None => self.compare(alloc, index, platform, targets, known, budget),
+            None => self.compare(alloc, index, platform, known, budget),
         }
     }
 
@@ -126,6 +132,7 @@ impl<'a> Keys<'a> {
         ensures first { IfOk result (λ first. first ≡ noted self.old platform.entry) }
         ensures notes { OnOk result (Notes self.old self.new index platform.entry) }
         ensures members { OnOk result (self.new.members.items ≡ self.old.members.items) }
+        ensures classes { OnOk result (self.new.classes ≡ self.old.classes) }
     {
         if let Some(first) = self.seen.get(&platform) {
             return Ok(Some(*first));
@@ -140,33 +147,69 @@ impl<'a> Keys<'a> {
         alloc: Global,
         index: usize,
         platform: &'a Platform,
-        targets: TargetSet,
         known: &'a Known<'a>,
         budget: Option<u64>,
     ) -> Result<Earlier, AllocError>
         ensures other { IfOk result TellsNoSame }
         ensures equivalent { IfOk result (TellsEquivalent known.now self.old (condition_of platform.entry.now)) }
         ensures undecided { IfOk result (TellsUndecided known.now budget self.old (condition_of platform.entry.now)) }
+        ensures unlike { AllowsRustcs known.now → AreClassed self.old
+            → IfOk result (TellsNoneEquivalent known.now self.old (condition_of platform.entry.now)) }
+        ensures classed { AreClassed self.old → OnOk result (AreClassed self.new) }
         ensures noted { OnOk result ((q : Bor Shown) → noted self.new q ≡ noted self.old q) }
         ensures members { OnOk result (AddsMember self.old self.new index platform.entry) }
     {
         let Platform::Cfg(e) = platform else {
             return Ok(Earlier::Unlike);
         };
-        let class = class_of(alloc, targets, e)?;
+        let class = class_of(alloc, platform, e)?;
         let number = beyond_targets(alloc, platform, e)?;
-        let found = match number {
-            Some(_) => self.as_true_in_part(alloc, class, number, platform, known, budget)?,
-            None => self.as_true(alloc, &class, platform, known, budget)?,
-        };
+        let found = self.as_true_among(alloc, class, number, platform, known, budget)?;
         if !found.is_unlike() {
             return Ok(found);
         }
+        self.put_member(alloc, index, platform, class, number)?;
+        Ok(Earlier::Unlike)
+    }
+
+    /// Puts a condition among the members of its class, and of the part of it.
+    fn put_member(
+        &mut self,
+        alloc: Global,
+        index: usize,
+        platform: &'a Platform,
+        class: Class,
+        number: Option<u64>,
+    ) -> Result<(), AllocError>
+        ensures puts { OnOk result (PutsMember self.old self.new (index, platform.entry) class number) }
+        ensures noted { OnOk result ((q : Bor Shown) → noted self.new q ≡ noted self.old q) }
+    {
         let place = self.members.len();
         self.members.push((index, platform))?;
         put(alloc, &mut self.classes, class, place)?;
-        put(alloc, &mut self.classes, part_of(class, number), place)?;
-        Ok(Earlier::Unlike)
+        put(alloc, &mut self.classes, part_of(class, number), place)
+    }
+
+    /// Which member of a class is as true as a condition: one that shares its number, or one of all where it has none.
+    fn as_true_among(
+        &self,
+        alloc: Global,
+        class: Class,
+        number: Option<u64>,
+        platform: &'a Platform,
+        known: &'a Known<'a>,
+        budget: Option<u64>,
+    ) -> Result<Earlier, AllocError>
+        ensures other { IfOk result TellsNoSame }
+        ensures equivalent { IfOk result (TellsEquivalent known.now self.now (condition_of platform.entry.now)) }
+        ensures undecided { IfOk result (TellsUndecided known.now budget self.now (condition_of platform.entry.now)) }
+        ensures unlike { IfOk result (λ r. IsTrue (is_unlike r)
+            → AreUnlike known.now self.now (condition_of platform.entry.now) class number) }
+    {
+        match number {
+            Some(_) => self.as_true_in_part(alloc, class, number, platform, known, budget),
+            None => self.as_true(alloc, &class, platform, known, budget),
+        }
     }
 
     /// Which member of a class is as true as a condition that has a number: one that shares it, or has none.
@@ -257,7 +300,9 @@ fn put(
     classes: &mut BTreeMap<Class, Vec<usize>>,
     class: Class,
     place: usize,
-) -> Result<(), AllocError> {
+) -> Result<(), AllocError>
+    ensures { OnOk result (PutsIn classes.old classes.new class place) }
+{
     if let Some(others) = classes.get_mut(&class) {
         others.push(place)?;
         return Ok(());
@@ -268,16 +313,21 @@ fn put(
     Ok(())
 }
 
-/// The class of an expression that holds at these known targets.
-fn class_of(alloc: Global, targets: TargetSet, e: &CfgExpr) -> Result<Class, AllocError> {
-    let mut class = [0; 8];
-    for target in targets.iter() {
-        let index = target.index();
-        if let Some(word) = class.get_mut(index / 64) {
-            *word |= 1u64 << (index % 64);
-        }
-    }
-    class[5] = truths(alloc, e)?;
-    class[6] = ALL;
-    Ok(class)
+/// The class of an expression.
+fn class_of(alloc: Global, platform: &Platform, e: &CfgExpr) -> Result<Class, AllocError>
+    ensures { condition_of platform.now ≡ Expression (tree_of e.now) → IfOk result (IsClassOf (tree_of e.now)) }
+{
+    let targets = matching(alloc, platform)?.words();
+    let truths = truths(alloc, e)?;
+    Ok(class_from(
+        targets[0], targets[1], targets[2], targets[3], targets[4], truths,
+    ))
+}
+
+/// The class of these words: five of known targets, and one of truths.
+fn class_from(first: u64, second: u64, third: u64, fourth: u64, fifth: u64, truths: u64) -> Class
+    ensures words { result ≡ first ∷ second ∷ third ∷ fourth ∷ fifth ∷ truths ∷ 0 ∷ 0 ∷ [] }
+    ensures small { (i : ℕ) → get_or result i 0 < 2 ^ 64 }
+{
+    [first, second, third, fourth, fifth, truths, ALL, 0]
 }

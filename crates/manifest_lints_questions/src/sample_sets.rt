@@ -1,6 +1,7 @@
 //! Sets of facts that are tried. Each has the facts of a known target, and some that are no fact of rustc's.
 
 ghost use Rattle.std.specs.Prelude.{◌≡◌, ◌<◌, ◌*◌, ◌==◌, ◌&&◌, ◌||◌, ℕ, true, false, [], map, IfOk, IfSome, IfNone};
+ghost use Rattle.std.specs.List.{list_any};
 ghost use Rattle.std.specs.FinSet.{contains};
 ghost use Rattle.cargo_platform.specs.Trees.{value_of, tree_of, condition_of};
 ghost use Rattle.cargo_platform.specs.Facts.{fact_set, pair_of, truth_of_condition};
@@ -11,6 +12,7 @@ ghost use Rattle.known_targets.specs.Sets.{is_member};
 ghost use Rattle.known_targets.specs.Table.{target_facts};
 ghost use Rattle.known_targets.specs.declared.table.TheConstants.{COUNT};
 ghost use Rattle.manifest_lints_questions.specs.Samples.{AreBits, AreTruths, is_rustcs, holds, holds_beside, is_only};
+ghost use Rattle.manifest_lints_questions.specs.Classes.{is_unknown_value, is_unknown_of, IsNumberOf};
 ghost use Rattle.manifest_lints_questions.specs.Samples.{is_set, mixed, spread, mixed_truths};
 
 use cargo_platform::{Cfg, CfgExpr, FactIndex, Platform};
@@ -188,15 +190,34 @@ type Pair<'a> = (&'a str, &'a str);
 /// Of so many values that no known target has it is asked what a condition is worth there.
 const FEW: usize = 8;
 
+/// Whether it is a value that no known target has, of a key that has one value.
+fn is_unknown(c: &Cfg) -> bool
+    ensures { result ≡ is_unknown_value (pair_of (value_of c.now)) }
+{
+    if is_of_key(c, ONE_VALUED) {
+        return having(c).is_empty();
+    }
+    false
+}
+
+/// Whether one of these is.
+fn has_unknown(values: &[&Cfg]) -> bool
+    ensures { result ≡ list_any is_unknown_of (map (λ c. value_of c.now) values.now) }
+{
+    'values: for c in values {
+        if is_unknown(*c) {
+            return true;
+        }
+    }
+    false
+}
+
 /// A value that no known target has, of a key that has one value.
 fn unknown_value(c: &Cfg) -> Option<Pair<'_>> {
-    let Cfg::KeyPair(key, value) = c else {
-        return None;
-    };
-    if is_among(key.as_str(), ONE_VALUED) && having(c).is_empty() {
-        return Some((key.as_str(), value.as_str()));
+    match c {
+        Cfg::KeyPair(key, value) if is_unknown(c) => Some((key.as_str(), value.as_str())),
+        _ => None,
     }
-    None
 }
 
 /// Whether a pair is among these.
@@ -213,10 +234,10 @@ fn has_pair(pairs: &[Pair<'_>], pair: Pair<'_>) -> bool {
 /// many.
 fn unknown_values<'a>(
     alloc: Global,
-    platform: &'a Platform,
+    values: &[&'a Cfg],
 ) -> Result<Option<Vec<Pair<'a>>>, AllocError> {
     let mut found: Vec<Pair<'a>> = Vec::new(alloc);
-    for each in &values_of(alloc, platform)? {
+    for each in values {
         let c: &'a Cfg = *each;
         if let Some(pair) = unknown_value(c) {
             if !has_pair(&found, pair) {
@@ -259,12 +280,18 @@ pub fn beyond_targets(
     alloc: Global,
     platform: &Platform,
     e: &CfgExpr,
-) -> Result<Option<u64>, AllocError> {
-    let Some(values) = unknown_values(alloc, platform)? else {
+) -> Result<Option<u64>, AllocError>
+    ensures { IfOk result (IsNumberOf (condition_of platform.now)) }
+{
+    let values = values_of(alloc, platform)?;
+    if !has_unknown(&values) {
+        return Ok(Some(0));
+    }
+    let Some(pairs) = unknown_values(alloc, &values)? else {
         return Ok(None);
     };
     let mut sum: u64 = 0;
-    for pair in &values {
+    for pair in &pairs {
         sum = sum.wrapping_add(apart(alloc, e, *pair)?);
     }
     Ok(Some(sum))

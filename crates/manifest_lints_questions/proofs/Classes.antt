@@ -1,0 +1,435 @@
+-- Conditions that are as true share a class.
+use Prim.Native.Nat.{zero, suc}
+use Rattle.std.proofs.Common.{◌≡◌, ◌∙◌, refl, sym, ap, subst, ℕ, ◌+◌, ◌*◌, ◌/◌, ◌%◌, ◌^◌, ◌<◌, ◌≤◌, Bool, true, false}
+use Rattle.std.proofs.Common.{true≢false, not, ◌&&◌, ◌↔◌, ◌⊎◌, inl, inr, arith, List, [], ◌∷◌, ◌++◌, map, length, get_or}
+use Rattle.std.proofs.Common.{cond, length-append, Option, Some, None}
+use Rattle.std.specs.Prelude.{codes, is_some, Contains, IsTrue, Vec, nat_eq, Result, Ok, Err, IfOk, OnOk}
+use Rattle.std.specs.declared.alloc.Global.{Global}
+use Rattle.std.specs.Ordering.{is_eq, nat_cmp, eq_by_cmp}
+use Rattle.std.specs.Cmp.{Equal-is, both_ways, eq_by_cmp_equiv}
+use Rattle.std.specs.Cmp.Lexicographic.{slice_cmp, nat_list_cmp_total}
+use Rattle.std.specs.FinSet.{contains, from_list, contains-from_list}
+use Rattle.std.specs.BTreeMap as ordered
+use Rattle.std.specs.Int.{bit_at}
+use Rattle.std.proofs.lemmas.Bool.{cases_eq, cases_lt}
+use Rattle.std.proofs.lemmas.List.{ext_get_or, get_or-map, length-map, get_or_append_left, append-nil}
+use Rattle.std.proofs.Math.Seq.{get_or-append_seam}
+use Rattle.std.proofs.lemmas.List.Elements.{Contains-append_left, Contains-append_right, Contains-push}
+use Rattle.std.proofs.lemmas.Map.Lookups.{exact_bytes}
+use Rattle.std.proofs.lemmas.Map.Views.{list_any-from_Contains}
+use Rattle.cargo_platform.specs.Trees.{CfgValue, Tree, Condition, Expression, condition_of}
+use Rattle.cargo_platform.specs.Facts.{Pair, FactSet, IsTrueCondition, pair_of, pair_cmp, fact_set, truth}
+use Rattle.cargo_platform.specs.Warnings.{values}
+use Rattle.cargo_platform.proofs.FactSets.{pairs_total}
+use Rattle.partial_facts.specs.Partly.{is_named}
+use Rattle.partial_facts.specs.OneValued.{is_single}
+use Rattle.known_targets.specs.Bits.{has}
+use Rattle.known_targets.specs.Sets.{is_member}
+use Rattle.known_targets.specs.Table.{target_name, target_facts}
+use Rattle.known_targets.specs.declared.target_set.TargetSet.{TargetSet}
+use Rattle.known_targets.specs.declared.table.TheConstants.{COUNT}
+use Rattle.exact_answers.specs.Families.{IsSetWithFamily}
+use Rattle.exact_answers.specs.declared.known.Known.{Known}
+use Rattle.manifest_lints_questions.specs.Samples.{AreTruths, is_set, truth_by, one_valued, is_rustcs, holds, holds_beside}
+use Rattle.manifest_lints_questions.specs.Rustcs.{IsRustcs, AllowsRustcs}
+use Rattle.manifest_lints_questions.specs.Earlier.{Member, IsMemberAt, AreEquivalent, NoneIsEquivalent, places_in}
+use Rattle.manifest_lints_questions.specs.Earlier.{places_of, part_of, is_unlike, TellsUnlike}
+use Rattle.manifest_lints_questions.specs.Classes.{AsksForKnown, IsClassOf, IsNumberOf, ClassMap, PutsIn, PutsMember}
+use Rattle.manifest_lints_questions.specs.Classes.{IsClassed, AreClassed, AreUnlike, TellsNoneEquivalent}
+use Rattle.manifest_lints_questions.specs.declared.earlier.Earlier.{Earlier}
+use Rattle.manifest_lints_questions.specs.declared.earlier.Keys.{Keys}
+use Rattle.manifest_lints_questions.specs.declared.sample_sets.TheConstants.{STRIDE}
+use Rattle.manifest_lints_questions.proofs.Words.{same_word, left_true, right_true}
+use Rattle.manifest_lints_questions.proofs.Rows.{one_value, family_name, family_pair, unix_family, windows_family}
+use Rattle.manifest_lints_questions.proofs.Rows.{unix_is, windows_is}
+use Rattle.manifest_lints_questions.proofs.Samples.{single_is, holds_known, beside_none, sample, in_sample, over_sample}
+
+-- ---- known targets are possible
+
+pub targets_are : (k : ℕ) → k < COUNT → IsRustcs (target_facts k)
+targets_are k below = (
+  λ p q sp sq names hp hq. inl (one_value k p q below sp sq names hp hq),
+  (unix_family k, windows_family k),
+)
+
+-- ---- sets that are tried are possible
+
+module _ (l : ℕ) (below : l < 64) (ps : List Pair) where
+  abbrev tried : FactSet
+  tried = sample (holds_beside None l) ps
+
+  place_within : l * STRIDE < COUNT
+  place_within = omega arith
+
+  had : (p : Pair) → is_rustcs p ≡ true → holds_beside None l p ≡ contains (target_facts (l * STRIDE)) p
+  had p is = beside_none l p ∙ holds_known l p is
+
+  in_target : (p : Pair) → is_single one_valued p ≡ true → contains tried p ≡ true
+      → contains (target_facts (l * STRIDE)) p ≡ true
+  in_target p single h =
+      sym (had p (single_is p single))
+      ∙ left_true (holds_beside None l p) (contains {R = pair_cmp} (from_list ps) p)
+      (sym (in_sample (holds_beside None l) ps p) ∙ h)
+
+  single_too : (p q : Pair) → p.name ≡ q.name → is_single one_valued p ≡ true → is_some q.value ≡ true
+      → is_single one_valued q ≡ true
+  single_too p q names sp sq =
+      let named : is_named q.name one_valued ≡ true =
+      subst (λ n. is_named n one_valued ≡ true) names (left_true (is_named p.name one_valued) (is_some p.value) sp) in
+      λ i. named i && sq i
+
+  with_family : (family : List ℕ) → is_rustcs (family_name family) ≡ true → is_rustcs (family_pair family) ≡ true
+      → contains {R = pair_cmp} (from_list ps) (family_name family) ≡ true
+      → contains {R = pair_cmp} (from_list ps) (family_pair family) ≡ true
+      → contains (target_facts (l * STRIDE)) (family_name family)
+      ≡ contains (target_facts (l * STRIDE)) (family_pair family)
+      → IsSetWithFamily tried family
+  with_family family name pair has_name has_pair same =
+      in_sample (holds_beside None l) ps (family_name family)
+      ∙ (λ i. (had (family_name family) name ∙ same ∙ sym (had (family_pair family) pair)) i
+      && (has_name ∙ sym has_pair) i)
+      ∙ sym (in_sample (holds_beside None l) ps (family_pair family))
+
+  pub tried_are : contains {R = pair_cmp} (from_list ps) (family_name (codes "unix")) ≡ true
+      → contains {R = pair_cmp} (from_list ps) (family_pair (codes "unix")) ≡ true
+      → contains {R = pair_cmp} (from_list ps) (family_name (codes "windows")) ≡ true
+      → contains {R = pair_cmp} (from_list ps) (family_pair (codes "windows")) ≡ true
+      → IsRustcs (sample (holds_beside None l) ps)
+  tried_are u up w wp = (
+    λ p q sp sq names hp hq.
+        inl (one_value (l * STRIDE) p q place_within sp sq names (in_target p sp hp)
+        (in_target q (single_too p q names sp sq) hq)),
+    (
+      with_family (codes "unix") unix_is.0 unix_is.1 u up (unix_family (l * STRIDE)),
+      with_family (codes "windows") windows_is.0 windows_is.1 w wp (windows_family (l * STRIDE)),
+    ),
+  )
+
+-- ---- truths over them
+
+abbrev families : List Pair
+families =
+    family_name (codes "unix") ∷ family_pair (codes "unix") ∷ family_name (codes "windows")
+    ∷ family_pair (codes "windows") ∷ []
+
+abbrev pairs_for : Tree → Tree → List Pair
+pairs_for e d = families ++ map pair_of (values e ++ values d)
+
+in_pairs : (ps : List Pair) (p : Pair) → Contains ps p → contains {R = pair_cmp} (from_list ps) p ≡ true
+in_pairs ps p m = contains-from_list pairs_total ps p ∙ list_any-from_Contains (eq_by_cmp_equiv pairs_total) p ps m
+
+mapped : (cs : List CfgValue) (c : CfgValue) → Contains cs c → Contains (map pair_of cs) (pair_of c)
+mapped cs c (i, within, is) =
+    let long : length (map pair_of cs) ≡ length cs = length-map cs pair_of in
+    (i, omega arith, get_or-map pair_of cs i c (pair_of c) within ∙ ap pair_of is)
+
+asked_for : (e d : Tree) (c : CfgValue) → Contains (values e ++ values d) c
+    → contains {R = pair_cmp} (from_list (pairs_for e d)) (pair_of c) ≡ true
+asked_for e d c m =
+    in_pairs (pairs_for e d) (pair_of c)
+    (Contains-append_right families (map pair_of (values e ++ values d)) (pair_of c) (mapped (values e ++ values d) c m))
+
+family_at : (e d : Tree) (i : ℕ) (p : Pair) → i < 4 → get_or families i p ≡ p
+    → contains {R = pair_cmp} (from_list (pairs_for e d)) p ≡ true
+family_at e d i p within is =
+    in_pairs (pairs_for e d) p
+    (Contains-append_left families (map pair_of (values e ++ values d)) p (i, within, is))
+
+truths_alike : (k : Known) (e d : Tree) (s : FactSet) → AllowsRustcs k → IsRustcs s
+    → AreEquivalent k (Expression e) (Expression d) → truth s e ≡ truth s d
+truths_alike k e d s allows is alike =
+    let same = alike [] s ((allows s).1 is) in both_ways (truth s e) (truth s d) same.0 same.1
+
+pub same_truths : (k : Known) (e d : Tree) → AllowsRustcs k → AreEquivalent k (Expression e) (Expression d)
+    → (l : ℕ) → l < 64 → truth_by (holds_beside None l) e ≡ truth_by (holds_beside None l) d
+same_truths k e d allows alike l below =
+    let ps = pairs_for e d in
+    let s = sample (holds_beside None l) ps in
+    let is : IsRustcs s =
+    tried_are l below ps (family_at e d 0 (family_name (codes "unix")) (omega arith) refl)
+    (family_at e d 1 (family_pair (codes "unix")) (omega arith) refl)
+    (family_at e d 2 (family_name (codes "windows")) (omega arith) refl)
+    (family_at e d 3 (family_pair (codes "windows")) (omega arith) refl) in
+    sym (over_sample (holds_beside None l) ps e
+    (λ c m. asked_for e d c (Contains-append_left (values e) (values d) c m)))
+    ∙ truths_alike k e d s allows is alike
+    ∙ over_sample (holds_beside None l) ps d
+    (λ c m. asked_for e d c (Contains-append_right (values e) (values d) c m))
+
+-- ---- classes
+
+bit_of : (class : List ℕ) (j l : ℕ) → l < 64 → has class (64 * j + l) ≡ is_set (get_or class j 0) l
+unfolding has
+bit_of class j l below =
+    let word : (64 * j + l) / 64 ≡ j = omega arith in
+    let bit : (64 * j + l) % 64 ≡ l = omega arith in
+    λ i. nat_eq (bit_at (get_or class (word i) 0) (bit i)) 1
+
+module _ (k : Known) (e d : Tree) (allows : AllowsRustcs k) (alike : AreEquivalent k (Expression e) (Expression d))
+    (x y : List ℕ) (first : IsClassOf e x) (second : IsClassOf d y) where
+  at_target : (t : ℕ) → t < COUNT → has x t ≡ has y t
+  at_target t below =
+      first.at_targets t below ∙ truths_alike k e d (target_facts t) allows (targets_are t below) alike
+      ∙ sym (second.at_targets t below)
+
+  target_word : (j : ℕ) → j < 5 → get_or x j 0 ≡ get_or y j 0
+  target_word j within =
+      same_word (get_or x j 0) (get_or y j 0) (first.small j) (second.small j)
+      (λ l low. let t : 64 * j + l < COUNT = omega arith in
+      sym (bit_of x j l low) ∙ at_target (64 * j + l) t ∙ bit_of y j l low)
+
+  sample_word : get_or x 5 0 ≡ get_or y 5 0
+  sample_word =
+      same_word (get_or x 5 0) (get_or y 5 0) (first.small 5) (second.small 5)
+      (λ l low. first.over_samples l low ∙ same_truths k e d allows alike l low ∙ sym (second.over_samples l low))
+
+  words : (j : ℕ) → j < 8 → get_or x j 0 ≡ get_or y j 0
+  words j within = elim (cases_lt j 5) [
+    | inl low ↦ target_word j low
+    | inr high ↦ elim (cases_eq j 5) [
+      | inl is ↦ ap (λ n. get_or x n 0) is ∙ sample_word ∙ sym (ap (λ n. get_or y n 0) is)
+      | inr past ↦ elim (cases_eq j 6) [
+        | inl is ↦ ap (λ n. get_or x n 0) is ∙ first.whole ∙ sym second.whole ∙ sym (ap (λ n. get_or y n 0) is)
+        | inr other ↦
+            let is : j ≡ 7 = omega arith in
+            ap (λ n. get_or x n 0) is ∙ first.no_number ∙ sym second.no_number ∙ sym (ap (λ n. get_or y n 0) is)
+      ]
+    ]
+  ]
+
+  pub same_class : x ≡ y
+  same_class =
+      ext_get_or 0 x y (first.long ∙ sym second.long) (λ j within. words j (subst (λ n. j < n) first.long within))
+
+-- ---- what is compared
+
+module _ (k : Known) (keys : Keys) (c : Condition) (allows : AllowsRustcs k) (classed : AreClassed keys) where
+  found_among : (n : ℕ) (ns : List ℕ) → NoneIsEquivalent k keys c ns → Contains ns n → (m : Member)
+      → IsMemberAt keys m n → AreEquivalent k (condition_of m.1.now) c → ⊥
+  found_among n ns none_is (i, within, is) m at alike =
+      none_is i n within m (subst (IsMemberAt keys m) (sym is) at) alike
+
+  pub none_missed : (e : Tree) (class : List ℕ) (number : Option ℕ) → IsClassOf e class → IsNumberOf c number
+      → AreUnlike k keys c class number → c ≡ Expression e → AsksForKnown c → (m : Member) (n : ℕ)
+      → IsMemberAt keys m n → AsksForKnown (condition_of m.1.now) → AreEquivalent k (condition_of m.1.now) c → ⊥
+  none_missed e class number is_class is_number unlike tree asks m n at asks_too alike =
+      let its = classed m n at in
+      let both : AreEquivalent k (Expression its.tree) (Expression e) =
+      subst (λ (x : Condition). AreEquivalent k x (Expression e)) its.is_tree
+      (subst (λ (x : Condition). AreEquivalent k (condition_of m.1.now) x) tree alike) in
+      let same : its.class ≡ class = same_class k its.tree e allows both its.class class its.is_class is_class in
+      let unlike_so = subst (AreUnlike k keys c class) (is_number asks) unlike in
+      let stands : Contains (places_of keys (part_of class (Some 0))) n =
+      subst (λ (x : List ℕ). Contains (places_of keys (part_of x (Some 0))) n) same
+      (subst (λ (o : Option ℕ). Contains (places_of keys (part_of its.class o)) n) (its.is_number asks_too)
+      its.in_part) in
+      found_among n (places_of keys (part_of class (Some 0))) unlike_so.0 stands m at alike
+
+-- ---- one more member
+
+pub puts : (old new : ClassMap) (class : List ℕ) (n : ℕ) (before : Option (Vec ℕ Global)) (v : Vec ℕ Global)
+    → ordered.get (slice_cmp nat_cmp) old class ≡ before → v.items ≡ places_in before ++ n ∷ []
+    → ((q : List ℕ) → ordered.get (slice_cmp nat_cmp) new q
+    ≡ cond (is_eq (slice_cmp nat_cmp class q)) (Some v) (ordered.get (slice_cmp nat_cmp) old q))
+    → PutsIn old new class n
+puts old new class n before v was items updates q =
+    let is = is_eq (slice_cmp nat_cmp class q) in
+    let there = ordered.get (slice_cmp nat_cmp) old q in
+    elim is as (λ b. is ≡ b → places_in (ordered.get (slice_cmp nat_cmp) new q)
+    ≡ places_in there ++ cond b (n ∷ []) []) [
+      | true ↦ λ h.
+          let same : class ≡ q = exact_bytes class q ((Equal-is (slice_cmp nat_cmp class q)).0 h) in
+          ap places_in (updates q ∙ ap (λ b. cond b (Some v) there) h) ∙ items
+          ∙ ap (λ (o : Option (Vec ℕ Global)). places_in o ++ n ∷ [])
+          (sym was ∙ ap (ordered.get (slice_cmp nat_cmp) old) same)
+      | false ↦ λ h.
+          ap places_in (updates q ∙ ap (λ b. cond b (Some v) there) h) ∙ sym (append-nil (places_in there))
+    ] refl
+
+module _ (old new : Keys) (m : Member) (class : List ℕ) (number : Option ℕ) (e : Tree)
+    (puts_it : PutsMember old new m class number) (tree : condition_of m.1.now ≡ Expression e)
+    (is_class : IsClassOf e class) (is_number : IsNumberOf (condition_of m.1.now) number) (before : AreClassed old) where
+  long : length new.members.items ≡ length old.members.items + 1
+  long = ap length puts_it.pushed ∙ length-append old.members.items (m ∷ [])
+
+  earlier : (x : Member) (n : ℕ) → n < length old.members.items → IsMemberAt new x n → IsMemberAt old x n
+  earlier x n within at = (
+    within,
+    λ other. sym (get_or_append_left old.members.items (m ∷ []) other n within)
+        ∙ sym (ap (λ (xs : List Member). get_or xs n other) puts_it.pushed) ∙ at.1 other,
+  )
+
+  kept_classed : (x : Member) (n : ℕ) → IsClassed old x n → IsClassed new x n
+  kept_classed x n its = record {
+    tree = its.tree;
+    is_tree = its.is_tree;
+    class = its.class;
+    number = its.number;
+    is_class = its.is_class;
+    is_number = its.is_number;
+    in_class = puts_it.kept its.class n its.in_class;
+    in_part = puts_it.kept (part_of its.class its.number) n its.in_part;
+  }
+
+  last_is : (x : Member) (n : ℕ) → n ≡ length old.members.items → IsMemberAt new x n → m ≡ x
+  last_is x n last at =
+      sym (ap (λ j. get_or (old.members.items ++ m ∷ []) j m) last ∙ get_or-append_seam old.members.items m [] m)
+      ∙ sym (ap (λ (xs : List Member). get_or xs n m) puts_it.pushed) ∙ at.1 m
+
+  pub classed_more : AreClassed new
+  classed_more x n at = elim (cases_lt n (length old.members.items)) [
+    | inl within ↦ kept_classed x n (before x n (earlier x n within at))
+    | inr past ↦
+        let inside : n < length new.members.items = at.0 in
+        let last : n ≡ length old.members.items = omega (arith, long) in
+        let here : IsClassed new m n = record {
+          tree = e;
+          is_tree = tree;
+          class = class;
+          number = number;
+          is_class = is_class;
+          is_number = is_number;
+          in_class = subst (Contains (places_of new class)) (sym last) puts_it.in_class;
+          in_part = subst (Contains (places_of new (part_of class number))) (sym last) puts_it.in_part;
+        } in
+        subst (λ (y : Member). IsClassed new y n) (last_is x n last at) here
+  ]
+
+-- ---- classes of expressions
+
+first_words : (ws rest : List ℕ) (j : ℕ) → j < 5
+    → get_or (get_or ws 0 0 ∷ get_or ws 1 0 ∷ get_or ws 2 0 ∷ get_or ws 3 0 ∷ get_or ws 4 0 ∷ rest) j 0 ≡ get_or ws j 0
+first_words ws rest zero low = refl
+first_words ws rest (suc zero) low = refl
+first_words ws rest (suc (suc zero)) low = refl
+first_words ws rest (suc (suc (suc zero))) low = refl
+first_words ws rest (suc (suc (suc (suc zero)))) low = refl
+first_words ws rest (suc (suc (suc (suc (suc j))))) low = absurd (omega arith)
+
+pub all_small : (a b c d e t : ℕ) → a < 2 ^ 64 → b < 2 ^ 64 → c < 2 ^ 64 → d < 2 ^ 64 → e < 2 ^ 64 → t < 2 ^ 64
+    → (i : ℕ) → get_or (a ∷ b ∷ c ∷ d ∷ e ∷ t ∷ 0 ∷ 0 ∷ []) i 0 < 2 ^ 64
+all_small a b c d e t ha hb hc hd he ht zero = ha
+all_small a b c d e t ha hb hc hd he ht (suc zero) = hb
+all_small a b c d e t ha hb hc hd he ht (suc (suc zero)) = hc
+all_small a b c d e t ha hb hc hd he ht (suc (suc (suc zero))) = hd
+all_small a b c d e t ha hb hc hd he ht (suc (suc (suc (suc zero)))) = he
+all_small a b c d e t ha hb hc hd he ht (suc (suc (suc (suc (suc zero))))) = ht
+all_small a b c d e t ha hb hc hd he ht (suc (suc (suc (suc (suc (suc zero)))))) = omega arith
+all_small a b c d e t ha hb hc hd he ht (suc (suc (suc (suc (suc (suc (suc zero))))))) = omega arith
+all_small a b c d e t ha hb hc hd he ht (suc (suc (suc (suc (suc (suc (suc (suc i)))))))) = omega arith
+
+module _ (ws : List ℕ) (t : ℕ) (set : TargetSet) (e : Tree) (c : Condition)
+    (same : (k : ℕ) → has ws k ≡ is_member set k)
+    (holds_at : (k : ℕ) → k < COUNT
+    → IsTrue (is_member set k) ↔ IsTrueCondition (target_name k) (target_facts k) c)
+    (tree : c ≡ Expression e) (truths : AreTruths (holds_beside None) e t)
+    (small : (i : ℕ)
+    → get_or (get_or ws 0 0 ∷ get_or ws 1 0 ∷ get_or ws 2 0 ∷ get_or ws 3 0 ∷ get_or ws 4 0 ∷ t ∷ 0 ∷ 0 ∷ []) i 0
+    < 2 ^ 64) where
+  abbrev its_words : List ℕ
+  its_words = get_or ws 0 0 ∷ get_or ws 1 0 ∷ get_or ws 2 0 ∷ get_or ws 3 0 ∷ get_or ws 4 0 ∷ t ∷ 0 ∷ 0 ∷ []
+
+  has_its : (k : ℕ) → k < COUNT → has its_words k ≡ has ws k
+  unfolding has
+  has_its k within =
+      let word : k / 64 < 5 = omega arith in
+      ap (λ w. nat_eq (bit_at w (k % 64)) 1) (first_words ws (t ∷ 0 ∷ 0 ∷ []) (k / 64) word)
+
+  at_targets : (k : ℕ) → k < COUNT → has its_words k ≡ truth (target_facts k) e
+  at_targets k within =
+      let is = subst (λ (x : Condition). IsTrue (is_member set k) ↔ IsTrueCondition (target_name k) (target_facts k) x)
+      tree (holds_at k within) in
+      has_its k within ∙ same k ∙ both_ways (is_member set k) (truth (target_facts k) e) is.0 is.1
+
+  pub class_is : IsClassOf e
+      (get_or ws 0 0 ∷ get_or ws 1 0 ∷ get_or ws 2 0 ∷ get_or ws 3 0 ∷ get_or ws 4 0 ∷ t ∷ 0 ∷ 0 ∷ [])
+  class_is = record {
+    long = refl;
+    small = small;
+    at_targets = at_targets;
+    over_samples = truths;
+    whole = refl;
+    no_number = refl;
+  }
+
+-- ---- what is told of a class and its part
+
+pub among_some : {E : Type 0} (k : Known) (keys : Keys) (c : Condition) (class : List ℕ) (number : Option ℕ) (n : ℕ)
+    (r : Result Earlier E) → number ≡ Some n → IfOk r (TellsUnlike k keys c (part_of class number))
+    → IfOk r (TellsUnlike k keys c (part_of class None))
+    → IfOk r (λ a. IsTrue (is_unlike a) → AreUnlike k keys c class number)
+among_some k keys c class number n (Ok a) is first second = λ so.
+    subst (AreUnlike k keys c class) (sym is)
+    (subst (λ (o : Option ℕ). NoneIsEquivalent k keys c (places_of keys (part_of class o))) is (first so), second so)
+among_some k keys c class number n (Err e) is first second = tt
+
+pub among_none : {E : Type 0} (k : Known) (keys : Keys) (c : Condition) (class : List ℕ) (number : Option ℕ)
+    (r : Result Earlier E) → number ≡ None → IfOk r (TellsUnlike k keys c class)
+    → IfOk r (λ a. IsTrue (is_unlike a) → AreUnlike k keys c class number)
+among_none k keys c class number (Ok a) is told = λ so. subst (AreUnlike k keys c class) (sym is) (told so)
+among_none k keys c class number (Err e) is told = tt
+
+-- ---- members that are put
+
+in_its_own : (old new : ClassMap) (class : List ℕ) (n : ℕ) → PutsIn old new class n
+    → Contains (places_in (ordered.get (slice_cmp nat_cmp) new class)) n
+in_its_own old new class n put =
+    let before = places_in (ordered.get (slice_cmp nat_cmp) old class) in
+    subst (λ ns. Contains ns n)
+    (sym (put class
+    ∙ ap (λ b. before ++ cond b (n ∷ []) []) ((eq_by_cmp_equiv nat_list_cmp_total).refl class))) (Contains-push before n)
+
+still_in : (old new : ClassMap) (class q : List ℕ) (n j : ℕ) → PutsIn old new class n
+    → Contains (places_in (ordered.get (slice_cmp nat_cmp) old q)) j
+    → Contains (places_in (ordered.get (slice_cmp nat_cmp) new q)) j
+still_in old new class q n j put there =
+    subst (λ ns. Contains ns j) (sym (put q))
+    (Contains-append_left (places_in (ordered.get (slice_cmp nat_cmp) old q))
+    (cond (is_eq (slice_cmp nat_cmp class q)) (n ∷ []) []) j there)
+
+pub puts_member : {A E : Type 0} (r : Result A E) (old new : Keys) (mid : ClassMap) (m : Member) (class : List ℕ)
+    (number : Option ℕ) (n : ℕ) → new.members.items ≡ old.members.items ++ m ∷ [] → n ≡ length old.members.items
+    → PutsIn old.classes mid class n → OnOk r (PutsIn mid new.classes (part_of class number) n)
+    → OnOk r (PutsMember old new m class number)
+puts_member (Ok x) old new mid m class number n pushed last first second = record {
+  pushed = pushed;
+  kept = λ q j there. still_in mid new.classes (part_of class number) q n j second
+      (still_in old.classes mid class q n j first there);
+  in_class = subst (Contains (places_of new class)) last
+      (still_in mid new.classes (part_of class number) class n n second (in_its_own old.classes mid class n first));
+  in_part = subst (Contains (places_of new (part_of class number))) last
+      (in_its_own mid new.classes (part_of class number) n second);
+}
+puts_member (Err e) old new mid m class number n pushed last first second = tt
+
+-- ---- what notes a condition moves no member
+
+member_too : (old new : Keys) (m : Member) (n : ℕ) → new.members.items ≡ old.members.items → IsMemberAt new m n
+    → IsMemberAt old m n
+member_too old new m n same =
+    subst (λ (xs : List Member). (n < length xs) × ((other : Member) → get_or xs n other ≡ m)) same
+
+pub same_classed : (old new : Keys) → new.members.items ≡ old.members.items → new.classes ≡ old.classes
+    → AreClassed old → AreClassed new
+same_classed old new members classes before m n at =
+    let its = before m n (member_too old new m n members at) in
+    record {
+      tree = its.tree;
+      is_tree = its.is_tree;
+      class = its.class;
+      number = its.number;
+      is_class = its.is_class;
+      is_number = its.is_number;
+      in_class = subst (λ (x : ClassMap). Contains (places_in (ordered.get (slice_cmp nat_cmp) x its.class)) n)
+          (sym classes) its.in_class;
+      in_part = subst (λ (x : ClassMap).
+          Contains (places_in (ordered.get (slice_cmp nat_cmp) x (part_of its.class its.number))) n)
+          (sym classes) its.in_part;
+    }
+
+pub same_unlike : {E : Type 0} (k : Known) (old new : Keys) (c : Condition) (r : Result Earlier E)
+    → new.members.items ≡ old.members.items → IfOk r (TellsNoneEquivalent k new c)
+    → IfOk r (TellsNoneEquivalent k old c)
+same_unlike k old new c (Ok a) same told = λ so e tree asks m n at.
+    told so e tree asks m n (member_too new old m n (sym same) at)
+same_unlike k old new c (Err e) same told = tt

@@ -1,0 +1,95 @@
+-- Classes of conditions. Those that are as true share one, and are compared.
+use Rattle.std.specs.Prelude.{◌≡◌, ◌<◌, ◌^◌, ℕ, Bool, false, not, ◌&&◌, IsTrue, List, [], ◌∷◌, ◌++◌, length, get_or}
+use Rattle.std.specs.Prelude.{Option, Some, None, Vec, Contains, cond}
+use Rattle.std.specs.declared.alloc.Global.{Global}
+use Rattle.std.specs.List.{list_any}
+use Rattle.std.specs.Ordering.{is_eq, nat_cmp}
+use Rattle.std.specs.Cmp.Lexicographic.{slice_cmp}
+use Rattle.std.specs.FinSet.{contains}
+use Rattle.std.specs.BTreeMap as ordered
+use Rattle.std.specs.BTreeMap.{BTreeMap}
+use Rattle.cargo_platform.specs.Trees.{CfgValue, Tree, Condition, Expression, condition_of}
+use Rattle.cargo_platform.specs.Facts.{Pair, pair_of, truth}
+use Rattle.cargo_platform.specs.Warnings.{condition_values}
+use Rattle.partial_facts.specs.OneValued.{is_single}
+use Rattle.known_targets.specs.Bits.{has}
+use Rattle.known_targets.specs.Listed.{some_below}
+use Rattle.known_targets.specs.Table.{target_facts}
+use Rattle.known_targets.specs.declared.table.TheConstants.{COUNT}
+use Rattle.exact_answers.specs.declared.known.Known.{Known}
+use Rattle.manifest_lints_questions.specs.Samples.{AreTruths, holds_beside, one_valued}
+use Rattle.manifest_lints_questions.specs.Earlier.{Member, IsMemberAt, AreEquivalent, NoneIsEquivalent, is_unlike}
+use Rattle.manifest_lints_questions.specs.Earlier.{places_in, places_of, part_of}
+use Rattle.manifest_lints_questions.specs.declared.earlier.Earlier.{Earlier}
+use Rattle.manifest_lints_questions.specs.declared.earlier.Keys.{Keys}
+
+-- a value that no known target has, of a key that has one value
+abbrev pub is_unknown_value : Pair → Bool
+is_unknown_value p = is_single one_valued p && not (some_below COUNT (λ k. contains (target_facts k) p))
+
+abbrev pub is_unknown_of : CfgValue → Bool
+is_unknown_of c = is_unknown_value (pair_of c)
+
+-- the condition asks for none
+abbrev pub AsksForKnown : Condition → Type 0
+AsksForKnown c = list_any is_unknown_of (condition_values c) ≡ false
+
+-- what a class says of an expression: at which known targets it is true, and over which of the sets that are tried
+pub record IsClassOf (e : Tree) (class : List ℕ) : Type 0 where
+  pub long : length class ≡ 8
+  pub small : (i : ℕ) → get_or class i 0 < 2 ^ 64
+  pub at_targets : (k : ℕ) → k < COUNT → has class k ≡ truth (target_facts k) e
+  pub over_samples : AreTruths (holds_beside None) e (get_or class 5 0)
+  pub whole : get_or class 6 0 ≡ 0
+  pub no_number : get_or class 7 0 ≡ 0
+
+-- the number of a condition, as far as it is promised
+abbrev pub IsNumberOf : Condition → Option ℕ → Type 0
+IsNumberOf c n = AsksForKnown c → n ≡ Some 0
+
+-- ---- where members stand
+
+abbrev pub ClassMap : Type 0
+ClassMap = BTreeMap (List ℕ) (Vec ℕ Global)
+
+-- the place is put behind those of the class, and nowhere else
+abbrev pub PutsIn : ClassMap → ClassMap → List ℕ → ℕ → Type 0
+PutsIn old new class n =
+    (q : List ℕ) → places_in (ordered.get (slice_cmp nat_cmp) new q)
+    ≡ places_in (ordered.get (slice_cmp nat_cmp) old q) ++ cond (is_eq (slice_cmp nat_cmp class q)) (n ∷ []) []
+
+-- one more member stands in its class, and in the part of its class
+pub record PutsMember (old new : Keys) (m : Member) (class : List ℕ) (number : Option ℕ) : Type 0 where
+  pub pushed : new.members.items ≡ old.members.items ++ m ∷ []
+  pub kept : (q : List ℕ) (n : ℕ) → Contains (places_of old q) n → Contains (places_of new q) n
+  pub in_class : Contains (places_of new class) (length old.members.items)
+  pub in_part : Contains (places_of new (part_of class number)) (length old.members.items)
+
+-- the member at a place is an expression that stands there
+pub record IsClassed (keys : Keys) (m : Member) (n : ℕ) : Type 0 where
+  pub tree : Tree
+  pub is_tree : condition_of m.1.now ≡ Expression tree
+  pub class : List ℕ
+  pub number : Option ℕ
+  pub is_class : IsClassOf tree class
+  pub is_number : IsNumberOf (condition_of m.1.now) number
+  pub in_class : Contains (places_of keys class) n
+  pub in_part : Contains (places_of keys (part_of class number)) n
+
+abbrev pub AreClassed : Keys → Type 0
+AreClassed keys = (m : Member) (n : ℕ) → IsMemberAt keys m n → IsClassed keys m n
+
+-- ---- what is told of members
+
+-- of all that share the class and the number none is as true
+abbrev pub AreUnlike : Known → Keys → Condition → List ℕ → Option ℕ → Type 0
+AreUnlike k keys c class None = NoneIsEquivalent k keys c (places_of keys class)
+AreUnlike k keys c class (Some number) =
+    NoneIsEquivalent k keys c (places_of keys (part_of class (Some number)))
+    × NoneIsEquivalent k keys c (places_of keys (part_of class None))
+
+-- where an expression is told to be unlike earlier ones, no member is as true; both ask for no unknown value
+abbrev pub TellsNoneEquivalent : Known → Keys → Condition → Earlier → Type 0
+TellsNoneEquivalent k keys c r =
+    IsTrue (is_unlike r) → (e : Tree) → c ≡ Expression e → AsksForKnown c → (m : Member) (n : ℕ) → IsMemberAt keys m n
+    → AsksForKnown (condition_of m.1.now) → AreEquivalent k (condition_of m.1.now) c → ⊥
