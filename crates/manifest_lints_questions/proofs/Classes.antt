@@ -1,11 +1,11 @@
 -- Conditions that are as true share a class.
 use Prim.Native.Nat.{zero, suc}
-use Rattle.std.proofs.Common.{◌≡◌, ◌∙◌, refl, sym, ap, subst, ℕ, ◌+◌, ◌*◌, ◌/◌, ◌%◌, ◌^◌, ◌<◌, ◌≤◌, Bool, true, false}
-use Rattle.std.proofs.Common.{true≢false, not, ◌&&◌, ◌↔◌, ◌⊎◌, inl, inr, arith, List, [], ◌∷◌, ◌++◌, map, length, get_or}
+use Rattle.std.proofs.Common.{◌≡◌, ◌∙◌, refl, sym, ap, subst, ℕ, ◌+◌, ◌*◌, ◌/◌, ◌%◌, ◌^◌, ◌<◌, true, false}
+use Rattle.std.proofs.Common.{◌&&◌, ◌↔◌, inl, inr, arith, List, [], ◌∷◌, ◌++◌, map, length, get_or}
 use Rattle.std.proofs.Common.{cond, length-append, Option, Some, None}
 use Rattle.std.specs.Prelude.{codes, is_some, Contains, IsTrue, Vec, nat_eq, Result, Ok, Err, IfOk, OnOk}
 use Rattle.std.specs.declared.alloc.Global.{Global}
-use Rattle.std.specs.Ordering.{is_eq, nat_cmp, eq_by_cmp}
+use Rattle.std.specs.Ordering.{is_eq, nat_cmp}
 use Rattle.std.specs.Cmp.{Equal-is, both_ways, eq_by_cmp_equiv}
 use Rattle.std.specs.Cmp.Lexicographic.{slice_cmp, nat_list_cmp_total}
 use Rattle.std.specs.FinSet.{contains, from_list, contains-from_list}
@@ -18,7 +18,7 @@ use Rattle.std.proofs.lemmas.List.Elements.{Contains-append_left, Contains-appen
 use Rattle.std.proofs.lemmas.Map.Lookups.{exact_bytes}
 use Rattle.std.proofs.lemmas.Map.Views.{list_any-from_Contains}
 use Rattle.cargo_platform.specs.Trees.{CfgValue, Tree, Condition, Expression, condition_of}
-use Rattle.cargo_platform.specs.Facts.{Pair, FactSet, IsTrueCondition, pair_of, pair_cmp, fact_set, truth}
+use Rattle.cargo_platform.specs.Facts.{Pair, FactSet, IsTrueCondition, pair_of, pair_cmp, truth}
 use Rattle.cargo_platform.specs.Warnings.{values}
 use Rattle.cargo_platform.proofs.FactSets.{pairs_total}
 use Rattle.partial_facts.specs.Partly.{is_named}
@@ -30,7 +30,7 @@ use Rattle.known_targets.specs.declared.target_set.TargetSet.{TargetSet}
 use Rattle.known_targets.specs.declared.table.TheConstants.{COUNT}
 use Rattle.exact_answers.specs.Families.{IsSetWithFamily}
 use Rattle.exact_answers.specs.declared.known.Known.{Known}
-use Rattle.manifest_lints_questions.specs.Samples.{AreTruths, is_set, truth_by, one_valued, is_rustcs, holds, holds_beside}
+use Rattle.manifest_lints_questions.specs.Samples.{AreTruths, is_set, truth_by, one_valued, is_rustcs, holds_beside}
 use Rattle.manifest_lints_questions.specs.Rustcs.{IsRustcs, AllowsRustcs}
 use Rattle.manifest_lints_questions.specs.Earlier.{Member, IsMemberAt, AreEquivalent, NoneIsEquivalent, places_in}
 use Rattle.manifest_lints_questions.specs.Earlier.{places_of, part_of, is_unlike, TellsUnlike}
@@ -39,7 +39,7 @@ use Rattle.manifest_lints_questions.specs.Classes.{IsClassed, AreClassed, AreUnl
 use Rattle.manifest_lints_questions.specs.declared.earlier.Earlier.{Earlier}
 use Rattle.manifest_lints_questions.specs.declared.earlier.Keys.{Keys}
 use Rattle.manifest_lints_questions.specs.declared.sample_sets.TheConstants.{STRIDE}
-use Rattle.manifest_lints_questions.proofs.Words.{same_word, left_true, right_true}
+use Rattle.manifest_lints_questions.proofs.Words.{same_word, left_true}
 use Rattle.manifest_lints_questions.proofs.Rows.{one_value, family_name, family_pair, unix_family, windows_family}
 use Rattle.manifest_lints_questions.proofs.Rows.{unix_is, windows_is}
 use Rattle.manifest_lints_questions.proofs.Samples.{single_is, holds_known, beside_none, sample, in_sample, over_sample}
@@ -127,7 +127,8 @@ asked_for : (e d : Tree) (c : CfgValue) → Contains (values e ++ values d) c
     → contains {R = pair_cmp} (from_list (pairs_for e d)) (pair_of c) ≡ true
 asked_for e d c m =
     in_pairs (pairs_for e d) (pair_of c)
-    (Contains-append_right families (map pair_of (values e ++ values d)) (pair_of c) (mapped (values e ++ values d) c m))
+    (Contains-append_right families (map pair_of (values e ++ values d)) (pair_of c)
+    (mapped (values e ++ values d) c m))
 
 family_at : (e d : Tree) (i : ℕ) (p : Pair) → i < 4 → get_or families i p ≡ p
     → contains {R = pair_cmp} (from_list (pairs_for e d)) p ≡ true
@@ -248,7 +249,8 @@ puts old new class n before v was items updates q =
 
 module _ (old new : Keys) (m : Member) (class : List ℕ) (number : Option ℕ) (e : Tree)
     (puts_it : PutsMember old new m class number) (tree : condition_of m.1.now ≡ Expression e)
-    (is_class : IsClassOf e class) (is_number : IsNumberOf (condition_of m.1.now) number) (before : AreClassed old) where
+    (is_class : IsClassOf e class) (is_number : IsNumberOf (condition_of m.1.now) number)
+    (before : AreClassed old) where
   long : length new.members.items ≡ length old.members.items + 1
   long = ap length puts_it.pushed ∙ length-append old.members.items (m ∷ [])
 
@@ -377,7 +379,8 @@ in_its_own old new class n put =
     let before = places_in (ordered.get (slice_cmp nat_cmp) old class) in
     subst (λ ns. Contains ns n)
     (sym (put class
-    ∙ ap (λ b. before ++ cond b (n ∷ []) []) ((eq_by_cmp_equiv nat_list_cmp_total).refl class))) (Contains-push before n)
+    ∙ ap (λ b. before ++ cond b (n ∷ []) []) ((eq_by_cmp_equiv nat_list_cmp_total).refl class)))
+    (Contains-push before n)
 
 still_in : (old new : ClassMap) (class q : List ℕ) (n j : ℕ) → PutsIn old new class n
     → Contains (places_in (ordered.get (slice_cmp nat_cmp) old q)) j

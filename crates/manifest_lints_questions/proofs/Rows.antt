@@ -1,19 +1,17 @@
 -- Of a key that has one value a known target has one at most, and what it has of families goes together.
 use Prim.Native.Nat.{zero, suc}
-use Rattle.std.proofs.Common.{◌≡◌, ◌∙◌, refl, sym, ap, subst, ℕ, ◌/◌, ◌%◌, ◌<◌, List, [], ◌∷◌, map, get_or, inl, inr}
+use Rattle.std.proofs.Common.{◌≡◌, ◌∙◌, refl, sym, ap, subst, ℕ, ◌/◌, ◌%◌, ◌<◌, List, [], ◌∷◌, map, inl, inr}
 use Rattle.std.proofs.Common.{Bool, true, false, ◌||◌, ◌&&◌, not, arith, true≢false, Option, Some, None}
-use Rattle.std.specs.Prelude.{nat_eq, bit_or, bytes_eq, codes, is_some, slice_index}
-use Rattle.std.specs.Int.{bit_at}
+use Rattle.std.specs.Prelude.{bit_or, bytes_eq, codes, is_some, slice_index}
 use Rattle.std.specs.List.{list_any}
 use Rattle.std.specs.FinSet.{contains}
 use Rattle.std.proofs.lemmas.Bool.{cases_eq}
 use Rattle.std.proofs.lemmas.Slice.Eq.{bytes_eq-Decides}
-use Rattle.cargo_platform.specs.Trees.{Alone, KeyPair}
-use Rattle.cargo_platform.specs.Facts.{Pair, pair_of, fact_set}
+use Rattle.cargo_platform.specs.Facts.{Pair}
 use Rattle.partial_facts.specs.Partly.{is_named}
 use Rattle.partial_facts.specs.OneValued.{is_single}
 use Rattle.known_targets.specs.Bits.{has}
-use Rattle.known_targets.specs.Rows.{Values, Keys, plain, facts_in, has_name, has_value, has_pair}
+use Rattle.known_targets.specs.Rows.{Values, Keys, plain, has_name, has_value, has_pair}
 use Rattle.known_targets.specs.Listed.{some_below}
 use Rattle.known_targets.specs.Table.{table_keys, target_facts}
 use Rattle.known_targets.specs.declared.table.TheConstants.{COUNT, WORDS}

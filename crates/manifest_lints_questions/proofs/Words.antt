@@ -1,7 +1,8 @@
 -- Bits of words.
 use Prim.Native.Nat.{zero, suc}
 use Rattle.std.proofs.Common.{◌≡◌, ◌∙◌, refl, sym, ap, ℕ, ◌*◌, ◌%◌, ◌^◌, ◌<◌, List, [], ◌∷◌}
-use Rattle.std.proofs.Common.{Bool, true, false, ◌||◌, ◌&&◌, not, eqb, eq-eqb, eqb-true, ◌≢◌, ◌==◌, inl, inr, arith, w64, min, max, true≢false}
+use Rattle.std.proofs.Common.{Bool, true, false, ◌||◌, ◌&&◌, not, eqb, eq-eqb, eqb-true, ◌≢◌, ◌==◌, inl, inr, arith}
+use Rattle.std.proofs.Common.{w64, min, max, true≢false}
 use Rattle.std.specs.Prelude.{◌-◌, nat_eq, bit_and, bit_or}
 use Rattle.std.specs.Int.{bit_at, bit_not}
 use Rattle.std.specs.List.{list_any}

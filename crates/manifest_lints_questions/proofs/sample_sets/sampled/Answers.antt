@@ -18,8 +18,10 @@ places-preserved c =
     let place = c.places.place in
     record {
       before = λ j low.
-          named_more j place _ _ _ (λ j. has words (j * STRIDE)) (c.with_bit-truths.ensures j) (has_tests words (place * STRIDE))
+          named_more j place _ _ _ (λ j. has words (j * STRIDE)) (c.with_bit-truths.ensures j)
+          (has_tests words (place * STRIDE))
           (c.places.invariant.before j) (c.places.invariant.after j) (omega arith);
       after = λ j high.
-          named_none j place _ _ _ (c.with_bit-truths.ensures j) (omega arith) (c.places.invariant.after j (omega arith));
+          named_none j place _ _ _ (c.with_bit-truths.ensures j) (omega arith)
+          (c.places.invariant.after j (omega arith));
     }

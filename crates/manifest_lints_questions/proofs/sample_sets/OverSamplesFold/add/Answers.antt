@@ -1,4 +1,4 @@
-use Rattle.std.proofs.Common.{◌∙◌, ℕ, Bool}
+use Rattle.std.proofs.Common.{◌∙◌, Bool}
 use Rattle.cargo_platform.specs.Facts.{Pair}
 use Rattle.known_targets.specs.Groups.{both}
 use Rattle.manifest_lints_questions.specs.Samples.{holds_beside}
