@@ -5,15 +5,11 @@ use Rattle.std.specs.Prelude.{IfSome}
 use Rattle.std.specs.List.{All}
 use Rattle.std.specs.List.Sorted.{IsPermutation}
 use Rattle.cargo_platform.specs.Trees.{Condition}
-use Rattle.cargo_platform.specs.Facts.{FactSet, fact_set}
 use Rattle.cargo_platform.specs.Nesting.{IsNestedBeyond}
 use Rattle.cargo_platform.specs.Platforms.{IsConditionText}
 use Rattle.cargo_platform.specs.Print.{print_condition}
 use Rattle.toml.specs.Data.{Members}
 use Rattle.exact_answers.specs.declared.known.Known.{Known}
-use Rattle.partial_facts.specs.declared.one_valued.TheConstants.{ONE_VALUED}
-use Rattle.exact_answers.specs.Possible.{HasOneValue, IsAllowed}
-use Rattle.exact_answers.specs.Families.{KeepsFamilyRule}
 use Rattle.exact_answers.specs.Asking.{NeedsMore}
 use Rattle.exact_answers.specs.Targets.{asked_trees}
 use Rattle.manifest_documents.specs.Declarations.{DeclaredEntry, IsDeclaredBy}
@@ -30,6 +26,7 @@ use Rattle.manifest_lints_findings.specs.Marks.{Mark, marks}
 use Rattle.manifest_lints_findings.specs.Messages.{NamesKey}
 use Rattle.manifest_lints_findings.specs.NoTables.{is_no_table}
 use Rattle.manifest_lints_findings.specs.Spells.{SpellsNothing}
+pub use Rattle.manifest_lints_questions.specs.Rustcs.{IsRustcs, AllowsRustcs}
 use Rattle.manifest_lints_questions.specs.declared.deciding.TheConstants.{MANY, LEVELS}
 use Rattle.manifest_lints_questions.specs.declared.earlier.TheConstants.{MOST}
 use Rattle.manifest_lints_questions.specs.declared.earlier.Earlier.{Earlier}
@@ -37,17 +34,6 @@ use Rattle.manifest_lints_questions.specs.declared.earlier.Earlier.TheVariants.{
 use Rattle.manifest_lints_questions.specs.Truths.{IsNever, IsAlways, CanHold, CanFail, IsNowhere, IsEverywhere}
 use Rattle.manifest_lints_questions.specs.Truths.{budget_of, NeedsMoreFor}
 use Rattle.manifest_lints.specs.Sames.{HasOne, HasSame, HasEquivalent, NamesRightly, named_place}
-
--- ---- the sets of facts that are asked about
-
--- a set of facts that rustc may set: a key with one value has one at most, and names of families go with the pairs of
--- `target_family`
-abbrev pub IsRustcs : FactSet → Type 0
-IsRustcs s = HasOneValue (fact_set []) (map (λ t. t.now) ONE_VALUED.now) s × KeepsFamilyRule s
-
--- these sets are possible, and no others
-abbrev pub AllowsRustcs : Known → Type 0
-AllowsRustcs k = (s : FactSet) → IsAllowed k s ↔ IsRustcs s
 
 -- ---- the table: when a code holds of a key
 

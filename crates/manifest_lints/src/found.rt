@@ -181,7 +181,7 @@ fn answers_of<'a>(
     let decides = answers.never || answers.always;
     let budget = budget_beside(key, decides);
     let known = asking.known;
-    answers.earlier = before.add(alloc, key.place, condition, key.targets, known, budget)?;
+    answers.earlier = before.add(alloc, key.place, condition, known, budget)?;
     let is_open = stays_open(answers.earlier, decides);
     answers.is_open = either(answers.is_open, is_open);
     Ok(answers)
