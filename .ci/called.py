@@ -1,4 +1,4 @@
-"""The words of a call, by the docstring of the script: `Usage: .ci/NAME`, and behind it the words that the script takes.
+"""The words of a call, by the docstring of the script: `Usage: .ci/NAME`, and behind it the words that it takes.
 
 `[..]` may be left out, `|` parts choices, a word in capitals stands for any that does not begin with `-`, and `..`
 behind it for more of them. The usage ends at whatever is none of these.

@@ -33,7 +33,8 @@ impl Unusable {
         limit: u64,
     ) -> Result<Unusable, AllocError>
         ensures file { IfOk result (λ unusable. unusable.file ≡ Some file) }
-        ensures reason { IfOk result (λ unusable. IsReason (error_kind error.now) limit (string_bytes unusable.reason)) }
+        ensures reason { IfOk result
+            (λ unusable. IsReason (error_kind error.now) limit (string_bytes unusable.reason)) }
     {
         Ok(Unusable {
             file: Some(file),
