@@ -12,3 +12,4 @@ pub mod Ahead
 pub mod Numbers
 pub mod Adding
 pub mod Families
+pub mod Ending

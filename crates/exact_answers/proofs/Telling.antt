@@ -11,11 +11,12 @@ use Rattle.cargo_platform.specs.Facts.{Pair, FactSet, pair_cmp}
 use Rattle.cargo_platform.proofs.FactSets.{pairs_total}
 use Rattle.cargo_platform.proofs.FactTruths.{pair_tie}
 use Rattle.partial_facts.specs.Partly.{is_named, told_by}
+use Rattle.goal_diagrams.specs.Inside.Making.{IsAsTold}
 use Rattle.exact_answers.specs.Possible.{is_single}
 use Rattle.exact_answers.specs.Asking.{is_pair}
 use Rattle.exact_answers.specs.Possible.{is_value, has_value}
 use Rattle.exact_answers.specs.Inside.Paths.{Turn, Base, IsOver, takes, refuses, taken}
-use Rattle.exact_answers.specs.Inside.Paths.{facts_on, set_on, rules_out, is_refuted, told_on, IsAsTold, Agrees}
+use Rattle.exact_answers.specs.Inside.Paths.{facts_on, set_on, rules_out, is_refuted, told_on, Agrees}
 
 pub or_cases : (P : Type 0) (a b : Bool) → (a || b) ≡ true → (a ≡ true → P) → (b ≡ true → P) → P
 or_cases P true b h f g = f refl

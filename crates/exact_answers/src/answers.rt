@@ -8,8 +8,9 @@ ghost use Rattle.exact_answers.specs.Inside.Goals.{SaysFound};
 
 use crate::known::Known;
 use crate::path::Path;
-use crate::search::{Found, Goal, search};
+use crate::search::{Found, search};
 use cargo_platform::{Cfg, CfgExpr};
+use goal_diagrams::Goal;
 use std::alloc::{AllocError, Global};
 
 /// Whether something can hold.

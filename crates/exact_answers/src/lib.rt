@@ -7,6 +7,7 @@
 #![tactic(auto)]
 
 mod answers;
+mod diagram;
 mod known;
 mod opening;
 mod outlook;

@@ -9,10 +9,11 @@ use Rattle.cargo_platform.specs.Trees.{tree_of, value_of}
 use Rattle.cargo_platform.specs.Facts.{Pair, FactSet, pair_of, truth}
 use Rattle.cargo_platform.specs.ExpressionSizes.{node_count}
 use Rattle.cargo_platform.specs.declared.cfg.Cfg.{Cfg}
+use Rattle.goal_diagrams.specs.Goals.{true_as_wanted, goals_met}
 use Rattle.exact_answers.specs.Asking.{asks, some_asks}
 use Rattle.exact_answers.specs.Inside.Paths.{Turn, Base, told_on}
-use Rattle.exact_answers.specs.Inside.Goals.{true_as_wanted, goals_true, goal_trees}
-use Rattle.exact_answers.specs.declared.search.Goal.{Goal}
+use Rattle.exact_answers.specs.Inside.Goals.{goal_trees}
+use Rattle.goal_diagrams.specs.declared.making.Goal.{Goal}
 use Rattle.exact_answers.specs.declared.outlook.Words.{Words}
 use Rattle.exact_answers.specs.declared.outlook.Finding.{Finding}
 use Rattle.exact_answers.specs.declared.outlook.Seen.{Seen}
@@ -77,7 +78,7 @@ AsksAmong among g = (p : Pair) → asks (tree_of g.e.now) p ≡ true → among p
 
 -- they give whether all goals are met, and have numbers for the pairs of these
 pub record IsOutlook (outlook : Outlook) (gs : List Goal) : Type 0 where
-  pub works_out : (s : FactSet) → worked_out s outlook.operations.items [] ≡ goals_true s gs ∷ []
+  pub works_out : (s : FactSet) → worked_out s outlook.operations.items [] ≡ goals_met s gs ∷ []
   pub numbered : All (HasNumber (pairs_of outlook.pairs.items)) outlook.operations.items
   pub asked : AreAmong (some_asks (goal_trees gs)) (pairs_of outlook.pairs.items)
 
