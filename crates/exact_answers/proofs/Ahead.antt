@@ -16,8 +16,7 @@ use Rattle.cargo_platform.specs.Facts.{FactSet, pair_of, truth}
 use Rattle.cargo_platform.specs.ExpressionSizes.{node_count}
 use Rattle.cargo_platform.specs.declared.cfg.CfgExpr.{CfgExpr}
 use Rattle.goal_diagrams.specs.declared.making.Goal.{Goal}
-use Rattle.goal_diagrams.specs.Goals.{true_as_wanted, goals_met}
-use Rattle.goal_diagrams.specs.Inside.Making.{IsAsTold}
+use Rattle.goal_diagrams.specs.Goals.{true_as_wanted, goals_met, IsAsTold}
 use Rattle.exact_answers.specs.declared.outlook.Words.{Words}
 use Rattle.exact_answers.specs.declared.outlook.Outlook.{Outlook}
 use Rattle.exact_answers.specs.declared.outlook.Finding.{Finding}

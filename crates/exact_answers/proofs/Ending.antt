@@ -9,8 +9,7 @@ use Rattle.partial_facts.specs.Partly.{names_of, told_by}
 use Rattle.goal_diagrams.specs.declared.making.Goal.{Goal}
 use Rattle.goal_diagrams.specs.declared.answers.Outcome.{Outcome}
 use Rattle.goal_diagrams.specs.declared.answers.Outcome.TheVariants as outcome
-use Rattle.goal_diagrams.specs.Goals.{goals_met, HasOneOpenValue, SaysOutcome}
-use Rattle.goal_diagrams.specs.Inside.Making.{IsAsTold}
+use Rattle.goal_diagrams.specs.Goals.{goals_met, HasOneOpenValue, SaysOutcome, IsAsTold}
 use Rattle.exact_answers.specs.declared.diagram.End.{End}
 use Rattle.exact_answers.specs.declared.diagram.End.TheVariants as end
 use Rattle.exact_answers.specs.declared.known.Known.{Known}

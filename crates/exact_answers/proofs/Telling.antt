@@ -11,7 +11,8 @@ use Rattle.cargo_platform.specs.Facts.{Pair, FactSet, pair_cmp}
 use Rattle.cargo_platform.proofs.FactSets.{pairs_total}
 use Rattle.cargo_platform.proofs.FactTruths.{pair_tie}
 use Rattle.partial_facts.specs.Partly.{is_named, told_by}
-use Rattle.goal_diagrams.specs.Inside.Making.{IsAsTold}
+use Rattle.goal_diagrams.specs.Goals.{IsAsTold}
+pub use Rattle.goal_diagrams.proofs.Pairs.{same}
 use Rattle.exact_answers.specs.Possible.{is_single}
 use Rattle.exact_answers.specs.Asking.{is_pair}
 use Rattle.exact_answers.specs.Possible.{is_value, has_value}
@@ -34,9 +35,6 @@ pub never_both : (b : Bool) → b ≡ false → b ≡ true → ⊥
 never_both b f t = true≢false (sym t ∙ f)
 
 -- ---- pairs
-
-pub same : (p q : Pair) → is_pair p q ≡ true → p ≡ q
-same p q h = pair_tie p q ((Equal-is (pair_cmp p q)).0 h)
 
 pub itself : (p : Pair) → is_pair p p ≡ true
 itself p = (eq_by_cmp_equiv pairs_total).refl p

@@ -12,8 +12,7 @@ use crate::known::Known;
 use crate::path::Path;
 use crate::search::{Step, next_step};
 use cargo_platform::Cfg;
-use decision_diagrams::Choice;
-use goal_diagrams::{Goal, Outcome, find_way};
+use goal_diagrams::{Choice, Goal, Outcome, find_way};
 use std::alloc::{AllocError, Global};
 
 /// What a diagram tells of goals.

@@ -6,6 +6,7 @@ ghost use Rattle.std.specs.Bool.{MatchBool};
 ghost use Rattle.std.specs.List.{All};
 ghost use Rattle.cargo_platform.specs.Trees.{Trees, name_of, value_of};
 ghost use Rattle.cargo_platform.specs.Facts.{pair_of};
+ghost use Rattle.goal_diagrams.specs.Goals.{IsAsTold};
 ghost use Rattle.exact_answers.specs.Answers.{IsUnmarked};
 ghost use Rattle.exact_answers.specs.Asking.{is_pair, some_asks};
 ghost use Rattle.exact_answers.specs.Possible.{is_value, has_value};
@@ -76,7 +77,6 @@ pub struct Path<'a> {
 
 impl<'a> Knowledge for Path<'a> {
     ghost use Rattle.exact_answers.specs.Inside.Paths.{told_by_path, as_told};
-    ghost use Rattle.goal_diagrams.specs.Inside.Making.{IsAsTold};
 
     ghost allows = { λ k s. IsAsTold (told_by_path k) s };
 

@@ -9,7 +9,7 @@ use Rattle.cargo_platform.specs.Trees.{tree_of, value_of}
 use Rattle.cargo_platform.specs.Facts.{Pair, FactSet, pair_of, truth}
 use Rattle.cargo_platform.specs.ExpressionSizes.{node_count}
 use Rattle.cargo_platform.specs.declared.cfg.Cfg.{Cfg}
-use Rattle.goal_diagrams.specs.Goals.{true_as_wanted, goals_met}
+use Rattle.goal_diagrams.specs.Goals.{true_as_wanted, goals_met, pairs_of, StandsAt}
 use Rattle.exact_answers.specs.Asking.{asks, some_asks}
 use Rattle.exact_answers.specs.Inside.Paths.{Turn, Base, told_on}
 use Rattle.exact_answers.specs.Inside.Goals.{goal_trees}
@@ -49,18 +49,8 @@ worked_out s (o ∷ os) bs = worked_out s os (done s o bs)
 abbrev pub outcome : FactSet → Outlook → List Goal → List Bool
 outcome s outlook left = worked_out s (reverse outlook.operations.items) (map (meets s) left)
 
--- pairs apart from where they lie in memory
-abbrev pub pairs_of : List (Bor Cfg) → List Pair
-pairs_of cs = map (λ c. pair_of (value_of c.now)) cs
-
 abbrev pub table_pairs : List Words → List Pair
 table_pairs ws = map (λ w. pair_of (value_of w.pair.now)) ws
-
--- the pair has this number
-abbrev pub StandsAt : List Pair → ℕ → Pair → Type 0
-StandsAt [] n p = ⊥
-StandsAt (q ∷ qs) zero p = q ≡ p
-StandsAt (q ∷ qs) (suc n) p = StandsAt qs n p
 
 -- each pair with a number is one of some pairs
 abbrev pub AreAmong : (Pair → Bool) → List Pair → Type 0

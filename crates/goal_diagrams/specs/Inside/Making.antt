@@ -11,19 +11,9 @@ use Rattle.decision_diagrams.specs.Diagrams.{value, nodes_of}
 use Rattle.decision_diagrams.specs.declared.table.Table.{Table}
 use Rattle.goal_diagrams.specs.Goals.{true_as_wanted, pairs_of, holds_in}
 
--- the pair has this number
-abbrev pub StandsAt : List Pair → ℕ → Pair → Type 0
-StandsAt [] n p = ⊥
-StandsAt (q ∷ qs) zero p = q ≡ p
-StandsAt (q ∷ qs) (suc n) p = StandsAt qs n p
-
 -- what a place says of a set of facts
 abbrev pub says : FactSet → List (Bor Cfg) → Table → ℕ → Bool
 says s cs t place = value (holds_in s (pairs_of cs)) (nodes_of t) place
-
--- all that is told holds in the set
-abbrev pub IsAsTold : (Pair → Option Bool) → FactSet → Type 0
-IsAsTold told s = (p : Pair) → IfSome (told p) (λ b. contains s p ≡ b)
 
 -- different values of a key that has one value
 pub record AreTwoValues (single : List (List ℕ)) (p q : Pair) : Type 0 where

@@ -1,5 +1,5 @@
+use Rattle.goal_diagrams.proofs.Pairs.{pair_at}
 use Rattle.exact_answers.proofs.Ending.{both_on_ok, taken_path}
-use Rattle.exact_answers.proofs.Numbers.{pair_at}
 use Rattle.exact_answers.proofs.diagram.take_at.Goals as goal
 
 pub returns-then-number-pairs : goal.returns-then-number-pairs
