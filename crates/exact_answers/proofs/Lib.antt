@@ -13,3 +13,4 @@ pub mod Numbers
 pub mod Adding
 pub mod Families
 pub mod Ending
+pub mod OneMore

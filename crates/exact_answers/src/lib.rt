@@ -8,6 +8,7 @@
 #![tactic(auto)]
 
 mod answers;
+mod assuming;
 mod diagram;
 mod known;
 mod opening;

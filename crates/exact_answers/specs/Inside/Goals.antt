@@ -7,7 +7,7 @@ use Rattle.std.specs.FinSet.{contains, from_list}
 use Rattle.cargo_platform.specs.Trees.{CfgValue, Trees, none, tree, tree_of, value_of}
 use Rattle.cargo_platform.specs.Facts.{Pair, FactSet, pair_of, pair_cmp, fact_set, truth}
 use Rattle.partial_facts.specs.Kleene.{kleene, kleene_not, kleene_and}
-use Rattle.goal_diagrams.specs.Goals.{goals_met}
+use Rattle.goal_diagrams.specs.Goals.{true_as_wanted, goals_met}
 use Rattle.exact_answers.specs.Inside.Paths.{Base, IsOver, Turn, set_on, told_on, Agrees, facts_on, base_of}
 use Rattle.exact_answers.specs.Inside.Paths.{turns, WereOpen}
 use Rattle.exact_answers.specs.Possible.{IsAllowed}
@@ -118,3 +118,10 @@ pub record IsPathOf (p : Path) (k : Known) (es : Trees) : Type 0 where
 abbrev pub SaysEnd : End → Known → List Goal → Type 0
 SaysEnd (end.Met p) k gs = IsPathOf p k (goal_trees gs) × AreMet (base_of k) gs (turns p)
 SaysEnd end.Missed k gs = AreMissed (base_of k) gs []
+
+-- the goal is met over the facts that are found, or there are none
+abbrev pub IsMetBy : Goal → Found → Type 0
+IsMetBy g (found.Facts facts) =
+    true_as_wanted g.wanted (truth (fact_set (map value_of facts.items)) (tree_of g.e.now)) ≡ true
+IsMetBy g found.Nothing = Unit {0}
+IsMetBy g found.Undecided = ⊥
