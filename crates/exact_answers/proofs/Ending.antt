@@ -1,5 +1,5 @@
 -- The end of a search by a decision diagram.
-use Rattle.std.proofs.Common.{◌≡◌, ◌∙◌, refl, sym, ap, subst, Bool, true, false, List, [], ◌∷◌, map, Some, None}
+use Rattle.std.proofs.Common.{◌≡◌, ◌∙◌, refl, sym, ap, subst, Bool, true, false, List, [], map, Some, None}
 use Rattle.std.proofs.Common.{IfSome, inl, inr, true≢false, Result, Ok, Err, OnOk}
 use Rattle.std.specs.List.{All}
 use Rattle.std.specs.FinSet.{contains}

@@ -3,13 +3,12 @@ use Rattle.std.proofs.Common.{◌≡◌, ◌∙◌, refl, sym, ap, Bool, true, f
 use Rattle.std.proofs.Common.{IfSome, inl, inr, true≢false}
 use Rattle.std.specs.Prelude.{if◌then◌else◌}
 use Rattle.std.specs.List.{list_any}
-use Rattle.std.specs.Cmp.{Equal-is, eq_by_cmp_equiv, first_so, second_so}
+use Rattle.std.specs.Cmp.{eq_by_cmp_equiv, first_so, second_so}
 use Rattle.std.specs.FinSet.{contains, contains-from_list, from_list}
 use Rattle.std.proofs.lemmas.List.Folds.{list_any-append}
 use Rattle.std.proofs.lemmas.Slice.Eq.{bytes_eq-Decides}
 use Rattle.cargo_platform.specs.Facts.{Pair, FactSet, pair_cmp}
 use Rattle.cargo_platform.proofs.FactSets.{pairs_total}
-use Rattle.cargo_platform.proofs.FactTruths.{pair_tie}
 use Rattle.partial_facts.specs.Partly.{is_named, told_by}
 use Rattle.goal_diagrams.specs.Goals.{IsAsTold}
 pub use Rattle.goal_diagrams.proofs.Pairs.{same}

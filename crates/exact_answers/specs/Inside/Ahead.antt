@@ -1,14 +1,12 @@
 -- Goals that are worked out operation by operation, over one set of facts and over 64 at once.
 use Rattle.std.specs.Prelude.{◌≡◌, ℕ, zero, suc, ◌<◌, Bool, true, false, ◌&&◌, ◌||◌, Option, None, IfSome}
 use Rattle.std.specs.Prelude.{List, [], ◌∷◌, ◌++◌, map, reverse, drop, sum}
-use Rattle.std.specs.Borrow.{Bor}
 use Rattle.std.specs.Int.{bit_at}
 use Rattle.std.specs.List.{All}
 use Rattle.std.specs.FinSet.{contains}
 use Rattle.cargo_platform.specs.Trees.{tree_of, value_of}
 use Rattle.cargo_platform.specs.Facts.{Pair, FactSet, pair_of, truth}
 use Rattle.cargo_platform.specs.ExpressionSizes.{node_count}
-use Rattle.cargo_platform.specs.declared.cfg.Cfg.{Cfg}
 use Rattle.goal_diagrams.specs.Goals.{true_as_wanted, goals_met, pairs_of, StandsAt}
 use Rattle.exact_answers.specs.Asking.{asks, some_asks}
 use Rattle.exact_answers.specs.Inside.Paths.{Turn, Base, told_on}

@@ -1,8 +1,7 @@
 -- Pairs by their numbers, what places say of sets of facts, and members of groups.
-use Rattle.std.specs.Prelude.{◌≡◌, ℕ, zero, suc, Bool, true, false, ◌&&◌, ◌||◌, List, [], ◌∷◌, Option, IfSome, IsTrue}
+use Rattle.std.specs.Prelude.{◌≡◌, ℕ, Bool, true, false, ◌&&◌, ◌||◌, List, [], ◌∷◌, IsTrue}
 use Rattle.std.specs.Prelude.{is_some}
 use Rattle.std.specs.Borrow.{Bor}
-use Rattle.std.specs.FinSet.{contains}
 use Rattle.cargo_platform.specs.Trees.{Tree}
 use Rattle.cargo_platform.specs.Facts.{Pair, FactSet, truth}
 use Rattle.cargo_platform.specs.declared.cfg.Cfg.{Cfg}
