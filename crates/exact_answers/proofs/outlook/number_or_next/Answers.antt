@@ -1,5 +1,5 @@
 use Rattle.exact_answers.proofs.Numbers.{kept_number, new_number, among_pushed}
-use Rattle.exact_answers.proofs.outlook.number_of.Goals as goal
+use Rattle.exact_answers.proofs.outlook.number_or_next.Goals as goal
 
 pub returns-in_ok-push-in-None-clause-number : goal.returns-in_ok-push-in-None-clause-number
 returns-in_ok-push-in-None-clause-number c =
