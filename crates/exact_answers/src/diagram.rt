@@ -30,6 +30,9 @@ const FEW_NODES: usize = 1_024;
 /// How many nodes the next one may have. Of 500 hard pairs of keys with up to 27 facts, each took fewer than half.
 const MOST_NODES: usize = 131_072;
 
+/// Of more pairs no diagram is made: it takes stack for each of them, and would mostly be too large.
+const MOST_PAIRS: usize = 512;
+
 /// What a diagram of so many nodes finds of the goals.
 fn outcome_within<'a>(
     alloc: Global,
@@ -125,6 +128,9 @@ pub fn by_diagram<'a>(
     requires { AreAmong (some_asks (goal_trees goals.now)) (pairs_of pairs.now) }
     ensures { IfOk result (λ r. IfSome r (λ end. SaysEnd end known.now goals.now)) }
 {
+    if pairs.len() > MOST_PAIRS {
+        return Ok(None);
+    }
     match outcome_of(alloc, goals, pairs, known)? {
         Outcome::Way(choices) => tried(alloc, goals, pairs, &choices, known),
         Outcome::Nothing => Ok(Some(End::Missed)),
