@@ -1,5 +1,5 @@
 -- The names and numbers that a message shows, by the code of its finding. The words between them are free.
-use Rattle.std.specs.Prelude.{ℕ, false, List, [], ◌∷◌, ◌++◌, codes, length, map, take, string_bytes, String}
+use Rattle.std.specs.Prelude.{ℕ, false, List, [], ◌∷◌, ◌++◌, codes, take, string_bytes, String}
 use Rattle.std.specs.Prelude.{Option, Some, None}
 use Rattle.std.specs.List.{join_by}
 use Rattle.std.specs.declared.alloc.Global.{Global}

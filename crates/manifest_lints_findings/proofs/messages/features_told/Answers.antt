@@ -1,4 +1,4 @@
-use Rattle.std.proofs.Common.{rules, ◌≡◌, [], ◌∷◌, length, string_bytes}
+use Rattle.std.proofs.Common.{rules, ◌≡◌, length, string_bytes}
 use Rattle.std.specs.Prelude.{codes}
 use Rattle.std.proofs.lemmas.Result.{IfOk-weaker}
 use Rattle.known_targets.specs.declared.table.TheConstants.{RUSTC_VERSION}

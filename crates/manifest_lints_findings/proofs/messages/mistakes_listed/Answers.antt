@@ -1,4 +1,4 @@
-use Rattle.std.proofs.Common.{rules, ◌≡◌, ◌++◌, arith, get_or, length, string_bytes}
+use Rattle.std.proofs.Common.{rules, ◌≡◌, ◌++◌, arith, get_or, string_bytes}
 use Rattle.std.proofs.lemmas.Grind.{common_steps}
 use Rattle.manifest_lints_findings.specs.Chosen.{fact_text}
 use Rattle.manifest_lints_findings.proofs.Mentions.{next_mentioned, all_mentioned}
