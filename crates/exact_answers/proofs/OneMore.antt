@@ -43,4 +43,4 @@ with_goal k g gs few budget (found.Facts facts) met h = (
 with_goal k g gs few budget found.Nothing met h =
     λ s over. ap (λ b. true_as_wanted g.wanted (truth s (tree_of g.e.now)) && b) (h s over)
     ∙ and_false (true_as_wanted g.wanted (truth s (tree_of g.e.now)))
-with_goal k g gs few budget found.Undecided met h = cc
+with_goal k g gs few budget found.Undecided met h = absurd met
