@@ -1,8 +1,10 @@
 //! The packages of a graph from bytes, into a buffer of the caller: for callers that are not written in Rattle.
 #![tactic(auto)]
 
-ghost use Rattle.std.specs.Prelude.{◌≡◌, ◌≢◌, ◌<◌, ℕ, List, [], IsTrue, ◌||◌, ◌==◌, IfOk, IfErr};
+ghost use Rattle.std.specs.Prelude.{◌≡◌, ◌≢◌, ◌<◌, ◌↔◌, ℕ, List, [], IsTrue, ◌||◌, ◌==◌, IfOk, IfErr, IfSome};
+ghost use Rattle.std.specs.Prelude.{None};
 ghost use Rattle.std.specs.Str.{IsUtf8};
+ghost use Rattle.known_targets.specs.Sets.{place};
 ghost use Rattle.known_targets.specs.Table.{target_name};
 ghost use Rattle.byte_answers.specs.Outcomes.{IsSilent, IsWritten};
 ghost use Rattle.byte_graphs.specs.Documents.{IsGraph, IsDeepGraph, IsUnusable};
@@ -21,6 +23,8 @@ fn host_of(name: &str) -> Result<Option<KnownTarget>, &str>
     ensures known { IfOk result (λ _. name.now ≢ [] → (k : ℕ) × ((k < COUNT) × (target_name k ≡ name.now))) }
     ensures unknown { IfErr result (λ _. (k : ℕ) → k < COUNT → target_name k ≢ name.now) }
     ensures empty { IfErr result (λ _. name.now ≢ []) }
+    ensures host { IfOk result (λ host. IfSome host (λ target. target_name (place target) ≡ name.now)) }
+    ensures none { IfOk result (λ host. (host ≡ None) ↔ (name.now ≡ [])) }
 {
     if name.is_empty() {
         return Ok(None);

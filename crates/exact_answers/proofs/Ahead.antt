@@ -15,15 +15,16 @@ use Rattle.cargo_platform.specs.Trees.{All as all_of, Any, tree_of, trees_of, va
 use Rattle.cargo_platform.specs.Facts.{FactSet, pair_of, truth}
 use Rattle.cargo_platform.specs.ExpressionSizes.{node_count}
 use Rattle.cargo_platform.specs.declared.cfg.CfgExpr.{CfgExpr}
-use Rattle.exact_answers.specs.declared.search.Goal.{Goal}
+use Rattle.goal_diagrams.specs.declared.making.Goal.{Goal}
+use Rattle.goal_diagrams.specs.Goals.{true_as_wanted, goals_met, IsAsTold}
 use Rattle.exact_answers.specs.declared.outlook.Words.{Words}
 use Rattle.exact_answers.specs.declared.outlook.Outlook.{Outlook}
 use Rattle.exact_answers.specs.declared.outlook.Finding.{Finding}
 use Rattle.exact_answers.specs.declared.outlook.Seen.TheVariants as seen
 use Rattle.exact_answers.specs.declared.outlook.Operation.{Operation}
 use Rattle.exact_answers.specs.declared.search.Step.TheVariants as step
-use Rattle.exact_answers.specs.Inside.Paths.{Base, Turn, IsAsTold, as_told, set_on, told_on}
-use Rattle.exact_answers.specs.Inside.Goals.{true_as_wanted, goals_true, AreMissed, SaysStepOn}
+use Rattle.exact_answers.specs.Inside.Paths.{Base, Turn, as_told, set_on, told_on}
+use Rattle.exact_answers.specs.Inside.Goals.{AreMissed, SaysStepOn}
 use Rattle.exact_answers.specs.Inside.Ahead.{both, gathered, meets, goals_size, worked_out, IsOutlook, Fits, Covers}
 use Rattle.exact_answers.specs.Inside.Ahead.{IsOpenAt, IsSeen, Says, patterns, IsSo, AllSo, AreChosen}
 use Rattle.exact_answers.proofs.Telling.{is_false, told_sound}
@@ -299,7 +300,7 @@ pub rest_dropped : (s : FactSet) (w : Bool) (es : List CfgExpr) (bs : List Bool)
 rest_dropped s w [] bs = refl
 rest_dropped s w (e ∷ es) bs = rest_dropped s w es bs
 
-pub goals_gathered : (s : FactSet) (gs : List Goal) → gathered true (length gs) (map (meets s) gs) ≡ goals_true s gs
+pub goals_gathered : (s : FactSet) (gs : List Goal) → gathered true (length gs) (map (meets s) gs) ≡ goals_met s gs
 goals_gathered s [] = refl
 goals_gathered s (g ∷ gs) = ap (λ b. meets s g && b) (goals_gathered s gs)
 
@@ -313,12 +314,12 @@ size_last gs g =
     sum-map size (gs ++ g ∷ []) ∙ sum_by_push size gs g ∙ ap (λ n. n + node_count g.e.now) (sym (sum-map size gs))
 
 pub first_outcome : (s : FactSet) (n : ℕ) (gs ps : List Goal) → ps ≡ gs → n ≡ length gs
-    → gathered true n (map (meets s) ps) ∷ drop n (map (meets s) ps) ≡ goals_true s gs ∷ []
+    → gathered true n (map (meets s) ps) ∷ drop n (map (meets s) ps) ≡ goals_met s gs ∷ []
 first_outcome s n gs ps same long =
     ap (λ ps. gathered true n (map (meets s) ps) ∷ drop n (map (meets s) ps)) same
     ∙ ap (λ n. gathered true n (map (meets s) gs) ∷ drop n (map (meets s) gs)) long
     ∙ ap (λ b. b ∷ drop (length gs) (map (meets s) gs)) (goals_gathered s gs)
-    ∙ ap (λ bs. goals_true s gs ∷ bs) (goals_dropped s gs)
+    ∙ ap (λ bs. goals_met s gs ∷ bs) (goals_dropped s gs)
 
 -- ---- what is found on a path
 
@@ -330,20 +331,20 @@ module _ (outlook : Outlook) (gs : List Goal) (is : IsOutlook outlook gs) (k : B
     (chosen : (s : FactSet) → IsAsTold (told_on k ds) s → (l : ℕ) × (l < 64) × All (Fits s l) table)
     (works : (s : FactSet) (l : ℕ) (b : Bool) → l < 64 → All (Fits s l) table
     → worked_out s outlook.operations.items [] ≡ b ∷ [] → Says table l found b) where
-  says : (s : FactSet) → IsAsTold (told_on k ds) s → (l : ℕ) × Says table l found (goals_true s gs)
+  says : (s : FactSet) → IsAsTold (told_on k ds) s → (l : ℕ) × Says table l found (goals_met s gs)
   says s told =
       let r = chosen s told in
-      (r.0, works s r.0 (goals_true s gs) r.1 r.2 (is.works_out s))
+      (r.0, works s r.0 (goals_met s gs) r.1 r.2 (is.works_out s))
 
   -- no set is left
   pub none_met : found.sets ≡ 0 → AreMissed k gs ds
   none_met none s over agrees =
       let r = says s (told_sound k ds s over agrees) in
-      is_false (goals_true s gs) (λ h. never found.sets r.0 none (r.1.0 h))
+      is_false (goals_met s gs) (λ h. never found.sets r.0 none (r.1.0 h))
 
   pub known_by : (b : Bool) → found.seen ≡ seen.Known b → (s : FactSet) → IsAsTold (told_on k ds) s
-      → goals_true s gs ≡ b
-  known_by b e s told = subst (λ x. IsSeen table x (goals_true s gs)) e (says s told).1.1
+      → goals_met s gs ≡ b
+  known_by b e s told = subst (λ x. IsSeen table x (goals_met s gs)) e (says s told).1.1
 
   -- what is told of pairs decides the goals
   pub decided : (b : Bool) → found.seen ≡ seen.Known b → SaysStepOn (step.Decided b) k gs ds
@@ -352,7 +353,7 @@ module _ (outlook : Outlook) (gs : List Goal) (is : IsOutlook outlook gs) (k : B
 
   pub open_at : (n : ℕ) → found.seen ≡ seen.Open n → IsOpenAt table n
   open_at n e =
-      subst (λ x. IsSeen table x (goals_true (set_on k ds) gs)) e (says (set_on k ds) (as_told k ds)).1.1
+      subst (λ x. IsSeen table x (goals_met (set_on k ds) gs)) e (says (set_on k ds) (as_told k ds)).1.1
 
 -- the same by what the code is given
 pub found_by : (outlook : Outlook) (os : List Operation) (ws table : List Words) (found : Finding)

@@ -5,14 +5,15 @@ use Rattle.std.specs.FinSet.{contains}
 use Rattle.cargo_platform.specs.Trees.{CfgValue, Tree, Trees, none, tree, tree_of, value_of}
 use Rattle.cargo_platform.specs.Facts.{FactSet, pair_of, fact_set, truth}
 use Rattle.cargo_platform.specs.declared.cfg.CfgExpr.{CfgExpr}
+use Rattle.goal_diagrams.specs.Goals.{true_as_wanted, goals_met}
 use Rattle.exact_answers.specs.declared.known.Known.{Known}
-use Rattle.exact_answers.specs.declared.search.Goal.{Goal}
+use Rattle.goal_diagrams.specs.declared.making.Goal.{Goal}
 use Rattle.exact_answers.specs.declared.search.Found.{Found}
 use Rattle.exact_answers.specs.declared.search.Found.TheVariants as found
 use Rattle.exact_answers.specs.Possible.{IsAllowed}
 use Rattle.exact_answers.specs.Asking.{asks, NeedsMore}
 use Rattle.exact_answers.specs.Inside.Paths.{IsOver, base_of}
-use Rattle.exact_answers.specs.Inside.Goals.{true_as_wanted, goals_true, goal_trees, SaysFound, Searched, NeedsMoreOn}
+use Rattle.exact_answers.specs.Inside.Goals.{goal_trees, SaysFound, Searched, NeedsMoreOn}
 use Rattle.exact_answers.specs.Inside.Goals.{MayBeFound}
 use Rattle.exact_answers.specs.Answers.{IsFactOfExample, AreExample}
 
@@ -49,7 +50,7 @@ last_false false h = refl
 pub any_says : (k : Known) (gs : List Goal) (budget : ℕ) (es : Trees) (r : Found)
     → (NeedsMoreOn (base_of k) (goal_trees gs) budget → NeedsMore k es budget)
     → ((c : CfgValue) → MayBeFound (base_of k) (goal_trees gs) c → IsFactOfExample k es c)
-    → ((s : FactSet) → goals_true s gs ≡ (truth s (tree_of k.assumed.now) && true))
+    → ((s : FactSet) → goals_met s gs ≡ (truth s (tree_of k.assumed.now) && true))
     → Searched (base_of k) gs budget r
     → SaysFound r k es budget (λ s. Unit {0}) (λ s. ⊥)
 any_says k gs budget es (found.Facts facts) more each is h =
@@ -61,7 +62,7 @@ any_says k gs budget es found.Undecided more each is h = more h
 pub one_says : (k : Known) (e : CfgExpr) (w : Bool) (gs : List Goal) (budget : ℕ) (es : Trees) (r : Found)
     → (NeedsMoreOn (base_of k) (goal_trees gs) budget → NeedsMore k es budget)
     → ((c : CfgValue) → MayBeFound (base_of k) (goal_trees gs) c → IsFactOfExample k es c)
-    → ((s : FactSet) → goals_true s gs
+    → ((s : FactSet) → goals_met s gs
     ≡ (truth s (tree_of k.assumed.now) && (true_as_wanted w (truth s (tree_of e)) && true)))
     → Searched (base_of k) gs budget r
     → SaysFound r k es budget (λ s. truth s (tree_of e) ≡ w) (λ s. truth s (tree_of e) ≡ not w)
@@ -77,7 +78,7 @@ one_says k e w gs budget es found.Undecided more each is h = more h
 pub both_say : (k : Known) (a b : CfgExpr) (v w : Bool) (gs : List Goal) (budget : ℕ) (es : Trees) (r : Found)
     → (NeedsMoreOn (base_of k) (goal_trees gs) budget → NeedsMore k es budget)
     → ((c : CfgValue) → MayBeFound (base_of k) (goal_trees gs) c → IsFactOfExample k es c)
-    → ((s : FactSet) → goals_true s gs
+    → ((s : FactSet) → goals_met s gs
     ≡ (truth s (tree_of k.assumed.now)
     && (true_as_wanted v (truth s (tree_of a)) && (true_as_wanted w (truth s (tree_of b)) && true))))
     → Searched (base_of k) gs budget r

@@ -12,3 +12,5 @@ pub mod Ahead
 pub mod Numbers
 pub mod Adding
 pub mod Families
+pub mod Ending
+pub mod OneMore

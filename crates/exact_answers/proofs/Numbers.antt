@@ -6,9 +6,10 @@ use Rattle.std.proofs.lemmas.List.{map-append, length-map, drop_more}
 use Rattle.cargo_platform.specs.declared.cfg.Cfg.{Cfg}
 use Rattle.cargo_platform.specs.Trees.{value_of}
 use Rattle.cargo_platform.specs.Facts.{Pair, pair_of}
+use Rattle.goal_diagrams.specs.Goals.{StandsAt, pairs_of}
 use Rattle.exact_answers.specs.declared.outlook.Words.{Words}
 use Rattle.exact_answers.specs.Inside.Paths.{Base, Turn, told_on}
-use Rattle.exact_answers.specs.Inside.Ahead.{pairs_of, table_pairs, StandsAt, AreAmong, IsOpenAt, AreTold}
+use Rattle.exact_answers.specs.Inside.Ahead.{table_pairs, AreAmong, IsOpenAt, AreTold}
 
 -- ---- a further pair
 
@@ -51,12 +52,6 @@ among_pushed among old new c is h all =
     subst (AreAmong among) (sym (pushed_pairs old new c is)) (among_more among (pairs_of old) _ h all)
 
 -- ---- by index
-
-pub pair_at : (cs : List (Bor Cfg)) (n : ℕ) (c : Bor Cfg) → n < length cs → c ≡ get_or cs n c
-    → StandsAt (pairs_of cs) n (pair_of (value_of c.now))
-pair_at [] n c short is = absurd (let never : ⊥ = omega (arith, short) in never)
-pair_at (d ∷ cs) zero c short is = ap (λ c. pair_of (value_of c.now)) (sym is)
-pair_at (d ∷ cs) (suc n) c short is = pair_at cs n c (omega (arith, short)) is
 
 pub words_at : (ws : List Words) (n : ℕ) (w : Words) → n < length ws → w ≡ get_or ws n w
     → StandsAt (table_pairs ws) n (pair_of (value_of w.pair.now))

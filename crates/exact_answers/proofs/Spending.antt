@@ -14,7 +14,7 @@ use Rattle.exact_answers.specs.Possible.{is_value, has_value}
 use Rattle.exact_answers.specs.Inside.Paths.{Turn, Base, takes, refuses, facts_on, set_on}
 use Rattle.exact_answers.specs.Inside.Paths.{rules_out, is_refuted, told_on, WereOpen, turned, base_of}
 use Rattle.exact_answers.specs.Asking.{is_pair, asks, some_asks, one_if, open_count, HasAll, NeedsMore}
-use Rattle.exact_answers.specs.Inside.Goals.{open_on, NeedsMoreOn}
+use Rattle.exact_answers.specs.Inside.Goals.{open_on, AreAsked, NeedsMoreOn}
 use Rattle.exact_answers.specs.declared.known.Known.{Known}
 use Rattle.exact_answers.proofs.Telling.{or_cases, same, itself, any_on, on_path, or_true}
 
@@ -162,10 +162,6 @@ pub at_least_one : (n : ℕ) → 1 ≤ 2 ^ n
 at_least_one n = let up : 2 ^ 0 ≤ 2 ^ n = pow_mono {i = 0} {j = n} (omega arith) in omega (arith, up)
 
 -- ---- what is spent
-
-abbrev pub AreAsked : Trees → List Turn → Type 0
-AreAsked es [] = Unit {0}
-AreAsked es (d ∷ ds) = (some_asks es d.pair ≡ true) × AreAsked es ds
 
 module _ (k : Base) (ps : List Pair) where
   -- one split for a pair that is taken as none; for one that is taken as a fact also all those where it was none

@@ -3,19 +3,20 @@ use Rattle.std.proofs.Common.{◌≡◌, ◌∙◌, refl, sym, ap, Bool, true, f
 use Rattle.std.proofs.Common.{IfSome, inl, inr, true≢false}
 use Rattle.std.specs.Prelude.{if◌then◌else◌}
 use Rattle.std.specs.List.{list_any}
-use Rattle.std.specs.Cmp.{Equal-is, eq_by_cmp_equiv, first_so, second_so}
+use Rattle.std.specs.Cmp.{eq_by_cmp_equiv, first_so, second_so}
 use Rattle.std.specs.FinSet.{contains, contains-from_list, from_list}
 use Rattle.std.proofs.lemmas.List.Folds.{list_any-append}
 use Rattle.std.proofs.lemmas.Slice.Eq.{bytes_eq-Decides}
 use Rattle.cargo_platform.specs.Facts.{Pair, FactSet, pair_cmp}
 use Rattle.cargo_platform.proofs.FactSets.{pairs_total}
-use Rattle.cargo_platform.proofs.FactTruths.{pair_tie}
 use Rattle.partial_facts.specs.Partly.{is_named, told_by}
+use Rattle.goal_diagrams.specs.Goals.{IsAsTold}
+pub use Rattle.goal_diagrams.proofs.Pairs.{same}
 use Rattle.exact_answers.specs.Possible.{is_single}
 use Rattle.exact_answers.specs.Asking.{is_pair}
 use Rattle.exact_answers.specs.Possible.{is_value, has_value}
 use Rattle.exact_answers.specs.Inside.Paths.{Turn, Base, IsOver, takes, refuses, taken}
-use Rattle.exact_answers.specs.Inside.Paths.{facts_on, set_on, rules_out, is_refuted, told_on, IsAsTold, Agrees}
+use Rattle.exact_answers.specs.Inside.Paths.{facts_on, set_on, rules_out, is_refuted, told_on, Agrees}
 
 pub or_cases : (P : Type 0) (a b : Bool) → (a || b) ≡ true → (a ≡ true → P) → (b ≡ true → P) → P
 or_cases P true b h f g = f refl
@@ -33,9 +34,6 @@ pub never_both : (b : Bool) → b ≡ false → b ≡ true → ⊥
 never_both b f t = true≢false (sym t ∙ f)
 
 -- ---- pairs
-
-pub same : (p q : Pair) → is_pair p q ≡ true → p ≡ q
-same p q h = pair_tie p q ((Equal-is (pair_cmp p q)).0 h)
 
 pub itself : (p : Pair) → is_pair p p ≡ true
 itself p = (eq_by_cmp_equiv pairs_total).refl p

@@ -6,10 +6,12 @@ ghost use Rattle.cargo_platform.specs.Facts.{truth};
 ghost use Rattle.exact_answers.specs.Answers.{SaysCan, SaysMust};
 ghost use Rattle.exact_answers.specs.Inside.Goals.{SaysFound};
 
+use crate::assuming::search_assuming;
 use crate::known::Known;
 use crate::path::Path;
-use crate::search::{Found, Goal, search};
+use crate::search::{Found, search};
 use cargo_platform::{Cfg, CfgExpr};
+use goal_diagrams::Goal;
 use std::alloc::{AllocError, Global};
 
 /// Whether something can hold.
@@ -209,8 +211,7 @@ fn search_one<'a>(
         },
         Goal { e, wanted },
     ];
-    let mut path = Path::new(alloc, known);
-    search(alloc, &goals, &mut path, budget)
+    search_assuming(alloc, &goals, known, budget)
 }
 
 /// Searches for a possible set of facts over which both expressions have the truths that are wanted.
@@ -241,6 +242,5 @@ pub fn search_both<'a>(
             wanted: b_wanted,
         },
     ];
-    let mut path = Path::new(alloc, known);
-    search(alloc, &goals, &mut path, budget)
+    search_assuming(alloc, &goals, known, budget)
 }

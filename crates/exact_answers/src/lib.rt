@@ -3,10 +3,13 @@
 //!
 //! `partial_facts` takes each name and pair by itself, so that `any(loom, not(loom))` stays unknown. Here the answers
 //! are exact: where three-valued logic does not decide, an open pair is taken as a fact, and then as none. The worst
-//! case takes `2^n - 1` such splits for `n` open names and pairs; a budget bounds them.
+//! case takes `2^n - 1` such splits for `n` open names and pairs; a budget bounds them. A question that takes many is
+//! asked of a decision diagram too.
 #![tactic(auto)]
 
 mod answers;
+mod assuming;
+mod diagram;
 mod known;
 mod opening;
 mod outlook;

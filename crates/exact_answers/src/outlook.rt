@@ -11,16 +11,18 @@ ghost use Rattle.std.specs.FinSet.{contains};
 ghost use Rattle.cargo_platform.specs.Trees.{tree_of, trees_of, value_of};
 ghost use Rattle.cargo_platform.specs.Facts.{Pair, FactSet, pair_of, truth};
 ghost use Rattle.cargo_platform.specs.ExpressionSizes.{node_count, node_counts};
-ghost use Rattle.exact_answers.specs.Asking.{is_pair, some_asks};
-ghost use Rattle.exact_answers.specs.Inside.Paths.{Base, Turn, told_by_path, told_on, base_of, turns, IsAsTold};
-ghost use Rattle.exact_answers.specs.Inside.Goals.{true_as_wanted, SaysStepOn};
+ghost use Rattle.goal_diagrams.specs.Goals.{true_as_wanted, StandsAt, pairs_of, IsAsTold};
+ghost use Rattle.exact_answers.specs.Asking.{some_asks};
+ghost use Rattle.exact_answers.specs.Inside.Paths.{Base, Turn, told_by_path, told_on, base_of, turns};
+ghost use Rattle.exact_answers.specs.Inside.Goals.{SaysStepOn};
 ghost use Rattle.exact_answers.specs.Inside.Ahead.{both, gathered, meets, done, worked_out, outcome, goals_size};
-ghost use Rattle.exact_answers.specs.Inside.Ahead.{pairs_of, table_pairs, StandsAt, AreAmong, HasNumber, AsksAmong};
+ghost use Rattle.exact_answers.specs.Inside.Ahead.{table_pairs, AreAmong, HasNumber, AsksAmong};
 ghost use Rattle.exact_answers.specs.Inside.Ahead.{IsOutlook, Fits, IsOpenAt, IsSeen, Says, Covers, AreTold, IsNext};
 
 use crate::path::Path;
-use crate::search::{Goal, Step};
+use crate::search::Step;
 use cargo_platform::{Cfg, CfgExpr};
+use goal_diagrams::{Goal, number_of};
 use partial_facts::Knowledge;
 use std::alloc::{AllocError, Global};
 
@@ -119,7 +121,7 @@ impl<'a> Outlook<'a> {
                 add_members(pending, members, wanted)
             }
             CfgExpr::Value(c) => {
-                let number = number_of(&mut self.pairs, c)?;
+                let number = number_or_next(&mut self.pairs, c)?;
                 self.operations.push(Operation::Pair(c, wanted, number))?;
                 Ok(())
             }
@@ -183,29 +185,15 @@ fn add_members<'a>(
     Ok(())
 }
 
-/// The number of the pair, where it has one.
-fn number_so_far(pairs: &[&Cfg], c: &Cfg) -> Option<usize>
-    ensures { IfSome result (λ n. StandsAt (pairs_of pairs.now) n (pair_of (value_of c.now))) }
-{
-    let mut number = 0;
-    'pairs: while number < pairs.len() {
-        if is_same(c, pairs[number]) {
-            return Some(number);
-        }
-        number += 1;
-    }
-    None
-}
-
 /// The number of the pair. One that has none gets the next one.
-fn number_of<'a>(pairs: &mut Vec<&'a Cfg>, c: &'a Cfg) -> Result<usize, AllocError>
+fn number_or_next<'a>(pairs: &mut Vec<&'a Cfg>, c: &'a Cfg) -> Result<usize, AllocError>
     ensures number { IfOk result (λ n. StandsAt (pairs_of pairs.new.items) n (pair_of (value_of c.now))) }
     ensures kept { OnOk result ((n : ℕ) (p : Pair) → StandsAt (pairs_of pairs.old.items) n p
         → StandsAt (pairs_of pairs.new.items) n p) }
     ensures among { OnOk result ((among : Pair → Bool) → among (pair_of (value_of c.now)) ≡ true
         → AreAmong among (pairs_of pairs.old.items) → AreAmong among (pairs_of pairs.new.items)) }
 {
-    match number_so_far(pairs, c) {
+    match number_of(pairs, c) {
         Some(number) => Ok(number),
         None => {
             let number = pairs.len();
@@ -355,13 +343,6 @@ fn words_of<'a>(
         left = others;
     }
     Ok(table)
-}
-
-/// Whether both are the same pair.
-fn is_same(c: &Cfg, other: &Cfg) -> bool
-    ensures { result ≡ is_pair (pair_of (value_of c.now)) (pair_of (value_of other.now)) }
-{
-    c == other
 }
 
 /// The sets over which the pair may have this truth.

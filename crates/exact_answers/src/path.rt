@@ -4,14 +4,17 @@ ghost use Rattle.std.specs.Prelude.{◌≡◌, ◌<◌, ◌+◌, ◌^◌, ◌++�
 ghost use Rattle.std.specs.Prelude.{IfOk, OnOk, string_bytes};
 ghost use Rattle.std.specs.Bool.{MatchBool};
 ghost use Rattle.std.specs.List.{All};
-ghost use Rattle.cargo_platform.specs.Trees.{name_of, value_of};
+ghost use Rattle.cargo_platform.specs.Trees.{Trees, name_of, value_of};
 ghost use Rattle.cargo_platform.specs.Facts.{pair_of};
+ghost use Rattle.goal_diagrams.specs.Goals.{IsAsTold};
 ghost use Rattle.exact_answers.specs.Answers.{IsUnmarked};
-ghost use Rattle.exact_answers.specs.Asking.{is_pair};
+ghost use Rattle.exact_answers.specs.Asking.{is_pair, some_asks};
 ghost use Rattle.exact_answers.specs.Possible.{is_value, has_value};
 ghost use Rattle.exact_answers.specs.Inside.Paths.{takes, refuses, facts_on, rules_out};
 ghost use Rattle.exact_answers.specs.Inside.Paths.{base_of, turn_of, turns, turned, taken, set_on, is_refuted};
 ghost use Rattle.exact_answers.specs.Inside.Paths.{unmarked};
+ghost use Rattle.exact_answers.specs.Inside.Paths.{WereOpen};
+ghost use Rattle.exact_answers.specs.Inside.Goals.{AreAsked};
 ghost use Rattle.std.specs.FinSet.{contains};
 
 use crate::known::Known;
@@ -68,12 +71,12 @@ fn takes_value(splits: &[Split<'_>], key: &Ident) -> bool
 pub struct Path<'a> {
     known: &'a Known<'a>,
     splits: Vec<Split<'a>>,
-    /// How many splits were made on it, those that were undone since too.
+    /// How many splits were made on it, those that were undone since too. Pairs that a diagram chose count none.
     made: u64,
 }
 
 impl<'a> Knowledge for Path<'a> {
-    ghost use Rattle.exact_answers.specs.Inside.Paths.{told_by_path, IsAsTold, as_told};
+    ghost use Rattle.exact_answers.specs.Inside.Paths.{told_by_path, as_told};
 
     ghost allows = { λ k s. IsAsTold (told_by_path k) s };
 
@@ -117,6 +120,13 @@ impl<'a> Path<'a> {
         self.made
     }
 
+    /// What is known where no pair is split.
+    pub fn known(&self) -> &'a Known<'a>
+        ensures { result.now ≡ self.now.known.now }
+    {
+        self.known
+    }
+
     /// Whether the pair of `c` is a fact so far.
     fn has_fact(&self, c: &Cfg) -> bool
         ensures { result ≡ contains (set_on (base_of self.now.known.now) (turns self.now)) (pair_of (value_of c.now)) }
@@ -154,7 +164,7 @@ impl<'a> Path<'a> {
         takes_value(&self.splits, key) || has_value(self.known.facts, key)
     }
 
-    /// Takes an open pair as none: this is one split. Nothing else splits a pair, and nothing else counts.
+    /// Takes an open pair as none: this is one split, and nothing else counts.
     pub fn split(&mut self, fact: &'a Cfg) -> Result<(), AllocError>
         requires { self.old.made + 1 < 2 ^ 64 }
         ensures known { self.new.known.now ≡ self.old.known.now }
@@ -165,6 +175,38 @@ impl<'a> Path<'a> {
         self.made += 1;
         self.splits.push(Split { fact, holds: false })?;
         Ok(())
+    }
+
+    /// Takes a pair, where it is open, as a fact or as none. It counts no split.
+    pub fn take(&mut self, fact: &'a Cfg, holds: bool) -> Result<(), AllocError>
+        ensures known { self.new.known.now ≡ self.old.known.now }
+        ensures open { OnOk result (WereOpen (base_of self.old.known.now) (turns self.old)
+            → WereOpen (base_of self.old.known.now) (turns self.new)) }
+        ensures asked { OnOk result ((es : Trees) → some_asks es (pair_of (value_of fact.now)) ≡ true
+            → AreAsked es (turns self.old) → AreAsked es (turns self.new)) }
+    {
+        if self.tells(fact).is_none() {
+            self.splits.push(Split { fact, holds })?;
+        }
+        Ok(())
+    }
+
+    /// Puts the splits of another path in the place of its own.
+    pub fn put_splits_of(&mut self, other: Path<'a>)
+        ensures known { self.new.known.now ≡ self.old.known.now }
+        ensures counted { self.new.made ≡ self.old.made }
+        ensures put { turns self.new ≡ turns other.entry }
+    {
+        self.splits = other.splits;
+    }
+
+    /// Undoes each split.
+    pub fn undo(&mut self)
+        ensures known { self.new.known.now ≡ self.old.known.now }
+        ensures counted { self.new.made ≡ self.old.made }
+        ensures undone { turns self.new ≡ [] }
+    {
+        self.splits.clear();
     }
 
     /// Goes back to the last pair that is taken as none, and takes it as a fact. `false` where there is no such pair:

@@ -12,10 +12,10 @@ use Rattle.cargo_platform.proofs.FactTruths.{pair_tie}
 use Rattle.std.specs.Prelude.{bytes_eq}
 use Rattle.std.proofs.lemmas.Slice.Eq.{bytes_eq-Decides}
 use Rattle.partial_facts.specs.Partly.{is_named}
-use Rattle.goal_diagrams.specs.Goals.{true_as_wanted, HasOneOpenValue}
+use Rattle.goal_diagrams.specs.Goals.{true_as_wanted, HasOneOpenValue, IsAsTold, StandsAt}
 use Rattle.decision_diagrams.specs.Diagrams.{joint}
 use Rattle.goal_diagrams.specs.Goals.{pairs_of, holds_in}
-use Rattle.goal_diagrams.specs.Inside.Making.{StandsAt, IsAsTold, AreTwoValues}
+use Rattle.goal_diagrams.specs.Inside.Making.{AreTwoValues}
 use Rattle.goal_diagrams.specs.Inside.Making.{AreApart}
 
 pub same : (p q : Pair) → eq_by_cmp pair_cmp p q ≡ true → p ≡ q

@@ -1,6 +1,6 @@
 -- Expressions with the truths that are wanted of them, the sets of facts that are asked about, and what is found.
 use Rattle.std.specs.Prelude.{◌≡◌, ℕ, zero, suc, Bool, true, false, not, ◌&&◌, IsTrue, List, [], ◌∷◌, map, Option, None}
-use Rattle.std.specs.Prelude.{is_some, if◌then◌else◌}
+use Rattle.std.specs.Prelude.{is_some, IfSome, if◌then◌else◌}
 use Rattle.std.specs.Borrow.{Bor}
 use Rattle.std.specs.FinSet.{contains}
 use Rattle.cargo_platform.specs.declared.cfg.Cfg.{Cfg}
@@ -21,6 +21,10 @@ abbrev pub goals_met : FactSet → List Goal → Bool
 goals_met s [] = true
 goals_met s (g ∷ gs) = true_as_wanted g.wanted (truth s (tree_of g.e.now)) && goals_met s gs
 
+-- all that is told holds in the set
+abbrev pub IsAsTold : (Pair → Option Bool) → FactSet → Type 0
+IsAsTold told s = (p : Pair) → IfSome (told p) (λ b. contains s p ≡ b)
+
 -- of a key with one value, two different values that are both open are not both facts
 abbrev pub HasOneOpenValue : (Pair → Option Bool) → List (List ℕ) → FactSet → Type 0
 HasOneOpenValue told single s = (p q : Pair) → IsTrue (is_single single p) → IsTrue (is_some q.value)
@@ -29,6 +33,12 @@ HasOneOpenValue told single s = (p q : Pair) → IsTrue (is_single single p) →
 -- pairs apart from where they lie in memory
 abbrev pub pairs_of : List (Bor Cfg) → List Pair
 pairs_of cs = map (λ c. pair_of (value_of c.now)) cs
+
+-- the pair has this number
+abbrev pub StandsAt : List Pair → ℕ → Pair → Type 0
+StandsAt [] n p = ⊥
+StandsAt (q ∷ qs) zero p = q ≡ p
+StandsAt (q ∷ qs) (suc n) p = StandsAt qs n p
 
 -- whether the pair with a number is a fact
 abbrev pub holds_in : FactSet → List Pair → ℕ → Bool

@@ -9,7 +9,8 @@ ghost use Rattle.cargo_platform.specs.Facts.{FactSet, pair_of, pair_cmp, truth};
 ghost use Rattle.partial_facts.specs.Partly.{names_of};
 ghost use Rattle.decision_diagrams.specs.Diagrams.{value, nodes_of, places, IsTable, IsMade};
 ghost use Rattle.goal_diagrams.specs.Goals.{true_as_wanted, goals_met, HasOneOpenValue, pairs_of, holds_in};
-ghost use Rattle.goal_diagrams.specs.Inside.Making.{says, IsAsTold, StandsAt, AreTwoValues, AreApart};
+ghost use Rattle.goal_diagrams.specs.Goals.{IsAsTold, StandsAt};
+ghost use Rattle.goal_diagrams.specs.Inside.Making.{says, AreTwoValues, AreApart};
 ghost use Rattle.goal_diagrams.specs.Inside.Making.{each_wanted, some_wanted, group_wanted};
 
 use cargo_platform::{Cfg, CfgExpr, Ident};
@@ -42,7 +43,7 @@ fn is_same(c: &Cfg, other: &Cfg) -> bool
 }
 
 /// The number of the pair.
-fn number_of(pairs: &[&Cfg], c: &Cfg) -> Option<usize>
+pub fn number_of(pairs: &[&Cfg], c: &Cfg) -> Option<usize>
     ensures { IfSome result (λ n. StandsAt (pairs_of pairs.now) n (pair_of (value_of c.now))) }
 {
     let mut number = 0;

@@ -1,47 +1,44 @@
 -- Classes, and the parts that a set makes of them.
 use Rattle.std.proofs.Common.{◌≡◌, refl, sym, ◌∙◌, ap, subst, ℕ, ◌+◌, ◌<◌, ◌≤◌, Bool, true, false, not, ◌&&◌, cond}
 use Rattle.std.proofs.Common.{List, []}
-use Rattle.std.proofs.Common.{◌∷◌, ◌++◌, length, get_or, take, arith, inl, inr, Some, below_more}
-use Rattle.std.specs.Prelude.{IsTrue, All, Contains}
+use Rattle.std.proofs.Common.{◌∷◌, ◌++◌, length, get_or, take, arith, inl, inr, Some}
+use Rattle.std.specs.Prelude.{All, Contains}
 use Rattle.std.proofs.lemmas.Bool.{and_parts, and_from, both_ways}
-use Rattle.std.proofs.lemmas.List.{length-append, take_more, get_or_default}
-use Rattle.std.proofs.Math.ListN.{get_or-append}
-use Rattle.std.proofs.lemmas.List.Quantifiers.{Any-push}
+use Rattle.std.proofs.lemmas.List.{take_all, take_more}
+use Rattle.std.proofs.lemmas.List.Sums.{sum_by-append, sum_by_more}
 use Rattle.std.proofs.lemmas.List.Elements.{All-nil, All-push, All-pop, All-same, Contains-get_or}
 use Rattle.known_targets.specs.Sets.{is_member}
 use Rattle.known_targets.specs.declared.table.TheConstants.{COUNT}
 use Rattle.known_targets.specs.declared.target_set.TargetSet.{TargetSet}
-use Rattle.known_targets.specs.Classes.{IsInOne, IsClass, AreClasses}
+use Rattle.known_targets.specs.Classes.{IsEmpty, times_in, IsClass, AreClasses}
 use Rattle.known_targets.specs.Parts.{IsPart, IsPartOfOne, AddsPart, AddsParts, AreParts, ArePartsSoFar}
 
 -- ---- one part
 
-in_more : (sets : List TargetSet) (x : TargetSet) (k : ℕ) → IsInOne sets k → IsInOne (sets ++ x ∷ []) k
-in_more sets x k (i, m, below, at, holds) = (
-  i,
-  m,
-  omega (arith, below, length-append sets (x ∷ [])),
-  get_or-append sets (x ∷ []) m i below ∙ at,
-  holds,
-)
+-- a sum of one number is that number
+with_one : (n m : ℕ) → n + (0 + m) ≡ n + m
+with_one n m = omega arith
 
-pub part_kept : (old new : List TargetSet) (part : TargetSet) (k : ℕ) → AddsPart old new part → IsInOne old k
-    → IsInOne new k
-part_kept old new part k (inl is) here = subst (λ (xs : List TargetSet). IsInOne xs k) (sym is) (in_more old part k
-    here)
-part_kept old new part k (inr none) here = subst (λ (xs : List TargetSet). IsInOne xs k) (sym none.0) here
+with_none : (n : ℕ) → n ≡ n + 0
+with_none n = omega arith
 
-pub part_added : (old new : List TargetSet) (part : TargetSet) (k : ℕ) → k < COUNT → AddsPart old new part
-    → IsTrue (is_member part k) → IsInOne new k
-part_added old new part k known (inl is) here =
-    subst (λ (xs : List TargetSet). IsInOne xs k) (sym is) (Any-push (λ s. IsTrue (is_member s k)) old part here)
-part_added old new part k known (inr none) here = absurd (both_ways (is_member part k) (none.1 k known) here)
+pub part_counted : (old new : List TargetSet) (part : TargetSet) (k : ℕ) → k < COUNT → AddsPart old new part
+    → times_in new k ≡ times_in old k + cond (is_member part k) 1 0
+part_counted old new part k known (inl is) =
+    ap (λ (xs : List TargetSet). times_in xs k) is.0
+    ∙ sum_by-append (λ (s : TargetSet). cond (is_member s k) 1 0) old (part ∷ [])
+    ∙ with_one (times_in old k) (cond (is_member part k) 1 0)
+part_counted old new part k known (inr none) =
+    ap (λ (xs : List TargetSet). times_in xs k) none.0
+    ∙ with_none (times_in old k)
+    ∙ ap (λ (b : Bool). times_in old k + cond {A = ℕ} b 1 0) (sym (none.1 k known))
 
 pub part_sound : (set : TargetSet) (classes old new : List TargetSet) (part : TargetSet) → AddsPart old new part
-    → IsPartOfOne set classes part → All (λ p. IsPartOfOne set classes p) old → All (λ p. IsPartOfOne set classes p) new
+    → ((IsEmpty part → ⊥) → IsPartOfOne set classes part) → All (λ p. IsPartOfOne set classes p) old
+    → All (λ p. IsPartOfOne set classes p) new
 part_sound set classes old new part (inl is) this before =
-    All-same (λ p. IsPartOfOne set classes p) new (old ++ part ∷ []) is
-    (All-push (λ p. IsPartOfOne set classes p) old part before this)
+    All-same (λ p. IsPartOfOne set classes p) new (old ++ part ∷ []) is.0
+    (All-push (λ p. IsPartOfOne set classes p) old part before (this is.1))
 part_sound set classes old new part (inr none) this before =
     All-same (λ p. IsPartOfOne set classes p) new old none.0 before
 
@@ -51,9 +48,11 @@ part_of : (set class part : TargetSet) (classes : List TargetSet) → Contains c
     → IsPartOfOne set classes part
 part_of set class part classes (i, below, at) is = (i, class, below, at, is)
 
-either : (b : Bool) (P : Type 0) → (b ≡ true → P) → (b ≡ false → P) → P
-either true P first second = first refl
-either false P first second = second refl
+-- a target of the class is in one of both parts
+halves : (c s : Bool) (n : ℕ) → (n + cond (c && s) 1 0) + cond (c && not s) 1 0 ≡ n + cond c 1 0
+halves true true n = omega arith
+halves true false n = omega arith
+halves false s n = omega arith
 
 pub both_parts : (set class inside outside rest : TargetSet) (old between new : List TargetSet)
     → ((k : ℕ) → k < COUNT → is_member inside k ≡ (is_member class k && is_member set k))
@@ -64,21 +63,19 @@ both_parts set class inside outside rest old between new ins complement outs fir
     let out : (k : ℕ) → k < COUNT → is_member outside k ≡ (is_member class k && not (is_member set k)) =
     λ k known. outs k known ∙ ap (λ (b : Bool). is_member class k && b) (complement k known) in
     record {
-      kept = λ k here. part_kept between new outside k second (part_kept old between inside k first here);
-      added = λ k known here.
-          either (is_member set k) (IsInOne new k)
-          (λ there.
-          part_kept between new outside k second
-          (part_added old between inside k known first
-          (ins k known ∙ and_from (is_member class k) (is_member set k) here there)))
-          (λ missing.
-          part_added between new outside k known second
-          (out k known ∙ and_from (is_member class k) (not (is_member set k)) here (ap not missing)));
+      counted = λ k known.
+          part_counted between new outside k known second
+          ∙ ap (λ n. n + cond (is_member outside k) 1 0) (part_counted old between inside k known first)
+          ∙ ap (λ (b : Bool). (times_in old k + cond b 1 0) + cond (is_member outside k) 1 0) (ins k known)
+          ∙ ap (λ (b : Bool). (times_in old k + cond (is_member class k && is_member set k) 1 0) + cond b 1 0)
+          (out k known)
+          ∙ halves (is_member class k) (is_member set k) (times_in old k);
       sound = λ classes listed before.
           part_sound set classes between new outside second
-          (part_of set class outside classes listed (record { is_inside = false; members = out }))
+          (λ some. part_of set class outside classes listed (record { is_inside = false; members = out; some = some }))
           (part_sound set classes old between inside first
-          (part_of set class inside classes listed (record { is_inside = true; members = ins })) before);
+          (λ some. part_of set class inside classes listed (record { is_inside = true; members = ins; some = some }))
+          before);
     }
 
 pub parts_more : (set : TargetSet) (classes old new : List TargetSet) (i : ℕ) (d : TargetSet) → i < length classes
@@ -86,27 +83,24 @@ pub parts_more : (set : TargetSet) (classes old new : List TargetSet) (i : ℕ) 
     → ArePartsSoFar set classes new (i + 1)
 parts_more set classes old new i d below adds before = record {
   sound = adds.sound classes (Contains-get_or classes i d below) before.sound;
-  complete = λ p class k less known here.
-      below_more (λ p. (class : TargetSet) → IsTrue (is_member (get_or classes p class) k) → IsInOne new k) i
-      (λ p less class h. adds.kept k (before.complete p class k less known h))
-      (λ class h.
-      adds.added k known (subst (λ (x : TargetSet). IsTrue (is_member x k)) (get_or_default classes i class d below) h))
-      p less class here;
+  counted = λ k known.
+      adds.counted k known
+      ∙ ap (λ n. n + cond (is_member (get_or classes i d) k) 1 0) (before.counted k known)
+      ∙ sym (sum_by_more (λ (s : TargetSet). cond (is_member s k) 1 0) classes i d below);
 }
 
 pub no_parts : (set : TargetSet) (classes parts : List TargetSet) → parts ≡ [] → ArePartsSoFar set classes parts 0
 no_parts set classes parts none = record {
   sound = All-same (λ p. IsPartOfOne set classes p) parts [] none (All-nil (λ p. IsPartOfOne set classes p));
-  complete = λ p class k less known here. absurd (omega arith);
+  counted = λ k known. ap (λ (xs : List TargetSet). times_in xs k) none;
 }
 
 pub all_parts : (set : TargetSet) (classes parts : List TargetSet) (n : ℕ) → length classes ≤ n
     → ArePartsSoFar set classes parts n → AreParts set classes parts
 all_parts set classes parts n past so_far = record {
   sound = so_far.sound;
-  complete = λ k known one.
-      so_far.complete one.0 one.1 k (omega (arith, one.2, past)) known
-      (subst (λ (x : TargetSet). IsTrue (is_member x k)) (sym one.3) one.4);
+  counted = λ k known.
+      so_far.counted k known ∙ ap (λ (xs : List TargetSet). times_in xs k) (take_all n classes past);
 }
 
 -- ---- all classes
@@ -138,7 +132,8 @@ part_class sets set class part is p j k known other here =
 pub parts_are_classes : (sets : List TargetSet) (set : TargetSet) (classes parts : List TargetSet)
     → AreClasses sets classes → AreParts set classes parts → AreClasses (sets ++ set ∷ []) parts
 parts_are_classes sets set classes parts are made = record {
-  covering = λ k known. made.complete k known (are.covering k known);
+  covering = λ k known. made.counted k known ∙ are.covering k known;
+  some = λ i part below. (made.sound i part below).4.some;
   each = λ i part below.
       let of = made.sound i part below in
       part_class sets set of.1 (get_or parts i part)
@@ -150,7 +145,10 @@ pub first_class : (all : TargetSet) (classes : List TargetSet) → ((k : ℕ) �
 first_class all classes has is =
     subst (λ (cs : List TargetSet). AreClasses [] cs) (sym is)
     (record {
-      covering = λ k known. Any-push (λ s. IsTrue (is_member s k)) [] all (has k known);
+      covering = λ k known. ap (λ (b : Bool). 0 + cond {A = ℕ} b 1 0) (has k known);
+      some =
+          All-push (λ c. IsEmpty c → ⊥) [] all (All-nil (λ c. IsEmpty c → ⊥))
+          (λ none. absurd (both_ways (is_member all 0) (none 0 (omega arith)) (has 0 (omega arith))));
       each =
           All-push (λ c. IsClass [] c) [] all (All-nil (λ c. IsClass [] c))
           (λ j k known other here. (λ there. All-nil (λ s. is_member s j ≡ is_member s k), λ alike. has k other));

@@ -1,7 +1,9 @@
 //! Texts that are read to a limit, so that what never ends is refused.
 #![tactic(auto)]
 
-ghost use Rattle.std.specs.Prelude.{◌≡◌, ◌≤◌, IfOk, IfSome, string_len, string_bytes};
+ghost use Rattle.std.specs.Prelude.{◌≡◌, ◌≤◌, IfOk, IfErr, IfSome, Some, string_len, string_bytes};
+ghost use Rattle.std.specs.IoError.{error_kind};
+ghost use Rattle.limited_texts.specs.Refusals.{IsWhyNoText, IsReason};
 
 use std::alloc::{AllocError, Global};
 use std::fs::File;
@@ -23,6 +25,23 @@ pub struct Unusable {
 }
 
 impl Unusable {
+    /// A file, named as it is shown, that was read to this limit and refused.
+    pub fn refused(
+        alloc: Global,
+        file: String,
+        error: &io::Error,
+        limit: u64,
+    ) -> Result<Unusable, AllocError>
+        ensures file { IfOk result (λ unusable. unusable.file ≡ Some file) }
+        ensures reason { IfOk result
+            (λ unusable. IsReason (error_kind error.now) limit (string_bytes unusable.reason)) }
+    {
+        Ok(Unusable {
+            file: Some(file),
+            reason: reason_of(alloc, error, limit)?,
+        })
+    }
+
     /// What is said of it, on a line.
     pub fn line(&self, alloc: Global) -> Result<String, AllocError> {
         let reason = self.reason.as_str();
@@ -36,6 +55,21 @@ impl Unusable {
     }
 }
 
+/// The text that these bytes are, all of them. It refuses more of them than the limit, and fewer that are no UTF-8.
+fn text_of(bytes: Vec<u8>, limit: u64) -> io::Result<String>
+    ensures text { IfOk result (λ text. string_bytes text ≡ bytes.items) }
+    ensures within { IfOk result (λ text. string_len text ≤ limit) }
+    ensures refused { IfErr result (λ e. IsWhyNoText bytes.items limit (error_kind e)) }
+{
+    if bytes.len() as u64 > limit {
+        return Err(io::Error::from(ErrorKind::FileTooLarge));
+    }
+    match String::from_utf8(bytes) {
+        Ok(text) => Ok(text),
+        Err(_) => Err(io::Error::from(ErrorKind::InvalidData)),
+    }
+}
+
 /// The text of a reader, the whole of it. It refuses one of more bytes than the limit, what is no UTF-8, and what can't
 /// be read.
 pub fn text_within<R: Read + Drop>(alloc: Global, reader: R, limit: u64) -> io::Result<String>
@@ -46,13 +80,7 @@ pub fn text_within<R: Read + Drop>(alloc: Global, reader: R, limit: u64) -> io::
     let mut bytes = Vec::new(alloc);
     let mut start = reader.take(limit + 1);
     let _count = start.read_to_end(&mut bytes)?;
-    if bytes.len() as u64 > limit {
-        return Err(io::Error::from(ErrorKind::FileTooLarge));
-    }
-    match String::from_utf8(bytes) {
-        Ok(text) => Ok(text),
-        Err(_) => Err(io::Error::from(ErrorKind::InvalidData)),
-    }
+    text_of(bytes, limit)
 }
 
 /// The text of the file at a path, as `text_within` reads it.
@@ -78,7 +106,9 @@ pub fn given_within<R: Files + Input + AllocGlobal>(
 }
 
 /// What is said of a text that was read to this limit and refused.
-pub fn reason_of(alloc: Global, error: &io::Error, limit: u64) -> Result<String, AllocError> {
+pub fn reason_of(alloc: Global, error: &io::Error, limit: u64) -> Result<String, AllocError>
+    ensures { IfOk result (λ text. IsReason (error_kind error.now) limit (string_bytes text)) }
+{
     match error.kind() {
         ErrorKind::FileTooLarge => {
             format!(in alloc; "it has more than {limit} bytes, which is the limit")

@@ -101,7 +101,7 @@ fn push_lines(
 }
 
 /// A number, or null.
-fn number_value(alloc: Global, number: Option<usize>) -> Result<Value, AllocError> {
+pub fn number_value(alloc: Global, number: Option<usize>) -> Result<Value, AllocError> {
     match number {
         Some(number) => json!(in alloc; number),
         None => Ok(Value::Null),
@@ -109,7 +109,7 @@ fn number_value(alloc: Global, number: Option<usize>) -> Result<Value, AllocErro
 }
 
 /// The beginning and the end of a span, or null.
-fn span_value(alloc: Global, span: Option<(usize, usize)>) -> Result<Value, AllocError> {
+pub fn span_value(alloc: Global, span: Option<(usize, usize)>) -> Result<Value, AllocError> {
     match span {
         Some((start, end)) => json!(in alloc; [start, end]),
         None => Ok(Value::Null),

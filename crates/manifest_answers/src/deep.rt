@@ -14,6 +14,24 @@ use manifest_documents::reading::Manifest;
 use manifest_documents::{TargetKey, Targets, target_keys};
 use std::alloc::{AllocError, Global};
 
+/// A key that is nested too deep, as it is told.
+#[derive(Drop)]
+pub struct DeepKey {
+    /// The path of the manifest, with the number of the line where the key first stands.
+    place: String,
+    /// Which key it is, and from which byte on it is too deep.
+    pub reason: String,
+}
+
+impl DeepKey {
+    /// What is said of it, on a line.
+    pub fn line(&self, alloc: Global) -> Result<String, AllocError> {
+        let place = self.place.as_str();
+        let reason = self.reason.as_str();
+        format!(in alloc; "{place}: error[refused]: {reason}\n")
+    }
+}
+
 /// The first of the keys that is nested too deep, and the byte from which on it is.
 fn deep_of<'a>(keys: &[TargetKey<'a>]) -> Option<(&'a str, usize)>
     ensures deep { IfSome result (λ found. IsDeepAt found.0.now found.1) }
@@ -27,30 +45,37 @@ fn deep_of<'a>(keys: &[TargetKey<'a>]) -> Option<(&'a str, usize)>
     None
 }
 
-/// What is said of a key of the manifest that is too deep from this byte on, on a line.
-fn line_on(alloc: Global, manifest: &Manifest, key: &str, at: usize) -> Result<String, AllocError> {
+/// The key of the manifest that is too deep from this byte on.
+fn deep_key(
+    alloc: Global,
+    manifest: &Manifest,
+    key: &str,
+    at: usize,
+) -> Result<DeepKey, AllocError> {
     let path = manifest.path.as_str();
-    let line = match manifest.document.lines.of_key(key) {
+    let place = match manifest.document.lines.of_key(key) {
         Some(appearance) => {
             let line = appearance.line;
-            format!(in alloc; ":{line}")?
+            format!(in alloc; "{path}:{line}")?
         }
-        None => String::new(alloc),
+        None => String::from_str(alloc, path)?,
     };
     let key = shown_start(alloc, key)?;
     let reason = deep_text(alloc, at)?;
-    format!(in alloc; "{path}{line}: error[refused]: target.'{key}': the key is {reason}\n")
+    Ok(DeepKey {
+        place,
+        reason: format!(in alloc; "target.'{key}': the key is {reason}")?,
+    })
 }
 
-/// What is said of the first key of a manifest, in the order of their bytes, that is nested too deep, on a line; or
-/// `None` where none is.
-pub fn first_deep(alloc: Global, manifest: &Manifest) -> Result<Option<String>, AllocError>
+/// The first key of a manifest, in the order of their bytes, that is nested too deep; or `None` where none is.
+pub fn first_deep(alloc: Global, manifest: &Manifest) -> Result<Option<DeepKey>, AllocError>
     ensures { IfOk result
         (λ found. IfNone found (HasNoDeepKey (target_of (table_view manifest.now.document.table)))) }
 {
     match target_keys(alloc, &manifest.document.table)? {
         Targets::Keys(keys) => match deep_of(&keys) {
-            Some((key, at)) => Ok(Some(line_on(alloc, manifest, key, at)?)),
+            Some((key, at)) => Ok(Some(deep_key(alloc, manifest, key, at)?)),
             None => Ok(None),
         },
         Targets::NoTable | Targets::Absent => Ok(None),

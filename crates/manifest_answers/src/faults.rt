@@ -4,7 +4,8 @@ use cargo_platform::ParseError;
 use key_answers::answer::{Answer, Status};
 use key_answers::printing::{push_json, put, put_text, text_value};
 use limited_texts::Unusable;
-use serde_json::{Map, Value, json};
+use lint_reports::{number_value, span_value};
+use serde_json::{Map, Value};
 use std::alloc::{AllocError, Global};
 
 /// For which target something is asked, and how what can't be used is told.
@@ -47,22 +48,6 @@ impl<'a, 'm> Fault<'a, 'm> {
 pub fn span_of(key: &str, error: &ParseError) -> Option<(usize, usize)> {
     let span = error.span_in(key)?;
     Some((span.start, span.end))
-}
-
-/// The number, or null.
-fn number_value(alloc: Global, number: Option<usize>) -> Result<Value, AllocError> {
-    match number {
-        Some(number) => json!(in alloc; number),
-        None => Ok(Value::Null),
-    }
-}
-
-/// The beginning and the end, or null.
-fn span_value(alloc: Global, span: Option<(usize, usize)>) -> Result<Value, AllocError> {
-    match span {
-        Some((start, end)) => json!(in alloc; [start, end]),
-        None => Ok(Value::Null),
-    }
 }
 
 /// What is wrong, as JSON.

@@ -43,15 +43,6 @@ pub fn answer_each<R: Files + Input + AllocGlobal, Q: Question>(
     Ok(whole)
 }
 
-/// What a line on a key that is too deep says behind the place.
-fn reason_in(line: &str) -> &str {
-    let line = line.strip_suffix("\n").unwrap_or(line);
-    match line.split_once("error[refused]: ") {
-        Some((_, reason)) => reason,
-        None => line,
-    }
-}
-
 /// The answer on the manifest that is named.
 fn answer_on<R: Files + Input + AllocGlobal, Q: Question>(
     rt: &R,
@@ -62,9 +53,10 @@ fn answer_on<R: Files + Input + AllocGlobal, Q: Question>(
     let alloc = rt.alloc();
     match read_manifest(rt, path, limit) {
         Ok(manifest) => match first_deep(alloc, &manifest)? {
-            Some(line) => {
-                let line = line.as_str();
-                question.refuse(alloc, manifest.path.as_str(), reason_in(line), line)
+            Some(deep) => {
+                let line = deep.line(alloc)?;
+                let reason = deep.reason.as_str();
+                question.refuse(alloc, manifest.path.as_str(), reason, line.as_str())
             }
             None => question.answer(alloc, &manifest),
         },

@@ -1,5 +1,6 @@
 //! Cargo's own configuration, as far as its keys of `target` are those of a manifest.
 
+use crate::tables::put;
 use manifest_lints::{Code, Report};
 use std::alloc::{AllocError, Global};
 use toml::{Table, Value};
@@ -7,12 +8,6 @@ use toml::{Table, Value};
 /// What is told of facts that are unsupported. Cargo itself warns of them in manifests alone.
 const UNSUPPORTED: &str =
     "Cargo asks this key by what `rustc --print cfg` prints, which knows no feature, test or profile";
-
-/// Adds a member to a table.
-fn put(alloc: Global, table: &mut Table, member: &str, value: Value) -> Result<(), AllocError> {
-    let _before = table.insert(String::from_str(alloc, member)?, value)?;
-    Ok(())
-}
 
 /// The keys of a table, each with an empty table in place of one.
 fn without_fields(alloc: Global, targets: &Table) -> Result<Table, AllocError> {

@@ -1,5 +1,6 @@
 //! Facts that a project knows, put among those that its manifest declares.
 
+use crate::tables::put;
 use std::alloc::{AllocError, Global};
 use toml::{Table, Value};
 
@@ -45,12 +46,6 @@ fn table_at(alloc: Global, value: Option<&Value>) -> Result<Table, AllocError> {
         Some(Value::Table(table)) => table.clone(),
         _ => Ok(Table::new(alloc)),
     }
-}
-
-/// Adds a member to a table.
-fn put(alloc: Global, table: &mut Table, member: &str, value: Value) -> Result<(), AllocError> {
-    let _before = table.insert(String::from_str(alloc, member)?, value)?;
-    Ok(())
 }
 
 /// Adds facts to those that a manifest declares.

@@ -3,7 +3,7 @@
 use cargo_platform::shown_text;
 use clap::ArgMatches;
 use key_answers::answer::Refusal;
-use limited_texts::{LIMIT, file_within, given_within, reason_of};
+use limited_texts::{LIMIT, Unusable, file_within, given_within};
 use std::alloc::Global;
 use std::io;
 use std::rt::Files;
@@ -23,10 +23,8 @@ fn text_read(
     match read {
         Ok(text) => Ok(text),
         Err(error) => {
-            let file = shown_text(alloc, file)?;
-            let reason = reason_of(alloc, &error, limit)?;
-            let line = format!(in alloc; "{file}: error: {reason}\n")?;
-            Err(Refusal::Unusable(line))
+            let unusable = Unusable::refused(alloc, shown_text(alloc, file)?, &error, limit)?;
+            Err(Refusal::Unusable(unusable.line(alloc)?))
         }
     }
 }

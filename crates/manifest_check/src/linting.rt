@@ -277,7 +277,7 @@ fn usable_at<R: Files + Input + AllocGlobal>(
     let alloc = rt.alloc();
     let line = match read_manifest(rt, path, telling.asked.limit) {
         Ok(manifest) => match first_deep(alloc, &manifest)? {
-            Some(line) => line,
+            Some(deep) => deep.line(alloc)?,
             None => return Ok(Some(manifest)),
         },
         Err(ReadError::Unusable(unusable)) => unusable.line(alloc)?,

@@ -13,6 +13,7 @@ mod linting;
 mod named;
 mod roots;
 mod styles;
+mod tables;
 mod words;
 
 use anyhow::Result;

@@ -1,5 +1,6 @@
 //! What the root of a workspace says to its members.
 
+use crate::tables::put;
 use limited_texts::INPUT;
 use lint_levels::{Rule, Setting, Settings, Weighed, settings_at};
 use std::alloc::{AllocError, Global};
@@ -158,8 +159,7 @@ pub fn inherit_lints(
     root.hides_lints = takes && !root.is_workspace;
     if takes {
         if let Some(lints) = &root.lints {
-            let lints = lints.clone()?;
-            let _before = manifest.insert(String::from_str(alloc, "lints")?, lints)?;
+            put(alloc, manifest, "lints", lints.clone()?)?;
         }
     }
     Ok(())

@@ -2,7 +2,7 @@
 
 use crate::document::Document;
 use cargo_platform::shown_text;
-use limited_texts::{INPUT, Unusable, given_within, reason_of};
+use limited_texts::{INPUT, Unusable, given_within};
 use std::alloc::{AllocError, Global};
 use std::fs;
 use std::rt::Files;
@@ -99,8 +99,8 @@ pub fn read_manifest<R: Files + Input + AllocGlobal>(
     let text = match given_within(rt, file.as_str(), limit) {
         Ok(text) => text,
         Err(error) => {
-            let reason = reason_of(alloc, &error, limit)?;
-            return Err(unusable(alloc, shown.as_str(), reason.as_str()));
+            let unusable = Unusable::refused(alloc, shown, &error, limit)?;
+            return Err(ReadError::Unusable(unusable));
         }
     };
     let text = without_mark(text.as_str());

@@ -12,15 +12,16 @@ use Rattle.exact_answers.specs.declared.known.Known.{Known}
 use Rattle.manifest_lints_questions.specs.declared.earlier.Earlier.{Earlier}
 use Rattle.manifest_lints_findings.specs.declared.codes.Code.{Code}
 use Rattle.manifest_lints_findings.specs.declared.findings.Finding.{Finding}
+use Rattle.manifest_lints_findings.specs.declared.known_keys.KnownKey.{KnownKey}
 use Rattle.manifest_lints_findings.specs.declared.readings.ReadKey.{ReadKey}
 use Rattle.manifest_lints_findings.specs.Codes.{CodeSet}
 use Rattle.manifest_lints_findings.specs.Marks.{Mark, mark}
-use Rattle.manifest_lints_findings.specs.Messages.{NamesKey}
+use Rattle.manifest_lints_findings.specs.Messages.{NamesKey, Shows}
 use Rattle.manifest_lints_findings.specs.Spells.{entry_read}
 use Rattle.manifest_documents.specs.Declarations.{DeclaredEntry}
 use Rattle.manifest_documents.specs.Entries.{Entry}
 use Rattle.manifest_lints.specs.Reports.{AreFindingsOn, on_more, IsFound, AreTold, NamesEarlier, AddsFindings}
-use Rattle.manifest_lints.specs.Reports.{told_marks, left_open}
+use Rattle.manifest_lints.specs.Reports.{told_marks, left_open, IsKnownOf, ShowsKey}
 use Rattle.manifest_lints.specs.Sames.{named_place}
 use Rattle.manifest_lints.proofs.MoreSames.{named_within}
 
@@ -64,23 +65,28 @@ module _ (reads : List ReadKey) (i : ℕ) (d : ReadKey) (within : i < length rea
       (is (omega arith) e ∙ ap (λ (x : Entry). x.0) (before_is n e before)) names
   names_by None f before is names = tt
 
-  pub one_more : (k : Known) (ds : List DeclaredEntry) (codes : CodeSet) (earlier : Earlier) (is_open : Bool)
+  pub one_more : (k : Known) (ds : List DeclaredEntry) (key : KnownKey) (codes : CodeSet) (earlier : Earlier)
+      (is_open : Bool)
       (old new : List Finding) (before_open now_open : List ℕ)
       → AreFindingsOn k ds (map entry_read (take i reads)) old before_open
       → IsFound k ds (map entry_read (take i reads)) (entry_read (get_or reads i d)) codes earlier is_open
       → IfSome (named_place earlier)
       (λ n. n < length reads → (e : Entry) → other ≡ (get_or (map entry_read reads) n e).0)
-      → AddsFindings (told_marks i codes) other old new → now_open ≡ before_open ++ left_open i is_open
+      → IsKnownOf ds (entry_read (get_or reads i d)) key
+      → AddsFindings (told_marks i codes) other key old new → now_open ≡ before_open ++ left_open i is_open
       → AreFindingsOn k ds (map entry_read (take (i + 1) reads)) new now_open
-  one_more k ds codes earlier is_open old new before_open now_open before found other_is adds opened =
+  one_more k ds key codes earlier is_open old new before_open now_open before found other_is known adds opened =
       let x = get_or reads i d in
       let es = map entry_read (take i reads) in
-      let told : AreTold es codes earlier adds.added = record {
+      let told : AreTold ds es (entry_read x) codes earlier adds.added = record {
         marks_are = adds.marks_are ∙ ap (λ n. told_marks n codes) (sym long);
         named = All-weaker (λ f. NamesKey f.code other (string_bytes f.message)) (NamesEarlier es earlier)
             (λ f names. names_by (named_place earlier) f (found_within k ds es (entry_read x) codes earlier is_open
             found)
             other_is names) adds.added adds.named;
+        key = key;
+        known = known;
+        shown = adds.shown;
       } in
       let more : AreFindingsOn k ds (es ++ entry_read x ∷ []) (old ++ adds.added)
       (before_open ++ left_open (length es) is_open) =
@@ -95,21 +101,23 @@ marked n cs = map (λ c. (Some n, c)) cs
 
 -- ---- what adds findings
 
-pub adds_none : (other : List ℕ) (fs : List Finding) → AddsFindings [] other fs fs
-adds_none other fs = record {
+pub adds_none : (other : List ℕ) (key : KnownKey) (fs : List Finding) → AddsFindings [] other key fs fs
+adds_none other key fs = record {
   added = [];
   are = sym (append-nil fs);
   marks_are = refl;
   named = All-nil (λ f. NamesKey f.code other (string_bytes f.message));
+  shown = All-nil (ShowsKey key);
 }
 
-adds_more : (ms ns : List Mark) (other : List ℕ) (fs gs hs : List Finding) → AddsFindings ms other fs gs
-    → AddsFindings ns other gs hs → AddsFindings (ms ++ ns) other fs hs
-adds_more ms ns other fs gs hs a b = record {
+adds_more : (ms ns : List Mark) (other : List ℕ) (key : KnownKey) (fs gs hs : List Finding)
+    → AddsFindings ms other key fs gs → AddsFindings ns other key gs hs → AddsFindings (ms ++ ns) other key fs hs
+adds_more ms ns other key fs gs hs a b = record {
   added = a.added ++ b.added;
   are = b.are ∙ ap (λ zs. zs ++ b.added) a.are ∙ append_assoc fs a.added b.added;
   marks_are = map-append mark a.added b.added ∙ (λ j. a.marks_are j ++ b.marks_are j);
   named = All-append (λ f. NamesKey f.code other (string_bytes f.message)) a.added b.added a.named b.named;
+  shown = All-append (ShowsKey key) a.added b.added a.shown b.shown;
 }
 
 module _ (p : Code → Bool) (n : ℕ) (cs : List Code) (i : ℕ) (d : Code) (within : i < length cs) where
@@ -132,35 +140,39 @@ module _ (p : Code → Bool) (n : ℕ) (cs : List Code) (i : ℕ) (d : Code) (wi
         | false ↦ λ e. at_next [] (ap (λ b. cond b (x ∷ []) []) e)
       ] refl
 
-  pub one_code : (other : List ℕ) (init old new : List Finding)
-      → AddsFindings (marked n (filter p (take i cs))) other init old
-      → AddsFindings (cond (p (get_or cs i d)) ((Some n, get_or cs i d) ∷ []) []) other old new
-      → AddsFindings (marked n (filter p (take (i + 1) cs))) other init new
-  one_code other init old new before now =
-      subst (λ ms. AddsFindings ms other init new) next_code
+  pub one_code : (other : List ℕ) (key : KnownKey) (init old new : List Finding)
+      → AddsFindings (marked n (filter p (take i cs))) other key init old
+      → AddsFindings (cond (p (get_or cs i d)) ((Some n, get_or cs i d) ∷ []) []) other key old new
+      → AddsFindings (marked n (filter p (take (i + 1) cs))) other key init new
+  one_code other key init old new before now =
+      subst (λ ms. AddsFindings ms other key init new) next_code
       (adds_more (marked n (filter p (take i cs))) (cond (p (get_or cs i d)) ((Some n, get_or cs i d) ∷ []) []) other
-      init old new before now)
+      key init old new before now)
 
 -- all codes were gone through
-pub all_codes : (p : Code → Bool) (n i : ℕ) (cs : List Code) (other : List ℕ) (init new : List Finding)
-    → length cs ≤ i → AddsFindings (marked n (filter p (take i cs))) other init new
-    → AddsFindings (marked n (filter p cs)) other init new
-all_codes p n i cs other init new done =
-    subst (λ xs. AddsFindings (marked n (filter p xs)) other init new) (take_all i cs done)
+pub all_codes : (p : Code → Bool) (n i : ℕ) (cs : List Code) (other : List ℕ) (key : KnownKey) (init new : List Finding)
+    → length cs ≤ i → AddsFindings (marked n (filter p (take i cs))) other key init new
+    → AddsFindings (marked n (filter p cs)) other key init new
+all_codes p n i cs other key init new done =
+    subst (λ xs. AddsFindings (marked n (filter p xs)) other key init new) (take_all i cs done)
 
-pub one_told : (fs gs : List Finding) (f : Finding) (b : Bool) (m : Mark) (other : List ℕ) → gs ≡ fs ++ f ∷ []
+pub one_told : (fs gs : List Finding) (f : Finding) (b : Bool) (m : Mark) (other : List ℕ) (key : KnownKey)
+    → gs ≡ fs ++ f ∷ []
     → mark f ≡ m → b ≡ true → NamesKey m.1 other (string_bytes f.message)
-    → AddsFindings (cond b (m ∷ []) []) other fs gs
-one_told fs gs f b m other pushed is told names = record {
+    → Shows m.1 key f.suggestion (string_bytes f.message)
+    → AddsFindings (cond b (m ∷ []) []) other key fs gs
+one_told fs gs f b m other key pushed is told names shows = record {
   added = f ∷ [];
   are = pushed;
   marks_are = ap (λ y. y ∷ []) is ∙ sym (ap (λ c. cond c (m ∷ []) []) told);
   named = All-push (λ g. NamesKey g.code other (string_bytes g.message)) [] f
       (All-nil (λ g. NamesKey g.code other (string_bytes g.message)))
       (subst (λ c. NamesKey c other (string_bytes f.message)) (sym (ap (λ (x : Mark). x.1) is)) names);
+  shown = All-push (ShowsKey key) [] f (All-nil (ShowsKey key))
+      (subst (λ c. Shows c key f.suggestion (string_bytes f.message)) (sym (ap (λ (x : Mark). x.1) is)) shows);
 }
 
-pub none_told : (fs : List Finding) (b : Bool) (m : Mark) (other : List ℕ) → b ≡ false
-    → AddsFindings (cond b (m ∷ []) []) other fs fs
-none_told fs b m other hidden =
-    subst (λ ms. AddsFindings ms other fs fs) (sym (ap (λ c. cond c (m ∷ []) []) hidden)) (adds_none other fs)
+pub none_told : (fs : List Finding) (b : Bool) (m : Mark) (other : List ℕ) (key : KnownKey) → b ≡ false
+    → AddsFindings (cond b (m ∷ []) []) other key fs fs
+none_told fs b m other key hidden =
+    subst (λ ms. AddsFindings ms other key fs fs) (sym (ap (λ c. cond c (m ∷ []) []) hidden)) (adds_none other key fs)

@@ -21,11 +21,13 @@ use Rattle.manifest_lints_findings.specs.declared.codes.Code.TheVariants as code
 use Rattle.manifest_lints_findings.specs.declared.findings.Finding.{Finding}
 use Rattle.manifest_lints_findings.specs.declared.findings.Report.{Report}
 use Rattle.manifest_lints_findings.specs.Codes.{CodeSet, is_told, told_codes}
-use Rattle.manifest_lints_findings.specs.Known.{has_marked_literal}
+use Rattle.manifest_lints_findings.specs.declared.known_keys.KnownKey.{KnownKey}
+use Rattle.manifest_lints_findings.specs.declared.readings.ReadKey.{ReadKey}
+use Rattle.manifest_lints_findings.specs.Known.{has_marked_literal, IsKnown}
 use Rattle.manifest_lints_findings.specs.Marks.{Mark, marks}
-use Rattle.manifest_lints_findings.specs.Messages.{NamesKey}
+use Rattle.manifest_lints_findings.specs.Messages.{NamesKey, Shows}
 use Rattle.manifest_lints_findings.specs.NoTables.{is_no_table}
-use Rattle.manifest_lints_findings.specs.Spells.{SpellsNothing}
+use Rattle.manifest_lints_findings.specs.Spells.{SpellsNothing, IsRead, entry_read}
 pub use Rattle.manifest_lints_questions.specs.Rustcs.{IsRustcs, AllowsRustcs}
 use Rattle.manifest_lints_questions.specs.declared.deciding.TheConstants.{MANY, LEVELS}
 use Rattle.manifest_lints_questions.specs.declared.earlier.TheConstants.{MOST}
@@ -128,10 +130,25 @@ abbrev pub NamesEarlier : List Entry → Earlier → Finding → Type 0
 NamesEarlier es earlier f =
     IfSome (named_place earlier) (λ n. (d : Entry) → NamesKey f.code (get_or es n d).0 (string_bytes f.message))
 
--- the findings on a key after others are those that are told of it, and they name that key
-pub record AreTold (es : List Entry) (codes : CodeSet) (earlier : Earlier) (fs : List Finding) : Type 0 where
+-- what is known of a key by itself, beside what is declared
+pub record IsKnownOf (ds : List DeclaredEntry) (e : Entry) (key : KnownKey) : Type 0 where
+  pub read : ReadKey
+  pub entry : entry_read read ≡ e
+  pub spells : IsRead read
+  pub known : IsKnown ds read key
+
+-- the message shows the names and numbers of what is known of the key
+abbrev pub ShowsKey : KnownKey → Finding → Type 0
+ShowsKey key f = Shows f.code key f.suggestion (string_bytes f.message)
+
+-- the findings on a key after others are those that are told of it; they name that key, and show what is known of it
+pub record AreTold (ds : List DeclaredEntry) (es : List Entry) (e : Entry) (codes : CodeSet) (earlier : Earlier)
+    (fs : List Finding) : Type 0 where
   pub marks_are : marks fs ≡ told_marks (length es) codes
   pub named : All (NamesEarlier es earlier) fs
+  pub key : KnownKey
+  pub known : IsKnownOf ds e key
+  pub shown : All (ShowsKey key) fs
 
 -- the findings on some keys are those that are told of each, in the order of the keys; and the places are those of the
 -- keys that are left open
@@ -139,19 +156,20 @@ pub data AreFindingsOn (k : Known) (ds : List DeclaredEntry) : List Entry → Li
   on_none : AreFindingsOn k ds [] [] []
   on_more : (es : List Entry) (e : Entry) (codes : CodeSet) (earlier : Earlier) (is_open : Bool)
       (fs told : List Finding) (ns : List ℕ) → AreFindingsOn k ds es fs ns
-      → IsFound k ds es e codes earlier is_open → AreTold es codes earlier told
+      → IsFound k ds es e codes earlier is_open → AreTold ds es e codes earlier told
       → AreFindingsOn k ds (es ++ e ∷ []) (fs ++ told) (ns ++ left_open (length es) is_open)
 
 -- the same, by what is known of each target
 abbrev pub AreFindings : List DeclaredEntry → List Entry → List Finding → List ℕ → Type 0
 AreFindings ds es fs ns = (k : Known) × (AllowsRustcs k × AreFindingsOn k ds es fs ns)
 
--- behind the old findings stand those with these marks, which name this key
-pub record AddsFindings (ms : List Mark) (other : List ℕ) (old new : List Finding) : Type 0 where
+-- behind the old findings stand those with these marks, which name this other key, and show what is known of the key
+pub record AddsFindings (ms : List Mark) (other : List ℕ) (key : KnownKey) (old new : List Finding) : Type 0 where
   pub added : List Finding
   pub are : new ≡ old ++ added
   pub marks_are : marks added ≡ ms
   pub named : All (λ f. NamesKey f.code other (string_bytes f.message)) added
+  pub shown : All (ShowsKey key) added
 
 -- ---- the report
 

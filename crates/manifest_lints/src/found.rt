@@ -206,6 +206,7 @@ pub fn found_of<'a>(
     before: &mut Keys<'a>,
 ) -> Result<Found<'a>, AllocError>
     ensures place { IfOk result (λ f. f.key.place ≡ place) }
+    ensures known { IfOk result (λ f. IsKnown (declarations_of asking.now.declared.now) read.now f.key) }
     ensures found { IsRead read.now → (es : List Entry) → length es ≡ place → AreNoted es before.old
         → AreMembers es before.old → IfOk result (λ f. IsFound asking.now.known.now
         (declarations_of asking.now.declared.now) es (entry_read read.now) (found_codes f) f.answers.earlier

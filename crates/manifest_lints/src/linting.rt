@@ -55,7 +55,7 @@ fn add_finding(
     findings: &mut Vec<Finding>,
 ) -> Result<(), AllocError>
     ensures { OnOk result (AddsFindings (told_mark found.now.key.place (found_codes found.now) code) other.now
-        findings.old.items findings.new.items) }
+        found.now.key findings.old.items findings.new.items) }
 {
     if !found.is_told(code) {
         return Ok(());
@@ -74,7 +74,7 @@ fn add_findings(
     findings: &mut Vec<Finding>,
 ) -> Result<(), AllocError>
     ensures { OnOk result (AddsFindings (told_marks found.now.key.place (found_codes found.now)) other.now
-        findings.old.items findings.new.items) }
+        found.now.key findings.old.items findings.new.items) }
 {
     'codes: for code in CODES {
         add_finding(alloc, words, found, other, code, findings)?;

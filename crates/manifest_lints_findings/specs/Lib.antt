@@ -6,4 +6,6 @@ pub mod Known
 pub mod Unknown
 pub mod Shown
 pub mod Laws
+pub mod Texts
+pub mod Chosen
 pub mod Messages

@@ -1,20 +1,89 @@
--- The key that a message names.
-use Rattle.std.specs.Prelude.{◌≡◌, ℕ, List, ◌++◌, codes}
-use Rattle.std.specs.Str.{chars}
-use Rattle.cargo_platform.specs.Snippets.{shown_line}
+-- The names and numbers that a message shows, by the code of its finding. The words between them are free.
+use Rattle.std.specs.Prelude.{ℕ, false, List, [], ◌∷◌, ◌++◌, codes, take, string_bytes, String}
+use Rattle.std.specs.Prelude.{Option, Some, None}
+use Rattle.std.specs.List.{join_by}
+use Rattle.std.specs.declared.alloc.Global.{Global}
+use Rattle.cargo_platform.specs.Errors.{fault_in}
+use Rattle.cargo_platform.specs.Print.{print_fault}
+use Rattle.known_targets.specs.declared.table.TheConstants.{RUSTC_VERSION}
+use Rattle.manifest_lints_standings.specs.declared.asked_facts.AskedFact.{AskedFact}
+use Rattle.manifest_lints_standings.specs.declared.standing.Sort.TheVariants as sort
+use Rattle.manifest_lints_findings.specs.Chosen.{chosen, fact_text, warnings_on}
+use Rattle.manifest_lints_findings.specs.Texts.{shown_whole, shown_cut, quoted_text, EndsWith, Mentions, and_more}
+use Rattle.manifest_lints_findings.specs.Texts.{joined_first, first_texts}
+use Rattle.manifest_lints_findings.specs.declared.chosen.Choice.TheVariants as choice
 use Rattle.manifest_lints_findings.specs.declared.codes.Code.{Code}
 use Rattle.manifest_lints_findings.specs.declared.codes.Code.TheVariants as code
-
--- a text in backquotes, as it is shown, and cut
-abbrev pub quoted_text : List ℕ → List ℕ
-quoted_text text = codes "`" ++ shown_line (chars text) 0 0 ++ codes "`"
-
--- at the end of a message this key stands, behind other words
-abbrev pub EndsWithKey : List ℕ → List ℕ → Type 0
-EndsWithKey key message = (words : List ℕ) × (message ≡ words ++ quoted_text key)
+use Rattle.manifest_lints_findings.specs.declared.known_keys.KnownKey.{KnownKey}
+use Rattle.manifest_lints_findings.specs.declared.readings.Marked.{Marked}
+use Rattle.manifest_lints_findings.specs.declared.readings.Spelled.{Spelled}
+use Rattle.manifest_lints_findings.specs.declared.readings.Spelled.TheVariants as spelled
+use Rattle.manifest_lints_findings.specs.declared.wording.TheConstants.{TOLD}
 
 -- the message of a finding on what is the same or as true ends with the earlier key
 abbrev pub NamesKey : Code → List ℕ → List ℕ → Type 0
-NamesKey code.Same key message = EndsWithKey key message
-NamesKey code.Equivalent key message = EndsWithKey key message
+NamesKey code.Same key message = EndsWith (quoted_text key) message
+NamesKey code.Equivalent key message = EndsWith (quoted_text key) message
 NamesKey _ key message = Unit {0}
+
+-- ---- what is shown of the key itself
+
+-- the first names and pairs in quotes, and how many more there are
+abbrev pub listing : List AskedFact → List (List ℕ)
+listing fs = first_texts fact_text fs
+
+-- the same behind rustc's version, where there are some
+abbrev pub listing_of_version : List AskedFact → List (List ℕ)
+listing_of_version [] = []
+listing_of_version (f ∷ fs) = RUSTC_VERSION.now ∷ listing (f ∷ fs)
+
+-- the mistaken names and pairs, those of no features first
+abbrev pub mistakes_in : List AskedFact → List (List ℕ)
+mistakes_in fs = listing_of_version (chosen choice.NoFeature fs) ++ listing_of_version (chosen choice.Feature fs)
+
+-- the custom ones, those that only unstable features set last
+abbrev pub custom_in : List AskedFact → List (List ℕ)
+custom_in fs = listing_of_version (chosen choice.Stable fs) ++ listing_of_version (chosen choice.Unstable fs)
+
+-- why it is refused
+abbrev pub fault_shown : Spelled → List (List ℕ)
+fault_shown (spelled.Refused e) = shown_cut (print_fault (fault_in e)) ∷ []
+fault_shown (spelled.Condition p) = []
+fault_shown (spelled.ByCargo m) = []
+
+-- Cargo's first warnings on the key, and how many more there are
+abbrev pub cargo_words : Marked → List ℕ
+cargo_words m = shown_whole (join_by (λ s. string_bytes s) (codes " ") (take TOLD m.warnings.items) ++ and_more m.count)
+
+-- what Cargo says of it, or the names that lose their raw mark
+abbrev pub read_otherwise : Spelled → List AskedFact → List (List ℕ)
+read_otherwise (spelled.ByCargo m) fs = cargo_words m ∷ []
+read_otherwise (spelled.Condition p) fs = listing (chosen choice.Literal fs)
+read_otherwise (spelled.Refused e) fs = listing (chosen choice.Literal fs)
+
+-- what Cargo says of names and pairs that do not select dependencies
+abbrev pub unsupported_in : List AskedFact → List ℕ
+unsupported_in fs = shown_whole (joined_first (λ t. t) (codes " ") (warnings_on false fs))
+
+-- the text that may be meant
+abbrev pub meant_shown : Option (String Global) → List (List ℕ)
+meant_shown (Some s) = quoted_text (string_bytes s) ∷ []
+meant_shown None = []
+
+-- what the message of a finding of this code on a key shows, where this may stand in the key's place
+abbrev pub shown_texts : Code → KnownKey → Option (String Global) → List (List ℕ)
+shown_texts code.Refused k meant = fault_shown k.read.now.spelled
+shown_texts code.NoTable k meant = first_texts (λ s. string_bytes s) k.no_tables.items
+shown_texts code.ReadOtherwise k meant = read_otherwise k.read.now.spelled k.asked.items
+shown_texts code.Unsupported k meant = unsupported_in (chosen (choice.OfSort sort.Unsupported) k.asked.items) ∷ []
+shown_texts code.UnknownTarget k meant = RUSTC_VERSION.now ∷ meant_shown meant
+shown_texts code.UnknownFact k meant = mistakes_in (chosen (choice.OfSort sort.Mistaken) k.asked.items)
+shown_texts code.Nowhere k meant = RUSTC_VERSION.now ∷ []
+shown_texts code.Everywhere k meant = RUSTC_VERSION.now ∷ []
+shown_texts code.Custom k meant = custom_in (chosen (choice.OfSort sort.Custom) k.asked.items)
+shown_texts _ k meant = []
+
+-- it shows these texts in this order, and of a key that is not canonical ends with its canonical form
+abbrev pub Shows : Code → KnownKey → Option (String Global) → List ℕ → Type 0
+Shows code.NotCanonical k meant message = EndsWith (quoted_text (string_bytes k.canonical)) message
+Shows c k meant message = Mentions (shown_texts c k meant) message

@@ -1,5 +1,5 @@
 -- What a finding shows beside its message: where a refused key goes wrong, and a text that may stand in a key's place.
-use Rattle.std.specs.Prelude.{◌≡◌, ℕ, Bool, false, List, [], IsTrue, bytes_eq, None}
+use Rattle.std.specs.Prelude.{◌≡◌, ℕ, false, List, [], IsTrue, bytes_eq, None}
 use Rattle.cargo_platform.specs.Trees.{Condition}
 use Rattle.cargo_platform.specs.Errors.{orig_of, fault_in, span_in}
 use Rattle.cargo_platform.specs.KeySpans.{IsSpanInKey, IsSnippetOfKey}

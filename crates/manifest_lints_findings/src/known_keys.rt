@@ -7,12 +7,13 @@ ghost use Rattle.manifest_documents.specs.Declarations.{declarations_of};
 ghost use Rattle.manifest_lints_standings.specs.Standings.{sorted_by};
 ghost use Rattle.manifest_lints_findings.specs.NoTables.{is_empty_list, is_no_table};
 ghost use Rattle.manifest_lints_findings.specs.Spells.{entry_read};
-ghost use Rattle.manifest_lints_findings.specs.Known.{IsKnown, holds_alone, is_marked_literal, has_marked_literal};
+ghost use Rattle.manifest_lints_findings.specs.Known.{IsKnown, holds_alone, has_marked_literal};
 
+use crate::chosen::is_marked_literal;
 use crate::codes::Code;
 use crate::no_tables::no_tables;
 use crate::readings::{ReadKey, Spelled};
-use cargo_platform::{Cfg, Platform};
+use cargo_platform::Platform;
 use expression_folds::walk;
 use known_targets::{TargetSet, matching};
 use manifest_documents::Declared;
@@ -92,28 +93,6 @@ impl<'a> KnownKey<'a> {
             _ => false,
         }
     }
-
-    /// The names and pairs of this sort, each once.
-    pub fn of_sort(&self, alloc: Global, sort: Sort) -> Result<Vec<AskedFact<'a>>, AllocError> {
-        let mut found = Vec::new(alloc);
-        for asked in &self.asked {
-            if asked.is_first && asked.standing.sort().is(sort) {
-                found.push(*asked)?;
-            }
-        }
-        Ok(found)
-    }
-
-    /// The raw `true` and `false` alone, each once.
-    pub fn marked_literals(&self, alloc: Global) -> Result<Vec<AskedFact<'a>>, AllocError> {
-        let mut found = Vec::new(alloc);
-        for asked in &self.asked {
-            if asked.is_first && is_marked_literal(asked.fact) {
-                found.push(*asked)?;
-            }
-        }
-        Ok(found)
-    }
 }
 
 /// What stands at a key and is no table of dependencies, by words for each.
@@ -161,17 +140,7 @@ fn canonical(alloc: Global, condition: &Platform) -> Result<String, AllocError>
     format!(in alloc; "{condition}")
 }
 
-/// Whether it is a raw `true` or `false` alone, which Cargo reads as a literal.
-fn is_marked_literal(fact: &Cfg) -> bool
-    ensures { result ≡ is_marked_literal (value_of fact.now) }
-{
-    match fact {
-        Cfg::Name(name) => name.raw && (name.as_str() == "true" || name.as_str() == "false"),
-        Cfg::KeyPair(_, _) => false,
-    }
-}
-
-/// Whether one of them is.
+/// Whether one of them is a raw `true` or `false` alone, which Cargo reads as a literal.
 fn has_marked_literal(asked: &[AskedFact<'_>]) -> bool
     ensures { result ≡ has_marked_literal (sorted_by asked.now) }
 {

@@ -1,6 +1,7 @@
 //! What is known of a key of `target` by itself, the codes of findings as one table, and what findings tell.
 #![tactic(auto)]
 
+mod chosen;
 pub mod codes;
 pub mod findings;
 pub mod known_keys;

@@ -3,7 +3,7 @@
 ghost use Rattle.std.specs.Prelude.{◌≡◌, IfOk, IfSome, Some, length, string_bytes};
 ghost use Rattle.manifest_lints_findings.specs.Codes.{finding_level};
 ghost use Rattle.manifest_lints_findings.specs.Marks.{mark};
-ghost use Rattle.manifest_lints_findings.specs.Messages.{NamesKey};
+ghost use Rattle.manifest_lints_findings.specs.Messages.{NamesKey, Shows};
 ghost use Rattle.manifest_lints_findings.specs.Shown.{IsShownOn, IsMended};
 
 use crate::codes::{Code, Level};
@@ -48,6 +48,7 @@ pub fn finding_on(
     ensures mark { IfOk result (λ f. mark f ≡ (Some key.now.place, code)) }
     ensures level { IfOk result (λ f. f.level ≡ finding_level code (length key.now.asked.items)) }
     ensures named { IfOk result (λ f. NamesKey code other.now (string_bytes f.message)) }
+    ensures tells { IfOk result (λ f. Shows code key.now f.suggestion (string_bytes f.message)) }
     ensures shown { IfOk result (λ f. IsShownOn code key.now f) }
     ensures suggestion { IfOk result (λ f. IfSome f.suggestion (λ s. IsMended code (string_bytes s))) }
 {

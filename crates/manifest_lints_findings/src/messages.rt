@@ -1,13 +1,22 @@
 //! What the findings tell, code by code.
 
-ghost use Rattle.std.specs.Prelude.{IfOk, string_bytes};
-ghost use Rattle.manifest_lints_findings.specs.Messages.{EndsWithKey, NamesKey};
+ghost use Rattle.std.specs.Prelude.{◌≡◌, ◌++◌, ◌∷◌, [], IfOk, OnOk, false, string_bytes};
+ghost use Rattle.cargo_platform.specs.Errors.{texts};
+ghost use Rattle.cargo_platform.specs.Trees.{value_of};
+ghost use Rattle.cargo_platform.specs.Warnings.{attribute_warning};
+ghost use Rattle.known_targets.specs.declared.table.TheConstants.{RUSTC_VERSION};
+ghost use Rattle.manifest_lints_findings.specs.Chosen.{chosen, fact_text, is_pair, warnings_on};
+ghost use Rattle.manifest_lints_findings.specs.Messages.{NamesKey, Shows, listing, listing_of_version, meant_shown};
+ghost use Rattle.manifest_lints_findings.specs.Messages.{mistakes_in, custom_in, fault_shown, read_otherwise};
+ghost use Rattle.manifest_lints_findings.specs.Messages.{cargo_words, unsupported_in};
+ghost use Rattle.manifest_lints_findings.specs.Texts.{quoted_text, first_texts, BeginsWith, EndsWith, Mentions};
 
+use crate::chosen::{Choice, chosen};
 use crate::codes::Code;
 use crate::known_keys::KnownKey;
-use crate::readings::Spelled;
+use crate::readings::{Marked, Spelled};
 use crate::suggestions::{Words, instead_of};
-use crate::wording::{OWN, TOLD, joined, quoted, quoted_fact, with_meant};
+use crate::wording::{OWN, and_more, both, joined, listed, perhaps, quoted, quoted_fact, told};
 use cargo_platform::{Cfg, CfgExpr, Platform, shown_start, shown_text};
 use known_targets::RUSTC_VERSION;
 use manifest_lints_standings::asked_facts::AskedFact;
@@ -24,59 +33,54 @@ pub fn message_of(
     meant: &Option<String>,
     code: Code,
 ) -> Result<String, AllocError>
-    ensures { IfOk result (λ message. NamesKey code other.now (string_bytes message)) }
+    ensures named { IfOk result (λ message. NamesKey code other.now (string_bytes message)) }
+    ensures shows { IfOk result (λ message. Shows code key.now meant.now (string_bytes message)) }
 {
     match code {
         Code::Refused => refused_message(alloc, key),
-        Code::NoTable => joined(alloc, &key.no_tables, key.no_tables.len(), ", "),
+        Code::NoTable => no_table_message(alloc, key),
         Code::ReadOtherwise => read_otherwise_message(alloc, key),
         Code::Unsupported => unsupported_message(alloc, key),
         Code::Never => String::from_str(alloc, "no set of facts makes the condition true"),
         Code::UnknownTarget => unknown_target_message(alloc, meant),
         Code::UnknownFact => unknown_fact_message(alloc, words, key),
         Code::Nowhere => nowhere_message(alloc),
-        Code::Same => same_message(alloc, other),
-        Code::Equivalent => equivalent_message(alloc, other),
-        Code::Always => String::from_str(alloc, "every set of facts makes the condition true"),
-        Code::Everywhere => format!(in alloc;
-            "the condition holds at every target that rustc {RUSTC_VERSION} knows"
+        Code::Same => behind_words(alloc, "the same condition as the earlier key ", other),
+        Code::Equivalent => behind_words(
+            alloc,
+            "true over the same sets of facts as the earlier key ",
+            other,
         ),
+        Code::Always => String::from_str(alloc, "every set of facts makes the condition true"),
+        Code::Everywhere => everywhere_message(alloc),
         Code::Custom => custom_message(alloc, key),
         Code::NotCanonical => {
-            let form = quoted(alloc, key.canonical.as_str())?;
-            format!(in alloc; "the canonical form is {form}")
+            behind_words(alloc, "the canonical form is ", key.canonical.as_str())
         }
     }
 }
 
-/// What is told of a key with the same condition as an earlier one.
-fn same_message(alloc: Global, other: &str) -> Result<String, AllocError>
-    ensures { IfOk result (λ message. EndsWithKey other.now (string_bytes message)) }
+/// The words with the text in quotes behind them.
+fn behind_words(alloc: Global, words: &str, text: &str) -> Result<String, AllocError>
+    ensures { IfOk result (λ message. EndsWith (quoted_text text.now) (string_bytes message)) }
 {
-    let other = quoted(alloc, other)?;
-    format!(in alloc; "the same condition as the earlier key {other}")
-}
-
-/// What is told of a key that is as true as an earlier one.
-fn equivalent_message(alloc: Global, other: &str) -> Result<String, AllocError>
-    ensures { IfOk result (λ message. EndsWithKey other.now (string_bytes message)) }
-{
-    let other = quoted(alloc, other)?;
-    format!(in alloc; "true over the same sets of facts as the earlier key {other}")
+    let text = quoted(alloc, text)?;
+    format!(in alloc; "{words}{text}")
 }
 
 /// `no target that rustc .. knows`
-fn no_target(alloc: Global) -> Result<String, AllocError> {
+fn no_target(alloc: Global) -> Result<String, AllocError>
+    ensures { IfOk result (λ s. Mentions (RUSTC_VERSION.now ∷ []) (string_bytes s)) }
+{
     format!(in alloc; "no target that rustc {RUSTC_VERSION} knows")
 }
 
-/// The first facts, and how many more there are.
-fn listed(alloc: Global, facts: &[AskedFact<'_>]) -> Result<String, AllocError> {
-    let mut texts = Vec::new(alloc);
-    for asked in facts.iter().take(TOLD) {
-        texts.push(quoted_fact(alloc, asked.fact)?)?;
-    }
-    joined(alloc, &texts, facts.len(), ", ")
+/// What is told of what stands at a key and is no table.
+fn no_table_message(alloc: Global, key: &KnownKey<'_>) -> Result<String, AllocError>
+    ensures { IfOk result
+        (λ s. Mentions (first_texts (λ t. string_bytes t) key.now.no_tables.items) (string_bytes s)) }
+{
+    joined(alloc, &key.no_tables, key.no_tables.len(), ", ")
 }
 
 /// What people write in place of the words of a condition, and what stands for it.
@@ -106,65 +110,117 @@ fn instead_of_fault(key: &str) -> Option<&'static str> {
     None
 }
 
-/// What is told of a key that is refused.
-fn refused_message(alloc: Global, key: &KnownKey<'_>) -> Result<String, AllocError> {
-    let mut fault = String::new(alloc);
-    if let Spelled::Refused(error) = &key.read.spelled {
-        let kind = error.kind();
-        fault = format!(in alloc; "{kind}")?;
+/// Why a key is refused, shown and cut.
+fn fault_of(alloc: Global, spelled: &Spelled) -> Result<String, AllocError>
+    ensures { IfOk result (λ s. Mentions (fault_shown spelled.now) (string_bytes s)) }
+{
+    match spelled {
+        Spelled::Refused(error) => {
+            let kind = error.kind();
+            let fault = format!(in alloc; "{kind}")?;
+            shown_start(alloc, fault.as_str())
+        }
+        Spelled::Condition(_) | Spelled::ByCargo(_) => Ok(String::new(alloc)),
     }
-    let fault = shown_start(alloc, fault.as_str())?;
+}
+
+/// What is told of a key that is refused.
+fn refused_message(alloc: Global, key: &KnownKey<'_>) -> Result<String, AllocError>
+    ensures { IfOk result (λ s. Mentions (fault_shown key.now.read.now.spelled) (string_bytes s)) }
+{
+    let fault = fault_of(alloc, &key.read.spelled)?;
     match instead_of_fault(key.read.text) {
         Some(hint) => format!(in alloc; "the key spells no condition: {fault}; {hint}"),
         None => format!(in alloc; "the key spells no condition: {fault}"),
     }
 }
 
-/// What is told of a key that Cargo reads otherwise: it alone reads the key, or reads names without their raw marks.
-fn read_otherwise_message(alloc: Global, key: &KnownKey<'_>) -> Result<String, AllocError> {
-    if let Spelled::ByCargo(marked) = &key.read.spelled {
-        let text = joined(alloc, &marked.warnings, marked.count, " ")?;
-        let text = shown_text(alloc, text.as_str())?;
-        return format!(in alloc; "Cargo of today reads the key, and warns: {text}");
-    }
-    let names = listed(alloc, &key.marked_literals(alloc)?)?;
+/// What is told of a key that Cargo alone reads: its warnings.
+fn by_cargo_message(alloc: Global, marked: &Marked) -> Result<String, AllocError>
+    ensures { IfOk result (λ s. Mentions (cargo_words marked.now ∷ []) (string_bytes s)) }
+{
+    let warnings = joined(alloc, &marked.warnings, marked.count, " ")?;
+    let text = shown_text(alloc, warnings.as_str())?;
+    format!(in alloc; "Cargo of today reads the key, and warns: {text}")
+}
+
+/// What is told of a key of which Cargo reads names without their raw marks.
+fn unmarked_message(alloc: Global, key: &KnownKey<'_>) -> Result<String, AllocError>
+    ensures { IfOk result (λ s. Mentions (listing (chosen Choice.Literal key.now.asked.items)) (string_bytes s)) }
+{
+    let literals = chosen(alloc, &key.asked, Choice::Literal)?;
+    let names = listed(alloc, &literals)?;
     format!(in alloc; "Cargo of today reads {names} as if it had no raw mark")
 }
 
-/// What Cargo says of facts that do not select dependencies, on one line. Of `feature` it says so once.
-fn unsupported_message(alloc: Global, key: &KnownKey<'_>) -> Result<String, AllocError> {
-    let mut texts = Vec::new(alloc);
-    let mut said_of_features = false;
-    for asked in &key.of_sort(alloc, Sort::Unsupported)? {
-        let is_feature = matches!(asked.fact, Cfg::KeyPair(_, _));
-        if is_feature && said_of_features {
-            continue;
-        }
-        said_of_features = said_of_features || is_feature;
-        let fact = asked.fact.clone(alloc)?;
-        Platform::Cfg(CfgExpr::Value(fact)).check_cfg_attributes(alloc, &mut texts)?;
+/// What is told of a key that Cargo reads otherwise: it alone reads the key, or reads names without their raw marks.
+fn read_otherwise_message(alloc: Global, key: &KnownKey<'_>) -> Result<String, AllocError>
+    ensures { IfOk result (λ s. Mentions
+        (read_otherwise key.now.read.now.spelled key.now.asked.items) (string_bytes s)) }
+{
+    match &key.read.spelled {
+        Spelled::ByCargo(marked) => by_cargo_message(alloc, marked),
+        Spelled::Condition(_) | Spelled::Refused(_) => unmarked_message(alloc, key),
     }
-    let text = joined(alloc, &texts, texts.len(), " ")?;
-    shown_text(alloc, text.as_str())
+}
+
+/// Whether it is a pair.
+fn is_pair(fact: &Cfg) -> bool
+    ensures { result ≡ is_pair (value_of fact.now) }
+{
+    matches!(fact, Cfg::KeyPair(_, _))
+}
+
+/// Appends what Cargo says of a name or pair.
+fn warn(alloc: Global, fact: &Cfg, warnings: &mut Vec<String>) -> Result<(), AllocError>
+    ensures { OnOk result
+        (texts warnings.new ≡ texts warnings.old ++ attribute_warning (value_of fact.now)) }
+{
+    let fact = fact.clone(alloc)?;
+    Platform::Cfg(CfgExpr::Value(fact)).check_cfg_attributes(alloc, warnings)
+}
+
+/// What Cargo says of names and pairs that do not select dependencies. Of `feature` it says so once.
+fn warnings_on(alloc: Global, facts: &[AskedFact<'_>]) -> Result<Vec<String>, AllocError>
+    ensures { IfOk result (λ found. texts found ≡ warnings_on false facts.now) }
+{
+    let mut found = Vec::new(alloc);
+    let mut is_said = false;
+    'facts: for asked in facts {
+        let is_pair = is_pair(asked.fact);
+        if !(is_pair && is_said) {
+            warn(alloc, asked.fact, &mut found)?;
+        }
+        is_said = is_said || is_pair;
+    }
+    Ok(found)
+}
+
+/// What Cargo says of facts that do not select dependencies, on one line.
+fn unsupported_message(alloc: Global, key: &KnownKey<'_>) -> Result<String, AllocError>
+    ensures { IfOk result (λ s. Mentions
+        (unsupported_in (chosen (Choice.OfSort Sort.Unsupported) key.now.asked.items) ∷ []) (string_bytes s)) }
+{
+    let facts = chosen(alloc, &key.asked, Choice::OfSort(Sort::Unsupported))?;
+    let warnings = warnings_on(alloc, &facts)?;
+    let words = joined(alloc, &warnings, warnings.len(), " ")?;
+    shown_text(alloc, words.as_str())
 }
 
 /// What is told of a name that no known target has.
-fn unknown_target_message(alloc: Global, meant: &Option<String>) -> Result<String, AllocError> {
+fn unknown_target_message(alloc: Global, meant: &Option<String>) -> Result<String, AllocError>
+    ensures { IfOk result
+        (λ s. Mentions (RUSTC_VERSION.now ∷ meant_shown meant.now) (string_bytes s)) }
+{
     let unknown = no_target(alloc)?;
-    let message = format!(in alloc; "{unknown} has this name{OWN}")?;
-    with_meant(alloc, message.as_str(), meant)
-}
-
-/// Whether it is a pair of `target_feature`, which no target specification of one's own can have either.
-fn is_of_features(fact: &Cfg) -> bool {
-    match fact {
-        Cfg::KeyPair(key, _) => key.as_str() == "target_feature",
-        Cfg::Name(_) => false,
-    }
+    let perhaps = perhaps(alloc, meant)?;
+    format!(in alloc; "{unknown} has this name{OWN}{perhaps}")
 }
 
 /// A mistaken fact with what may be meant.
-fn mistake(alloc: Global, words: &Words, asked: &AskedFact<'_>) -> Result<String, AllocError> {
+fn mistake(alloc: Global, words: &Words, asked: &AskedFact<'_>) -> Result<String, AllocError>
+    ensures { IfOk result (λ s. BeginsWith (fact_text asked.now) (string_bytes s)) }
+{
     let text = quoted_fact(alloc, asked.fact)?;
     if let Some(other) = instead_of(alloc, words, asked)? {
         let other = quoted(alloc, other.as_str())?;
@@ -176,25 +232,55 @@ fn mistake(alloc: Global, words: &Words, asked: &AskedFact<'_>) -> Result<String
     Ok(text)
 }
 
-/// The first of the mistakes that are features, or that are none, and how many more there are. Empty where there are
-/// none.
+/// What stands before a mistake.
+fn mark_before(place: usize) -> &'static str {
+    if place == 0 { "" } else { ", " }
+}
+
+/// The first mistakes, each with what may be meant, and how many more there are.
 fn mistakes_listed(
     alloc: Global,
     words: &Words,
     mistakes: &[AskedFact<'_>],
-    are_features: bool,
-) -> Result<String, AllocError> {
-    let mut chosen = Vec::new(alloc);
-    for asked in mistakes {
-        if is_of_features(asked.fact) == are_features {
-            chosen.push(*asked)?;
-        }
+) -> Result<String, AllocError>
+    ensures { IfOk result (λ s. Mentions (listing mistakes.now) (string_bytes s)) }
+{
+    let mut listed = String::new(alloc);
+    'told: for (place, asked) in told(mistakes).iter().enumerate() {
+        let text = mistake(alloc, words, asked)?;
+        listed.push_str(mark_before(place))?;
+        listed.push_str(text.as_str())?;
     }
-    let mut texts = Vec::new(alloc);
-    for asked in chosen.iter().take(TOLD) {
-        texts.push(mistake(alloc, words, asked)?)?;
+    let more = and_more(alloc, mistakes.len())?;
+    listed.push_str(more.as_str())?;
+    Ok(listed)
+}
+
+/// What is told of mistaken facts that are no features. Empty where there are none.
+fn facts_told(alloc: Global, words: &Words, facts: &[AskedFact<'_>]) -> Result<String, AllocError>
+    ensures { IfOk result (λ s. Mentions (listing_of_version facts.now) (string_bytes s)) }
+{
+    if facts.is_empty() {
+        return Ok(String::new(alloc));
     }
-    joined(alloc, &texts, chosen.len(), ", ")
+    let listed = mistakes_listed(alloc, words, facts)?;
+    let unknown = no_target(alloc)?;
+    format!(in alloc; "{unknown} has {listed}{OWN}")
+}
+
+/// What is told of mistaken features. Empty where there are none.
+fn features_told(
+    alloc: Global,
+    words: &Words,
+    features: &[AskedFact<'_>],
+) -> Result<String, AllocError>
+    ensures { IfOk result (λ s. Mentions (listing_of_version features.now) (string_bytes s)) }
+{
+    if features.is_empty() {
+        return Ok(String::new(alloc));
+    }
+    let listed = mistakes_listed(alloc, words, features)?;
+    format!(in alloc; "no architecture that rustc {RUSTC_VERSION} knows has {listed}")
 }
 
 /// What is told of mistaken facts, each with what may be meant.
@@ -202,58 +288,69 @@ fn unknown_fact_message(
     alloc: Global,
     words: &Words,
     key: &KnownKey<'_>,
-) -> Result<String, AllocError> {
-    let mistakes = key.of_sort(alloc, Sort::Mistaken)?;
-    let facts = mistakes_listed(alloc, words, &mistakes, false)?;
-    let features = mistakes_listed(alloc, words, &mistakes, true)?;
-    let unknown = no_target(alloc)?;
-    let facts = if facts.is_empty() {
-        facts
-    } else {
-        format!(in alloc; "{unknown} has {facts}{OWN}")?
-    };
-    if features.is_empty() {
-        return Ok(facts);
-    }
-    let mark = if facts.is_empty() { "" } else { "; " };
-    format!(in alloc;
-        "{facts}{mark}no architecture that rustc {RUSTC_VERSION} knows has {features}"
-    )
+) -> Result<String, AllocError>
+    ensures { IfOk result (λ s. Mentions
+        (mistakes_in (chosen (Choice.OfSort Sort.Mistaken) key.now.asked.items)) (string_bytes s)) }
+{
+    let mistakes = chosen(alloc, &key.asked, Choice::OfSort(Sort::Mistaken))?;
+    let facts = chosen(alloc, &mistakes, Choice::NoFeature)?;
+    let features = chosen(alloc, &mistakes, Choice::Feature)?;
+    let first = facts_told(alloc, words, &facts)?;
+    let second = features_told(alloc, words, &features)?;
+    both(alloc, first, second)
 }
 
 /// What is told of a condition that holds at no known target.
-fn nowhere_message(alloc: Global) -> Result<String, AllocError> {
+fn nowhere_message(alloc: Global) -> Result<String, AllocError>
+    ensures { IfOk result (λ s. Mentions (RUSTC_VERSION.now ∷ []) (string_bytes s)) }
+{
     let unknown = no_target(alloc)?;
     format!(in alloc;
         "{unknown} has facts that make the condition true; a target specification of one's own may have them"
     )
 }
 
-/// What is told of facts that only flags set, and of those that only unstable features set.
-fn custom_message(alloc: Global, key: &KnownKey<'_>) -> Result<String, AllocError> {
-    let mut flagged = Vec::new(alloc);
-    let mut unstable = Vec::new(alloc);
-    for asked in &key.of_sort(alloc, Sort::Custom)? {
-        if asked.standing == Standing::Unstable {
-            unstable.push(*asked)?;
-        } else {
-            flagged.push(*asked)?;
-        }
+/// What is told of a condition that holds at every known target.
+fn everywhere_message(alloc: Global) -> Result<String, AllocError>
+    ensures { IfOk result (λ s. Mentions (RUSTC_VERSION.now ∷ []) (string_bytes s)) }
+{
+    format!(in alloc; "the condition holds at every target that rustc {RUSTC_VERSION} knows")
+}
+
+/// What is told of facts that only flags set. Empty where there are none.
+fn flagged_told(alloc: Global, facts: &[AskedFact<'_>]) -> Result<String, AllocError>
+    ensures { IfOk result (λ s. Mentions (listing_of_version facts.now) (string_bytes s)) }
+{
+    if facts.is_empty() {
+        return Ok(String::new(alloc));
     }
-    let names = listed(alloc, &unstable)?;
-    let prints = format!(in alloc;
-        "rustc {RUSTC_VERSION} prints {names} only with unstable features"
-    )?;
-    if flagged.is_empty() {
-        return Ok(prints);
-    }
-    let names = listed(alloc, &flagged)?;
+    let names = listed(alloc, facts)?;
     let unknown = no_target(alloc)?;
-    let told = format!(in alloc;
+    format!(in alloc;
         "{unknown} has {names}: only `--cfg` in RUSTFLAGS can set it, and no build script"
-    )?;
-    if unstable.is_empty() {
-        return Ok(told);
+    )
+}
+
+/// What is told of facts that only unstable features set. Empty where there are none.
+fn unstable_told(alloc: Global, facts: &[AskedFact<'_>]) -> Result<String, AllocError>
+    ensures { IfOk result (λ s. Mentions (listing_of_version facts.now) (string_bytes s)) }
+{
+    if facts.is_empty() {
+        return Ok(String::new(alloc));
     }
-    format!(in alloc; "{told}; {prints}")
+    let names = listed(alloc, facts)?;
+    format!(in alloc; "rustc {RUSTC_VERSION} prints {names} only with unstable features")
+}
+
+/// What is told of facts that only flags set, and of those that only unstable features set.
+fn custom_message(alloc: Global, key: &KnownKey<'_>) -> Result<String, AllocError>
+    ensures { IfOk result (λ s. Mentions
+        (custom_in (chosen (Choice.OfSort Sort.Custom) key.now.asked.items)) (string_bytes s)) }
+{
+    let custom = chosen(alloc, &key.asked, Choice::OfSort(Sort::Custom))?;
+    let flagged = chosen(alloc, &custom, Choice::Stable)?;
+    let unstable = chosen(alloc, &custom, Choice::Unstable)?;
+    let first = flagged_told(alloc, &flagged)?;
+    let second = unstable_told(alloc, &unstable)?;
+    both(alloc, first, second)
 }

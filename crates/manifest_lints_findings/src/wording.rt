@@ -1,9 +1,15 @@
 //! The words of findings.
 
-ghost use Rattle.std.specs.Prelude.{◌≡◌, IfOk, string_bytes};
-ghost use Rattle.manifest_lints_findings.specs.Messages.{quoted_text};
+ghost use Rattle.std.specs.Prelude.{◌≡◌, ◌++◌, IfOk, codes, length, string_bytes, take};
+ghost use Rattle.std.specs.List.{join_by};
+ghost use Rattle.cargo_platform.specs.Trees.{value_of};
+ghost use Rattle.manifest_lints_findings.specs.Chosen.{fact_text, quoted_value};
+ghost use Rattle.manifest_lints_findings.specs.Messages.{meant_shown};
+ghost use Rattle.manifest_lints_findings.specs.Texts.{quoted_text, and_more, joined_first, FollowsIn, Mentions};
+ghost use Rattle.manifest_lints_findings.specs.declared.wording.TheConstants.{TOLD};
 
 use cargo_platform::{Cfg, shown_start};
+use manifest_lints_standings::asked_facts::AskedFact;
 use std::alloc::{AllocError, Global};
 
 /// So many of several things are told.
@@ -21,9 +27,46 @@ pub fn quoted(alloc: Global, text: &str) -> Result<String, AllocError>
 }
 
 /// The fact in backquotes, shown and cut.
-pub fn quoted_fact(alloc: Global, c: &Cfg) -> Result<String, AllocError> {
+pub fn quoted_fact(alloc: Global, c: &Cfg) -> Result<String, AllocError>
+    ensures { IfOk result (λ s. string_bytes s ≡ quoted_value (value_of c.now)) }
+{
     let text = format!(in alloc; "{c}")?;
     quoted(alloc, text.as_str())
+}
+
+/// The first of them, as many as are told.
+pub fn told<T>(all: &[T]) -> &[T]
+    ensures { result.now ≡ take TOLD all.now }
+{
+    if all.len() > TOLD { &all[..TOLD] } else { all }
+}
+
+/// How many more there are of so many; nothing where all are told.
+pub fn and_more(alloc: Global, all: usize) -> Result<String, AllocError>
+    ensures { IfOk result (λ s. string_bytes s ≡ and_more all) }
+{
+    if all <= TOLD {
+        return Ok(String::new(alloc));
+    }
+    let more = all - TOLD;
+    format!(in alloc; " and {more} more")
+}
+
+/// The first texts, with `separator` between them.
+fn first_joined(alloc: Global, texts: &[String], separator: &str) -> Result<String, AllocError>
+    ensures { IfOk result (λ s. string_bytes s
+        ≡ join_by (λ t. string_bytes t) separator.now (take TOLD texts.now)) }
+{
+    let mut joined = String::new(alloc);
+    let Some((first, others)) = told(texts).split_first() else {
+        return Ok(joined);
+    };
+    joined.push_str(first.as_str())?;
+    'others: for text in others {
+        joined.push_str(separator)?;
+        joined.push_str(text.as_str())?;
+    }
+    Ok(joined)
 }
 
 /// The first texts of so many, with `separator` between them, and how many more there are.
@@ -32,33 +75,50 @@ pub fn joined(
     texts: &[String],
     all: usize,
     separator: &str,
-) -> Result<String, AllocError> {
-    let mut joined = String::new(alloc);
-    for text in texts.iter().take(TOLD) {
-        if !joined.is_empty() {
-            joined.push_str(separator)?;
-        }
-        joined.push_str(text.as_str())?;
-    }
-    if all > TOLD {
-        let more = all - TOLD;
-        let more = format!(in alloc; " and {more} more")?;
-        joined.push_str(more.as_str())?;
-    }
+) -> Result<String, AllocError>
+    ensures { IfOk result (λ s. string_bytes s
+        ≡ join_by (λ t. string_bytes t) separator.now (take TOLD texts.now) ++ and_more all) }
+{
+    let mut joined = first_joined(alloc, texts, separator)?;
+    let more = and_more(alloc, all)?;
+    joined.push_str(more.as_str())?;
     Ok(joined)
 }
 
-/// The message with what may be meant after it.
-pub fn with_meant(
-    alloc: Global,
-    message: &str,
-    meant: &Option<String>,
-) -> Result<String, AllocError> {
+/// The first facts, and how many more there are.
+pub fn listed(alloc: Global, facts: &[AskedFact<'_>]) -> Result<String, AllocError>
+    ensures { IfOk result (λ s. string_bytes s ≡ joined_first fact_text (codes ", ") facts.now) }
+{
+    let mut texts = Vec::new(alloc);
+    'told: for asked in told(facts) {
+        texts.push(quoted_fact(alloc, asked.fact)?)?;
+    }
+    joined(alloc, &texts, facts.len(), ", ")
+}
+
+/// One text behind the other, where both say something.
+pub fn both(alloc: Global, first: String, second: String) -> Result<String, AllocError>
+    ensures { IfOk result
+        (λ s. FollowsIn (string_bytes s) (string_bytes first) (string_bytes second)) }
+{
+    if first.is_empty() {
+        return Ok(second);
+    }
+    if second.is_empty() {
+        return Ok(first);
+    }
+    format!(in alloc; "{first}; {second}")
+}
+
+/// What may be meant, to stand behind a message.
+pub fn perhaps(alloc: Global, meant: &Option<String>) -> Result<String, AllocError>
+    ensures { IfOk result (λ s. Mentions (meant_shown meant.now) (string_bytes s)) }
+{
     match meant {
         Some(text) => {
             let text = quoted(alloc, text.as_str())?;
-            format!(in alloc; "{message}; perhaps {text} is meant")
+            format!(in alloc; "; perhaps {text} is meant")
         }
-        None => String::from_str(alloc, message),
+        None => Ok(String::new(alloc)),
     }
 }

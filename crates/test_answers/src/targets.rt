@@ -2,13 +2,15 @@
 
 use crate::facts;
 use cargo_platform::{Cfg, CfgExpr, FactIndex, Facts, Platform};
+use known_targets::classes::classes;
 use known_targets::{
     COUNT, KnownFact, KnownTarget, OpenTarget, RUSTC_VERSION, TargetSet, all_facts,
     certainly_matching, having, matching, possibly_matching,
 };
 use partial_facts::decide_platform;
-use std::alloc::Global;
+use std::alloc::{AllocError, Global};
 use test_rows::Fault;
+use test_rows::bars::text_of;
 use test_rows::fields::Fields;
 use test_rows::forms::{self, word};
 use test_rows::texts::{platform, spelled};
@@ -40,6 +42,7 @@ pub fn answer(alloc: Global, call: &str, fields: &mut Fields<'_>) -> Result<Stri
             None => Ok(word(alloc, "no target")?),
         },
         "only" => only(alloc, &fields.list(alloc)?),
+        "classes" => sizes_of_classes(alloc, &fields.list(alloc)?),
         "values" => values_of(alloc, fields.need()?),
         "named" => {
             let name = fields.text(alloc)?;
@@ -63,6 +66,28 @@ fn over_facts(alloc: Global, e: CfgExpr, name: &str) -> Result<String, Fault> {
         return Ok(forms::yes(alloc, answer)?);
     }
     Ok(word(alloc, "the facts say one thing, the target another")?)
+}
+
+/// How many targets are in each class that the keys tell apart, the smallest first.
+fn sizes_of_classes(alloc: Global, keys: &[&str]) -> Result<String, Fault> {
+    let mut sets = Vec::new(alloc);
+    for key in keys {
+        let p = platform(alloc, &text_of(alloc, key)?)?;
+        sets.push(matching(alloc, &p)?).map_err(AllocError::from)?;
+    }
+    let mut sizes = Vec::new(alloc);
+    for class in &classes(alloc, &sets)? {
+        sizes.push(class.len()).map_err(AllocError::from)?;
+    }
+    sizes.sort()?;
+    let mut out = String::new(alloc);
+    for size in &sizes {
+        if !out.is_empty() {
+            out.push(' ')?;
+        }
+        write!(out, "{size}")?;
+    }
+    Ok(out)
 }
 
 /// The target's name, `-` where there is none.

@@ -11,6 +11,7 @@ mod matching;
 mod ordering;
 mod reading;
 mod snippets;
+mod times;
 mod warnings;
 
 use std::alloc::Global;
@@ -32,6 +33,7 @@ impl Kinds for OfTexts {
             "match" => matching::answer(alloc, call, fields),
             "order" => ordering::answer(alloc, call, fields),
             "warn" => warnings::answer(alloc, call, fields),
+            "times" => times::answer(alloc, call, fields),
             "licence" => licences::answer(alloc, call, fields),
             "callers" => caller_rows::answer(alloc, call, fields),
             _ => Err(Fault::Row("there is no such kind")),

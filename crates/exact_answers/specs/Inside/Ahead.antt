@@ -1,18 +1,17 @@
 -- Goals that are worked out operation by operation, over one set of facts and over 64 at once.
 use Rattle.std.specs.Prelude.{◌≡◌, ℕ, zero, suc, ◌<◌, Bool, true, false, ◌&&◌, ◌||◌, Option, None, IfSome}
 use Rattle.std.specs.Prelude.{List, [], ◌∷◌, ◌++◌, map, reverse, drop, sum}
-use Rattle.std.specs.Borrow.{Bor}
 use Rattle.std.specs.Int.{bit_at}
 use Rattle.std.specs.List.{All}
 use Rattle.std.specs.FinSet.{contains}
 use Rattle.cargo_platform.specs.Trees.{tree_of, value_of}
 use Rattle.cargo_platform.specs.Facts.{Pair, FactSet, pair_of, truth}
 use Rattle.cargo_platform.specs.ExpressionSizes.{node_count}
-use Rattle.cargo_platform.specs.declared.cfg.Cfg.{Cfg}
+use Rattle.goal_diagrams.specs.Goals.{true_as_wanted, goals_met, pairs_of, StandsAt}
 use Rattle.exact_answers.specs.Asking.{asks, some_asks}
 use Rattle.exact_answers.specs.Inside.Paths.{Turn, Base, told_on}
-use Rattle.exact_answers.specs.Inside.Goals.{true_as_wanted, goals_true, goal_trees}
-use Rattle.exact_answers.specs.declared.search.Goal.{Goal}
+use Rattle.exact_answers.specs.Inside.Goals.{goal_trees}
+use Rattle.goal_diagrams.specs.declared.making.Goal.{Goal}
 use Rattle.exact_answers.specs.declared.outlook.Words.{Words}
 use Rattle.exact_answers.specs.declared.outlook.Finding.{Finding}
 use Rattle.exact_answers.specs.declared.outlook.Seen.{Seen}
@@ -48,18 +47,8 @@ worked_out s (o ∷ os) bs = worked_out s os (done s o bs)
 abbrev pub outcome : FactSet → Outlook → List Goal → List Bool
 outcome s outlook left = worked_out s (reverse outlook.operations.items) (map (meets s) left)
 
--- pairs apart from where they lie in memory
-abbrev pub pairs_of : List (Bor Cfg) → List Pair
-pairs_of cs = map (λ c. pair_of (value_of c.now)) cs
-
 abbrev pub table_pairs : List Words → List Pair
 table_pairs ws = map (λ w. pair_of (value_of w.pair.now)) ws
-
--- the pair has this number
-abbrev pub StandsAt : List Pair → ℕ → Pair → Type 0
-StandsAt [] n p = ⊥
-StandsAt (q ∷ qs) zero p = q ≡ p
-StandsAt (q ∷ qs) (suc n) p = StandsAt qs n p
 
 -- each pair with a number is one of some pairs
 abbrev pub AreAmong : (Pair → Bool) → List Pair → Type 0
@@ -77,7 +66,7 @@ AsksAmong among g = (p : Pair) → asks (tree_of g.e.now) p ≡ true → among p
 
 -- they give whether all goals are met, and have numbers for the pairs of these
 pub record IsOutlook (outlook : Outlook) (gs : List Goal) : Type 0 where
-  pub works_out : (s : FactSet) → worked_out s outlook.operations.items [] ≡ goals_true s gs ∷ []
+  pub works_out : (s : FactSet) → worked_out s outlook.operations.items [] ≡ goals_met s gs ∷ []
   pub numbered : All (HasNumber (pairs_of outlook.pairs.items)) outlook.operations.items
   pub asked : AreAmong (some_asks (goal_trees gs)) (pairs_of outlook.pairs.items)
 

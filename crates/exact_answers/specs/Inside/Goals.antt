@@ -1,5 +1,5 @@
 -- Expressions with the truths that are wanted of them, and the search for a set over which they have these.
-use Rattle.std.specs.Prelude.{◌≡◌, ℕ, ◌+◌, ◌^◌, ◌<◌, Bool, true, false, not, ◌&&◌, ◌||◌, List, [], ◌∷◌, map}
+use Rattle.std.specs.Prelude.{◌≡◌, ℕ, ◌+◌, ◌^◌, ◌<◌, Bool, true, false, not, ◌||◌, List, [], ◌∷◌, map}
 use Rattle.std.specs.Prelude.{Option, Some, None, is_none, IsTrue}
 use Rattle.std.specs.Bool.{MatchBool}
 use Rattle.std.specs.List.{All}
@@ -7,13 +7,17 @@ use Rattle.std.specs.FinSet.{contains, from_list}
 use Rattle.cargo_platform.specs.Trees.{CfgValue, Trees, none, tree, tree_of, value_of}
 use Rattle.cargo_platform.specs.Facts.{Pair, FactSet, pair_of, pair_cmp, fact_set, truth}
 use Rattle.partial_facts.specs.Kleene.{kleene, kleene_not, kleene_and}
-use Rattle.exact_answers.specs.Inside.Paths.{Base, IsOver, Turn, set_on, told_on, Agrees, facts_on, base_of, turns}
+use Rattle.goal_diagrams.specs.Goals.{true_as_wanted, goals_met}
+use Rattle.exact_answers.specs.Inside.Paths.{Base, IsOver, Turn, set_on, told_on, Agrees, facts_on, base_of}
+use Rattle.exact_answers.specs.Inside.Paths.{turns, WereOpen}
 use Rattle.exact_answers.specs.Possible.{IsAllowed}
 use Rattle.exact_answers.specs.Asking.{some_asks, one_if, HasAll, NeedsMore}
 use Rattle.exact_answers.specs.Answers.{IsUnmarked, IsFactOfExample}
 use Rattle.exact_answers.specs.declared.known.Known.{Known}
 use Rattle.exact_answers.specs.declared.path.Path.{Path}
-use Rattle.exact_answers.specs.declared.search.Goal.{Goal}
+use Rattle.goal_diagrams.specs.declared.making.Goal.{Goal}
+use Rattle.exact_answers.specs.declared.diagram.End.{End}
+use Rattle.exact_answers.specs.declared.diagram.End.TheVariants as end
 use Rattle.exact_answers.specs.declared.search.Found.{Found}
 use Rattle.exact_answers.specs.declared.search.Found.TheVariants as found
 use Rattle.exact_answers.specs.declared.search.Step.{Step}
@@ -29,22 +33,19 @@ abbrev pub as_wanted : Bool → Option Bool → Option Bool
 as_wanted true x = x
 as_wanted false x = kleene_not x
 
-abbrev pub true_as_wanted : Bool → Bool → Bool
-true_as_wanted true b = b
-true_as_wanted false b = not b
-
 -- whether each goal is met, where that is known
 abbrev pub goals_known : (Pair → Option Bool) → List Goal → Option Bool
 goals_known told [] = Some true
 goals_known told (g ∷ gs) = kleene_and (as_wanted g.wanted (kleene told (tree_of g.e.now))) (goals_known told gs)
 
-abbrev pub goals_true : FactSet → List Goal → Bool
-goals_true s [] = true
-goals_true s (g ∷ gs) = true_as_wanted g.wanted (truth s (tree_of g.e.now)) && goals_true s gs
-
 abbrev pub goal_trees : List Goal → Trees
 goal_trees [] = none
 goal_trees (g ∷ gs) = tree (tree_of g.e.now) (goal_trees gs)
+
+-- each pair of the splits stands in one of the trees
+abbrev pub AreAsked : Trees → List Turn → Type 0
+AreAsked es [] = Unit {0}
+AreAsked es (d ∷ ds) = (some_asks es d.pair ≡ true) × AreAsked es ds
 
 -- what a step says
 abbrev pub SaysStep : Step → (Pair → Option Bool) → List Goal → Type 0
@@ -54,11 +55,11 @@ SaysStep (step.Open c) told gs =
 
 -- no possible set that agrees with the splits meets the goals
 abbrev pub AreMissed : Base → List Goal → List Turn → Type 0
-AreMissed k gs ds = (s : FactSet) → IsOver k s → Agrees s ds → goals_true s gs ≡ false
+AreMissed k gs ds = (s : FactSet) → IsOver k s → Agrees s ds → goals_met s gs ≡ false
 
 -- the facts so far meet the goals
 abbrev pub AreMet : Base → List Goal → List Turn → Type 0
-AreMet k gs ds = goals_true (set_on k ds) gs ≡ true
+AreMet k gs ds = goals_met (set_on k ds) gs ≡ true
 
 -- what a step says, with a look ahead
 abbrev pub SaysStepOn : Step → Base → List Goal → List Turn → Type 0
@@ -97,8 +98,8 @@ MayBeFound k es c =
 -- a set over which each goal is met, or that there is none
 abbrev pub Searched : Base → List Goal → ℕ → Found → Type 0
 Searched k gs budget r =
-    SaysFoundAmong (λ s. IsOver k s) (λ c. MayBeFound k (goal_trees gs) c) r (λ s. goals_true s gs ≡ true)
-    (λ s. goals_true s gs ≡ false) (NeedsMoreOn k (goal_trees gs) budget)
+    SaysFoundAmong (λ s. IsOver k s) (λ c. MayBeFound k (goal_trees gs) c) r (λ s. goals_met s gs ≡ true)
+    (λ s. goals_met s gs ≡ false) (NeedsMoreOn k (goal_trees gs) budget)
 
 -- how the path stands at the end of a search: the facts are those on it; nothing is left on it, where there is no set;
 -- or it has counted as many splits as the budget has
@@ -106,3 +107,21 @@ abbrev pub Ends : Found → Path → ℕ → Type 0
 Ends (found.Facts facts) p budget = map pair_of (map value_of facts.items) ≡ facts_on (base_of p.known.now) (turns p)
 Ends found.Nothing p budget = turns p ≡ []
 Ends found.Undecided p budget = p.made ≡ budget
+
+-- the path is over what is known, and its pairs were open and are asked for
+pub record IsPathOf (p : Path) (k : Known) (es : Trees) : Type 0 where
+  pub known : p.known.now ≡ k
+  pub were_open : WereOpen (base_of k) (turns p)
+  pub asked : AreAsked es (turns p)
+
+-- what a diagram tells: a path on which the goals are met, or that no possible set meets them
+abbrev pub SaysEnd : End → Known → List Goal → Type 0
+SaysEnd (end.Met p) k gs = IsPathOf p k (goal_trees gs) × AreMet (base_of k) gs (turns p)
+SaysEnd end.Missed k gs = AreMissed (base_of k) gs []
+
+-- the goal is met over the facts that are found, or there are none
+abbrev pub IsMetBy : Goal → Found → Type 0
+IsMetBy g (found.Facts facts) =
+    true_as_wanted g.wanted (truth (fact_set (map value_of facts.items)) (tree_of g.e.now)) ≡ true
+IsMetBy g found.Nothing = Unit {0}
+IsMetBy g found.Undecided = ⊥

@@ -6,6 +6,7 @@ use Rattle.std.specs.FinSet.{contains, from_list}
 use Rattle.cargo_platform.specs.Trees.{CfgValue, Alone, KeyPair, value_of}
 use Rattle.cargo_platform.specs.Facts.{Pair, FactSet, pair_of}
 use Rattle.partial_facts.specs.Partly.{told_by, IsPartlyKnown}
+use Rattle.goal_diagrams.specs.Goals.{IsAsTold}
 use Rattle.exact_answers.specs.Possible.{HasOneValue, is_ruled_out}
 use Rattle.exact_answers.specs.Asking.{is_pair}
 use Rattle.exact_answers.specs.declared.known.Known.{Known}
@@ -66,10 +67,6 @@ is_refuted k ds p = refuses (is_pair p) ds || rules_out k (facts_on k ds) p
 
 abbrev pub told_on : Base → List Turn → Pair → Option Bool
 told_on k ds p = told_by (contains (set_on k ds) p) (is_refuted k ds p)
-
--- all that is told holds in the set
-abbrev pub IsAsTold : (Pair → Option Bool) → FactSet → Type 0
-IsAsTold told s = (p : Pair) → IfSome (told p) (λ b. contains s p ≡ b)
 
 -- the splits are so in the set
 abbrev pub Agrees : FactSet → List Turn → Type 0

@@ -1,8 +1,7 @@
 -- Pairs by their numbers, what places say of sets of facts, and members of groups.
-use Rattle.std.specs.Prelude.{◌≡◌, ℕ, zero, suc, Bool, true, false, ◌&&◌, ◌||◌, List, [], ◌∷◌, Option, IfSome, IsTrue}
+use Rattle.std.specs.Prelude.{◌≡◌, ℕ, Bool, true, false, ◌&&◌, ◌||◌, List, [], ◌∷◌, IsTrue}
 use Rattle.std.specs.Prelude.{is_some}
 use Rattle.std.specs.Borrow.{Bor}
-use Rattle.std.specs.FinSet.{contains}
 use Rattle.cargo_platform.specs.Trees.{Tree}
 use Rattle.cargo_platform.specs.Facts.{Pair, FactSet, truth}
 use Rattle.cargo_platform.specs.declared.cfg.Cfg.{Cfg}
@@ -11,19 +10,9 @@ use Rattle.decision_diagrams.specs.Diagrams.{value, nodes_of}
 use Rattle.decision_diagrams.specs.declared.table.Table.{Table}
 use Rattle.goal_diagrams.specs.Goals.{true_as_wanted, pairs_of, holds_in}
 
--- the pair has this number
-abbrev pub StandsAt : List Pair → ℕ → Pair → Type 0
-StandsAt [] n p = ⊥
-StandsAt (q ∷ qs) zero p = q ≡ p
-StandsAt (q ∷ qs) (suc n) p = StandsAt qs n p
-
 -- what a place says of a set of facts
 abbrev pub says : FactSet → List (Bor Cfg) → Table → ℕ → Bool
 says s cs t place = value (holds_in s (pairs_of cs)) (nodes_of t) place
-
--- all that is told holds in the set
-abbrev pub IsAsTold : (Pair → Option Bool) → FactSet → Type 0
-IsAsTold told s = (p : Pair) → IfSome (told p) (λ b. contains s p ≡ b)
 
 -- different values of a key that has one value
 pub record AreTwoValues (single : List (List ℕ)) (p q : Pair) : Type 0 where

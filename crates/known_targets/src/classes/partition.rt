@@ -7,10 +7,11 @@ ghost use Rattle.known_targets.specs.Parts.{AddsPart, AddsParts, AreParts};
 use crate::TargetSet;
 use std::alloc::{AllocError, Global};
 
-/// The known targets in classes: two are in one class exactly if each of the sets has both or neither. No class is
-/// empty. It refuses only where memory is refused.
+/// The known targets in classes: two are in one class exactly if each of the sets has both or neither. It refuses only
+/// where memory is refused.
 pub fn classes(alloc: Global, sets: &[TargetSet]) -> Result<Vec<TargetSet>, AllocError>
-    // Each known target is in a class, with exactly those that each of the sets has too, or lacks too.
+    // Each known target is in one class, with exactly those that each of the sets has too, or lacks too. No class is
+    // empty.
     ensures { IfOk result (λ classes. AreClasses sets.now classes.items) }
 {
     let mut classes = Vec::new(alloc);

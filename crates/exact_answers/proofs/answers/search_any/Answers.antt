@@ -4,7 +4,7 @@ use Rattle.std.proofs.lemmas.Result.{IfOk-weaker}
 use Rattle.cargo_platform.specs.Trees.{none}
 use Rattle.exact_answers.specs.Inside.Paths.{base_of}
 use Rattle.exact_answers.specs.Inside.Goals.{Searched}
-use Rattle.exact_answers.specs.declared.search.Goal.{Goal}
+use Rattle.goal_diagrams.specs.declared.making.Goal.{Goal}
 use Rattle.exact_answers.proofs.Answering.{any_says}
 use Rattle.exact_answers.proofs.Spending.{needs_more_by}
 use Rattle.exact_answers.proofs.answers.search_any.Goals as goal

@@ -1,10 +1,7 @@
-use Rattle.std.proofs.Common.{refl, subst, true, List, [], ◌∷◌}
-use Rattle.std.specs.Prelude.{IfOk}
+use Rattle.std.proofs.Common.{refl, true, List, [], ◌∷◌}
 use Rattle.std.proofs.lemmas.Result.{IfOk-weaker}
 use Rattle.cargo_platform.specs.Trees.{tree_of, tree, none}
-use Rattle.exact_answers.specs.Inside.Paths.{base_of}
-use Rattle.exact_answers.specs.Inside.Goals.{Searched}
-use Rattle.exact_answers.specs.declared.search.Goal.{Goal}
+use Rattle.goal_diagrams.specs.declared.making.Goal.{Goal}
 use Rattle.exact_answers.proofs.Answering.{both_say}
 use Rattle.exact_answers.proofs.Spending.{needs_more_by}
 use Rattle.exact_answers.proofs.answers.search_both.Goals as goal
@@ -14,12 +11,9 @@ returns c =
     let gs : List Goal =
     record { e = c.args.known.now.assumed; wanted = true } ∷ record { e = c.args.a; wanted = c.args.a_wanted }
     ∷ record { e = c.args.b; wanted = c.args.b_wanted } ∷ [] in
-    let found =
-    subst (λ k. IfOk c.search.result (λ r. Searched (base_of k) gs c.args.budget r)) c.new-path.ensures.known
-    c.search.ensures.found in
     IfOk-weaker _ _ _
     (λ r. both_say c.args.known.now c.args.a.now c.args.b.now c.args.a_wanted c.args.b_wanted gs c.args.budget
     (tree (tree_of c.args.a.now) (tree (tree_of c.args.b.now) none)) r
     (needs_more_by c.args.known.now (tree (tree_of c.args.a.now) (tree (tree_of c.args.b.now) none)) c.args.budget)
     (λ c is. is) (λ s. refl))
-    found
+    c.search_assuming.ensures

@@ -1,8 +1,9 @@
 use Rattle.std.proofs.Common.{◌≡◌, ◌+◌, ◌*◌, ◌&&◌, ◌||◌, length, map}
 use Rattle.cargo_platform.specs.Trees.{tree_of}
 use Rattle.cargo_platform.specs.Facts.{FactSet}
+use Rattle.goal_diagrams.specs.Goals.{IsAsTold}
 use Rattle.decision_diagrams.specs.Diagrams.{IsMade}
-use Rattle.goal_diagrams.specs.Inside.Making.{says, IsAsTold, each_wanted, some_wanted}
+use Rattle.goal_diagrams.specs.Inside.Making.{says, each_wanted, some_wanted}
 use Rattle.goal_diagrams.proofs.making.+made.Given as goal
 
 abbrev pub decreases-made : goal.decreases-made

@@ -1,8 +1,8 @@
 use Rattle.std.proofs.Common.{◌≡◌, ◌&&◌, drop}
 use Rattle.cargo_platform.specs.Facts.{FactSet}
 use Rattle.decision_diagrams.specs.Diagrams.{IsMade}
-use Rattle.goal_diagrams.specs.Goals.{goals_met}
-use Rattle.goal_diagrams.specs.Inside.Making.{says, IsAsTold}
+use Rattle.goal_diagrams.specs.Goals.{goals_met, IsAsTold}
+use Rattle.goal_diagrams.specs.Inside.Making.{says}
 use Rattle.goal_diagrams.proofs.making.goals_made.Given as goal
 
 -- the goals that are left say what is still to be joined

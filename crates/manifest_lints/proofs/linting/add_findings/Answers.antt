@@ -5,14 +5,14 @@ use Rattle.manifest_lints.proofs.Reports.{adds_none, one_code, all_codes}
 use Rattle.manifest_lints.proofs.linting.add_findings.Goals as goal
 
 pub codes-init : goal.codes-init
-codes-init c = adds_none c.args.other.now c.args.findings.now.items
+codes-init c = adds_none c.args.other.now c.args.found.now.key c.args.findings.now.items
 
 pub codes-preserved : goal.codes-preserved
 codes-preserved c =
     one_code (is_told (found_codes c.args.found.now)) c.args.found.now.key.place CODES c.codes.code-index _
-    c.codes-test.true c.args.other.now _ _ _ c.codes.invariant c.in_ok-add_finding.ensures
+    c.codes-test.true c.args.other.now c.args.found.now.key _ _ _ c.codes.invariant c.in_ok-add_finding.ensures
 
 pub returns : goal.returns
 returns c =
     all_codes (is_told (found_codes c.args.found.now)) c.args.found.now.key.place c.codes.code-index CODES
-    c.args.other.now c.args.findings.now.items _ c.codes-test.false c.codes.invariant
+    c.args.other.now c.args.found.now.key c.args.findings.now.items _ c.codes-test.false c.codes.invariant

@@ -10,4 +10,4 @@ abbrev pub invariant-codes : goal.invariant-codes
 invariant-codes l =
     AddsFindings
     (map (λ c. (Some l.found.key.place, c)) (filter (is_told (found_codes l.found)) (take l.code-index CODES)))
-    l.other l.initial.findings.items l.findings.items
+    l.other l.found.key l.initial.findings.items l.findings.items

@@ -1,10 +1,12 @@
-use Rattle.std.proofs.Common.{◌≡◌, ◌∙◌, sym, ap, subst, ℕ, List, [], ◌∷◌, ◌++◌, take, map, length, arith}
+use Rattle.std.proofs.Common.{◌≡◌, ◌∙◌, refl, sym, ap, subst, ℕ, List, [], ◌∷◌, ◌++◌, take, map, length, get_or}
+use Rattle.std.proofs.Common.{arith}
 use Rattle.std.proofs.lemmas.List.{length-map, length-take-le}
 use Rattle.std.specs.List.{All}
 use Rattle.exact_answers.specs.declared.known.Known.{Known}
 use Rattle.manifest_documents.specs.Declarations.{DeclaredEntry, declarations_of}
 use Rattle.manifest_lints_findings.specs.declared.findings.Finding.{Finding}
 use Rattle.manifest_lints_findings.specs.declared.readings.ReadKey.{ReadKey}
+use Rattle.manifest_lints_findings.specs.Known.{IsKnown}
 use Rattle.manifest_lints_findings.specs.Spells.{IsRead, entry_read}
 use Rattle.manifest_lints.specs.Founds.{found_codes}
 use Rattle.manifest_lints.specs.Sames.{AreNoted, AreMembers}
@@ -44,6 +46,8 @@ keys-preserved c =
     → IsFound k ds es (entry_read r) (found_codes f) f.answers.earlier f.answers.is_open
     × AreNoted (es ++ entry_read r ∷ []) new × AreMembers (es ++ entry_read r ∷ []) new in
     let next = subst F c.index-read-place.is (λ r. c.in_ok-found.ensures.found r es) in
+    let known : IsKnown ds (get_or c.args.read.now i c.index-read-place.result) f.key =
+    subst (λ r. IsKnown ds r f.key) c.index-read-place.is c.in_ok-found.ensures.known in
     let entries = next_entries c.args.read.now i c.index-read-place.result c.keys-test.true in
     let now = λ (all : All IsRead c.args.read.now).
     next (all i c.index-read-place.result c.keys-test.true) long (c.keys.invariant.noted_keys all)
@@ -51,10 +55,16 @@ keys-preserved c =
     record {
       findings = λ all.
           one_more c.args.read.now i c.index-read-place.result c.keys-test.true c.earlier_key-other.result.now k ds
-          (found_codes f) f.answers.earlier f.answers.is_open _ _ _ _ (c.keys.invariant.findings all) (now all).0
+          f.key (found_codes f) f.answers.earlier f.answers.is_open _ _ _ _ (c.keys.invariant.findings all) (now all).0
           c.earlier_key-other.ensures
+          (record {
+            read = get_or c.args.read.now i c.index-read-place.result;
+            entry = refl;
+            spells = all i c.index-read-place.result c.keys-test.true;
+            known = known;
+          })
           (subst (λ n. AddsFindings (told_marks n (found_codes f)) c.earlier_key-other.result.now
-          c.keys.findings.items c.add_findings.new.findings.items) c.in_ok-found.ensures.place
+          f.key c.keys.findings.items c.add_findings.new.findings.items) c.in_ok-found.ensures.place
           c.in_ok-add_findings.ensures)
           (c.in_ok-note_undecided.ensures
           ∙ ap (λ n. c.keys.undecided.items ++ left_open n f.answers.is_open) c.in_ok-found.ensures.place);

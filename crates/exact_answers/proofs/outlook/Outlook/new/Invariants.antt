@@ -1,15 +1,16 @@
 use Rattle.std.proofs.Common.{◌≡◌, [], ◌∷◌, reverse}
 use Rattle.std.specs.List.{All}
 use Rattle.cargo_platform.specs.Facts.{FactSet}
+use Rattle.goal_diagrams.specs.Goals.{goals_met, pairs_of}
 use Rattle.exact_answers.specs.Asking.{some_asks}
-use Rattle.exact_answers.specs.Inside.Goals.{goals_true, goal_trees}
-use Rattle.exact_answers.specs.Inside.Ahead.{outcome, goals_size, pairs_of, HasNumber, AreAmong, AsksAmong}
+use Rattle.exact_answers.specs.Inside.Goals.{goal_trees}
+use Rattle.exact_answers.specs.Inside.Ahead.{outcome, goals_size, HasNumber, AreAmong, AsksAmong}
 use Rattle.exact_answers.proofs.outlook.Outlook.new.Given as goal
 
 -- what is added, once the goals that are left are worked out
 abbrev pub invariant-goals : goal.invariant-goals
 invariant-goals l = record {
-  works_out : (s : FactSet) → outcome s l.outlook (reverse l.pending.items) ≡ goals_true s l.goals ∷ [];
+  works_out : (s : FactSet) → outcome s l.outlook (reverse l.pending.items) ≡ goals_met s l.goals ∷ [];
   numbered : All (HasNumber (pairs_of l.outlook.pairs.items)) l.outlook.operations.items;
   asked : AreAmong (some_asks (goal_trees l.goals)) (pairs_of l.outlook.pairs.items);
   pending : All (AsksAmong (some_asks (goal_trees l.goals))) l.pending.items;

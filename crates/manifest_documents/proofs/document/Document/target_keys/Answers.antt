@@ -5,9 +5,9 @@ use Rattle.manifest_documents.specs.Tables.{target_told}
 use Rattle.manifest_documents.specs.Documents.{AreInSomeOrder}
 use Rattle.manifest_documents.proofs.document.Document.target_keys.Goals as goal
 
-pub returns-in_ok-sort_by_key-in-Keys : goal.returns-in_ok-sort_by_key-in-Keys
-returns-in_ok-sort_by_key-in-Keys c =
-    let sorted = c.sort_by_key.new.self.items in
+pub returns-in_ok-sort_by_cached_key-in-Keys : goal.returns-in_ok-sort_by_cached_key-in-Keys
+returns-in_ok-sort_by_cached_key-in-Keys c =
+    let sorted = c.sort_by_cached_key.new.self.items in
     subst (λ t. AreInSomeOrder t (Some (Some (map entry_of sorted))))
     (sym (ap target_told c.in-Keys.is) ∙ c.in_ok-keys.ensures)
-    (IsPermutation-map entry_of c.in-Keys.keys.items sorted c.sort_by_key.ensures.permutation)
+    (IsPermutation-map entry_of c.in-Keys.keys.items sorted c.sort_by_cached_key.ensures.permutation)

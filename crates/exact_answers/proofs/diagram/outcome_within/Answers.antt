@@ -1,0 +1,11 @@
+use Rattle.std.proofs.lemmas.Result.{IfOk-weaker}
+use Rattle.goal_diagrams.specs.Goals.{pairs_of}
+use Rattle.exact_answers.proofs.Ending.{missed}
+use Rattle.exact_answers.proofs.diagram.outcome_within.Goals as goal
+
+pub returns : goal.returns
+returns c =
+    IfOk-weaker c.find_way.result _ _
+    (λ r says. missed c.new-path.result c.args.known.now c.args.goals.now (pairs_of c.args.pairs.now) r
+    c.new-path.ensures.known c.new-path.ensures.none says)
+    c.find_way.ensures

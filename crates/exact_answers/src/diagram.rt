@@ -1,0 +1,139 @@
+//! The end of a search by a decision diagram.
+
+ghost use Rattle.std.specs.Prelude.{◌≡◌, [], IfOk, OnOk, IfSome};
+ghost use Rattle.goal_diagrams.specs.Goals.{pairs_of};
+ghost use Rattle.cargo_platform.specs.Trees.{Trees};
+ghost use Rattle.exact_answers.specs.Asking.{some_asks};
+ghost use Rattle.exact_answers.specs.Inside.Paths.{base_of};
+ghost use Rattle.exact_answers.specs.Inside.Goals.{goal_trees, AreMissed, IsPathOf, SaysEnd};
+ghost use Rattle.exact_answers.specs.Inside.Ahead.{AreAmong};
+
+use crate::known::Known;
+use crate::path::Path;
+use crate::search::{Step, next_step};
+use cargo_platform::Cfg;
+use goal_diagrams::{Choice, Goal, Outcome, find_way};
+use std::alloc::{AllocError, Global};
+
+/// What a diagram tells of goals.
+#[derive(Drop)]
+pub enum End<'a> {
+    /// They are met on this path.
+    Met(Path<'a>),
+    /// They are met over no possible set of facts.
+    Missed,
+}
+
+/// How many nodes a first diagram may have: its table is made in no time.
+const FEW_NODES: usize = 1_024;
+
+/// How many nodes the next one may have. Of 500 hard pairs of keys with up to 27 facts, each took fewer than half.
+const MOST_NODES: usize = 131_072;
+
+/// Of more pairs no diagram is made: it takes stack for each of them, and would mostly be too large.
+const MOST_PAIRS: usize = 512;
+
+/// What a diagram of so many nodes finds of the goals.
+fn outcome_within<'a>(
+    alloc: Global,
+    goals: &[Goal<'a>],
+    pairs: &[&'a Cfg],
+    known: &'a Known<'a>,
+    most_nodes: usize,
+) -> Result<Outcome, AllocError>
+    ensures { IfOk result (λ r. r ≡ Outcome.Nothing → AreMissed (base_of known.now) goals.now []) }
+{
+    let path = Path::new(alloc, known);
+    find_way(alloc, goals, pairs, &path, known.single, most_nodes)
+}
+
+/// What a diagram finds of the goals: a small one, or a larger one.
+fn outcome_of<'a>(
+    alloc: Global,
+    goals: &[Goal<'a>],
+    pairs: &[&'a Cfg],
+    known: &'a Known<'a>,
+) -> Result<Outcome, AllocError>
+    ensures { IfOk result (λ r. r ≡ Outcome.Nothing → AreMissed (base_of known.now) goals.now []) }
+{
+    match outcome_within(alloc, goals, pairs, known, FEW_NODES)? {
+        Outcome::TooLarge => outcome_within(alloc, goals, pairs, known, MOST_NODES),
+        Outcome::Way(choices) => Ok(Outcome::Way(choices)),
+        Outcome::Nothing => Ok(Outcome::Nothing),
+    }
+}
+
+/// Takes the pair with this number, where it is open.
+fn take_at<'a>(
+    path: &mut Path<'a>,
+    pairs: &[&'a Cfg],
+    number: usize,
+    holds: bool,
+) -> Result<(), AllocError>
+    ensures { OnOk result ((k : Known) (es : Trees) → AreAmong (some_asks es) (pairs_of pairs.now)
+        → IsPathOf path.old k es → IsPathOf path.new k es) }
+{
+    if number < pairs.len() {
+        path.take(pairs[number], holds)
+    } else {
+        Ok(())
+    }
+}
+
+/// The path of these choices. What they leave open is taken as none.
+fn path_of<'a>(
+    alloc: Global,
+    pairs: &[&'a Cfg],
+    choices: &[Choice],
+    known: &'a Known<'a>,
+) -> Result<Path<'a>, AllocError>
+    ensures { IfOk result (λ path. (es : Trees) → AreAmong (some_asks es) (pairs_of pairs.now)
+        → IsPathOf path known.now es) }
+{
+    let mut path = Path::new(alloc, known);
+    for choice in choices {
+        take_at(&mut path, pairs, choice.number, choice.holds)?;
+    }
+    for number in 0..pairs.len() {
+        take_at(&mut path, pairs, number, false)?;
+    }
+    Ok(path)
+}
+
+/// The path of these choices, where the goals are met on it: that is tried, whoever chose.
+fn tried<'a>(
+    alloc: Global,
+    goals: &[Goal<'a>],
+    pairs: &[&'a Cfg],
+    choices: &[Choice],
+    known: &'a Known<'a>,
+) -> Result<Option<End<'a>>, AllocError>
+    requires { AreAmong (some_asks (goal_trees goals.now)) (pairs_of pairs.now) }
+    ensures { IfOk result (λ r. IfSome r (λ end. SaysEnd end known.now goals.now)) }
+{
+    let path = path_of(alloc, pairs, choices, known)?;
+    match next_step(goals, &path) {
+        Step::Decided(true) => Ok(Some(End::Met(path))),
+        Step::Decided(false) | Step::Open(_) => Ok(None),
+    }
+}
+
+/// The end of a search for the goals, where a diagram tells it. These are the pairs that they ask for.
+pub fn by_diagram<'a>(
+    alloc: Global,
+    goals: &[Goal<'a>],
+    pairs: &[&'a Cfg],
+    known: &'a Known<'a>,
+) -> Result<Option<End<'a>>, AllocError>
+    requires { AreAmong (some_asks (goal_trees goals.now)) (pairs_of pairs.now) }
+    ensures { IfOk result (λ r. IfSome r (λ end. SaysEnd end known.now goals.now)) }
+{
+    if pairs.len() > MOST_PAIRS {
+        return Ok(None);
+    }
+    match outcome_of(alloc, goals, pairs, known)? {
+        Outcome::Way(choices) => tried(alloc, goals, pairs, &choices, known),
+        Outcome::Nothing => Ok(Some(End::Missed)),
+        Outcome::TooLarge => Ok(None),
+    }
+}

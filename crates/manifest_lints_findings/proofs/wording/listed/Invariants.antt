@@ -1,0 +1,8 @@
+use Rattle.std.proofs.Common.{◌≡◌, map, string_bytes, take}
+use Rattle.manifest_lints_findings.specs.Chosen.{fact_text}
+use Rattle.manifest_lints_findings.proofs.wording.listed.Given as goal
+
+-- the texts of the facts so far
+abbrev pub invariant-told : goal.invariant-told
+invariant-told l =
+    map (λ t. string_bytes t) l.texts.items ≡ map fact_text (take l.asked-index l.asked-items)

@@ -1,0 +1,55 @@
+-- Which of the names and pairs that a key asks for are told, and their texts.
+use Rattle.std.specs.Prelude.{ℕ, Bool, true, false, not, ◌||◌, ◌&&◌, List, [], ◌∷◌, ◌++◌, codes, cond, bytes_eq}
+use Rattle.std.specs.List.{filter}
+use Rattle.cargo_platform.specs.Trees.{CfgValue, Alone, KeyPair, value_of}
+use Rattle.cargo_platform.specs.Print.{print_value}
+use Rattle.cargo_platform.specs.Warnings.{attribute_warning}
+use Rattle.manifest_lints_standings.specs.declared.asked_facts.AskedFact.{AskedFact}
+use Rattle.manifest_lints_standings.specs.declared.standing.Standing.{Standing}
+use Rattle.manifest_lints_standings.specs.declared.standing.Standing.TheVariants as standing
+use Rattle.manifest_lints_standings.specs.Standings.{is_sort, sort_in}
+use Rattle.manifest_lints_findings.specs.Known.{is_marked_literal}
+use Rattle.manifest_lints_findings.specs.Texts.{quoted_text}
+use Rattle.manifest_lints_findings.specs.declared.chosen.Choice.{Choice}
+use Rattle.manifest_lints_findings.specs.declared.chosen.Choice.TheVariants as choice
+
+abbrev pub is_unstable : Standing → Bool
+is_unstable standing.Unstable = true
+is_unstable _ = false
+
+abbrev pub is_pair : CfgValue → Bool
+is_pair (Alone n) = false
+is_pair (KeyPair k v) = true
+
+-- a pair of `target_feature`
+abbrev pub is_feature : CfgValue → Bool
+is_feature (Alone n) = false
+is_feature (KeyPair k v) = bytes_eq k.name (codes "target_feature")
+
+-- the first of its kind in the key, and of a sort, or a raw `true` or `false` alone; what only unstable features of
+-- rustc set, or not; and a feature of an architecture, or not
+abbrev pub is_chosen : Choice → AskedFact → Bool
+is_chosen (choice.OfSort s) f = f.is_first && is_sort (sort_in f.standing) s
+is_chosen choice.Literal f = f.is_first && is_marked_literal (value_of f.fact.now)
+is_chosen choice.Unstable f = is_unstable f.standing
+is_chosen choice.Stable f = not (is_unstable f.standing)
+is_chosen choice.Feature f = is_feature (value_of f.fact.now)
+is_chosen choice.NoFeature f = not (is_feature (value_of f.fact.now))
+
+-- those of them, in their order
+abbrev pub chosen : Choice → List AskedFact → List AskedFact
+chosen c fs = filter (is_chosen c) fs
+
+-- a name or pair in backquotes
+abbrev pub quoted_value : CfgValue → List ℕ
+quoted_value c = quoted_text (print_value c)
+
+abbrev pub fact_text : AskedFact → List ℕ
+fact_text f = quoted_value (value_of f.fact.now)
+
+-- Cargo's words on them, where it was said or not what it says of pairs: that it says once
+abbrev pub warnings_on : Bool → List AskedFact → List (List ℕ)
+warnings_on is_said [] = []
+warnings_on is_said (f ∷ fs) =
+    cond (is_pair (value_of f.fact.now) && is_said) [] (attribute_warning (value_of f.fact.now))
+    ++ warnings_on (is_said || is_pair (value_of f.fact.now)) fs

@@ -1,0 +1,54 @@
+-- Texts that stand in messages, and lists that are cut.
+use Rattle.std.specs.Prelude.{◌≡◌, ℕ, ◌-◌, nat_lt, List, [], ◌∷◌, ◌++◌, codes, cond, length, map, take}
+use Rattle.std.specs.Prelude.{encode_utf8_all}
+use Rattle.std.specs.Fmt.{decimal}
+use Rattle.std.specs.List.{join_by}
+use Rattle.std.specs.Str.{chars}
+use Rattle.cargo_platform.specs.Snippets.{shown, shown_line}
+use Rattle.manifest_lints_findings.specs.declared.wording.TheConstants.{TOLD}
+
+-- a text as it is shown, in whole, and cut
+abbrev pub shown_whole : List ℕ → List ℕ
+shown_whole text = encode_utf8_all (map shown (chars text))
+
+abbrev pub shown_cut : List ℕ → List ℕ
+shown_cut text = shown_line (chars text) 0 0
+
+-- a text in backquotes, as it is shown, and cut
+abbrev pub quoted_text : List ℕ → List ℕ
+quoted_text text = codes "`" ++ shown_cut text ++ codes "`"
+
+-- the message begins with the text, or ends with it
+abbrev pub BeginsWith : List ℕ → List ℕ → Type 0
+BeginsWith text message = (words : List ℕ) × (message ≡ text ++ words)
+
+abbrev pub EndsWith : List ℕ → List ℕ → Type 0
+EndsWith text message = (words : List ℕ) × (message ≡ words ++ text)
+
+-- one text stands behind another, with words between them
+abbrev pub FollowsIn : List ℕ → List ℕ → List ℕ → Type 0
+FollowsIn message first second = (words : List ℕ) × (message ≡ first ++ (words ++ second))
+
+-- the text stands in the message, and this rest behind it
+pub record StandsIn (text message rest : List ℕ) : Type 0 where
+  pub words : List ℕ
+  pub are : message ≡ words ++ (text ++ rest)
+
+-- the texts stand in the message, each behind the one before it, and any words between them
+abbrev pub Mentions : List (List ℕ) → List ℕ → Type 0
+Mentions [] message = Unit {0}
+Mentions (t ∷ ts) message = (rest : List ℕ) × StandsIn t message rest × Mentions ts rest
+
+-- ---- lists that are cut
+
+-- how many more there are of so many; nothing where all are told
+abbrev pub and_more : ℕ → List ℕ
+and_more all = cond (nat_lt TOLD all) (codes " and " ++ (decimal (all - TOLD) ++ codes " more")) []
+
+-- the texts of the first ones with a mark between them, and how many more there are
+abbrev pub joined_first : {X : Type 0} → (X → List ℕ) → List ℕ → List X → List ℕ
+joined_first text mark xs = join_by text mark (take TOLD xs) ++ and_more (length xs)
+
+-- the same, as texts
+abbrev pub first_texts : {X : Type 0} → (X → List ℕ) → List X → List (List ℕ)
+first_texts text xs = map text (take TOLD xs) ++ (and_more (length xs) ∷ [])

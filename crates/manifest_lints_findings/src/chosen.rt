@@ -1,0 +1,86 @@
+//! Which of the names and pairs that a key asks for are told.
+
+ghost use Rattle.std.specs.Prelude.{◌≡◌, IfOk};
+ghost use Rattle.cargo_platform.specs.Trees.{value_of};
+ghost use Rattle.manifest_lints_findings.specs.Chosen.{is_unstable, is_feature, is_chosen, chosen};
+ghost use Rattle.manifest_lints_findings.specs.Known.{is_marked_literal};
+
+use cargo_platform::Cfg;
+use manifest_lints_standings::asked_facts::AskedFact;
+use manifest_lints_standings::standing::{Sort, Standing};
+use std::alloc::{AllocError, Global};
+
+/// Some of the names and pairs.
+#[derive(Clone, Copy, Drop)]
+pub enum Choice {
+    /// Those of a sort, each once.
+    OfSort(Sort),
+    /// The raw `true` and `false` alone, each once.
+    Literal,
+    /// What only unstable features of rustc set.
+    Unstable,
+    /// What is none of these.
+    Stable,
+    /// The pairs of `target_feature`, which no target specification of one's own can have either.
+    Feature,
+    /// What is none of these.
+    NoFeature,
+}
+
+/// Whether only unstable features of rustc set it.
+fn is_unstable(standing: Standing) -> bool
+    ensures { result ≡ is_unstable standing }
+{
+    matches!(standing, Standing::Unstable)
+}
+
+/// Whether it is a pair of `target_feature`.
+fn is_feature(fact: &Cfg) -> bool
+    ensures { result ≡ is_feature (value_of fact.now) }
+{
+    match fact {
+        Cfg::KeyPair(key, _) => key.as_str() == "target_feature",
+        Cfg::Name(_) => false,
+    }
+}
+
+/// Whether it is a raw `true` or `false` alone, which Cargo reads as a literal.
+pub fn is_marked_literal(fact: &Cfg) -> bool
+    ensures { result ≡ is_marked_literal (value_of fact.now) }
+{
+    match fact {
+        Cfg::Name(name) => name.raw && (name.as_str() == "true" || name.as_str() == "false"),
+        Cfg::KeyPair(_, _) => false,
+    }
+}
+
+/// Whether it is one of those.
+fn is_chosen(choice: Choice, asked: &AskedFact<'_>) -> bool
+    ensures { result ≡ is_chosen choice asked.now }
+{
+    match choice {
+        Choice::OfSort(sort) => asked.is_first && asked.standing.sort().is(sort),
+        Choice::Literal => asked.is_first && is_marked_literal(asked.fact),
+        Choice::Unstable => is_unstable(asked.standing),
+        Choice::Stable => !is_unstable(asked.standing),
+        Choice::Feature => is_feature(asked.fact),
+        Choice::NoFeature => !is_feature(asked.fact),
+    }
+}
+
+/// Those of the names and pairs, in their order.
+pub fn chosen<'a>(
+    alloc: Global,
+    asked: &[AskedFact<'a>],
+    choice: Choice,
+) -> Result<Vec<AskedFact<'a>>, AllocError>
+    ensures { IfOk result (λ found. found.items ≡ chosen choice asked.now) }
+{
+    let mut found = Vec::new(alloc);
+    'asked: for each in asked {
+        if is_chosen(choice, each) {
+            found.push(*each)?;
+        }
+    }
+    Ok(found)
+}

@@ -1,0 +1,40 @@
+//! Texts that are read several times. `.ci/refusals` takes from it how many allocations a reading makes.
+
+use cargo_platform::{Cfg, CfgExpr, FactsError, Platform, ReadError, read_facts};
+use std::alloc::Global;
+use test_rows::Fault;
+use test_rows::fields::Fields;
+use test_rows::forms::word;
+
+/// Whether a text is read, which is read as often as the row says. Each time what was read before is let go.
+pub fn answer(alloc: Global, call: &str, fields: &mut Fields<'_>) -> Result<String, Fault> {
+    let times = fields.number()?;
+    let text = fields.text(alloc)?;
+    let mut is_read = false;
+    for _ in 0..times {
+        is_read = match call {
+            "expr" => was_read(CfgExpr::from_str(alloc, &text))?,
+            "fact" => was_read(Cfg::from_str(alloc, &text))?,
+            "key" => was_read(Platform::from_str(alloc, &text))?,
+            "facts" => were_read(alloc, &text)?,
+            _ => return Err(Fault::Row("there is no such kind")),
+        };
+    }
+    Ok(word(alloc, if is_read { "read" } else { "refused" })?)
+}
+
+fn was_read<T: Drop>(read: Result<T, ReadError>) -> Result<bool, Fault> {
+    match read {
+        Ok(_) => Ok(true),
+        Err(ReadError::Parse(_)) => Ok(false),
+        Err(ReadError::Memory(_)) => Err(Fault::Memory),
+    }
+}
+
+fn were_read(alloc: Global, lines: &str) -> Result<bool, Fault> {
+    match read_facts(alloc, lines) {
+        Ok(_) => Ok(true),
+        Err(FactsError::Line { .. }) => Ok(false),
+        Err(FactsError::Memory(_)) => Err(Fault::Memory),
+    }
+}
