@@ -15,7 +15,6 @@ use crate::no_tables::no_tables;
 use crate::readings::{ReadKey, Spelled};
 use cargo_platform::Platform;
 use expression_folds::walk;
-use known_targets::{TargetSet, matching};
 use manifest_documents::Declared;
 use manifest_lints_standings::asked_facts::{AskedFact, asked_facts, has_sort};
 use manifest_lints_standings::key_spans::spans_of;
@@ -37,8 +36,6 @@ pub struct KnownKey<'a> {
     pub levels: usize,
     /// The canonical form of its condition.
     pub canonical: String,
-    /// The known targets at which it holds.
-    pub targets: TargetSet,
     /// Whether it is the name of a target that is not known.
     pub is_unknown_target: bool,
 }
@@ -66,7 +63,6 @@ impl<'a> KnownKey<'a> {
                 asked: Vec::new(alloc),
                 levels: 0,
                 canonical: String::new(alloc),
-                targets: TargetSet::none(),
                 is_unknown_target: false,
             }),
         }
@@ -128,7 +124,6 @@ fn known_condition<'a>(
         asked: asked_facts(alloc, &met.values, &spans, declared)?,
         levels: met.levels,
         canonical: canonical(alloc, condition)?,
-        targets: matching(alloc, condition)?,
         is_unknown_target: is_unknown_target(condition),
     })
 }
