@@ -22,12 +22,13 @@
 # make manifests  the program manifest_check over questions whose answers are known, and hostile input
 # make workspaces  the same at the roots of workspaces, with no manifest named
 # make graphs     the same for its command graph
+# make relations  what `manifest_check compare` answers, beside all sets of facts, and of hard conditions
 # make cargo-select  what `manifest_check select` selects, beside what Cargo does; it needs cargo and rustc 1.95.0
 # make try-c      the library for C and Python, called from both; it needs a C compiler
 # make pages      what the pages say, beside what it is said of; `.ci/promises --write` makes their lists anew
 # make depths     the programs on the deepest conditions that their inputs hold
 .PHONY: lint run build install c-library install-c wheel dist try-c take test gate fits mutants refusals second-reader \
-	statuses manifests workspaces graphs cargo-select \
+	statuses manifests workspaces graphs relations cargo-select \
 	pages depths quick measure targets fmt rt
 
 PROGRAM := crates/platform_check
@@ -111,7 +112,7 @@ targets:
 fmt: rt
 	for crate in crates/*/; do (cd $$crate && rt fmt) || exit 1; done
 
-refusals second-reader statuses manifests workspaces graphs cargo-select depths: rt
+refusals second-reader statuses manifests workspaces graphs relations cargo-select depths: rt
 	.ci/$@
 
 pages: rt
