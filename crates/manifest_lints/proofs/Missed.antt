@@ -1,7 +1,7 @@
 -- No `equivalent` is missed.
 use Rattle.std.proofs.Common.{◌≡◌, ◌∙◌, refl, sym, ap, subst, ℕ, ◌+◌, ◌≤◌, ◌<◌, Bool, true, false, true≢false, not}
 use Rattle.std.proofs.Common.{◌&&◌, ◌||◌, arith, IsTrue}
-use Rattle.std.proofs.Common.{List, [], ◌∷◌, ◌++◌, length, length-append, get_or, drop, ◌⊎◌, inl, inr, Option}
+use Rattle.std.proofs.Common.{List, [], ◌∷◌, ◌++◌, length, length-append, get_or, drop, ◌⊎◌, inl, inr}
 use Rattle.std.specs.Prelude.{IfSome, Contains}
 use Rattle.std.specs.Borrow.{Bor}
 use Rattle.std.specs.List.{Any}
@@ -18,7 +18,7 @@ use Rattle.manifest_documents.specs.Entries.{Entry}
 use Rattle.manifest_lints_findings.specs.Spells.{SpellsNothing}
 use Rattle.manifest_lints_questions.specs.Classes.{AreClassed, TellsNoneEquivalent}
 use Rattle.manifest_lints_questions.specs.Earlier.{AddsMember, AreEquivalent, HasEquivalentMember, Member, IsMemberAt}
-use Rattle.manifest_lints_questions.specs.Earlier.{is_same, is_equivalent, is_undecided, is_unlike}
+use Rattle.manifest_lints_questions.specs.Earlier.{is_equivalent, is_undecided, is_unlike}
 use Rattle.manifest_lints_questions.specs.Earlier.{same_place, equivalent_place}
 use Rattle.manifest_lints_questions.specs.Rustcs.{AllowsRustcs}
 use Rattle.manifest_lints_questions.specs.Truths.{IsNever, IsAlways, CanHold, CanFail}
@@ -26,8 +26,8 @@ use Rattle.manifest_lints_questions.specs.declared.earlier.Earlier.{Earlier}
 use Rattle.manifest_lints_questions.specs.declared.earlier.Earlier.TheVariants as earlier
 use Rattle.manifest_lints_questions.specs.declared.earlier.Keys.{Keys}
 use Rattle.manifest_lints.specs.Reports.{left_open}
-use Rattle.manifest_lints.specs.Sames.{SpellsOne, HasOne, HasSame, IsFirst, IsOneAt, IsSameAs, IsSpelledAt, AreMembers}
-use Rattle.manifest_lints.specs.Missed.{IsCompared, AreCompared, IsSettledAt, MissesNone, IsExpression, IsCovered}
+use Rattle.manifest_lints.specs.Sames.{SpellsOne, HasOne, HasSame, IsFirst, IsSameAs, IsSpelledAt, AreMembers}
+use Rattle.manifest_lints.specs.Missed.{AreCompared, IsSettledAt, MissesNone, IsExpression, IsCovered}
 use Rattle.manifest_lints.specs.Missed.{AreCovered, PutsUnlike}
 use Rattle.manifest_lints.proofs.Founds.{one_or}
 use Rattle.manifest_lints.proofs.MoreSames.{at_has, at_within, has_so}
@@ -214,7 +214,8 @@ module _ (k : Known) (es : List Entry) (e : Entry) (ns more : List ℕ) (old : K
     -- a key that spells nothing
     pub nothing_covered : SpellsNothing e.0 → AreCovered k (es ++ e ∷ []) (ns ++ more) old
     nothing_covered nothing =
-        more_covered old before.classed (λ P has. has) (λ d tree spells other closed. absurd (nothing spells.0 spells.1))
+        more_covered old before.classed (λ P has. has)
+        (λ d tree spells other closed. absurd (nothing spells.0 spells.1))
 
 -- a key that is not left open is not listed
 not_listed : (n : ℕ) (is_open : Bool) → (Contains (left_open n is_open) n → ⊥) → is_open ≡ false

@@ -82,9 +82,8 @@ module _ (reads : List ReadKey) (i : ℕ) (d : ReadKey) (within : i < length rea
       let told : AreTold ds es (entry_read x) codes earlier adds.added = record {
         marks_are = adds.marks_are ∙ ap (λ n. told_marks n codes) (sym long);
         named = All-weaker (λ f. NamesKey f.code other (string_bytes f.message)) (NamesEarlier es earlier)
-            (λ f names. names_by (named_place earlier) f (found_within k ds es before_open (entry_read x) codes earlier is_open
-            found)
-            other_is names) adds.added adds.named;
+            (λ f names. names_by (named_place earlier) f (found_within k ds es before_open (entry_read x) codes
+            earlier is_open found) other_is names) adds.added adds.named;
         key = key;
         known = known;
         shown = adds.shown;

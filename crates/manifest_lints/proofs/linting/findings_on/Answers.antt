@@ -80,6 +80,7 @@ keys-preserved c =
       members = λ all. subst (λ fs. AreMembers fs new) entries (now all).2.0;
       covered = λ all.
           subst (λ fs. AreCovered k fs c.note_undecided.new.undecided.items new) entries
-          (subst (λ ns. AreCovered k (es ++ entry_read (get_or c.args.read.now i c.index-read-place.result) ∷ []) ns new)
+          (subst
+          (λ ns. AreCovered k (es ++ entry_read (get_or c.args.read.now i c.index-read-place.result) ∷ []) ns new)
           (sym listed) (now all).2.1);
     }
