@@ -27,6 +27,7 @@ use Rattle.manifest_lints.specs.declared.found.Found.{Found}
 use Rattle.manifest_lints.specs.declared.found.TheConstants.{NONE}
 use Rattle.manifest_lints.specs.Founds.{AnswersFor, found_codes}
 use Rattle.manifest_lints.specs.Reports.{Settles, Holds, HoldsUnspelled, IsFound, MayBeOpen}
+use Rattle.manifest_lints.specs.Missed.{MissesNone}
 use Rattle.manifest_lints.specs.Sames.{HasSame, HasEquivalent, NamesRightly}
 
 pub left_false : (a b : Bool) → (a || b) ≡ false → a ≡ false
@@ -98,11 +99,12 @@ module _ (k : Known) (ds : List DeclaredEntry) (r : ReadKey) (key : KnownKey) (k
   tables_are : holds_alone key code.NoTable ≡ is_no_table (entry_read r).1
   tables_are = ap not known.tables ∙ not_not (is_no_table (entry_read r).1)
 
-  module _ (es : List Entry) (a : Answers) (p : Platform) (is : r.spelled ≡ spelled.Condition p)
+  module _ (es : List Entry) (ns : List ℕ) (a : Answers) (p : Platform) (is : r.spelled ≡ spelled.Condition p)
       (answers : AnswersFor k ds (condition_of p) a)
       (same : IsTrue (is_same a.earlier) ↔ HasSame es (condition_of p))
       (alike : IsTrue (is_equivalent a.earlier) → HasEquivalent k es (condition_of p))
       (named : NamesRightly k es (condition_of p) a.earlier)
+      (none_missed : is_equivalent a.earlier ≡ false → a.is_open ≡ false → MissesNone k es ns (condition_of p))
       (left_open : IsTrue a.is_open → MayBeOpen k ds es r.text.now (condition_of p)) where
     asked_is : sorted_by key.asked.items ≡ sorted_in ds (condition_of p)
     asked_is = known.asked ∙ ap (sorted_of_spelled ds) is
@@ -132,18 +134,19 @@ module _ (k : Known) (ds : List DeclaredEntry) (r : ReadKey) (key : KnownKey) (k
         && not (bytes_eq ((known.canonical ∙ ap print_spelled is) i) ((ap (λ z. z.text.now) known.read) i)))
 
     pub found_spelled : IsRead r
-        → IsFound k ds es (entry_read r) (found_codes (record { key = key; answers = a })) a.earlier a.is_open
+        → IsFound k ds es ns (entry_read r) (found_codes (record { key = key; answers = a })) a.earlier a.is_open
     unfolding found
     found_spelled read = inl (record {
       condition = condition_of p;
       spelled = subst (IsSpelledAs r.text.now) is read;
       holds = of_spelled;
       named = named;
+      none_missed = none_missed;
       left_open = left_open;
       many = answers.many;
     })
 
-  module _ (es : List Entry) (s : Spelled) (is : r.spelled ≡ s) (none : is_condition s ≡ false) where
+  module _ (es : List Entry) (ns : List ℕ) (s : Spelled) (is : r.spelled ≡ s) (none : is_condition s ≡ false) where
     unspelled : Found
     unspelled = record { key = key; answers = NONE }
 
@@ -173,7 +176,8 @@ module _ (k : Known) (ds : List DeclaredEntry) (r : ReadKey) (key : KnownKey) (k
         (ap is_condition (spelled_is ∙ is) ∙ none)
 
     pub found_unspelled : IsRead r
-        → IsFound k ds es (entry_read r) (found_codes (record { key = key; answers = NONE })) NONE.earlier NONE.is_open
+        → IsFound k ds es ns (entry_read r) (found_codes (record { key = key; answers = NONE })) NONE.earlier
+        NONE.is_open
     unfolding unspelled
     found_unspelled read = inr (record {
       nothing = spells_nothing r.text.now s none (subst (IsSpelledAs r.text.now) is read);

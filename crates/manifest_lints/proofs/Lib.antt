@@ -3,3 +3,4 @@ pub mod Rustcs
 pub mod Founds
 pub mod MoreSames
 pub mod MoreEquivalents
+pub mod Missed

@@ -74,7 +74,7 @@ one_member es e old new n p (inr more) before text place =
 
 module _ (k : Known) (es : List Entry) (old : Keys) (c : Condition) (before : AreMembers es old) where
   -- where something holds of a condition, it holds of what the key spells
-  as_spelled : (Q : Condition → Type 0) (i : ℕ) (m : ℕ × Bor Platform) → i < length old.members.items
+  pub as_spelled : (Q : Condition → Type 0) (i : ℕ) (m : ℕ × Bor Platform) → i < length old.members.items
       → get_or old.members.items i m ≡ m → Q (condition_of m.1.now) → IsOneAt Q es m.0
   as_spelled Q i m within at so =
       at_so (λ x. x ≡ condition_of m.1.now) Q es m.0 (λ x is. subst Q (sym is) so)

@@ -33,11 +33,12 @@ next_entries reads i d within =
     ∙ ap (map entry_read) (sym (take_more reads i d within))
 
 -- a key that is named stands before
-found_within : (k : Known) (ds : List DeclaredEntry) (es : List Entry) (e : Entry) (codes : CodeSet)
-    (earlier : Earlier) (is_open : Bool) → IsFound k ds es e codes earlier is_open
+found_within : (k : Known) (ds : List DeclaredEntry) (es : List Entry) (ns : List ℕ) (e : Entry) (codes : CodeSet)
+    (earlier : Earlier) (is_open : Bool) → IsFound k ds es ns e codes earlier is_open
     → IfSome (named_place earlier) (λ n. n < length es)
-found_within k ds es e codes earlier is_open (inl spelled) = named_within k es spelled.condition earlier spelled.named
-found_within k ds es e codes earlier is_open (inr unspelled) =
+found_within k ds es ns e codes earlier is_open (inl spelled) =
+    named_within k es spelled.condition earlier spelled.named
+found_within k ds es ns e codes earlier is_open (inr unspelled) =
     subst (λ a. IfSome (named_place a) (λ n. n < length es)) (sym unspelled.unlike) tt
 
 module _ (reads : List ReadKey) (i : ℕ) (d : ReadKey) (within : i < length reads) (other : List ℕ) where
@@ -69,7 +70,7 @@ module _ (reads : List ReadKey) (i : ℕ) (d : ReadKey) (within : i < length rea
       (is_open : Bool)
       (old new : List Finding) (before_open now_open : List ℕ)
       → AreFindingsOn k ds (map entry_read (take i reads)) old before_open
-      → IsFound k ds (map entry_read (take i reads)) (entry_read (get_or reads i d)) codes earlier is_open
+      → IsFound k ds (map entry_read (take i reads)) before_open (entry_read (get_or reads i d)) codes earlier is_open
       → IfSome (named_place earlier)
       (λ n. n < length reads → (e : Entry) → other ≡ (get_or (map entry_read reads) n e).0)
       → IsKnownOf ds (entry_read (get_or reads i d)) key
@@ -81,9 +82,8 @@ module _ (reads : List ReadKey) (i : ℕ) (d : ReadKey) (within : i < length rea
       let told : AreTold ds es (entry_read x) codes earlier adds.added = record {
         marks_are = adds.marks_are ∙ ap (λ n. told_marks n codes) (sym long);
         named = All-weaker (λ f. NamesKey f.code other (string_bytes f.message)) (NamesEarlier es earlier)
-            (λ f names. names_by (named_place earlier) f (found_within k ds es (entry_read x) codes earlier is_open
-            found)
-            other_is names) adds.added adds.named;
+            (λ f names. names_by (named_place earlier) f (found_within k ds es before_open (entry_read x) codes
+            earlier is_open found) other_is names) adds.added adds.named;
         key = key;
         known = known;
         shown = adds.shown;

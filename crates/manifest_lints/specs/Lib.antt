@@ -1,4 +1,5 @@
 pub mod Sames
+pub mod Missed
 pub mod Reports
 pub mod Laws
 pub mod Founds

@@ -36,6 +36,7 @@ use Rattle.manifest_lints_questions.specs.declared.earlier.Earlier.TheVariants.{
 use Rattle.manifest_lints_questions.specs.Truths.{IsNever, IsAlways, CanHold, CanFail, IsNowhere, IsEverywhere}
 use Rattle.manifest_lints_questions.specs.Truths.{budget_of, NeedsMoreFor}
 use Rattle.manifest_lints.specs.Sames.{HasOne, HasSame, HasEquivalent, NamesRightly, named_place}
+use Rattle.manifest_lints.specs.Missed.{MissesNone}
 
 -- ---- the table: when a code holds of a key
 
@@ -89,14 +90,15 @@ HoldsUnspelled is_refused e code.NoTable b = b ≡ is_no_table e.1
 HoldsUnspelled is_refused e code.ReadOtherwise b = b ≡ not is_refused
 HoldsUnspelled is_refused e _ b = b ≡ false
 
--- the codes that hold of a key that spells a condition, which earlier key is named, and whether something is left open;
--- and the same of a key that spells none
-pub record IsFoundSpelled (k : Known) (ds : List DeclaredEntry) (es : List Entry) (e : Entry) (codes : CodeSet)
-    (earlier : Earlier) (is_open : Bool) : Type 0 where
+-- the codes that hold of a key that spells a condition, after keys of which those at some places are left open; which
+-- earlier key is named, and whether something is left open; and the same of a key that spells none
+pub record IsFoundSpelled (k : Known) (ds : List DeclaredEntry) (es : List Entry) (ns : List ℕ) (e : Entry)
+    (codes : CodeSet) (earlier : Earlier) (is_open : Bool) : Type 0 where
   pub condition : Condition
   pub spelled : IsConditionText e.0 condition
   pub holds : (c : Code) → Holds k ds es e condition is_open c (codes c)
   pub named : NamesRightly k es condition earlier
+  pub none_missed : codes code.Equivalent ≡ false → is_open ≡ false → MissesNone k es ns condition
   pub left_open : IsTrue is_open → MayBeOpen k ds es e.0 condition
   pub many : MANY < length (open_in (sorted_in ds condition)) → IsTrue is_open
 
@@ -107,9 +109,9 @@ pub record IsFoundUnspelled (e : Entry) (codes : CodeSet) (earlier : Earlier) (i
   pub unlike : earlier ≡ Unlike
   pub settled : is_open ≡ false
 
-abbrev pub IsFound : Known → List DeclaredEntry → List Entry → Entry → CodeSet → Earlier → Bool → Type 0
-IsFound k ds es e codes earlier is_open =
-    IsFoundSpelled k ds es e codes earlier is_open ⊎ IsFoundUnspelled e codes earlier is_open
+abbrev pub IsFound : Known → List DeclaredEntry → List Entry → List ℕ → Entry → CodeSet → Earlier → Bool → Type 0
+IsFound k ds es ns e codes earlier is_open =
+    IsFoundSpelled k ds es ns e codes earlier is_open ⊎ IsFoundUnspelled e codes earlier is_open
 
 -- ---- the findings
 
@@ -156,7 +158,7 @@ pub data AreFindingsOn (k : Known) (ds : List DeclaredEntry) : List Entry → Li
   on_none : AreFindingsOn k ds [] [] []
   on_more : (es : List Entry) (e : Entry) (codes : CodeSet) (earlier : Earlier) (is_open : Bool)
       (fs told : List Finding) (ns : List ℕ) → AreFindingsOn k ds es fs ns
-      → IsFound k ds es e codes earlier is_open → AreTold ds es e codes earlier told
+      → IsFound k ds es ns e codes earlier is_open → AreTold ds es e codes earlier told
       → AreFindingsOn k ds (es ++ e ∷ []) (fs ++ told) (ns ++ left_open (length es) is_open)
 
 -- the same, by what is known of each target

@@ -1,7 +1,7 @@
 //! A key with what is found of it: by itself, over sets of facts, and beside the keys before it.
 
 ghost use Rattle.std.specs.Prelude.{◌≡◌, ◌⊎◌, ◌↔◌, ◌<◌, ◌++◌, ◌∷◌, ◌&&◌, [], List, IsTrue, true, not, length};
-ghost use Rattle.std.specs.Prelude.{IfOk, OnOk, IfSome, MatchOption};
+ghost use Rattle.std.specs.Prelude.{IfOk, OnOk, IfSome, MatchOption, ℕ, false, ◌||◌};
 ghost use Rattle.cargo_platform.specs.Trees.{condition_of};
 ghost use Rattle.cargo_platform.specs.Nesting.{IsNestedBeyond};
 ghost use Rattle.manifest_documents.specs.Declarations.{declarations_of};
@@ -12,9 +12,12 @@ ghost use Rattle.manifest_lints_findings.specs.Spells.{IsRead, entry_read};
 ghost use Rattle.manifest_lints_questions.specs.Earlier.{noted, Notes, AddsMember, HasEquivalentMember};
 ghost use Rattle.manifest_lints_questions.specs.Earlier.{same_place, equivalent_place, is_undecided};
 ghost use Rattle.manifest_lints_questions.specs.Truths.{budget_of};
+ghost use Rattle.manifest_lints_questions.specs.Rustcs.{AllowsRustcs};
+ghost use Rattle.manifest_lints_questions.specs.Classes.{AreClassed, TellsNoneEquivalent};
 ghost use Rattle.manifest_lints_questions.specs.declared.deciding.TheConstants.{LEVELS, MANY};
 ghost use Rattle.manifest_lints.specs.Founds.{found_codes, AnswersFor};
-ghost use Rattle.manifest_lints.specs.Reports.{IsFound, MayBeOpen};
+ghost use Rattle.manifest_lints.specs.Missed.{AreCovered, PutsUnlike};
+ghost use Rattle.manifest_lints.specs.Reports.{IsFound, MayBeOpen, left_open};
 ghost use Rattle.manifest_lints.specs.Sames.{AreNoted, AreMembers};
 
 use cargo_platform::Platform;
@@ -176,6 +179,13 @@ fn answers_of<'a>(
         (HasEquivalentMember asking.now.known.now before.old (condition_of condition.entry.now))) }
     ensures notes { OnOk result (Notes before.old before.new key.now.place condition.entry) }
     ensures members { OnOk result (AddsMember before.old before.new key.now.place condition.entry) }
+    ensures unlike { AllowsRustcs asking.now.known.now → AreClassed before.old
+        → IfOk result (λ a. TellsNoneEquivalent asking.now.known.now before.old (condition_of condition.entry.now)
+        a.earlier) }
+    ensures classed { AreClassed before.old → OnOk result (AreClassed before.new) }
+    ensures puts { IfOk result (λ a. PutsUnlike before.old before.new key.now.place condition.entry a.earlier) }
+    ensures decided { IfOk result (λ a. a.is_open ≡ false → IsTrue (is_undecided a.earlier)
+        → (a.never || a.always) ≡ true) }
 {
     let mut answers = answers_alone(alloc, asking, key, condition)?;
     let decides = answers.never || answers.always;
@@ -208,10 +218,13 @@ pub fn found_of<'a>(
     ensures place { IfOk result (λ f. f.key.place ≡ place) }
     ensures known { IfOk result (λ f. IsKnown (declarations_of asking.now.declared.now) read.now f.key) }
     ensures found { IsRead read.now → (es : List Entry) → length es ≡ place → AreNoted es before.old
-        → AreMembers es before.old → IfOk result (λ f. IsFound asking.now.known.now
-        (declarations_of asking.now.declared.now) es (entry_read read.now) (found_codes f) f.answers.earlier
+        → AreMembers es before.old → (ns : List ℕ) → AreCovered asking.now.known.now es ns before.old
+        → IfOk result (λ f. IsFound asking.now.known.now
+        (declarations_of asking.now.declared.now) es ns (entry_read read.now) (found_codes f) f.answers.earlier
         f.answers.is_open × AreNoted (es ++ entry_read read.now ∷ []) before.new
-        × AreMembers (es ++ entry_read read.now ∷ []) before.new) }
+        × (AreMembers (es ++ entry_read read.now ∷ []) before.new
+        × AreCovered asking.now.known.now (es ++ entry_read read.now ∷ []) (ns ++ left_open place f.answers.is_open)
+        before.new)) }
 {
     let key = KnownKey::of(alloc, read, place, asking.declared)?;
     match &read.spelled {

@@ -1,11 +1,13 @@
-use Rattle.std.proofs.Common.{◌≡◌, ◌∙◌, sym, ap, length, inl, inr}
+use Rattle.std.proofs.Common.{◌≡◌, ◌∙◌, sym, ap, length, inl, inr, ◌||◌, rules}
 use Rattle.std.proofs.lemmas.List.{length-map}
 use Rattle.cargo_platform.specs.Trees.{condition_of}
 use Rattle.manifest_documents.specs.Declarations.{declarations_of}
+use Rattle.manifest_lints_questions.specs.Earlier.{is_undecided}
 use Rattle.manifest_lints_standings.specs.Standings.{sorted_of, sorted_in}
 use Rattle.manifest_lints_findings.specs.Known.{sorted_of_spelled}
 use Rattle.manifest_lints.proofs.Founds.{beside_others, one_or}
 use Rattle.manifest_lints.proofs.MoreEquivalents.{open_beside}
+use Rattle.manifest_lints.proofs.Missed.{decided_then}
 use Rattle.manifest_lints.proofs.found.answers_of.Goals as goal
 
 pub returns-clause-alone : goal.returns-clause-alone
@@ -29,3 +31,11 @@ returns-clause-left_open c = λ known is es members holds.
           (length key.asked.items) c.budget_beside-budget.ensures long c.in_ok-answers-2.ensures.undecided
           (sym c.stays_open-is_open.ensures ∙ beside)
     ]
+
+pub returns-clause-decided : goal.returns-clause-decided
+returns-clause-decided c = λ closed told.
+    let a = c.in_ok-answers.answers in
+    let undecided = is_undecided c.in_ok-answers-2.field-0 in
+    let same : c.if-answers.decides ≡ (a.never || a.always) = search rules in
+    sym same ∙ decided_then a.is_open c.stays_open-is_open.result undecided c.if-answers.decides c.either.result
+    c.either.ensures c.stays_open-is_open.ensures closed told

@@ -1,4 +1,4 @@
-use Rattle.std.proofs.Common.{◌≡◌, ◌∙◌, ◌+◌, refl, sym, ap, subst, false, IsTrue, inl, inr}
+use Rattle.std.proofs.Common.{◌≡◌, ◌∙◌, ◌+◌, refl, sym, ap, subst, false, IsTrue, inl, inr, [], ◌∷◌, ◌++◌}
 use Rattle.std.specs.Borrow.{Bor}
 use Rattle.cargo_platform.specs.declared.Platform.{Platform}
 use Rattle.cargo_platform.specs.Trees.{condition_of}
@@ -6,16 +6,18 @@ use Rattle.cargo_platform.specs.Platforms.{IsConditionText}
 use Rattle.manifest_documents.specs.Declarations.{declarations_of}
 use Rattle.manifest_lints_findings.specs.Known.{IsKnown, is_condition}
 use Rattle.manifest_lints_findings.specs.Spells.{IsSpelledAs, entry_read}
-use Rattle.manifest_lints_questions.specs.Earlier.{same_place, equivalent_place}
-use Rattle.manifest_lints.specs.Reports.{MayBeOpen}
+use Rattle.manifest_lints_questions.specs.Earlier.{same_place, equivalent_place, is_undecided}
+use Rattle.manifest_lints.specs.Missed.{AreCovered}
+use Rattle.manifest_lints.specs.Reports.{MayBeOpen, left_open as listed}
 use Rattle.manifest_lints.proofs.Founds.{found_spelled, found_unspelled, spells_nothing}
 use Rattle.manifest_lints.specs.Sames.{IsFirst, IsSameAs}
 use Rattle.manifest_lints.proofs.MoreSames.{one_noted, tells_same, tells_equivalent, names_rightly, none_more}
 use Rattle.manifest_lints.proofs.MoreEquivalents.{one_member, equivalent_one, more_members}
+use Rattle.manifest_lints.proofs.Missed.{misses_none, one_covered, nothing_covered, never_or_always}
 use Rattle.manifest_lints.proofs.found.found_of.Goals as goal
 
 pub returns-in_ok-answers-in-Condition-clause-found : goal.returns-in_ok-answers-in-Condition-clause-found
-returns-in_ok-answers-in-Condition-clause-found c = λ read es long are_noted members.
+returns-in_ok-answers-in-Condition-clause-found c = λ read es long are_noted members ns covered.
     let k = c.args.asking.now.known.now in
     let ds = declarations_of c.args.asking.now.declared.now in
     let r = c.args.read.now in
@@ -36,17 +38,29 @@ returns-in_ok-answers-in-Condition-clause-found c = λ read es long are_noted me
     subst (IsFirst (IsSameAs (condition_of p.now)) es) (sym says.same) (are_noted p) in
     let alike = equivalent_one k es old (condition_of p.now) members (equivalent_place a.earlier) says.equivalent in
     let left_open = subst (λ z. IsTrue a.is_open → MayBeOpen k ds es z.text.now (condition_of p.now)) known.read
-    (says.left_open by_itself spelled es members) in (
-      found_spelled k ds r key known es a p.now c.in-Condition.is (says.alone by_itself spelled)
+    (says.left_open by_itself spelled es members) in
+    let alone = says.alone by_itself spelled in
+    let decided = λ (closed : a.is_open ≡ false) (undecided : IsTrue (is_undecided a.earlier)).
+    never_or_always k (condition_of p.now) a.never a.always alone.never.0 alone.always.0
+    (says.decided closed undecided) in (
+      found_spelled k ds r key known es ns a p.now c.in-Condition.is alone
           (tells_same k es (condition_of p.now) a.earlier same)
           (tells_equivalent k es (condition_of p.now) a.earlier alike)
-          (names_rightly k es (condition_of p.now) a.earlier same alike) left_open read,
+          (names_rightly k es (condition_of p.now) a.earlier same alike)
+          (λ not_told closed. misses_none k es ns old (condition_of p.now) members covered a.earlier says.unlike same
+          (decided closed) not_told)
+          left_open read,
       one_noted es e old new _ p are_noted text place says.notes,
-      one_member es e old new _ p says.members members text place,
+      (
+        one_member es e old new _ p says.members members text place,
+        subst (λ n. AreCovered k (es ++ e ∷ []) (ns ++ listed n a.is_open) new) c.in_ok-key.ensures.place
+            (one_covered k es e ns old new _ p covered (says.classed covered.classed) says.members text a.earlier
+            a.is_open place says.puts says.equivalent same decided),
+      ),
     )
 
 pub returns-in-ByCargo-clause-found : goal.returns-in-ByCargo-clause-found
-returns-in-ByCargo-clause-found c = λ read es long are_noted members.
+returns-in-ByCargo-clause-found c = λ read es long are_noted members ns covered.
     let k = c.args.asking.now.known.now in
     let ds = declarations_of c.args.asking.now.declared.now in
     let r = c.args.read.now in
@@ -55,7 +69,10 @@ returns-in-ByCargo-clause-found c = λ read es long are_noted members.
       | inl marked ↦ ap is_condition marked.1
       | inr refused ↦ ap is_condition refused.1
     ] in (
-      found_unspelled k ds r c.in_ok-key.key c.in_ok-key.ensures.known es r.spelled refl none read,
+      found_unspelled k ds r c.in_ok-key.key c.in_ok-key.ensures.known es ns r.spelled refl none read,
       none_more es e c.args.before.now are_noted (spells_nothing e.0 r.spelled none read),
-      more_members es e c.args.before.now members,
+      (
+        more_members es e c.args.before.now members,
+        nothing_covered k es e ns [] c.args.before.now covered (spells_nothing e.0 r.spelled none read),
+      ),
     )

@@ -10,9 +10,11 @@ use Rattle.manifest_lints_findings.specs.Known.{IsKnown}
 use Rattle.manifest_lints_findings.specs.Spells.{IsRead, entry_read}
 use Rattle.manifest_lints.specs.Founds.{found_codes}
 use Rattle.manifest_lints.specs.Sames.{AreNoted, AreMembers}
+use Rattle.manifest_lints.specs.Missed.{AreCovered}
 use Rattle.manifest_lints.specs.Reports.{AreFindingsOn, on_none, IsFound, AddsFindings, told_marks, left_open}
 use Rattle.manifest_lints.proofs.MoreSames.{none_noted}
 use Rattle.manifest_lints.proofs.MoreEquivalents.{no_members}
+use Rattle.manifest_lints.proofs.Missed.{none_covered}
 use Rattle.manifest_lints.proofs.Reports.{one_more, next_entries}
 use Rattle.manifest_lints.proofs.linting.findings_on.Goals as goal
 
@@ -29,6 +31,9 @@ keys-init c = record {
       c.new-undecided.ensures.items;
   noted_keys = λ all. none_noted c.new-before.result c.new-before.ensures.none;
   members = λ all. no_members c.new-before.result c.new-before.ensures.no_members;
+  covered = λ all.
+      none_covered c.args.asking.now.known.now c.new-undecided.result.items c.new-before.result
+      c.new-before.ensures.classed;
 }
 
 pub keys-preserved : goal.keys-preserved
@@ -42,16 +47,20 @@ keys-preserved c =
     let long : length es ≡ i = length-map (take i c.args.read.now) entry_read
     ∙ length-take-le i c.args.read.now (omega arith) in
     let F : ReadKey → Type 0 = λ r. IsRead r → length es ≡ i → AreNoted es c.keys.before
-    → AreMembers es c.keys.before
-    → IsFound k ds es (entry_read r) (found_codes f) f.answers.earlier f.answers.is_open
-    × AreNoted (es ++ entry_read r ∷ []) new × AreMembers (es ++ entry_read r ∷ []) new in
+    → AreMembers es c.keys.before → (ns : List ℕ) → AreCovered k es ns c.keys.before
+    → IsFound k ds es ns (entry_read r) (found_codes f) f.answers.earlier f.answers.is_open
+    × AreNoted (es ++ entry_read r ∷ []) new
+    × (AreMembers (es ++ entry_read r ∷ []) new
+    × AreCovered k (es ++ entry_read r ∷ []) (ns ++ left_open i f.answers.is_open) new) in
     let next = subst F c.index-read-place.is (λ r. c.in_ok-found.ensures.found r es) in
     let known : IsKnown ds (get_or c.args.read.now i c.index-read-place.result) f.key =
     subst (λ r. IsKnown ds r f.key) c.index-read-place.is c.in_ok-found.ensures.known in
     let entries = next_entries c.args.read.now i c.index-read-place.result c.keys-test.true in
     let now = λ (all : All IsRead c.args.read.now).
     next (all i c.index-read-place.result c.keys-test.true) long (c.keys.invariant.noted_keys all)
-    (c.keys.invariant.members all) in
+    (c.keys.invariant.members all) c.keys.undecided.items (c.keys.invariant.covered all) in
+    let listed = c.in_ok-note_undecided.ensures
+    ∙ ap (λ n. c.keys.undecided.items ++ left_open n f.answers.is_open) c.in_ok-found.ensures.place in
     record {
       findings = λ all.
           one_more c.args.read.now i c.index-read-place.result c.keys-test.true c.earlier_key-other.result.now k ds
@@ -66,8 +75,12 @@ keys-preserved c =
           (subst (λ n. AddsFindings (told_marks n (found_codes f)) c.earlier_key-other.result.now
           f.key c.keys.findings.items c.add_findings.new.findings.items) c.in_ok-found.ensures.place
           c.in_ok-add_findings.ensures)
-          (c.in_ok-note_undecided.ensures
-          ∙ ap (λ n. c.keys.undecided.items ++ left_open n f.answers.is_open) c.in_ok-found.ensures.place);
+          listed;
       noted_keys = λ all. subst (λ fs. AreNoted fs new) entries (now all).1;
-      members = λ all. subst (λ fs. AreMembers fs new) entries (now all).2;
+      members = λ all. subst (λ fs. AreMembers fs new) entries (now all).2.0;
+      covered = λ all.
+          subst (λ fs. AreCovered k fs c.note_undecided.new.undecided.items new) entries
+          (subst
+          (λ ns. AreCovered k (es ++ entry_read (get_or c.args.read.now i c.index-read-place.result) ∷ []) ns new)
+          (sym listed) (now all).2.1);
     }

@@ -4,6 +4,7 @@ use Rattle.manifest_documents.specs.Declarations.{declarations_of}
 use Rattle.manifest_lints_findings.specs.Spells.{IsRead, entry_read}
 use Rattle.manifest_lints.specs.Reports.{AreFindingsOn}
 use Rattle.manifest_lints.specs.Sames.{AreNoted, AreMembers}
+use Rattle.manifest_lints.specs.Missed.{AreCovered}
 use Rattle.manifest_lints.proofs.linting.findings_on.Given as goal
 
 abbrev pub invariant-keys : goal.invariant-keys
@@ -14,4 +15,7 @@ invariant-keys l = record {
       l.findings.items l.undecided.items;
   noted_keys : All IsRead l.read → AreNoted (map entry_read (take l.place l.read)) l.before;
   members : All IsRead l.read → AreMembers (map entry_read (take l.place l.read)) l.before;
+  covered :
+      All IsRead l.read
+      → AreCovered l.asking.known.now (map entry_read (take l.place l.read)) l.undecided.items l.before;
 }

@@ -1,0 +1,57 @@
+-- No `equivalent` is missed: of which earlier keys it is known that they are not as true.
+use Rattle.std.specs.Prelude.{◌≡◌, ◌⊎◌, ℕ, IsTrue, List, [], ◌∷◌, ◌++◌, Contains}
+use Rattle.std.specs.List.{Any}
+use Rattle.std.specs.Borrow.{Bor}
+use Rattle.cargo_platform.specs.declared.Platform.{Platform}
+use Rattle.cargo_platform.specs.Trees.{Condition, Tree, Expression, condition_of}
+use Rattle.exact_answers.specs.declared.known.Known.{Known}
+use Rattle.manifest_documents.specs.Entries.{Entry}
+use Rattle.manifest_lints_questions.specs.Classes.{AreClassed, AsksForKnown}
+use Rattle.manifest_lints_questions.specs.Earlier.{AreEquivalent, is_unlike}
+use Rattle.manifest_lints_questions.specs.Rustcs.{AllowsRustcs}
+use Rattle.manifest_lints_questions.specs.Truths.{IsNever, IsAlways, CanHold, CanFail}
+use Rattle.manifest_lints_questions.specs.declared.earlier.Earlier.{Earlier}
+use Rattle.manifest_lints_questions.specs.declared.earlier.Keys.{Keys}
+use Rattle.manifest_lints.specs.Sames.{HasOne, HasSame, IsSpelledAt}
+
+-- a condition among which none is missed: it asks for known values alone
+abbrev pub IsCompared : Condition → Type 0
+IsCompared c = AsksForKnown c
+
+-- this one and all that are as true and spelled by these keys are such
+abbrev pub AreCompared : Known → List Entry → Condition → Type 0
+AreCompared k es c =
+    IsCompared c × ((d : Condition) → HasOne (λ x. x ≡ d) es → AreEquivalent k d c → IsCompared d)
+
+-- the key at this place spells the condition, no key before it spells the same, and nothing of it is left open
+pub record IsSettledAt (es : List Entry) (ns : List ℕ) (d : Condition) (n : ℕ) : Type 0 where
+  pub one : IsSpelledAt es d n
+  pub first : HasSame one.before d → ⊥
+  pub settled : Contains ns n → ⊥
+
+-- no settled key before one is as true, where none is the same and the condition is neither never nor always true
+abbrev pub MissesNone : Known → List Entry → List ℕ → Condition → Type 0
+MissesNone k es ns c =
+    AllowsRustcs k → CanHold k c → CanFail k c → (HasSame es c → ⊥) → AreCompared k es c
+    → (d : Condition) (n : ℕ) → IsSettledAt es ns d n → AreEquivalent k d c → ⊥
+
+-- ---- what is kept of the keys so far
+
+abbrev pub IsExpression : Condition → Type 0
+IsExpression c = (e : Tree) × (c ≡ Expression e)
+
+-- a condition is as true as one that later ones are compared with, or need not be compared
+abbrev pub IsCovered : Known → Keys → Condition → Type 0
+IsCovered k keys d =
+    Any (λ m. AreEquivalent k (condition_of m.1.now) d) keys.members.items ⊎ (IsNever k d ⊎ IsAlways k d)
+
+-- the expressions of all settled keys are
+pub record AreCovered (k : Known) (es : List Entry) (ns : List ℕ) (keys : Keys) : Type 0 where
+  pub classed : AreClassed keys
+  pub covered : (d : Condition) (n : ℕ) → IsExpression d → IsSettledAt es ns d n → IsCovered k keys d
+
+-- later ones are compared with an expression that is told to be unlike all
+abbrev pub PutsUnlike : Keys → Keys → ℕ → Bor Platform → Earlier → Type 0
+PutsUnlike old new n p r =
+    IsTrue (is_unlike r) → IsExpression (condition_of p.now)
+    → new.members.items ≡ old.members.items ++ (n, p) ∷ []
