@@ -27,8 +27,7 @@ use Rattle.manifest_lints_questions.specs.declared.earlier.Earlier.TheVariants a
 use Rattle.manifest_lints_questions.specs.declared.earlier.Keys.{Keys}
 use Rattle.manifest_lints.specs.Reports.{left_open}
 use Rattle.manifest_lints.specs.Sames.{SpellsOne, HasOne, HasSame, IsFirst, IsSameAs, IsSpelledAt, AreMembers}
-use Rattle.manifest_lints.specs.Missed.{AreCompared, IsSettledAt, MissesNone, IsExpression, IsCovered}
-use Rattle.manifest_lints.specs.Missed.{AreCovered, PutsUnlike}
+use Rattle.manifest_lints.specs.Missed.{AreCompared, IsSettledAt, MissesNone, IsCovered, AreCovered}
 use Rattle.manifest_lints.proofs.Founds.{one_or}
 use Rattle.manifest_lints.proofs.MoreSames.{at_has, at_within, has_so}
 use Rattle.manifest_lints.proofs.MoreEquivalents.{as_spelled}

@@ -1,16 +1,13 @@
 -- No `equivalent` is missed: of which earlier keys it is known that they are not as true.
-use Rattle.std.specs.Prelude.{◌≡◌, ◌⊎◌, ℕ, IsTrue, List, [], ◌∷◌, ◌++◌, Contains}
+use Rattle.std.specs.Prelude.{◌≡◌, ◌⊎◌, ℕ, List, Contains}
 use Rattle.std.specs.List.{Any}
-use Rattle.std.specs.Borrow.{Bor}
-use Rattle.cargo_platform.specs.declared.Platform.{Platform}
-use Rattle.cargo_platform.specs.Trees.{Condition, Tree, Expression, condition_of}
+use Rattle.cargo_platform.specs.Trees.{Condition, condition_of}
 use Rattle.exact_answers.specs.declared.known.Known.{Known}
 use Rattle.manifest_documents.specs.Entries.{Entry}
 use Rattle.manifest_lints_questions.specs.Classes.{AreClassed, AsksForKnown}
-use Rattle.manifest_lints_questions.specs.Earlier.{AreEquivalent, is_unlike}
+use Rattle.manifest_lints_questions.specs.Earlier.{AreEquivalent, IsExpression}
 use Rattle.manifest_lints_questions.specs.Rustcs.{AllowsRustcs}
 use Rattle.manifest_lints_questions.specs.Truths.{IsNever, IsAlways, CanHold, CanFail}
-use Rattle.manifest_lints_questions.specs.declared.earlier.Earlier.{Earlier}
 use Rattle.manifest_lints_questions.specs.declared.earlier.Keys.{Keys}
 use Rattle.manifest_lints.specs.Sames.{HasOne, HasSame, IsSpelledAt}
 
@@ -37,9 +34,6 @@ MissesNone k es ns c =
 
 -- ---- what is kept of the keys so far
 
-abbrev pub IsExpression : Condition → Type 0
-IsExpression c = (e : Tree) × (c ≡ Expression e)
-
 -- a condition is as true as one that later ones are compared with, or need not be compared
 abbrev pub IsCovered : Known → Keys → Condition → Type 0
 IsCovered k keys d =
@@ -49,9 +43,3 @@ IsCovered k keys d =
 pub record AreCovered (k : Known) (es : List Entry) (ns : List ℕ) (keys : Keys) : Type 0 where
   pub classed : AreClassed keys
   pub covered : (d : Condition) (n : ℕ) → IsExpression d → IsSettledAt es ns d n → IsCovered k keys d
-
--- later ones are compared with an expression that is told to be unlike all
-abbrev pub PutsUnlike : Keys → Keys → ℕ → Bor Platform → Earlier → Type 0
-PutsUnlike old new n p r =
-    IsTrue (is_unlike r) → IsExpression (condition_of p.now)
-    → new.members.items ≡ old.members.items ++ (n, p) ∷ []

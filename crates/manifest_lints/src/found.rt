@@ -16,7 +16,7 @@ ghost use Rattle.manifest_lints_questions.specs.Rustcs.{AllowsRustcs};
 ghost use Rattle.manifest_lints_questions.specs.Classes.{AreClassed, TellsNoneEquivalent};
 ghost use Rattle.manifest_lints_questions.specs.declared.deciding.TheConstants.{LEVELS, MANY};
 ghost use Rattle.manifest_lints.specs.Founds.{found_codes, AnswersFor};
-ghost use Rattle.manifest_lints.specs.Missed.{AreCovered, PutsUnlike};
+ghost use Rattle.manifest_lints.specs.Missed.{AreCovered};
 ghost use Rattle.manifest_lints.specs.Reports.{IsFound, MayBeOpen, left_open};
 ghost use Rattle.manifest_lints.specs.Sames.{AreNoted, AreMembers};
 

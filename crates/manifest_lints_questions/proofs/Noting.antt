@@ -31,6 +31,7 @@ use Rattle.manifest_lints_questions.specs.declared.earlier.TheConstants.{MOST}
 use Rattle.manifest_lints_questions.specs.Earlier.{AreEquivalent, HasEquivalentMember, MayBeUndecided}
 use Rattle.manifest_lints_questions.specs.Earlier.{equivalent_place, is_undecided, Member, IsMemberAt}
 use Rattle.manifest_lints_questions.specs.Earlier.{NoneIsEquivalent, places_in, places_of, noted, NotesBy}
+use Rattle.manifest_lints_questions.specs.Earlier.{is_unlike, IsExpression, PutsUnlike}
 
 -- a map in which one key is set
 
@@ -156,3 +157,10 @@ notes_then (Ok x) None old mid new n c notes same =
 notes_then (Ok x) (Some first) old mid new n c notes same = λ q. same q ∙ notes q
 notes_then (Err e) None old mid new n c notes same = tt
 notes_then (Err e) (Some first) old mid new n c notes same = tt
+
+-- what notes a condition adds no member to those behind which one is put
+pub same_puts : {E : Type 0} (between old new : Keys) (n : ℕ) (p : Bor Platform) (r : Result Earlier E)
+    → between.members.items ≡ old.members.items → IfOk r (PutsUnlike between new n p) → IfOk r (PutsUnlike old new n p)
+same_puts between old new n p r same h =
+    subst (λ (ms : List (ℕ × Bor Platform)). IfOk r (λ a. IsTrue (is_unlike a) → IsExpression (condition_of p.now)
+    → new.members.items ≡ ms ++ (n, p) ∷ [])) same h

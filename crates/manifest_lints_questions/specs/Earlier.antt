@@ -9,7 +9,7 @@ use Rattle.std.specs.Ordering.{nat_cmp}
 use Rattle.std.specs.Cmp.Lexicographic.{slice_cmp}
 use Rattle.std.specs.BTreeMap as ordered
 use Rattle.cargo_platform.specs.declared.Platform.{Platform}
-use Rattle.cargo_platform.specs.Trees.{Condition, condition_of}
+use Rattle.cargo_platform.specs.Trees.{Condition, Tree, Expression, condition_of}
 use Rattle.cargo_platform.specs.Key.{condition_key, condition_cmp}
 use Rattle.cargo_platform.specs.Facts.{IsTrueCondition}
 use Rattle.exact_answers.specs.declared.known.Known.{Known}
@@ -134,3 +134,12 @@ TellsUnlike k keys c class r = IsTrue (is_unlike r) → NoneIsEquivalent k keys 
 abbrev pub AddsMember : Keys → Keys → ℕ → Bor Platform → Type 0
 AddsMember old new n p =
     (new.members.items ≡ old.members.items) ⊎ (new.members.items ≡ old.members.items ++ (n, p) ∷ [])
+
+abbrev pub IsExpression : Condition → Type 0
+IsExpression c = (e : Tree) × (c ≡ Expression e)
+
+-- later ones are compared with an expression that is told to be unlike all
+abbrev pub PutsUnlike : Keys → Keys → ℕ → Bor Platform → Earlier → Type 0
+PutsUnlike old new n p r =
+    IsTrue (is_unlike r) → IsExpression (condition_of p.now)
+    → new.members.items ≡ old.members.items ++ (n, p) ∷ []

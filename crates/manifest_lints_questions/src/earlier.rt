@@ -7,7 +7,7 @@ ghost use Rattle.cargo_platform.specs.Trees.{Expression, tree_of, condition_of};
 ghost use Rattle.manifest_lints_questions.specs.Earlier.{is_same, is_equivalent, is_undecided, noted, Notes};
 ghost use Rattle.manifest_lints_questions.specs.Earlier.{same_place, AddsMember};
 ghost use Rattle.manifest_lints_questions.specs.Earlier.{TellsNoSame, TellsEquivalent, TellsUndecided, TellsUnlike};
-ghost use Rattle.manifest_lints_questions.specs.Earlier.{is_unlike, part_of};
+ghost use Rattle.manifest_lints_questions.specs.Earlier.{is_unlike, part_of, PutsUnlike};
 ghost use Rattle.manifest_lints_questions.specs.Rustcs.{AllowsRustcs};
 ghost use Rattle.manifest_lints_questions.specs.Classes.{AreClassed, AreUnlike, IsClassOf, PutsIn, PutsMember};
 ghost use Rattle.manifest_lints_questions.specs.Classes.{TellsNoneEquivalent};
@@ -120,6 +120,7 @@ impl<'a> Keys<'a> {
         ensures classed { AreClassed self.old → OnOk result (AreClassed self.new) }
         ensures notes { OnOk result (Notes self.old self.new index platform.entry) }
         ensures members { OnOk result (AddsMember self.old self.new index platform.entry) }
+        ensures puts { IfOk result (PutsUnlike self.old self.new index platform.entry) }
     {
         match self.note(index, platform)? {
             Some(first) => Ok(Earlier::Same(first)),
@@ -158,6 +159,7 @@ impl<'a> Keys<'a> {
         ensures classed { AreClassed self.old → OnOk result (AreClassed self.new) }
         ensures noted { OnOk result ((q : Bor Shown) → noted self.new q ≡ noted self.old q) }
         ensures members { OnOk result (AddsMember self.old self.new index platform.entry) }
+        ensures puts { IfOk result (PutsUnlike self.old self.new index platform.entry) }
     {
         let Platform::Cfg(e) = platform else {
             return Ok(Earlier::Unlike);

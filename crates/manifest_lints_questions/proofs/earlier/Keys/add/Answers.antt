@@ -1,5 +1,5 @@
 use Rattle.cargo_platform.specs.Trees.{condition_of}
-use Rattle.manifest_lints_questions.proofs.Noting.{same_members, same_undecided}
+use Rattle.manifest_lints_questions.proofs.Noting.{same_members, same_undecided, same_puts}
 use Rattle.manifest_lints_questions.specs.Earlier.{noted}
 use Rattle.manifest_lints_questions.proofs.Noting.{notes_then}
 use Rattle.manifest_lints_questions.proofs.Classes.{same_classed, same_unlike}
@@ -37,3 +37,8 @@ returns-in-None-clause-notes c =
     notes_then c.compare.result (noted c.args.self.now c.args.platform) c.args.self.now c.note.new.self
     c.compare.new.self c.args.index (condition_of c.args.platform.now) c.in_ok-first.ensures.notes
     c.compare.ensures.noted
+
+pub returns-in-None-clause-puts : goal.returns-in-None-clause-puts
+returns-in-None-clause-puts c =
+    same_puts c.note.new.self c.args.self.now c.compare.new.self c.args.index c.args.platform c.compare.result
+    c.in_ok-first.ensures.members c.compare.ensures.puts

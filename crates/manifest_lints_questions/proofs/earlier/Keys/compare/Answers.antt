@@ -17,3 +17,6 @@ returns-clause-classed c = λ classed.
     classed_more c.args.self.now c.put_member.new.self (c.args.index, c.args.platform) c.in_ok-class.class
     c.in_ok-number.number (tree_of c.in-Cfg.e) c.in_ok-put_member.ensures.puts own (c.in_ok-class.ensures own)
     c.in_ok-number.ensures classed
+
+pub returns-clause-puts : goal.returns-clause-puts
+returns-clause-puts c = λ alike tree. c.in_ok-put_member.ensures.puts.pushed
