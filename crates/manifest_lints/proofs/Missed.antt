@@ -27,7 +27,7 @@ use Rattle.manifest_lints_questions.specs.declared.earlier.Earlier.TheVariants a
 use Rattle.manifest_lints_questions.specs.declared.earlier.Keys.{Keys}
 use Rattle.manifest_lints.specs.Reports.{left_open}
 use Rattle.manifest_lints.specs.Sames.{SpellsOne, HasOne, HasSame, IsFirst, IsSameAs, IsSpelledAt, AreMembers}
-use Rattle.manifest_lints.specs.Missed.{AreCompared, IsSettledAt, MissesNone, IsCovered, AreCovered}
+use Rattle.manifest_lints.specs.Missed.{IsSettledAt, MissesNone, IsCovered, AreCovered}
 use Rattle.manifest_lints.proofs.Founds.{one_or}
 use Rattle.manifest_lints.proofs.MoreSames.{at_has, at_within, has_so}
 use Rattle.manifest_lints.proofs.MoreEquivalents.{as_spelled}
@@ -69,20 +69,17 @@ module _ (k : Known) where
 module _ (k : Known) (es : List Entry) (ns : List ℕ) (old : Keys) (c : Condition) (members : AreMembers es old)
     (before : AreCovered k es ns old) where
   no_member : (r : Earlier) → TellsNoneEquivalent k old c r → IsTrue (is_unlike r) → IsExpression c
-      → AreCompared k es c → (d : Condition) → AreEquivalent k d c
+      → (d : Condition) → AreEquivalent k d c
       → Any (λ (m : Member). AreEquivalent k (condition_of m.1.now) d) old.members.items → ⊥
-  no_member r tells unlike tree compared d alike (i, m, within, at, like) =
+  no_member r tells unlike tree d alike (i, m, within, at, like) =
       let as_true : AreEquivalent k (condition_of m.1.now) c = alike_then k (condition_of m.1.now) d c like alike in
       let stands : IsMemberAt old m i = (within, λ other. get_or_default old.members.items i other m within ∙ at) in
-      let spelled : HasOne (λ x. x ≡ condition_of m.1.now) es =
-      at_has (λ x. x ≡ condition_of m.1.now) es m.0
-      (as_spelled k es old c members (λ x. x ≡ condition_of m.1.now) i m within at refl) in
-      tells unlike tree.0 tree.1 compared.0 m i stands (compared.1 (condition_of m.1.now) spelled as_true) as_true
+      tells unlike tree.0 tree.1 m i stands as_true
 
   pub unlike_misses_none : (r : Earlier)
       → (AllowsRustcs k → AreClassed old → TellsNoneEquivalent k old c r) → IsTrue (is_unlike r)
       → MissesNone k es ns c
-  unlike_misses_none r tells unlike = λ allows holds fails other compared d n settled alike.
+  unlike_misses_none r tells unlike = λ allows holds fails other d n settled alike.
       elim (same_or_trees k d c alike holds) [
         | inl same ↦
             other (has_so (λ x. x ≡ d) (IsSameAs c) es (λ x is. ap condition_key is ∙ same)
@@ -90,7 +87,7 @@ module _ (k : Known) (es : List Entry) (ns : List ℕ) (old : Keys) (c : Conditi
         | inr trees ↦
             elim (before.covered d n trees.0 settled) [
               | inl member ↦
-                  no_member r (tells allows before.classed) unlike trees.1 compared d alike member
+                  no_member r (tells allows before.classed) unlike trees.1 d alike member
               | inr decided ↦
                   elim decided [
                     | inl never ↦ not_never k d c alike holds never
@@ -108,7 +105,7 @@ module _ (k : Known) (es : List Entry) (ns : List ℕ) (old : Keys) (c : Conditi
       absurd (other (at_has (IsSameAs c) es f same.one))
   misses_none earlier.Unlike tells same decided not_told = unlike_misses_none earlier.Unlike tells refl
   misses_none (earlier.Equivalent f) tells same decided not_told = absurd (true≢false not_told)
-  misses_none earlier.Undecided tells same decided not_told = λ allows holds fails other compared d n settled alike.
+  misses_none earlier.Undecided tells same decided not_told = λ allows holds fails other d n settled alike.
       elim (decided refl) [
         | inl never ↦ not_never k c c (alike_self k c) holds never
         | inr always ↦ not_always k c c (alike_self k c) fails always

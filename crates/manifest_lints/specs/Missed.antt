@@ -4,21 +4,12 @@ use Rattle.std.specs.List.{Any}
 use Rattle.cargo_platform.specs.Trees.{Condition, condition_of}
 use Rattle.exact_answers.specs.declared.known.Known.{Known}
 use Rattle.manifest_documents.specs.Entries.{Entry}
-use Rattle.manifest_lints_questions.specs.Classes.{AreClassed, AsksForKnown}
+use Rattle.manifest_lints_questions.specs.Classes.{AreClassed}
 use Rattle.manifest_lints_questions.specs.Earlier.{AreEquivalent, IsExpression}
 use Rattle.manifest_lints_questions.specs.Rustcs.{AllowsRustcs}
 use Rattle.manifest_lints_questions.specs.Truths.{IsNever, IsAlways, CanHold, CanFail}
 use Rattle.manifest_lints_questions.specs.declared.earlier.Keys.{Keys}
-use Rattle.manifest_lints.specs.Sames.{HasOne, HasSame, IsSpelledAt}
-
--- a condition among which none is missed: it asks for known values alone
-abbrev pub IsCompared : Condition → Type 0
-IsCompared c = AsksForKnown c
-
--- this one and all that are as true and spelled by these keys are such
-abbrev pub AreCompared : Known → List Entry → Condition → Type 0
-AreCompared k es c =
-    IsCompared c × ((d : Condition) → HasOne (λ x. x ≡ d) es → AreEquivalent k d c → IsCompared d)
+use Rattle.manifest_lints.specs.Sames.{HasSame, IsSpelledAt}
 
 -- the key at this place spells the condition, no key before it spells the same, and nothing of it is left open
 pub record IsSettledAt (es : List Entry) (ns : List ℕ) (d : Condition) (n : ℕ) : Type 0 where
@@ -29,7 +20,7 @@ pub record IsSettledAt (es : List Entry) (ns : List ℕ) (d : Condition) (n : �
 -- no settled key before one is as true, where none is the same and the condition is neither never nor always true
 abbrev pub MissesNone : Known → List Entry → List ℕ → Condition → Type 0
 MissesNone k es ns c =
-    AllowsRustcs k → CanHold k c → CanFail k c → (HasSame es c → ⊥) → AreCompared k es c
+    AllowsRustcs k → CanHold k c → CanFail k c → (HasSame es c → ⊥)
     → (d : Condition) (n : ℕ) → IsSettledAt es ns d n → AreEquivalent k d c → ⊥
 
 -- ---- what is kept of the keys so far

@@ -2,8 +2,8 @@
 use Prim.Native.Nat.{zero, suc}
 use Rattle.std.proofs.Common.{◌≡◌, ◌∙◌, refl, sym, ap, subst, ℕ, ◌+◌, ◌*◌, ◌/◌, ◌%◌, ◌^◌, ◌<◌, true, false}
 use Rattle.std.proofs.Common.{◌&&◌, ◌↔◌, inl, inr, arith, List, [], ◌∷◌, ◌++◌, map, length, get_or}
-use Rattle.std.proofs.Common.{cond, length-append, Option, Some, None}
-use Rattle.std.specs.Prelude.{codes, is_some, Contains, IsTrue, Vec, nat_eq, Result, Ok, Err, IfOk, OnOk}
+use Rattle.std.proofs.Common.{cond, length-append, Option, Some, None, Bool, ◌||◌, not, true≢false}
+use Rattle.std.specs.Prelude.{codes, is_some, Contains, IsTrue, Vec, nat_eq, bytes_eq, Result, Ok, Err, IfOk, OnOk}
 use Rattle.std.specs.declared.alloc.Global.{Global}
 use Rattle.std.specs.Ordering.{is_eq, nat_cmp}
 use Rattle.std.specs.Cmp.{Equal-is, both_ways, eq_by_cmp_equiv}
@@ -16,13 +16,16 @@ use Rattle.std.proofs.lemmas.List.{ext_get_or, get_or-map, length-map, get_or_ap
 use Rattle.std.proofs.Math.Seq.{get_or-append_seam}
 use Rattle.std.proofs.lemmas.List.Elements.{Contains-append_left, Contains-append_right, Contains-push}
 use Rattle.std.proofs.lemmas.Map.Lookups.{exact_bytes}
+use Rattle.std.proofs.lemmas.Slice.Eq.{bytes_eq-Decides}
 use Rattle.std.proofs.lemmas.Map.Views.{list_any-from_Contains}
-use Rattle.cargo_platform.specs.Trees.{CfgValue, Tree, Condition, Expression, condition_of}
+use Rattle.cargo_platform.specs.Trees.{CfgValue, Tree, Not, All, Any, Value, True, False, Trees, none, tree}
+use Rattle.cargo_platform.specs.Trees.{Condition, Expression, condition_of}
 use Rattle.cargo_platform.specs.Facts.{Pair, FactSet, IsTrueCondition, pair_of, pair_cmp, truth}
-use Rattle.cargo_platform.specs.Warnings.{values}
+use Rattle.cargo_platform.specs.Warnings.{values, members_values}
 use Rattle.cargo_platform.proofs.FactSets.{pairs_total}
 use Rattle.partial_facts.specs.Partly.{is_named}
-use Rattle.partial_facts.specs.OneValued.{is_single}
+use Rattle.partial_facts.specs.OneValued.{is_single, is_value}
+use Rattle.known_targets.specs.Listed.{some_below}
 use Rattle.known_targets.specs.Bits.{has}
 use Rattle.known_targets.specs.Sets.{is_member}
 use Rattle.known_targets.specs.Table.{target_name, target_facts}
@@ -30,19 +33,26 @@ use Rattle.known_targets.specs.declared.target_set.TargetSet.{TargetSet}
 use Rattle.known_targets.specs.declared.table.TheConstants.{COUNT}
 use Rattle.exact_answers.specs.Families.{IsSetWithFamily}
 use Rattle.exact_answers.specs.declared.known.Known.{Known}
-use Rattle.manifest_lints_questions.specs.Samples.{AreTruths, is_set, truth_by, one_valued, is_rustcs, holds_beside}
+use Rattle.manifest_lints_questions.specs.Samples.{AreTruths, is_set, truth_by, all_by, any_by, one_valued}
+use Rattle.manifest_lints_questions.specs.Samples.{holds, holds_with, holds_beside, is_only}
 use Rattle.manifest_lints_questions.specs.Rustcs.{IsRustcs, AllowsRustcs}
 use Rattle.manifest_lints_questions.specs.Earlier.{Member, IsMemberAt, AreEquivalent, NoneIsEquivalent, places_in}
 use Rattle.manifest_lints_questions.specs.Earlier.{places_of, part_of, is_unlike, TellsUnlike}
-use Rattle.manifest_lints_questions.specs.Classes.{AsksForKnown, IsClassOf, IsNumberOf, ClassMap, PutsIn, PutsMember}
+use Rattle.manifest_lints_questions.specs.Classes.{IsClassOf, ClassMap, PutsIn, PutsMember}
+use Rattle.manifest_lints_questions.specs.Numbers.{IsNumberOf, is_unknown_value, unknown_values, same_pair, has_pair}
+use Rattle.manifest_lints_questions.specs.Numbers.{truths_with, apart, apart_of, summed}
 use Rattle.manifest_lints_questions.specs.Classes.{IsClassed, AreClassed, AreUnlike, TellsNoneEquivalent}
 use Rattle.manifest_lints_questions.specs.declared.earlier.Earlier.{Earlier}
 use Rattle.manifest_lints_questions.specs.declared.earlier.Keys.{Keys}
 use Rattle.manifest_lints_questions.specs.declared.sample_sets.TheConstants.{STRIDE}
-use Rattle.manifest_lints_questions.proofs.Words.{same_word, left_true}
+use Rattle.manifest_lints_questions.proofs.Words.{same_word, left_true, right_true}
 use Rattle.manifest_lints_questions.proofs.Rows.{one_value, family_name, family_pair, unix_family, windows_family}
 use Rattle.manifest_lints_questions.proofs.Rows.{unix_is, windows_is}
 use Rattle.manifest_lints_questions.proofs.Samples.{single_is, holds_known, beside_none, sample, in_sample, over_sample}
+use Rattle.manifest_lints_questions.proofs.Samples.{with_others, with_key}
+use Rattle.manifest_lints_questions.proofs.Numbers.{apart_none, same_bits, each_distinct, each_unknown, all_found}
+use Rattle.manifest_lints_questions.proofs.Numbers.{same_total, same_total_word, same_at, only_others}
+use Rattle.manifest_lints_questions.proofs.Tried.{fails_at}
 
 -- ---- known targets are possible
 
@@ -54,55 +64,126 @@ targets_are k below = (
 
 -- ---- sets that are tried are possible
 
-module _ (l : ℕ) (below : l < 64) (ps : List Pair) where
-  abbrev tried : FactSet
-  tried = sample (holds_beside None l) ps
+-- what this tells keeps the rules: a key with one value has one at most, and families go with their pairs
+pub record KeepsRules (h : Pair → Bool) : Type 0 where
+  pub one : (p q : Pair) → is_single one_valued p ≡ true → is_some q.value ≡ true → p.name ≡ q.name → h p ≡ true
+      → h q ≡ true → p ≡ q
+  pub unix : h (family_name (codes "unix")) ≡ h (family_pair (codes "unix"))
+  pub windows : h (family_name (codes "windows")) ≡ h (family_pair (codes "windows"))
 
+single_too : (p q : Pair) → p.name ≡ q.name → is_single one_valued p ≡ true → is_some q.value ≡ true
+    → is_single one_valued q ≡ true
+single_too p q names sp sq =
+    let named : is_named q.name one_valued ≡ true =
+    subst (λ n. is_named n one_valued ≡ true) names (left_true (is_named p.name one_valued) (is_some p.value) sp) in
+    λ i. named i && sq i
+
+module _ (l : ℕ) (low : l < 64) where
   place_within : l * STRIDE < COUNT
   place_within = omega arith
 
-  had : (p : Pair) → is_rustcs p ≡ true → holds_beside None l p ≡ contains (target_facts (l * STRIDE)) p
-  had p is = beside_none l p ∙ holds_known l p is
-
-  in_target : (p : Pair) → is_single one_valued p ≡ true → contains tried p ≡ true
+  in_target : (p : Pair) → is_single one_valued p ≡ true → holds l p ≡ true
       → contains (target_facts (l * STRIDE)) p ≡ true
-  in_target p single h =
-      sym (had p (single_is p single))
-      ∙ left_true (holds_beside None l p) (contains {R = pair_cmp} (from_list ps) p)
-      (sym (in_sample (holds_beside None l) ps p) ∙ h)
+  in_target p single h = sym (holds_known l p (single_is p single)) ∙ h
 
-  single_too : (p q : Pair) → p.name ≡ q.name → is_single one_valued p ≡ true → is_some q.value ≡ true
-      → is_single one_valued q ≡ true
-  single_too p q names sp sq =
-      let named : is_named q.name one_valued ≡ true =
-      subst (λ n. is_named n one_valued ≡ true) names (left_true (is_named p.name one_valued) (is_some p.value) sp) in
-      λ i. named i && sq i
+  target_one : (p q : Pair) → is_single one_valued p ≡ true → is_some q.value ≡ true → p.name ≡ q.name
+      → holds l p ≡ true → holds l q ≡ true → p ≡ q
+  target_one p q sp sq names hp hq =
+      one_value (l * STRIDE) p q place_within sp sq names (in_target p sp hp)
+      (in_target q (single_too p q names sp sq) hq)
 
-  with_family : (family : List ℕ) → is_rustcs (family_name family) ≡ true → is_rustcs (family_pair family) ≡ true
-      → contains {R = pair_cmp} (from_list ps) (family_name family) ≡ true
+  target_unix : holds l (family_name (codes "unix")) ≡ holds l (family_pair (codes "unix"))
+  target_unix =
+      holds_known l (family_name (codes "unix")) unix_is.0 ∙ unix_family (l * STRIDE)
+      ∙ sym (holds_known l (family_pair (codes "unix")) unix_is.1)
+
+  target_windows : holds l (family_name (codes "windows")) ≡ holds l (family_pair (codes "windows"))
+  target_windows =
+      holds_known l (family_name (codes "windows")) windows_is.0 ∙ windows_family (l * STRIDE)
+      ∙ sym (holds_known l (family_pair (codes "windows")) windows_is.1)
+
+  keeps_none : KeepsRules (holds_beside None l)
+  keeps_none = record {
+    one = λ p q sp sq names hp hq. target_one p q sp sq names (sym (beside_none l p) ∙ hp) (sym (beside_none l q) ∙ hq);
+    unix = beside_none l (family_name (codes "unix")) ∙ target_unix
+        ∙ sym (beside_none l (family_pair (codes "unix")));
+    windows = beside_none l (family_name (codes "windows")) ∙ target_windows
+        ∙ sym (beside_none l (family_pair (codes "windows")));
+  }
+
+  -- the same where a key with one value has this value alone, or none
+  module _ (name : List ℕ) (only : Option (List ℕ)) (named : is_named name one_valued ≡ true) where
+    is_only_one : (o v w : Option (List ℕ)) → is_only o v ≡ true → is_only o w ≡ true → v ≡ w
+    is_only_one o None w hv hw = absurd (true≢false (sym hv))
+    is_only_one None (Some v) w hv hw = absurd (true≢false (sym hv))
+    is_only_one (Some o) (Some v) None hv hw = absurd (true≢false (sym hw))
+    is_only_one (Some o) (Some v) (Some w) hv hw =
+        ap Some ((bytes_eq-Decides v o).0 hv ∙ sym ((bytes_eq-Decides w o).0 hw))
+
+    value_too : (p q : Pair) → p.name ≡ q.name → is_some q.value ≡ true → is_value name p ≡ true
+        → is_value name q ≡ true
+    value_too p q names sq is = λ i.
+        sq i && (sym (ap (λ n. bytes_eq n name) names) ∙ right_true (is_some p.value) (bytes_eq p.name name) is) i
+
+    with_one : (p q : Pair) → is_single one_valued p ≡ true → is_some q.value ≡ true → p.name ≡ q.name
+        → holds_with name only l p ≡ true → holds_with name only l q ≡ true → p ≡ q
+    with_one p q sp sq names hp hq =
+        let sp_value = right_true (is_named p.name one_valued) (is_some p.value) sp in
+        elim (is_value name p) as (λ b. is_value name p ≡ b → p ≡ q) [
+          | true ↦ λ is.
+              let also = value_too p q names sq is in
+              let values : p.value ≡ q.value =
+              is_only_one only p.value q.value (sym (with_key name only l p is) ∙ hp)
+              (sym (with_key name only l q also) ∙ hq) in
+              λ i. record { name = names i; value = values i }
+          | false ↦ λ no.
+              let other : is_value name q ≡ false =
+              elim (is_value name q) as (λ b. is_value name q ≡ b → b ≡ false) [
+                | true ↦ λ e. absurd (true≢false (sym (value_too q p (sym names) sp_value e) ∙ no))
+                | false ↦ λ e. refl
+              ] refl in
+              target_one p q sp sq names (sym (with_others name only l p no) ∙ hp)
+              (sym (with_others name only l q other) ∙ hq)
+        ] refl
+
+    no_family : (family : List ℕ) → is_value name (family_pair family) ≡ false
+    no_family family =
+        elim (bytes_eq (codes "target_family") name) as (λ b. bytes_eq (codes "target_family") name ≡ b → b ≡ false) [
+          | true ↦ λ e.
+              let is : codes "target_family" ≡ name = (bytes_eq-Decides (codes "target_family") name).0 e in
+              let no : is_named (codes "target_family") one_valued ≡ false = refl in
+              absurd (true≢false (sym (ap (λ n. is_named n one_valued) is ∙ named) ∙ no))
+          | false ↦ λ e. refl
+        ] refl
+
+    keeps_with : KeepsRules (holds_with name only l)
+    keeps_with = record {
+      one = with_one;
+      unix = with_others name only l (family_name (codes "unix")) refl ∙ target_unix
+          ∙ sym (with_others name only l (family_pair (codes "unix")) (no_family (codes "unix")));
+      windows = with_others name only l (family_name (codes "windows")) refl ∙ target_windows
+          ∙ sym (with_others name only l (family_pair (codes "windows")) (no_family (codes "windows")));
+    }
+
+module _ (h : Pair → Bool) (ps : List Pair) (keeps : KeepsRules h) where
+  held : (p : Pair) → contains (sample h ps) p ≡ true → h p ≡ true
+  held p is = left_true (h p) (contains {R = pair_cmp} (from_list ps) p) (sym (in_sample h ps p) ∙ is)
+
+  with_family : (family : List ℕ) → contains {R = pair_cmp} (from_list ps) (family_name family) ≡ true
       → contains {R = pair_cmp} (from_list ps) (family_pair family) ≡ true
-      → contains (target_facts (l * STRIDE)) (family_name family)
-      ≡ contains (target_facts (l * STRIDE)) (family_pair family)
-      → IsSetWithFamily tried family
-  with_family family name pair has_name has_pair same =
-      in_sample (holds_beside None l) ps (family_name family)
-      ∙ (λ i. (had (family_name family) name ∙ same ∙ sym (had (family_pair family) pair)) i
-      && (has_name ∙ sym has_pair) i)
-      ∙ sym (in_sample (holds_beside None l) ps (family_pair family))
+      → h (family_name family) ≡ h (family_pair family) → IsSetWithFamily (sample h ps) family
+  with_family family has_name has_pair same =
+      in_sample h ps (family_name family) ∙ (λ i. same i && (has_name ∙ sym has_pair) i)
+      ∙ sym (in_sample h ps (family_pair family))
 
   pub tried_are : contains {R = pair_cmp} (from_list ps) (family_name (codes "unix")) ≡ true
       → contains {R = pair_cmp} (from_list ps) (family_pair (codes "unix")) ≡ true
       → contains {R = pair_cmp} (from_list ps) (family_name (codes "windows")) ≡ true
       → contains {R = pair_cmp} (from_list ps) (family_pair (codes "windows")) ≡ true
-      → IsRustcs (sample (holds_beside None l) ps)
+      → IsRustcs (sample h ps)
   tried_are u up w wp = (
-    λ p q sp sq names hp hq.
-        inl (one_value (l * STRIDE) p q place_within sp sq names (in_target p sp hp)
-        (in_target q (single_too p q names sp sq) hq)),
-    (
-      with_family (codes "unix") unix_is.0 unix_is.1 u up (unix_family (l * STRIDE)),
-      with_family (codes "windows") windows_is.0 windows_is.1 w wp (windows_family (l * STRIDE)),
-    ),
+    λ p q sp sq names hp hq. inl (keeps.one p q sp sq names (held p hp) (held q hq)),
+    (with_family (codes "unix") u up keeps.unix, with_family (codes "windows") w wp keeps.windows),
   )
 
 -- ---- truths over them
@@ -142,20 +223,106 @@ truths_alike k e d s allows is alike =
     let same = alike [] s ((allows s).1 is) in both_ways (truth s e) (truth s d) same.0 same.1
 
 pub same_truths : (k : Known) (e d : Tree) → AllowsRustcs k → AreEquivalent k (Expression e) (Expression d)
-    → (l : ℕ) → l < 64 → truth_by (holds_beside None l) e ≡ truth_by (holds_beside None l) d
-same_truths k e d allows alike l below =
+    → (h : Pair → Bool) → KeepsRules h → truth_by h e ≡ truth_by h d
+same_truths k e d allows alike h keeps =
     let ps = pairs_for e d in
-    let s = sample (holds_beside None l) ps in
+    let s = sample h ps in
     let is : IsRustcs s =
-    tried_are l below ps (family_at e d 0 (family_name (codes "unix")) (omega arith) refl)
+    tried_are h ps keeps (family_at e d 0 (family_name (codes "unix")) (omega arith) refl)
     (family_at e d 1 (family_pair (codes "unix")) (omega arith) refl)
     (family_at e d 2 (family_name (codes "windows")) (omega arith) refl)
     (family_at e d 3 (family_pair (codes "windows")) (omega arith) refl) in
-    sym (over_sample (holds_beside None l) ps e
-    (λ c m. asked_for e d c (Contains-append_left (values e) (values d) c m)))
+    sym (over_sample h ps e (λ c m. asked_for e d c (Contains-append_left (values e) (values d) c m)))
     ∙ truths_alike k e d s allows is alike
-    ∙ over_sample (holds_beside None l) ps d
-    (λ c m. asked_for e d c (Contains-append_right (values e) (values d) c m))
+    ∙ over_sample h ps d (λ c m. asked_for e d c (Contains-append_right (values e) (values d) c m))
+
+-- ---- numbers
+
+mutual
+  -- what tells the same of what a tree asks for makes it as true
+  told_alike : (h g : Pair → Bool) (e : Tree) → ((c : CfgValue) → Contains (values e) c → h (pair_of c) ≡ g (pair_of c))
+      → truth_by h e ≡ truth_by g e
+  told_alike h g (Not e) each = ap not (told_alike h g e each)
+  told_alike h g (All es) each = all_alike h g es each
+  told_alike h g (Any es) each = any_alike h g es each
+  told_alike h g (Value c) each = each c (Contains-push [] c)
+  told_alike h g True each = refl
+  told_alike h g False each = refl
+
+  all_alike : (h g : Pair → Bool) (es : Trees)
+      → ((c : CfgValue) → Contains (members_values es) c → h (pair_of c) ≡ g (pair_of c)) → all_by h es ≡ all_by g es
+  all_alike h g none each = refl
+  all_alike h g (tree e es) each =
+      λ i. told_alike h g e (λ c m. each c (Contains-append_left (values e) (members_values es) c m)) i
+      && all_alike h g es (λ c m. each c (Contains-append_right (values e) (members_values es) c m)) i
+
+  any_alike : (h g : Pair → Bool) (es : Trees)
+      → ((c : CfgValue) → Contains (members_values es) c → h (pair_of c) ≡ g (pair_of c)) → any_by h es ≡ any_by g es
+  any_alike h g none each = refl
+  any_alike h g (tree e es) each =
+      λ i. told_alike h g e (λ c m. each c (Contains-append_left (values e) (members_values es) c m)) i
+      || any_alike h g es (λ c m. each c (Contains-append_right (values e) (members_values es) c m)) i
+
+-- a pair that is not the one tells the same, whether the key has the value of this one or none
+not_only : (l : ℕ) (p q : Pair) → same_pair p q ≡ false
+    → holds_with p.name p.value l q ≡ holds_with p.name None l q
+not_only l p q other = elim (is_value p.name q) as (λ b. is_value p.name q ≡ b
+    → holds_with p.name p.value l q ≡ holds_with p.name None l q) [
+      | true ↦ λ is.
+          with_key p.name p.value l q is
+          ∙ only_others p q (right_true (is_some q.value) (bytes_eq q.name p.name) is) other
+          ∙ sym (with_key p.name None l q is)
+      | false ↦ λ no. with_others p.name p.value l q no ∙ sym (with_others p.name None l q no)
+    ] refl
+
+-- what is not asked for has no number
+not_asked : (e : Tree) (p : Pair) → has_pair (map pair_of (values e)) p ≡ false → apart_of e p ≡ 0
+not_asked e p missing =
+    apart_none (truths_with p.name p.value e) (truths_with p.name None e) p
+    (same_bits 64 (λ l. truth_by (holds_with p.name p.value l) e) (λ l. truth_by (holds_with p.name None l) e)
+    (λ l low. told_alike (holds_with p.name p.value l) (holds_with p.name None l) e
+    (λ c m. not_only l p (pair_of c)
+    (fails_at (same_pair p) (map pair_of (values e)) (pair_of c) (mapped (values e) c m) missing))))
+
+module _ (k : Known) (e d : Tree) (allows : AllowsRustcs k)
+    (alike : AreEquivalent k (Expression e) (Expression d)) where
+  named_is : (p : Pair) → is_unknown_value p ≡ true → is_named p.name one_valued ≡ true
+  named_is p unknown =
+      left_true (is_named p.name one_valued) (is_some p.value) (left_true (is_single one_valued p)
+      (not (some_below COUNT (λ k. contains (target_facts k) p))) unknown)
+
+  same_with : (name : List ℕ) (only : Option (List ℕ)) → is_named name one_valued ≡ true
+      → truths_with name only e ≡ truths_with name only d
+  same_with name only named =
+      same_bits 64 (λ l. truth_by (holds_with name only l) e) (λ l. truth_by (holds_with name only l) d)
+      (λ l low. same_truths k e d allows alike (holds_with name only l) (keeps_with l low name only named))
+
+  same_apart : (p : Pair) → is_unknown_value p ≡ true → apart_of e p ≡ apart_of d p
+  same_apart p unknown =
+      let named = named_is p unknown in
+      λ i. apart (same_with p.name p.value named i) (same_with p.name None named i) p
+
+  unknown_there : (x : Tree) (p : Pair) → has_pair (unknown_values x) p ≡ true → is_unknown_value p ≡ true
+  unknown_there x p is =
+      each_unknown [] (map pair_of (values x)) p (λ h. absurd (true≢false (sym h))) is
+
+  not_among : (x : Tree) (p : Pair) → is_unknown_value p ≡ true → has_pair (unknown_values x) p ≡ false
+      → has_pair (map pair_of (values x)) p ≡ false
+  not_among x p unknown missing =
+      elim (has_pair (map pair_of (values x)) p) as (λ b. has_pair (map pair_of (values x)) p ≡ b → b ≡ false) [
+        | true ↦ λ is. absurd (true≢false (sym (all_found [] (map pair_of (values x)) p unknown is) ∙ missing))
+        | false ↦ λ no. refl
+      ] refl
+
+  pub same_sum : summed (apart_of e) 0 (unknown_values e) ≡ summed (apart_of d) 0 (unknown_values d)
+  same_sum =
+      same_total_word (apart_of e) (unknown_values e) (unknown_values d)
+      (same_total (apart_of e) (unknown_values e) (unknown_values d)
+      (each_distinct [] (map pair_of (values e)) tt) (each_distinct [] (map pair_of (values d)) tt)
+      (λ p is missing. let unknown = unknown_there e p is in
+      same_apart p unknown ∙ not_asked d p (not_among d p unknown missing))
+      (λ p is missing. not_asked e p (not_among e p (unknown_there d p is) missing)))
+      ∙ same_at (apart_of e) (apart_of d) 0 (unknown_values d) (λ p is. same_apart p (unknown_there d p is))
 
 -- ---- classes
 
@@ -182,7 +349,8 @@ module _ (k : Known) (e d : Tree) (allows : AllowsRustcs k) (alike : AreEquivale
   sample_word : get_or x 5 0 ≡ get_or y 5 0
   sample_word =
       same_word (get_or x 5 0) (get_or y 5 0) (first.small 5) (second.small 5)
-      (λ l low. first.over_samples l low ∙ same_truths k e d allows alike l low ∙ sym (second.over_samples l low))
+      (λ l low. first.over_samples l low
+      ∙ same_truths k e d allows alike (holds_beside None l) (keeps_none l low) ∙ sym (second.over_samples l low))
 
   words : (j : ℕ) → j < 8 → get_or x j 0 ≡ get_or y j 0
   words j within = elim (cases_lt j 5) [
@@ -210,21 +378,32 @@ module _ (k : Known) (keys : Keys) (c : Condition) (allows : AllowsRustcs k) (cl
   found_among n ns none_is (i, within, is) m at alike =
       none_is i n within m (subst (IsMemberAt keys m) (sym is) at) alike
 
-  pub none_missed : (e : Tree) (class : List ℕ) (number : Option ℕ) → IsClassOf e class → IsNumberOf c number
-      → AreUnlike k keys c class number → c ≡ Expression e → AsksForKnown c → (m : Member) (n : ℕ)
-      → IsMemberAt keys m n → AsksForKnown (condition_of m.1.now) → AreEquivalent k (condition_of m.1.now) c → ⊥
-  none_missed e class number is_class is_number unlike tree asks m n at asks_too alike =
+  -- where both have a number, the member stands in the part of this number
+  among_part : (e d : Tree) (class : List ℕ) (number its : Option ℕ) (n : ℕ)
+      → AreEquivalent k (Expression d) (Expression e) → IsNumberOf e number → IsNumberOf d its → AreUnlike k keys c class number → Contains (places_of keys class) n
+      → Contains (places_of keys (part_of class its)) n → (m : Member) → IsMemberAt keys m n
+      → AreEquivalent k (condition_of m.1.now) c → ⊥
+  among_part e d class None its n both first second unlike in_class in_part m at alike =
+      found_among n (places_of keys class) unlike in_class m at alike
+  among_part e d class (Some number) None n both first second unlike in_class in_part m at alike =
+      found_among n (places_of keys (part_of class None)) unlike.1 in_part m at alike
+  among_part e d class (Some number) (Some its) n both first second unlike in_class in_part m at alike =
+      let same : its ≡ number = second ∙ same_sum k d e allows both ∙ sym first in
+      found_among n (places_of keys (part_of class (Some number))) unlike.0
+      (subst (λ (x : ℕ). Contains (places_of keys (part_of class (Some x))) n) same in_part) m at alike
+
+  pub none_missed : (e : Tree) (class : List ℕ) (number : Option ℕ) → IsClassOf e class → IsNumberOf e number
+      → AreUnlike k keys c class number → c ≡ Expression e → (m : Member) (n : ℕ)
+      → IsMemberAt keys m n → AreEquivalent k (condition_of m.1.now) c → ⊥
+  none_missed e class number is_class is_number unlike is_tree m n at alike =
       let its = classed m n at in
       let both : AreEquivalent k (Expression its.tree) (Expression e) =
       subst (λ (x : Condition). AreEquivalent k x (Expression e)) its.is_tree
-      (subst (λ (x : Condition). AreEquivalent k (condition_of m.1.now) x) tree alike) in
+      (subst (λ (x : Condition). AreEquivalent k (condition_of m.1.now) x) is_tree alike) in
       let same : its.class ≡ class = same_class k its.tree e allows both its.class class its.is_class is_class in
-      let unlike_so = subst (AreUnlike k keys c class) (is_number asks) unlike in
-      let stands : Contains (places_of keys (part_of class (Some 0))) n =
-      subst (λ (x : List ℕ). Contains (places_of keys (part_of x (Some 0))) n) same
-      (subst (λ (o : Option ℕ). Contains (places_of keys (part_of its.class o)) n) (its.is_number asks_too)
-      its.in_part) in
-      found_among n (places_of keys (part_of class (Some 0))) unlike_so.0 stands m at alike
+      among_part e its.tree class number its.number n both is_number its.is_number unlike
+      (subst (λ (x : List ℕ). Contains (places_of keys x) n) same its.in_class)
+      (subst (λ (x : List ℕ). Contains (places_of keys (part_of x its.number)) n) same its.in_part) m at alike
 
 -- ---- one more member
 
@@ -249,7 +428,7 @@ puts old new class n before v was items updates q =
 
 module _ (old new : Keys) (m : Member) (class : List ℕ) (number : Option ℕ) (e : Tree)
     (puts_it : PutsMember old new m class number) (tree : condition_of m.1.now ≡ Expression e)
-    (is_class : IsClassOf e class) (is_number : IsNumberOf (condition_of m.1.now) number)
+    (is_class : IsClassOf e class) (is_number : IsNumberOf e number)
     (before : AreClassed old) where
   long : length new.members.items ≡ length old.members.items + 1
   long = ap length puts_it.pushed ∙ length-append old.members.items (m ∷ [])
@@ -433,6 +612,6 @@ same_classed old new members classes before m n at =
 pub same_unlike : {E : Type 0} (k : Known) (old new : Keys) (c : Condition) (r : Result Earlier E)
     → new.members.items ≡ old.members.items → IfOk r (TellsNoneEquivalent k new c)
     → IfOk r (TellsNoneEquivalent k old c)
-same_unlike k old new c (Ok a) same told = λ so e tree asks m n at.
-    told so e tree asks m n (member_too new old m n (sym same) at)
+same_unlike k old new c (Ok a) same told = λ so e is_tree m n at.
+    told so e is_tree m n (member_too new old m n (sym same) at)
 same_unlike k old new c (Err e) same told = tt

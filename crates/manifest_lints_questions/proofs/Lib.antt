@@ -4,4 +4,5 @@ pub mod Noting
 pub mod Words
 pub mod Rows
 pub mod Samples
+pub mod Numbers
 pub mod Classes

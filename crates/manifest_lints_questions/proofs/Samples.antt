@@ -1,6 +1,6 @@
 -- Truths over the sets of facts that are tried.
 use Rattle.std.proofs.Common.{◌≡◌, ◌∙◌, refl, sym, ap, ℕ, ◌*◌, ◌<◌, Bool, true, false, true≢false, not, ◌&&◌}
-use Rattle.std.proofs.Common.{◌||◌, List, [], ◌∷◌, ◌++◌, cond, Some, None}
+use Rattle.std.proofs.Common.{◌||◌, List, [], ◌∷◌, ◌++◌, cond, Option, Some, None}
 use Rattle.std.specs.Prelude.{Contains}
 use Rattle.std.specs.List.{filter}
 use Rattle.std.specs.Ordering.{eq_by_cmp}
@@ -8,6 +8,7 @@ use Rattle.std.specs.Cmp.{Equal-is, both_ways}
 use Rattle.std.specs.FinSet.{contains, from_list, contains-from_list}
 use Rattle.std.proofs.lemmas.Map.Views.{any-filter_same}
 use Rattle.std.proofs.lemmas.List.Elements.{Contains-append_left, Contains-append_right, Contains-push}
+use Rattle.std.proofs.Math.Path.{fun_ext}
 use Rattle.cargo_platform.specs.Trees.{CfgValue, Tree, Not, All, Any, Value, True, False, Trees, none, tree, trees_of}
 use Rattle.cargo_platform.specs.Facts.{Pair, FactSet, pair_of, pair_cmp, truth, all_true, any_true}
 use Rattle.cargo_platform.specs.Walk.{list_tree}
@@ -21,8 +22,8 @@ use Rattle.known_targets.specs.Table.{target_facts}
 use Rattle.known_targets.specs.declared.table.TheConstants.{COUNT}
 use Rattle.known_targets.proofs.Listed.{some_none, none_some}
 use Rattle.manifest_lints_questions.specs.Samples.{truth_by, all_by, any_by, one_valued, is_rustcs, holds}
-use Rattle.manifest_lints_questions.specs.Samples.{is_set, mixed_truths, holds_beside, is_only}
-use Rattle.manifest_lints_questions.specs.Classes.{is_unknown_value}
+use Rattle.manifest_lints_questions.specs.Samples.{is_set, mixed_truths, holds_with, holds_beside, is_only, text_of}
+use Rattle.manifest_lints_questions.specs.Numbers.{is_unknown_value}
 use Rattle.manifest_lints_questions.proofs.Words.{right_true}
 use Rattle.manifest_lints_questions.specs.declared.sample_sets.Other.{Other}
 use Rattle.manifest_lints_questions.specs.declared.sample_sets.TheConstants.{STRIDE}
@@ -33,7 +34,7 @@ and_true : (a : Bool) → (a && true) ≡ a
 and_true true = refl
 and_true false = refl
 
-or_false : (a : Bool) → (a || false) ≡ a
+pub or_false : (a : Bool) → (a || false) ≡ a
 or_false true = refl
 or_false false = refl
 
@@ -41,7 +42,7 @@ and_assoc : (a b c : Bool) → ((a && b) && c) ≡ (a && (b && c))
 and_assoc true b c = refl
 and_assoc false b c = refl
 
-or_assoc : (a b c : Bool) → ((a || b) || c) ≡ (a || (b || c))
+pub or_assoc : (a b c : Bool) → ((a || b) || c) ≡ (a || (b || c))
 or_assoc true b c = refl
 or_assoc false b c = refl
 
@@ -62,7 +63,7 @@ one_more false h (m ∷ es) e =
 
 -- ---- what is rustc's
 
-not_true : (b : Bool) → not b ≡ true → b ≡ false
+pub not_true : (b : Bool) → not b ≡ true → b ≡ false
 not_true true h = sym h
 not_true false h = refl
 
@@ -90,7 +91,7 @@ unknown_is p is_empty single none_has back =
 pub single_not : (p : Pair) → is_single one_valued p ≡ false → is_unknown_value p ≡ false
 single_not p is = ap (λ b. b && not (some_below COUNT (λ k. contains (target_facts k) p))) is
 
-or_right : (a b : Bool) → b ≡ true → (a || b) ≡ true
+pub or_right : (a b : Bool) → b ≡ true → (a || b) ≡ true
 or_right true b h = refl
 or_right false b h = h
 
@@ -119,15 +120,24 @@ pub beside_none : (l : ℕ) (p : Pair) → holds_beside None l p ≡ holds l p
 unfolding holds_beside
 beside_none l p = refl
 
-pub beside_others : (o : Other) (l : ℕ) (p : Pair) → is_value o.key.now p ≡ false
-    → holds_beside (Some o) l p ≡ holds l p
-unfolding holds_beside
-beside_others o l p is = ap (λ b. cond b (is_only o.value p.value) (holds l p)) is
+pub with_others : (name : List ℕ) (only : Option (List ℕ)) (l : ℕ) (p : Pair) → is_value name p ≡ false
+    → holds_with name only l p ≡ holds l p
+unfolding holds_with
+with_others name only l p is = ap (λ b. cond b (is_only only p.value) (holds l p)) is
 
-pub beside_key : (o : Other) (l : ℕ) (p : Pair) → is_value o.key.now p ≡ true
-    → holds_beside (Some o) l p ≡ is_only o.value p.value
+pub with_key : (name : List ℕ) (only : Option (List ℕ)) (l : ℕ) (p : Pair) → is_value name p ≡ true
+    → holds_with name only l p ≡ is_only only p.value
+unfolding holds_with
+with_key name only l p is = ap (λ b. cond b (is_only only p.value) (holds l p)) is
+
+pub beside_some : (o : Other) (l : ℕ) (p : Pair)
+    → holds_beside (Some o) l p ≡ holds_with o.key.now (text_of o.value) l p
 unfolding holds_beside
-beside_key o l p is = ap (λ b. cond b (is_only o.value p.value) (holds l p)) is
+beside_some o l p = refl
+
+pub beside_truth : (o : Other) (l : ℕ) (e : Tree)
+    → truth_by (holds_beside (Some o) l) e ≡ truth_by (holds_with o.key.now (text_of o.value) l) e
+beside_truth o l e = ap (λ h. truth_by h e) (fun_ext (beside_some o l))
 
 -- ---- the set of those of some pairs that hold
 

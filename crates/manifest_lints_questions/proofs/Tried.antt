@@ -50,7 +50,7 @@ right_true true b h = h
 right_true false b h = absurd (true≢false (sym h))
 
 -- a test that fails at each member fails at one
-fails_at : {X : Type 0} (p : X → Bool) (xs : List X) (x : X) → Contains xs x → list_any p xs ≡ false → p x ≡ false
+pub fails_at : {X : Type 0} (p : X → Bool) (xs : List X) (x : X) → Contains xs x → list_any p xs ≡ false → p x ≡ false
 fails_at p xs x (k, within, is) none =
     elim (p x) as (λ b. p x ≡ b → b ≡ false) [
       | true ↦ λ e. absurd (true≢false (sym (list_any_at p xs k x within (ap p is ∙ e)) ∙ none))

@@ -65,7 +65,7 @@ same_word a b p q same =
 
 -- ---- one more bit
 
-away : (m n : ℕ) → m ≢ n → eqb m n ≡ false
+pub away : (m n : ℕ) → m ≢ n → eqb m n ≡ false
 away m n apart = elim (eqb m n) as (λ b. eqb m n ≡ b → b ≡ false) [
   | true ↦ λ e. absurd (apart (eqb-true m n e))
   | false ↦ λ e. refl

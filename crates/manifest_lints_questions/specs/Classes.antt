@@ -1,38 +1,23 @@
 -- Classes of conditions. Those that are as true share one, and are compared.
-use Rattle.std.specs.Prelude.{◌≡◌, ◌<◌, ◌^◌, ℕ, Bool, false, not, ◌&&◌, IsTrue, List, [], ◌∷◌, ◌++◌, length, get_or}
+use Rattle.std.specs.Prelude.{◌≡◌, ◌<◌, ◌^◌, ℕ, IsTrue, List, [], ◌∷◌, ◌++◌, length, get_or}
 use Rattle.std.specs.Prelude.{Option, Some, None, Vec, Contains, cond}
 use Rattle.std.specs.declared.alloc.Global.{Global}
-use Rattle.std.specs.List.{list_any}
 use Rattle.std.specs.Ordering.{is_eq, nat_cmp}
 use Rattle.std.specs.Cmp.Lexicographic.{slice_cmp}
-use Rattle.std.specs.FinSet.{contains}
 use Rattle.std.specs.BTreeMap as ordered
 use Rattle.std.specs.BTreeMap.{BTreeMap}
-use Rattle.cargo_platform.specs.Trees.{CfgValue, Tree, Condition, Expression, condition_of}
-use Rattle.cargo_platform.specs.Facts.{Pair, pair_of, truth}
-use Rattle.cargo_platform.specs.Warnings.{condition_values}
-use Rattle.partial_facts.specs.OneValued.{is_single}
+use Rattle.cargo_platform.specs.Trees.{Tree, Condition, Expression, condition_of}
+use Rattle.cargo_platform.specs.Facts.{truth}
 use Rattle.known_targets.specs.Bits.{has}
-use Rattle.known_targets.specs.Listed.{some_below}
 use Rattle.known_targets.specs.Table.{target_facts}
 use Rattle.known_targets.specs.declared.table.TheConstants.{COUNT}
 use Rattle.exact_answers.specs.declared.known.Known.{Known}
-use Rattle.manifest_lints_questions.specs.Samples.{AreTruths, holds_beside, one_valued}
+use Rattle.manifest_lints_questions.specs.Samples.{AreTruths, holds_beside}
+use Rattle.manifest_lints_questions.specs.Numbers.{IsNumberOf}
 use Rattle.manifest_lints_questions.specs.Earlier.{Member, IsMemberAt, AreEquivalent, NoneIsEquivalent, is_unlike}
 use Rattle.manifest_lints_questions.specs.Earlier.{places_in, places_of, part_of}
 use Rattle.manifest_lints_questions.specs.declared.earlier.Earlier.{Earlier}
 use Rattle.manifest_lints_questions.specs.declared.earlier.Keys.{Keys}
-
--- a value that no known target has, of a key that has one value
-abbrev pub is_unknown_value : Pair → Bool
-is_unknown_value p = is_single one_valued p && not (some_below COUNT (λ k. contains (target_facts k) p))
-
-abbrev pub is_unknown_of : CfgValue → Bool
-is_unknown_of c = is_unknown_value (pair_of c)
-
--- the condition asks for none
-abbrev pub AsksForKnown : Condition → Type 0
-AsksForKnown c = list_any is_unknown_of (condition_values c) ≡ false
 
 -- what a class says of an expression: at which known targets it is true, and over which of the sets that are tried
 pub record IsClassOf (e : Tree) (class : List ℕ) : Type 0 where
@@ -42,10 +27,6 @@ pub record IsClassOf (e : Tree) (class : List ℕ) : Type 0 where
   pub over_samples : AreTruths (holds_beside None) e (get_or class 5 0)
   pub whole : get_or class 6 0 ≡ 0
   pub no_number : get_or class 7 0 ≡ 0
-
--- the number of a condition, as far as it is promised
-abbrev pub IsNumberOf : Condition → Option ℕ → Type 0
-IsNumberOf c n = AsksForKnown c → n ≡ Some 0
 
 -- ---- where members stand
 
@@ -72,7 +53,7 @@ pub record IsClassed (keys : Keys) (m : Member) (n : ℕ) : Type 0 where
   pub class : List ℕ
   pub number : Option ℕ
   pub is_class : IsClassOf tree class
-  pub is_number : IsNumberOf (condition_of m.1.now) number
+  pub is_number : IsNumberOf tree number
   pub in_class : Contains (places_of keys class) n
   pub in_part : Contains (places_of keys (part_of class number)) n
 
@@ -88,8 +69,8 @@ AreUnlike k keys c class (Some number) =
     NoneIsEquivalent k keys c (places_of keys (part_of class (Some number)))
     × NoneIsEquivalent k keys c (places_of keys (part_of class None))
 
--- where an expression is told to be unlike earlier ones, no member is as true; both ask for no unknown value
+-- where an expression is told to be unlike earlier ones, no member is as true
 abbrev pub TellsNoneEquivalent : Known → Keys → Condition → Earlier → Type 0
 TellsNoneEquivalent k keys c r =
-    IsTrue (is_unlike r) → (e : Tree) → c ≡ Expression e → AsksForKnown c → (m : Member) (n : ℕ) → IsMemberAt keys m n
-    → AsksForKnown (condition_of m.1.now) → AreEquivalent k (condition_of m.1.now) c → ⊥
+    IsTrue (is_unlike r) → (e : Tree) → c ≡ Expression e → (m : Member) (n : ℕ) → IsMemberAt keys m n
+    → AreEquivalent k (condition_of m.1.now) c → ⊥

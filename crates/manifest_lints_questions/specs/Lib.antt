@@ -3,4 +3,5 @@ pub mod Doubled
 pub mod Earlier
 pub mod Samples
 pub mod Rustcs
+pub mod Numbers
 pub mod Classes

@@ -80,12 +80,22 @@ mixed_truths p = spread (mixed_value (mixed 14695981039346656037 p.name) p.value
 unfoldable pub holds : ℕ → Pair → Bool
 holds l p = cond (is_rustcs p) (contains (target_facts (l * STRIDE)) p) (is_set (mixed_truths p) l)
 
--- the same where a key has this value alone, or none
-abbrev pub is_only : Option (Bor (List ℕ)) → Option (List ℕ) → Bool
+-- the value of a key that has this one alone, or none
+abbrev pub is_only : Option (List ℕ) → Option (List ℕ) → Bool
 is_only only None = false
 is_only None (Some value) = false
-is_only (Some only) (Some value) = bytes_eq value only.now
+is_only (Some only) (Some value) = bytes_eq value only
 
+-- the same as `holds` where a key has this value alone, or none
+unfoldable pub holds_with : List ℕ → Option (List ℕ) → ℕ → Pair → Bool
+holds_with name only l p = cond (is_value name p) (is_only only p.value) (holds l p)
+
+-- the value as a text, where there is one
+abbrev pub text_of : Option (Bor (List ℕ)) → Option (List ℕ)
+text_of None = None
+text_of (Some text) = Some text.now
+
+-- the same as `holds` where this stands in place of the value of a key
 unfoldable pub holds_beside : Option Other → ℕ → Pair → Bool
 holds_beside None l p = holds l p
-holds_beside (Some other) l p = cond (is_value other.key.now p) (is_only other.value p.value) (holds l p)
+holds_beside (Some other) l p = holds_with other.key.now (text_of other.value) l p

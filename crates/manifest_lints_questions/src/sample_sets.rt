@@ -1,9 +1,9 @@
 //! Sets of facts that are tried. Each has the facts of a known target, and some that are no fact of rustc's.
 
-ghost use Rattle.std.specs.Prelude.{◌≡◌, ◌<◌, ◌*◌, ◌==◌, ◌&&◌, ◌||◌, ℕ, true, false, [], map, IfOk, IfSome, IfNone};
-ghost use Rattle.std.specs.List.{list_any};
+ghost use Rattle.std.specs.Prelude.{◌≡◌, ◌<◌, ◌*◌, ◌==◌, ◌&&◌, ◌||◌, ℕ, true, false, [], map, length};
+ghost use Rattle.std.specs.Prelude.{IfOk, IfSome, IfNone};
 ghost use Rattle.std.specs.FinSet.{contains};
-ghost use Rattle.cargo_platform.specs.Trees.{value_of, tree_of, condition_of};
+ghost use Rattle.cargo_platform.specs.Trees.{Expression, value_of, tree_of, condition_of};
 ghost use Rattle.cargo_platform.specs.Facts.{fact_set, pair_of, truth_of_condition};
 ghost use Rattle.partial_facts.specs.OneValued.{is_single, is_value};
 ghost use Rattle.partial_facts.specs.Partly.{names_of};
@@ -11,9 +11,10 @@ ghost use Rattle.known_targets.specs.Groups.{both};
 ghost use Rattle.known_targets.specs.Sets.{is_member};
 ghost use Rattle.known_targets.specs.Table.{target_facts};
 ghost use Rattle.known_targets.specs.declared.table.TheConstants.{COUNT};
-ghost use Rattle.manifest_lints_questions.specs.Samples.{AreBits, AreTruths, is_rustcs, holds, holds_beside, is_only};
-ghost use Rattle.manifest_lints_questions.specs.Classes.{is_unknown_value, is_unknown_of, IsNumberOf};
-ghost use Rattle.manifest_lints_questions.specs.Samples.{is_set, mixed, spread, mixed_truths};
+ghost use Rattle.manifest_lints_questions.specs.Samples.{AreBits, AreTruths, is_rustcs, holds, holds_beside, text_of};
+ghost use Rattle.manifest_lints_questions.specs.Numbers.{is_unknown_value, same_pair, has_pair, unknown_beside};
+ghost use Rattle.manifest_lints_questions.specs.Numbers.{pair_at, truths_with, apart, apart_of, summed, IsNumberOf};
+ghost use Rattle.manifest_lints_questions.specs.Samples.{is_set, is_only, mixed, spread, mixed_truths};
 
 use cargo_platform::{Cfg, CfgExpr, FactIndex, Platform};
 use expression_folds::{Fold, fold_expression, values_of};
@@ -129,7 +130,7 @@ fn is_value_of(c: &Cfg, key: &str) -> bool
 
 /// Whether the fact has this value, where there is one.
 fn has_only(c: &Cfg, only: Option<&str>) -> bool
-    ensures { result ≡ is_only only.entry (pair_of (value_of c.now)).value }
+    ensures { result ≡ is_only (text_of only.entry) (pair_of (value_of c.now)).value }
 {
     match c {
         Cfg::Name(_) => false,
@@ -139,7 +140,7 @@ fn has_only(c: &Cfg, only: Option<&str>) -> bool
 
 /// Whether the text is this value, where there is one.
 fn is_only(only: Option<&str>, value: &str) -> bool
-    ensures { result ≡ is_only only.entry (Some value.now) }
+    ensures { result ≡ is_only (text_of only.entry) (Some value.now) }
 {
     match only {
         Some(only) => value == only,
@@ -200,34 +201,40 @@ fn is_unknown(c: &Cfg) -> bool
     false
 }
 
-/// Whether one of these is.
-fn has_unknown(values: &[&Cfg]) -> bool
-    ensures { result ≡ list_any is_unknown_of (map (λ c. value_of c.now) values.now) }
-{
-    'values: for c in values {
-        if is_unknown(*c) {
-            return true;
-        }
-    }
-    false
-}
-
 /// A value that no known target has, of a key that has one value.
-fn unknown_value(c: &Cfg) -> Option<Pair<'_>> {
+fn unknown_value(c: &Cfg) -> Option<Pair<'_>>
+    ensures some { IfSome result (λ x. pair_at x ≡ pair_of (value_of c.now)) }
+    ensures unknown { IfSome result (λ x. is_unknown_value (pair_of (value_of c.now)) ≡ true) }
+    ensures none { IfNone result (is_unknown_value (pair_of (value_of c.now)) ≡ false) }
+{
     match c {
-        Cfg::KeyPair(key, value) if is_unknown(c) => Some((key.as_str(), value.as_str())),
-        _ => None,
+        Cfg::Name(_) => None,
+        Cfg::KeyPair(key, value) => {
+            if is_unknown(c) {
+                return Some((key.as_str(), value.as_str()));
+            }
+            None
+        }
     }
 }
 
 /// Whether a pair is among these.
-fn has_pair(pairs: &[Pair<'_>], pair: Pair<'_>) -> bool {
-    for (key, value) in pairs {
-        if *key == pair.0 && *value == pair.1 {
+fn has_pair(pairs: &[Pair<'_>], pair: Pair<'_>) -> bool
+    ensures { result ≡ has_pair (map pair_at pairs.now) (pair_at pair.entry) }
+{
+    'pairs: for other in pairs {
+        if is_pair(pair, *other) {
             return true;
         }
     }
     false
+}
+
+/// Whether both are the same.
+fn is_pair(pair: Pair<'_>, other: Pair<'_>) -> bool
+    ensures { result ≡ same_pair (pair_at pair.entry) (pair_at other.entry) }
+{
+    pair.0 == other.0 && pair.1 == other.1
 }
 
 /// The values of a condition that no known target has, of keys that have one value; each once, and none where they are
@@ -235,43 +242,76 @@ fn has_pair(pairs: &[Pair<'_>], pair: Pair<'_>) -> bool {
 fn unknown_values<'a>(
     alloc: Global,
     values: &[&'a Cfg],
-) -> Result<Option<Vec<Pair<'a>>>, AllocError> {
+) -> Result<Option<Vec<Pair<'a>>>, AllocError>
+    ensures some { IfOk result (λ o. IfSome o (λ found. map pair_at found.items
+        ≡ unknown_beside [] (map pair_of (map (λ c. value_of c.now) values.now)))) }
+    ensures none { IfOk result (λ o. IfNone o (FEW
+        < length (unknown_beside [] (map pair_of (map (λ c. value_of c.now) values.now))))) }
+{
     let mut found: Vec<Pair<'a>> = Vec::new(alloc);
-    for each in values {
-        let c: &'a Cfg = *each;
-        if let Some(pair) = unknown_value(c) {
-            if !has_pair(&found, pair) {
-                if found.len() == FEW {
-                    return Ok(None);
-                }
-                found.push(pair)?;
-            }
+    'values: for each in values {
+        if found.len() > FEW {
+            return Ok(None);
         }
+        let c: &'a Cfg = *each;
+        let Some(pair) = unknown_value(c) else {
+            continue;
+        };
+        if has_pair(&found, pair) {
+            continue;
+        }
+        found.push(pair)?;
+    }
+    if found.len() > FEW {
+        return Ok(None);
     }
     Ok(Some(found))
 }
 
 /// What the truths of an expression hang on where a key has this value: none where they are those without the value.
-fn apart(alloc: Global, e: &CfgExpr, pair: Pair<'_>) -> Result<u64, AllocError> {
+fn apart(alloc: Global, e: &CfgExpr, pair: Pair<'_>) -> Result<u64, AllocError>
+    ensures { IfOk result (λ n. n ≡ apart_of (tree_of e.now) (pair_at pair.entry)) }
+{
     let (key, value) = pair;
-    let without = Other { key, value: None };
-    let without = fold_expression(
-        alloc,
-        e,
-        &OverSamples {
-            other: Some(without),
-        },
-    )?;
-    let with = Other {
-        key,
-        value: Some(value),
-    };
-    let with = fold_expression(alloc, e, &OverSamples { other: Some(with) })?;
+    let without = truths_beside_key(alloc, e, key, None)?;
+    let with = truths_beside_key(alloc, e, key, Some(value))?;
+    Ok(number_apart(with, without, key, value))
+}
+
+/// The truths of an expression where a key has this value alone, or none.
+fn truths_beside_key(
+    alloc: Global,
+    e: &CfgExpr,
+    key: &str,
+    value: Option<&str>,
+) -> Result<u64, AllocError>
+    ensures { IfOk result (λ w. w ≡ truths_with key.now (text_of value.entry) (tree_of e.now)) }
+{
+    let other = Some(Other { key, value });
+    let truths = fold_expression(alloc, e, &OverSamples { other })?;
+    Ok(truths)
+}
+
+/// The number of truths with a value: 0 where they are those without it.
+fn number_apart(with: u64, without: u64, key: &str, value: &str) -> u64
+    ensures { result ≡ apart with without (pair_at (key.entry, value.entry)) }
+{
     if with == without {
-        return Ok(0);
+        return 0;
     }
     let number = mixed(spread(with), key);
-    Ok(spread(mixed(number.wrapping_add(1), value)))
+    spread(mixed(number.wrapping_add(1), value))
+}
+
+/// The sum of what an expression hangs on at each of these values.
+fn sum_apart(alloc: Global, e: &CfgExpr, pairs: &[Pair<'_>]) -> Result<u64, AllocError>
+    ensures { IfOk result (λ n. n ≡ summed (apart_of (tree_of e.now)) 0 (map pair_at pairs.now)) }
+{
+    let mut sum: u64 = 0;
+    'pairs: for pair in pairs {
+        sum = sum.wrapping_add(apart(alloc, e, *pair)?);
+    }
+    Ok(sum)
 }
 
 /// A number that conditions share which are as true over each possible set of facts. It hangs on their truths over sets
@@ -281,20 +321,13 @@ pub fn beyond_targets(
     platform: &Platform,
     e: &CfgExpr,
 ) -> Result<Option<u64>, AllocError>
-    ensures { IfOk result (IsNumberOf (condition_of platform.now)) }
+    ensures { condition_of platform.now ≡ Expression (tree_of e.now) → IfOk result (IsNumberOf (tree_of e.now)) }
 {
     let values = values_of(alloc, platform)?;
-    if !has_unknown(&values) {
-        return Ok(Some(0));
+    match unknown_values(alloc, &values)? {
+        Some(pairs) => Ok(Some(sum_apart(alloc, e, &pairs)?)),
+        None => Ok(None),
     }
-    let Some(pairs) = unknown_values(alloc, &values)? else {
-        return Ok(None);
-    };
-    let mut sum: u64 = 0;
-    for pair in &pairs {
-        sum = sum.wrapping_add(apart(alloc, e, *pair)?);
-    }
-    Ok(Some(sum))
 }
 
 /// The truths of a group with one more member.
