@@ -18,7 +18,7 @@ use Rattle.manifest_documents.specs.Entries.{Entry}
 use Rattle.manifest_lints_findings.specs.Spells.{SpellsNothing}
 use Rattle.manifest_lints_questions.specs.Classes.{AreClassed, TellsNoneEquivalent}
 use Rattle.manifest_lints_questions.specs.Earlier.{AddsMember, AreEquivalent, HasEquivalentMember, Member, IsMemberAt}
-use Rattle.manifest_lints_questions.specs.Earlier.{is_equivalent, is_undecided, is_unlike}
+use Rattle.manifest_lints_questions.specs.Earlier.{is_equivalent, is_undecided, is_unlike, IsExpression, PutsUnlike}
 use Rattle.manifest_lints_questions.specs.Earlier.{same_place, equivalent_place}
 use Rattle.manifest_lints_questions.specs.Rustcs.{AllowsRustcs}
 use Rattle.manifest_lints_questions.specs.Truths.{IsNever, IsAlways, CanHold, CanFail}

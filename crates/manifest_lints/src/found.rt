@@ -10,7 +10,7 @@ ghost use Rattle.manifest_lints_findings.specs.Codes.{is_told};
 ghost use Rattle.manifest_lints_findings.specs.Known.{IsKnown};
 ghost use Rattle.manifest_lints_findings.specs.Spells.{IsRead, entry_read};
 ghost use Rattle.manifest_lints_questions.specs.Earlier.{noted, Notes, AddsMember, HasEquivalentMember};
-ghost use Rattle.manifest_lints_questions.specs.Earlier.{same_place, equivalent_place, is_undecided};
+ghost use Rattle.manifest_lints_questions.specs.Earlier.{same_place, equivalent_place, is_undecided, PutsUnlike};
 ghost use Rattle.manifest_lints_questions.specs.Truths.{budget_of};
 ghost use Rattle.manifest_lints_questions.specs.Rustcs.{AllowsRustcs};
 ghost use Rattle.manifest_lints_questions.specs.Classes.{AreClassed, TellsNoneEquivalent};
