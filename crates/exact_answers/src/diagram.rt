@@ -25,7 +25,7 @@ pub enum End<'a> {
 }
 
 /// How many nodes a first diagram may have: its table is made in no time.
-const FEW_NODES: usize = 1_024;
+const FEW_NODES: usize = 8_192;
 
 /// How many nodes the next one may have. Of 500 hard pairs of keys with up to 27 facts, each took fewer than half.
 const MOST_NODES: usize = 131_072;
