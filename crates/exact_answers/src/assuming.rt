@@ -45,16 +45,15 @@ fn with_one_more(found: Found, goal: &Goal<'_>) -> Option<Found>
     }
 }
 
-/// Searches with few splits for a set over which the goals but the first one are met, and takes what that finds where
-/// it is right for all.
+/// Searches with few splits for a set over which the goals but the first one are met, and takes what that finds where it
+/// is right for all.
 fn without_first<'a>(
     alloc: Global,
     goals: &[Goal<'a>],
     known: &'a Known<'a>,
     splits: u64,
 ) -> Result<Option<Found>, AllocError>
-    ensures { IfOk result (λ r. IfSome r (λ found. (budget : ℕ)
-        → Searched (base_of known.now) goals.now budget found)) }
+    ensures { IfOk result (λ r. IfSome r (λ found. (budget : ℕ) → Searched (base_of known.now) goals.now budget found)) }
 {
     let Some((first, others)) = goals.split_first() else {
         return Ok(None);
@@ -64,9 +63,8 @@ fn without_first<'a>(
     Ok(with_one_more(found, first))
 }
 
-/// Searches for a possible set of facts over which each goal is met. The first goal, which is what is assumed, is
-/// passed over at first, for a few splits besides the budget: mostly it is met over the facts that are found for the
-/// others.
+/// Searches for a possible set of facts over which each goal is met. The first goal, which is what is assumed, is passed
+/// over at first, for a few splits besides the budget: mostly it is met over the facts that are found for the others.
 pub fn search_assuming<'a>(
     alloc: Global,
     goals: &[Goal<'a>],
