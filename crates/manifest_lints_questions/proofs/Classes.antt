@@ -380,8 +380,7 @@ module _ (k : Known) (keys : Keys) (c : Condition) (allows : AllowsRustcs k) (cl
 
   -- where both have a number, the member stands in the part of this number
   among_part : (e d : Tree) (class : List ℕ) (number its : Option ℕ) (n : ℕ)
-      → AreEquivalent k (Expression d) (Expression e) → IsNumberOf e number → IsNumberOf d its
-      → AreUnlike k keys c class number → Contains (places_of keys class) n
+      → AreEquivalent k (Expression d) (Expression e) → IsNumberOf e number → IsNumberOf d its → AreUnlike k keys c class number → Contains (places_of keys class) n
       → Contains (places_of keys (part_of class its)) n → (m : Member) → IsMemberAt keys m n
       → AreEquivalent k (condition_of m.1.now) c → ⊥
   among_part e d class None its n both first second unlike in_class in_part m at alike =
