@@ -5,8 +5,8 @@ A tree is a fact as text, or an operator with the trees inside.
 import itertools
 import random
 
-# Keys that have one value.
-KEYS = ["target_os", "target_env", "target_arch", "target_vendor"]
+# Keys that have one value for a target, of those that are asked.
+ONE_VALUED = ["target_os", "target_env", "target_arch", "target_vendor"]
 
 
 def shown(e):
@@ -55,7 +55,7 @@ def hard_pair(chance, kind):
     if kind == "nests":
         return nest(chance, names, 5), nest(chance, names, 5)
     if kind == "one value":
-        values = [f'{KEYS[i % 4]} = "v{i // 4}"' for i in range(count)]
+        values = [f'{ONE_VALUED[i % 4]} = "v{i // 4}"' for i in range(count)]
         return clauses(chance, values, 4 * count), parity(values)
     return clauses(chance, names, 4 * count), nest(chance, names, 4)
 
