@@ -12,7 +12,7 @@ use Rattle.cargo_platform.proofs.FactTruths.{pair_tie}
 use Rattle.std.specs.Prelude.{bytes_eq}
 use Rattle.std.proofs.lemmas.Slice.Eq.{bytes_eq-Decides}
 use Rattle.partial_facts.specs.Partly.{is_named}
-use Rattle.goal_diagrams.specs.Goals.{true_as_wanted, HasOneOpenValue, IsAsTold, StandsAt}
+use Rattle.goal_diagrams.specs.Goals.{HasOneOpenValue, IsAsTold, StandsAt}
 use Rattle.decision_diagrams.specs.Diagrams.{joint}
 use Rattle.goal_diagrams.specs.Goals.{pairs_of, holds_in}
 use Rattle.goal_diagrams.specs.Inside.Making.{AreTwoValues}
@@ -38,10 +38,16 @@ holds_at s [] n p h = absurd h
 holds_at s (q ∷ ps) zero p h = ap (contains s) h
 holds_at s (q ∷ ps) (suc n) p h = holds_at s ps n p h
 
-pub not_both_of : (a b : Bool) → joint false (true_as_wanted false a) (true_as_wanted false b) ≡ not (a && b)
-not_both_of true true = refl
-not_both_of true false = refl
-not_both_of false b = refl
+-- one of two that are apart is none where the other one is a fact
+pub none_beside : (a b : Bool) → (a && b) ≡ false → a ≡ true → not b ≡ true
+none_beside true true apart holds = absurd (true≢false apart)
+none_beside true false apart holds = refl
+none_beside false b apart holds = absurd (true≢false (sym holds))
+
+pub holds_or_not : (a others : Bool) → (a ≡ true → others ≡ true) → joint false others (not a) ≡ true
+holds_or_not true others h = ap (λ x. joint false x false) (h refl)
+holds_or_not false true h = refl
+holds_or_not false false h = refl
 
 -- what is told of a pair
 pub told_is : (told : Pair → Option Bool) (s : FactSet) (p : Pair) (t : Bool) → IsAsTold told s → told p ≡ Some t

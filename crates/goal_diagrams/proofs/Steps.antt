@@ -17,7 +17,7 @@ use Rattle.goal_diagrams.specs.Inside.Making.{says}
 use Rattle.goal_diagrams.specs.Goals.{pairs_of}
 use Rattle.goal_diagrams.specs.Inside.Making.{each_wanted, some_wanted}
 use Rattle.goal_diagrams.specs.Inside.Making.{AreApart}
-use Rattle.goal_diagrams.proofs.Pairs.{not_both_of, told_is}
+use Rattle.goal_diagrams.proofs.Pairs.{none_beside, holds_or_not, told_is}
 use Rattle.decision_diagrams.proofs.Tables.{value-true, value-false, value-literal}
 use Rattle.goal_diagrams.proofs.Members.{wanted_in, and_on, or_on, and_done, or_done}
 
@@ -99,18 +99,6 @@ and_true : (x : Bool) → (x && true) ≡ x
 and_true true = refl
 and_true false = refl
 
-pub both-step : (holds : ℕ → Bool) (a b c : Table) (first second place one other : ℕ)
-    → first < places (nodes_of a) → Grows (nodes_of a) (nodes_of b)
-    → value holds (nodes_of a) first ≡ true_as_wanted false (holds one)
-    → value holds (nodes_of b) second ≡ true_as_wanted false (holds other)
-    → value holds (nodes_of c) place ≡ joint false (value holds (nodes_of b) first) (value holds (nodes_of b) second)
-    → value holds (nodes_of c) place ≡ not (holds one && holds other)
-both-step holds a b c first second place one other h grows is_one is_other joins =
-    joins
-    ∙ ap (λ x. joint false x (value holds (nodes_of b) second)) (grows.same holds first h ∙ is_one)
-    ∙ ap (λ x. joint false (true_as_wanted false (holds one)) x) is_other
-    ∙ not_both_of (holds one) (holds other)
-
 pub told-step : (told : Pair → Option Bool) (s : FactSet) (cs : List (Bor Cfg)) (a : Table) (p : Pair)
     (place : ℕ) (w truth t : Bool) → place ≡ (if t then 1 else 0) → t ≡ true_as_wanted w truth
     → told p ≡ Some truth → IsAsTold told s → says s cs a place ≡ true_as_wanted w (contains s p)
@@ -119,10 +107,25 @@ told-step told s cs a p place w truth t e f is so =
     ∙ f ∙ ap (true_as_wanted w) (sym (told_is told s p truth so is))
 
 pub apart-step : (s : FactSet) (cs : List (Bor Cfg)) (a b c : Table) (among place both one other : ℕ)
-    → AreApart (holds_in s (pairs_of cs)) one other → among < places (nodes_of a) → IsMade a b place
-    → says s cs b place ≡ not (holds_in s (pairs_of cs) one && holds_in s (pairs_of cs) other)
+    → AreApart (holds_in s (pairs_of cs)) one other → holds_in s (pairs_of cs) one ≡ true
+    → among < places (nodes_of a) → IsMade a b place
+    → says s cs b place ≡ not (holds_in s (pairs_of cs) other)
     → ((holds : ℕ → Bool)
     → value holds (nodes_of c) both ≡ joint true (value holds (nodes_of b) among) (value holds (nodes_of b) place))
     → says s cs c both ≡ says s cs a among
-apart-step s cs a b c among place both one other apart h made is joins =
-    and-step s cs a b c among place both true h made (is ∙ ap not apart) joins ∙ and_true (says s cs a among)
+apart-step s cs a b c among place both one other apart holds h made is joins =
+    and-step s cs a b c among place both true h made (is ∙ none_beside _ _ apart holds) joins
+    ∙ and_true (says s cs a among)
+
+pub one-step : (s : FactSet) (cs : List (Bor Cfg)) (a b c : Table) (others without place number : ℕ)
+    → (holds_in s (pairs_of cs) number ≡ true → says s cs a others ≡ true)
+    → others < places (nodes_of a) → Grows (nodes_of a) (nodes_of b)
+    → says s cs b without ≡ not (holds_in s (pairs_of cs) number)
+    → ((holds : ℕ → Bool)
+    → value holds (nodes_of c) place ≡ joint false (value holds (nodes_of b) others) (value holds (nodes_of b) without))
+    → says s cs c place ≡ true
+one-step s cs a b c others without place number is h grows is_without joins =
+    joins (holds_in s (pairs_of cs))
+    ∙ ap (λ x. joint false (says s cs b others) x) is_without
+    ∙ holds_or_not (holds_in s (pairs_of cs) number) (says s cs b others)
+    (λ holds. grows.same (holds_in s (pairs_of cs)) others h ∙ is holds)

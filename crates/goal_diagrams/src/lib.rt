@@ -9,4 +9,4 @@ mod tests;
 
 pub use answers::{Outcome, find_way};
 pub use decision_diagrams::Choice;
-pub use making::{Goal, number_of};
+pub use making::{Goal, as_wanted, number_of};

@@ -65,7 +65,7 @@ pub fn pair_at<'a>(pairs: &[&'a Cfg], number: usize) -> &'a Cfg
 }
 
 /// The truth, or its negation where the other truth is wanted.
-fn as_wanted(truth: bool, wanted: bool) -> bool
+pub fn as_wanted(truth: bool, wanted: bool) -> bool
     ensures { result ≡ true_as_wanted wanted truth }
 {
     if wanted { truth } else { !truth }
@@ -118,18 +118,6 @@ fn are_two_values(c: &Cfg, other: &Cfg, single: &[&str]) -> bool
             ),
         },
     }
-}
-
-/// Where the pairs with these numbers are not both facts.
-fn not_both(table: &mut Table, one: usize, other: usize) -> Result<usize, Stop>
-    requires { IsTable (nodes_of table.old) table.old.joined.items }
-    ensures made { IfOk result (IsMade table.old table.new) }
-    ensures means { IfOk result (λ place. (holds : ℕ → Bool) → value holds (nodes_of table.new) place
-        ≡ not (holds one && holds other)) }
-{
-    let first = table.pair(one, false)?;
-    let second = table.pair(other, false)?;
-    table.join(false, first, second)
 }
 
 /// Where a name or a pair has the truth that is wanted.
@@ -348,60 +336,77 @@ fn are_apart<K: Knowledge>(
     }
 }
 
-/// Among the sets that a place leaves, those that do not have both pairs with these numbers, where these are two
-/// values of a key with one value.
-fn one_of_two<K: Knowledge>(
+/// Among the sets that a place leaves, those without the other pair, where both are two values of a key with one value.
+fn without_other<K: Knowledge>(
     asked: &Asked<'_, '_, K>,
     table: &mut Table,
     among: usize,
     single: &[&str],
-    one: usize,
+    number: usize,
     other: usize,
 ) -> Result<usize, Stop>
     requires table { IsTable (nodes_of table.old) table.old.joined.items }
     requires among { among < places (nodes_of table.old) }
-    requires one { one < length asked.now.pairs.now }
+    requires number { number < length asked.now.pairs.now }
     requires other { other < length asked.now.pairs.now }
     ensures made { IfOk result (IsMade table.old table.new) }
     ensures means { IfOk result (λ place. (s : FactSet)
         → HasOneOpenValue (K.told asked.now.known.now) (names_of single.now) s
+        → holds_in s (pairs_of asked.now.pairs.now) number ≡ true
         → says s asked.now.pairs.now table.new place
         ≡ says s asked.now.pairs.now table.old among) }
 {
-    if are_apart(asked, single, one, other) {
-        let place = not_both(table, one, other)?;
+    if are_apart(asked, single, number, other) {
+        let place = table.pair(other, false)?;
         table.join(true, among, place)
     } else {
         Ok(among)
     }
 }
 
-/// Among the sets that a place leaves, those that do not have the pair with this number and an earlier value of its
-/// key, where that has one value.
-fn no_other_value<K: Knowledge>(
+/// Where no later value of the key of this pair is a fact, if that key has one value. The last ones come first: so each
+/// takes one node.
+fn no_later_value<K: Knowledge>(
     asked: &Asked<'_, '_, K>,
     table: &mut Table,
-    among: usize,
     single: &[&str],
     number: usize,
 ) -> Result<usize, Stop>
     requires table { IsTable (nodes_of table.old) table.old.joined.items }
-    requires among { among < places (nodes_of table.old) }
     requires number { number < length asked.now.pairs.now }
     ensures made { IfOk result (IsMade table.old table.new) }
     ensures means { IfOk result (λ place. (s : FactSet)
         → HasOneOpenValue (K.told asked.now.known.now) (names_of single.now) s
-        → says s asked.now.pairs.now table.new place
-        ≡ says s asked.now.pairs.now table.old among) }
+        → holds_in s (pairs_of asked.now.pairs.now) number ≡ true
+        → says s asked.now.pairs.now table.new place ≡ true) }
 {
-    let mut place = among;
-    let mut other = 0;
-    'others: while other < number {
-        let next = one_of_two(asked, table, place, single, number, other)?;
+    let mut place = TRUE;
+    let mut other = asked.pairs.len();
+    'others: while other - 1 > number {
+        other -= 1;
+        let next = without_other(asked, table, place, single, number, other)?;
         place = next;
-        other += 1;
     }
     Ok(place)
+}
+
+/// Where the pair with this number is none, or no later value of its key is a fact.
+fn one_value<K: Knowledge>(
+    asked: &Asked<'_, '_, K>,
+    table: &mut Table,
+    single: &[&str],
+    number: usize,
+) -> Result<usize, Stop>
+    requires table { IsTable (nodes_of table.old) table.old.joined.items }
+    requires number { number < length asked.now.pairs.now }
+    ensures made { IfOk result (IsMade table.old table.new) }
+    ensures means { IfOk result (λ place. (s : FactSet)
+        → HasOneOpenValue (K.told asked.now.known.now) (names_of single.now) s
+        → says s asked.now.pairs.now table.new place ≡ true) }
+{
+    let others = no_later_value(asked, table, single, number)?;
+    let without = table.pair(number, false)?;
+    table.join(false, others, without)
 }
 
 /// Where no key among these has two values that are open.
@@ -417,11 +422,12 @@ pub fn single_values<K: Knowledge>(
         → says s asked.now.pairs.now table.new place ≡ true) }
 {
     let mut place = TRUE;
-    let mut number = 0;
-    'numbers: while number < asked.pairs.len() {
-        let next = no_other_value(asked, table, place, single, number)?;
-        place = next;
-        number += 1;
+    let mut number = asked.pairs.len();
+    'numbers: while number > 0 {
+        number -= 1;
+        let next = one_value(asked, table, single, number)?;
+        let both = table.join(true, place, next)?;
+        place = both;
     }
     Ok(place)
 }

@@ -1,4 +1,4 @@
-use Rattle.std.proofs.Common.{◌≡◌, ◌-◌, true, length}
+use Rattle.std.proofs.Common.{◌≡◌, ◌≤◌, true, length}
 use Rattle.cargo_platform.specs.Facts.{FactSet}
 use Rattle.partial_facts.specs.Partly.{names_of}
 use Rattle.goal_diagrams.specs.Goals.{HasOneOpenValue}
@@ -8,10 +8,11 @@ use Rattle.goal_diagrams.proofs.making.single_values.Given as goal
 
 abbrev pub invariant-numbers : goal.invariant-numbers
 invariant-numbers g l = record {
+  within : l.number ≤ length l.asked.pairs.now;
   made : IsMade l.fn.table l.table l.place;
   means : (s : FactSet) → HasOneOpenValue (g.K.Knowledge.told l.asked.known.now) (names_of l.single) s
       → says s l.asked.pairs.now l.table l.place ≡ true;
 }
 
 abbrev pub decreases-numbers : goal.decreases-numbers
-decreases-numbers g l = length l.asked.pairs.now - l.number
+decreases-numbers g l = l.number
