@@ -10,20 +10,19 @@ ghost use Rattle.exact_answers.specs.Inside.Goals.{Searched, IsMetBy};
 use crate::known::Known;
 use crate::path::Path;
 use crate::search::{Found, search};
-use cargo_platform::Cfg;
-use goal_diagrams::Goal;
+use cargo_platform::{Cfg, CfgExpr};
+use goal_diagrams::{Goal, as_wanted};
 use std::alloc::{AllocError, Global};
 
 /// How many splits are made while what is assumed is passed over. Most questions of real manifests take fewer.
-const SPLITS: u64 = 16;
+const SPLITS: u64 = 6;
 
 /// Whether the goal is met over the facts.
 fn is_met(goal: &Goal<'_>, facts: &[Cfg]) -> bool
     ensures { result ≡ true_as_wanted goal.now.wanted
         (truth (fact_set (map value_of facts.now)) (tree_of goal.now.e.now)) }
 {
-    let truth = goal.e.matches(facts);
-    if goal.wanted { truth } else { !truth }
+    as_wanted(goal.e.matches(facts), goal.wanted)
 }
 
 /// What is found of others, where that ends the search for one goal more too: it is met over these facts, or there is
@@ -45,26 +44,31 @@ fn with_one_more(found: Found, goal: &Goal<'_>) -> Option<Found>
     }
 }
 
-/// Searches with few splits for a set over which the goals but the first one are met, and takes what that finds where it
-/// is right for all.
+/// Searches with few splits for a set over which the goals but the first one are met, and takes what that finds where
+/// it is right for all. Where the first one is met anyway, that is left to the search for all.
 fn without_first<'a>(
     alloc: Global,
     goals: &[Goal<'a>],
     known: &'a Known<'a>,
     splits: u64,
 ) -> Result<Option<Found>, AllocError>
-    ensures { IfOk result (λ r. IfSome r (λ found. (budget : ℕ) → Searched (base_of known.now) goals.now budget found)) }
+    ensures { IfOk result (λ r. IfSome r (λ found. (budget : ℕ)
+        → Searched (base_of known.now) goals.now budget found)) }
 {
     let Some((first, others)) = goals.split_first() else {
         return Ok(None);
     };
+    if matches!(first.e, CfgExpr::True) {
+        return Ok(None);
+    }
     let mut path = Path::new(alloc, known);
     let found = search(alloc, others, &mut path, splits)?;
     Ok(with_one_more(found, first))
 }
 
-/// Searches for a possible set of facts over which each goal is met. The first goal, which is what is assumed, is passed
-/// over at first, for a few splits besides the budget: mostly it is met over the facts that are found for the others.
+/// Searches for a possible set of facts over which each goal is met. The first goal, which is what is assumed, is
+/// passed over at first, for a few splits besides the budget: mostly it is met over the facts that are found for the
+/// others.
 pub fn search_assuming<'a>(
     alloc: Global,
     goals: &[Goal<'a>],

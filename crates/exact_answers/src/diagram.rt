@@ -24,11 +24,9 @@ pub enum End<'a> {
     Missed,
 }
 
-/// How many nodes a first diagram may have: its table is made in no time.
-const FEW_NODES: usize = 8_192;
-
-/// How many nodes the next one may have. Of 500 hard pairs of keys with up to 27 facts, each took fewer than half.
-const MOST_NODES: usize = 131_072;
+/// How many nodes the diagrams may have that are tried one after the other. Those of real keys mostly fit the first
+/// one, whose table is made in no time. Of 500 hard pairs of keys with up to 27 facts, each fits half of the last one.
+const MOST_NODES: [usize; 3] = [1_024, 8_192, 131_072];
 
 /// Of more pairs no diagram is made: it takes stack for each of them, and would mostly be too large.
 const MOST_PAIRS: usize = 512;
@@ -56,11 +54,14 @@ fn outcome_of<'a>(
 ) -> Result<Outcome, AllocError>
     ensures { IfOk result (λ r. r ≡ Outcome.Nothing → AreMissed (base_of known.now) goals.now []) }
 {
-    match outcome_within(alloc, goals, pairs, known, FEW_NODES)? {
-        Outcome::TooLarge => outcome_within(alloc, goals, pairs, known, MOST_NODES),
-        Outcome::Way(choices) => Ok(Outcome::Way(choices)),
-        Outcome::Nothing => Ok(Outcome::Nothing),
+    for most_nodes in MOST_NODES {
+        match outcome_within(alloc, goals, pairs, known, most_nodes)? {
+            Outcome::TooLarge => {}
+            Outcome::Way(choices) => return Ok(Outcome::Way(choices)),
+            Outcome::Nothing => return Ok(Outcome::Nothing),
+        }
     }
+    Ok(Outcome::TooLarge)
 }
 
 /// Takes the pair with this number, where it is open.
