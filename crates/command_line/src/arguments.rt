@@ -3,8 +3,9 @@
 use clap::{Arg, ArgAction, Command, value_parser};
 use std::alloc::{AllocError, Global};
 
-/// How many splits each line of `compare` may take, unless `--budget` says another number.
-const BUDGET: &str = "65536";
+/// How many steps of work each line of `compare` may take, unless `--budget` says another number. So many take less than
+/// two seconds for all lines.
+const BUDGET: &str = "75000000";
 
 /// How many bytes of an input are read at most, unless `--limit` says another number: 64 MiB.
 const LIMIT_BYTES: &str = "67108864";
@@ -271,7 +272,7 @@ const COMPARE: Subcommand = Subcommand {
         Argument {
             name: "budget",
             given: Given::Number("N", BUDGET),
-            help: "How many splits each line may take",
+            help: "How many steps of work each line may take",
         },
         Argument {
             name: "first",

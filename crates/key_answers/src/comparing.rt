@@ -3,10 +3,10 @@
 use crate::answer::{Answer, Refusal, Status};
 use crate::conditions::read_key;
 use crate::printing::{push_json, put, put_text, shown_example, text_value};
+use crate::work::{Keys, splits_within};
 use cargo_platform::{Cfg, CfgExpr, Platform};
 use exact_answers::{
-    Known, MustSelect, ONE_VALUED, PossibleTarget, equivalent_platform, exclude_platform,
-    family_rule, implies_platform,
+    Known, MustSelect, ONE_VALUED, PossibleTarget, exclude_platform, family_rule, implies_platform,
 };
 use known_targets::{COUNT, TargetSet, matching};
 use serde_json::{Map, Value, json};
@@ -53,20 +53,31 @@ impl Relation {
     }
 }
 
-/// Whether `a` stands to `b` so at every target, over every set of facts that is possible.
-pub fn holds_everywhere<'a>(
-    alloc: Global,
-    relation: Relation,
-    a: &'a Platform,
-    b: &'a Platform,
-    known: &'a Known<'a>,
-    budget: u64,
-) -> Result<MustSelect, AllocError> {
-    match relation {
-        Relation::Implies => implies_platform(alloc, a, b, known, budget),
-        Relation::ImpliedBy => implies_platform(alloc, b, a, known, budget),
-        Relation::Equivalent => equivalent_platform(alloc, a, b, known, budget),
-        Relation::Excludes => exclude_platform(alloc, a, b, known, budget),
+/// How two keys stand to each other at every target, over every set of facts that is possible.
+#[derive(Drop)]
+pub struct Everywhere {
+    pub implies: MustSelect,
+    pub implied_by: MustSelect,
+    pub excludes: MustSelect,
+}
+
+impl Everywhere {
+    /// Whether each key implies the other one. What shows that one does not shows that they are not equivalent.
+    fn equivalent(&self) -> &MustSelect {
+        match (&self.implies, &self.implied_by) {
+            (MustSelect::Yes, _) | (MustSelect::Undecided, MustSelect::No(_)) => &self.implied_by,
+            _ => &self.implies,
+        }
+    }
+
+    /// The answer on a relation.
+    fn on(&self, relation: Relation) -> &MustSelect {
+        match relation {
+            Relation::Implies => &self.implies,
+            Relation::ImpliedBy => &self.implied_by,
+            Relation::Equivalent => self.equivalent(),
+            Relation::Excludes => &self.excludes,
+        }
     }
 }
 
@@ -268,33 +279,32 @@ fn known_value(alloc: Global, held: &[bool; 4]) -> Result<Value, AllocError> {
     Ok(Value::Array(fields))
 }
 
-/// The answers on the relations, in the order of `RELATIONS`.
-fn answers_on<'a>(
+/// How `a` stands to `b` everywhere, within so many splits for each search.
+fn found_everywhere<'a>(
     alloc: Global,
     a: &'a Platform,
     b: &'a Platform,
     known: &'a Known<'a>,
-    budget: u64,
-) -> Result<Vec<(Relation, MustSelect)>, AllocError> {
-    let mut answers = Vec::new(alloc);
-    for relation in RELATIONS {
-        let answer = tidy(holds_everywhere(alloc, relation, a, b, known, budget)?)?;
-        answers.push((relation, answer))?;
-    }
-    Ok(answers)
+    splits: u64,
+) -> Result<Everywhere, AllocError> {
+    Ok(Everywhere {
+        implies: tidy(implies_platform(alloc, a, b, known, splits)?)?,
+        implied_by: tidy(implies_platform(alloc, b, a, known, splits)?)?,
+        excludes: tidy(exclude_platform(alloc, a, b, known, splits)?)?,
+    })
 }
 
-/// What standard error is told of the answers that took too many splits.
+/// What standard error is told of the answers that took too much work.
 fn undecided_notes(
     alloc: Global,
-    answers: &[(Relation, MustSelect)],
+    everywhere: &Everywhere,
     budget: u64,
 ) -> Result<String, AllocError> {
     let mut errors = String::new(alloc);
-    for (relation, answer) in answers {
-        if matches!(answer, MustSelect::Undecided) {
+    for relation in RELATIONS {
+        if matches!(everywhere.on(relation), MustSelect::Undecided) {
             let words = relation.words();
-            let note = format!(in alloc; "note: {words}: {budget} splits are used up\n")?;
+            let note = format!(in alloc; "note: {words}: {budget} steps are used up\n")?;
             errors.push_str(note.as_str())?;
         }
     }
@@ -334,16 +344,12 @@ fn empty_note(alloc: Global, place: &str, key: &Platform) -> Result<String, Allo
 }
 
 /// The answers, one a line: those at the known targets, and then those at any.
-fn lines_of(
-    alloc: Global,
-    answers: &[(Relation, MustSelect)],
-    known: &AtKnown,
-) -> Result<String, AllocError> {
+fn lines_of(alloc: Global, everywhere: &Everywhere, known: &AtKnown) -> Result<String, AllocError> {
     let mut lines = known_lines(alloc, known)?;
     lines.push_str("at the targets of any specification:\n")?;
-    for (relation, answer) in answers {
+    for relation in RELATIONS {
         let words = relation.words();
-        let told = told(alloc, answer)?;
+        let told = told(alloc, everywhere.on(relation))?;
         let line = format!(in alloc; "    {words}: {told}\n")?;
         lines.push_str(line.as_str())?;
     }
@@ -353,29 +359,24 @@ fn lines_of(
 /// The answers as one object, on a line.
 fn object_of(
     alloc: Global,
-    answers: &[(Relation, MustSelect)],
+    everywhere: &Everywhere,
     known: &AtKnown,
 ) -> Result<String, AllocError> {
     let mut object = Map::new(alloc);
     put_known(&mut object, alloc, known)?;
-    for (relation, answer) in answers {
-        put(
-            &mut object,
-            alloc,
-            relation.field(),
-            relation_value(alloc, answer)?,
-        )?;
+    for relation in RELATIONS {
+        let value = relation_value(alloc, everywhere.on(relation))?;
+        put(&mut object, alloc, relation.field(), value)?;
     }
     let mut text = String::new(alloc);
     push_json(&mut text, alloc, &Value::Object(object))?;
     Ok(text)
 }
 
-/// How the conditions stand to each other, at every target that may be and at the known ones.
+/// How the keys stand to each other, at every target that may be and at the known ones.
 fn compared(
     alloc: Global,
-    a: &Platform,
-    b: &Platform,
+    keys: &Keys<'_>,
     rule: &CfgExpr,
     budget: u64,
     json: bool,
@@ -386,17 +387,18 @@ fn compared(
         single: ONE_VALUED,
         assumed: rule,
     };
-    let at_known = at_known_targets(alloc, a, b)?;
-    let answers = answers_on(alloc, a, b, &known, budget)?;
-    let mut errors = empty_note(alloc, "first", a)?;
-    let second = empty_note(alloc, "second", b)?;
+    let at_known = at_known_targets(alloc, keys.a, keys.b)?;
+    let splits = splits_within(alloc, keys, budget)?;
+    let everywhere = found_everywhere(alloc, keys.a, keys.b, &known, splits)?;
+    let mut errors = empty_note(alloc, "first", keys.a)?;
+    let second = empty_note(alloc, "second", keys.b)?;
     errors.push_str(second.as_str())?;
-    let undecided = undecided_notes(alloc, &answers, budget)?;
+    let undecided = undecided_notes(alloc, &everywhere, budget)?;
     errors.push_str(undecided.as_str())?;
     let output = if json {
-        object_of(alloc, &answers, &at_known)?
+        object_of(alloc, &everywhere, &at_known)?
     } else {
-        lines_of(alloc, &answers, &at_known)?
+        lines_of(alloc, &everywhere, &at_known)?
     };
     Ok(Answer {
         output,
@@ -405,7 +407,7 @@ fn compared(
     })
 }
 
-/// How two keys stand to each other.
+/// How two keys stand to each other. Each search may take so many steps of work.
 pub fn compare(
     alloc: Global,
     first: &str,
@@ -416,5 +418,11 @@ pub fn compare(
     let a = read_key(alloc, first)?;
     let b = read_key(alloc, second)?;
     let rule = family_rule(alloc)?;
-    Ok(compared(alloc, &a, &b, &rule, budget, json)?)
+    let keys = Keys {
+        first,
+        a: &a,
+        second,
+        b: &b,
+    };
+    Ok(compared(alloc, &keys, &rule, budget, json)?)
 }

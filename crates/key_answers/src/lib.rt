@@ -5,3 +5,4 @@ pub mod answer;
 pub mod comparing;
 pub mod conditions;
 pub mod printing;
+mod work;

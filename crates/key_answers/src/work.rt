@@ -1,0 +1,46 @@
+//! How much work a question on two keys may take.
+
+use cargo_platform::Platform;
+use expression_folds::values_of;
+use std::alloc::{AllocError, Global};
+
+/// How many splits are made at least, of any budget but 0. They take no time that anyone feels.
+const LEAST: u64 = 8;
+
+/// Two keys: their texts and conditions.
+#[derive(Clone, Copy)]
+pub struct Keys<'a> {
+    pub first: &'a str,
+    pub a: &'a Platform,
+    pub second: &'a str,
+    pub b: &'a Platform,
+}
+
+/// How many facts the keys ask for, each counted once.
+fn count_of_facts(alloc: Global, keys: &Keys<'_>) -> Result<u64, AllocError> {
+    let mut facts = values_of(alloc, keys.a)?;
+    for fact in &values_of(alloc, keys.b)? {
+        facts.push(*fact)?;
+    }
+    facts.sort()?;
+    facts.dedup();
+    Ok(u64::try_from(facts.len()).unwrap_or(u64::MAX))
+}
+
+/// How many steps of work a split takes: one for each byte of both keys, which are looked at whole, and one for each two
+/// of their facts, which are compared.
+fn steps_of_split(alloc: Global, keys: &Keys<'_>) -> Result<u64, AllocError> {
+    let facts = count_of_facts(alloc, keys)?;
+    let bytes = keys.first.len().saturating_add(keys.second.len());
+    let bytes = u64::try_from(bytes).unwrap_or(u64::MAX);
+    Ok(bytes.saturating_add(facts.saturating_mul(facts) / 2))
+}
+
+/// How many splits fit so many steps of work.
+pub fn splits_within(alloc: Global, keys: &Keys<'_>, steps: u64) -> Result<u64, AllocError> {
+    if steps == 0 {
+        return Ok(0);
+    }
+    let split = steps_of_split(alloc, keys)?;
+    Ok((steps / split.max(1)).max(LEAST))
+}
