@@ -1,6 +1,6 @@
 //! What is asked of a graph.
 
-use key_answers::answer::Answer;
+use key_answers::answer::Refusal;
 use key_answers::printing::shown_name;
 use known_targets::{COUNT, KnownTarget, RUSTC_VERSION, TargetSet};
 use package_graphs::Kinds;
@@ -75,49 +75,58 @@ const ALL_KINDS: Kinds = Kinds {
 };
 
 /// What is said of words that can't be used.
-pub fn unusable_words(alloc: Global, text: &str) -> Result<Answer, AllocError> {
-    let text = format!(in alloc; "error: {text}\n")?;
-    Ok(Answer::unusable(alloc, text))
+pub fn unusable_words(alloc: Global, text: &str) -> Refusal {
+    match format!(in alloc; "error: {text}\n") {
+        Ok(line) => Refusal::Unusable(line),
+        Err(refused) => Refusal::Memory(refused),
+    }
 }
 
-/// The target with this name, or what is said where none is known.
-fn target_of(alloc: Global, name: &str) -> Result<Result<KnownTarget, Answer>, AllocError> {
+/// What is said of a name that no known target has.
+fn no_target(alloc: Global, name: &str) -> Result<String, AllocError> {
+    let shown = shown_name(alloc, name)?;
+    let hint = if name.ends_with(".json") {
+        "; `graph` takes no target specification, and `select` its facts"
+    } else {
+        ""
+    };
+    format!(in alloc; "no target that rustc {RUSTC_VERSION} knows is named {shown}{hint}")
+}
+
+/// The target with this name.
+fn target_of(alloc: Global, name: &str) -> Result<KnownTarget, Refusal> {
     match KnownTarget::by_name(name) {
-        Some(target) => Ok(Ok(target)),
+        Some(target) => Ok(target),
         None => {
-            let shown = shown_name(alloc, name)?;
-            let hint = if name.ends_with(".json") {
-                "; `graph` takes no target specification, and `select` its facts"
-            } else {
-                ""
-            };
-            let text = format!(in alloc;
-                "error: no target that rustc {RUSTC_VERSION} knows is named {shown}{hint}\n"
-            )?;
-            Ok(Err(Answer::unusable(alloc, text)))
+            let text = no_target(alloc, name)?;
+            Err(unusable_words(alloc, text.as_str()))
         }
     }
 }
 
 /// The targets with these names, or all known ones where there are none.
-fn targets_of(alloc: Global, names: &[&str]) -> Result<Result<TargetSet, Answer>, AllocError> {
+fn targets_of(alloc: Global, names: &[&str]) -> Result<TargetSet, Refusal> {
     if names.is_empty() {
-        return Ok(Ok(TargetSet::all()));
+        return Ok(TargetSet::all());
     }
     let mut targets = TargetSet::none();
     for name in names {
-        match target_of(alloc, name)? {
-            Ok(target) => targets = targets.union(TargetSet::only(target)),
-            Err(answer) => return Ok(Err(answer)),
-        }
+        let target = target_of(alloc, name)?;
+        targets = targets.union(TargetSet::only(target));
     }
-    Ok(Ok(targets))
+    Ok(targets)
 }
 
-/// The kinds that these words name, or what is said where one names none.
-fn kinds_of(alloc: Global, words: Option<&str>) -> Result<Result<Kinds, Answer>, AllocError> {
+/// What is said of a word that names no kind.
+fn no_kind(alloc: Global, word: &str) -> Result<String, AllocError> {
+    let shown = shown_name(alloc, word)?;
+    format!(in alloc; "--edges names normal, build and dev, joined by commas, and not {shown}")
+}
+
+/// The kinds that these words name.
+fn kinds_of(alloc: Global, words: Option<&str>) -> Result<Kinds, Refusal> {
     let Some(words) = words else {
-        return Ok(Ok(ALL_KINDS));
+        return Ok(ALL_KINDS);
     };
     let mut kinds = Kinds {
         normal: false,
@@ -130,15 +139,20 @@ fn kinds_of(alloc: Global, words: Option<&str>) -> Result<Result<Kinds, Answer>,
             "build" => kinds.build = true,
             "dev" => kinds.dev = true,
             _ => {
-                let shown = shown_name(alloc, word)?;
-                let text = format!(in alloc;
-                    "error: --edges names normal, build and dev, joined by commas, and not {shown}\n"
-                )?;
-                return Ok(Err(Answer::unusable(alloc, text)));
+                let text = no_kind(alloc, word)?;
+                return Err(unusable_words(alloc, text.as_str()));
             }
         }
     }
-    Ok(Ok(kinds))
+    Ok(kinds)
+}
+
+/// The host of this name, where one is named.
+fn host_of(alloc: Global, name: Option<&str>) -> Result<Option<KnownTarget>, Refusal> {
+    match name {
+        Some(name) => Ok(Some(target_of(alloc, name)?)),
+        None => Ok(None),
+    }
 }
 
 /// What is printed by this word.
@@ -171,33 +185,21 @@ impl<'a> Asked<'a> {
         }
     }
 
-    /// What the words ask, or what is said of words that can't be used.
-    pub fn of(alloc: Global, words: &Words<'a>) -> Result<Result<Asked<'a>, Answer>, AllocError> {
+    /// What the words ask.
+    pub fn of(alloc: Global, words: &Words<'a>) -> Result<Asked<'a>, Refusal> {
         let Some(show) = show_of(words.show) else {
             let text = "--show names packages, edges, targets, why, features or unified";
-            return Ok(Err(unusable_words(alloc, text)?));
+            return Err(unusable_words(alloc, text));
         };
         if words.of.is_some() != (show == Show::Why) {
             let text = "`--show why` and `--of NAME` go together";
-            return Ok(Err(unusable_words(alloc, text)?));
+            return Err(unusable_words(alloc, text));
         }
-        let targets = match targets_of(alloc, words.targets)? {
-            Ok(targets) => targets,
-            Err(answer) => return Ok(Err(answer)),
-        };
-        let kinds = match kinds_of(alloc, words.edges)? {
-            Ok(kinds) => kinds,
-            Err(answer) => return Ok(Err(answer)),
-        };
-        let mut host = None;
-        if let Some(name) = words.host {
-            match target_of(alloc, name)? {
-                Ok(target) => host = Some(target),
-                Err(answer) => return Ok(Err(answer)),
-            }
-        }
+        let targets = targets_of(alloc, words.targets)?;
+        let kinds = kinds_of(alloc, words.edges)?;
+        let host = host_of(alloc, words.host)?;
         let are_named = !words.targets.is_empty();
-        Ok(Ok(Asked {
+        Ok(Asked {
             targets,
             count: if are_named { targets.len() } else { COUNT },
             are_named,
@@ -208,6 +210,6 @@ impl<'a> Asked<'a> {
             of: words.of.unwrap_or(""),
             json: words.json,
             html: words.html,
-        }))
+        })
     }
 }

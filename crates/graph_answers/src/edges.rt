@@ -240,48 +240,102 @@ fn number_of(kind: Kind) -> u8 {
     }
 }
 
-/// For each edge of a package the one condition of all that lead to the same package by the same kind, as JSON.
-fn groups_of(alloc: Global, edges: &[Edge<'_>]) -> Result<Vec<String>, AllocError> {
-    let mut keys = Vec::new(alloc);
-    let mut groups = Vec::new(alloc);
+/// What edges of one group have in common, and the place of an edge.
+type Member = ((usize, u8), usize);
+
+/// The places of the edges, those of a group side by side.
+fn by_group(alloc: Global, edges: &[Edge<'_>]) -> Result<Vec<Member>, AllocError> {
+    let mut places = Vec::new(alloc);
     for i in 0..edges.len() {
-        keys.push(((edges[i].to, number_of(edges[i].kind)), i))?;
+        places.push(((edges[i].to, number_of(edges[i].kind)), i))?;
+    }
+    places.sort()?;
+    Ok(places)
+}
+
+/// Whether the group of the member at this place ends with it.
+fn is_last(members: &[Member], at: usize) -> bool {
+    match (members.get(at), members.get(at.saturating_add(1))) {
+        (Some((group, _)), Some((next, _))) => group != next,
+        _ => true,
+    }
+}
+
+/// Puts the condition of a group at the places of its edges.
+fn put_group(
+    groups: &mut Vec<String>,
+    alloc: Global,
+    places: &[usize],
+    group: &str,
+) -> Result<(), AllocError> {
+    for place in places {
+        if let Some(slot) = groups.get_mut(*place) {
+            *slot = String::from_str(alloc, group)?;
+        }
+    }
+    Ok(())
+}
+
+/// An empty text for each edge.
+fn no_groups(alloc: Global, edges: &[Edge<'_>]) -> Result<Vec<String>, AllocError> {
+    let mut groups = Vec::new(alloc);
+    for _ in edges {
         groups.push(String::new(alloc))?;
     }
-    keys.sort()?;
-    let mut members = Vec::new(alloc);
-    for i in 0..keys.len() {
-        let (key, place) = keys[i];
-        members.push(place)?;
-        let is_last = match keys.get(i + 1) {
-            Some((next, _)) => *next != key,
-            None => true,
-        };
-        if is_last {
-            let group = group_of(alloc, edges, &members)?;
-            for member in &members {
-                if let Some(slot) = groups.get_mut(*member) {
-                    *slot = group.clone()?;
-                }
-            }
-            members.clear();
+    Ok(groups)
+}
+
+/// For each edge of a package the one condition of all that lead to the same package by the same kind, as JSON.
+fn groups_of(alloc: Global, edges: &[Edge<'_>]) -> Result<Vec<String>, AllocError> {
+    let mut groups = no_groups(alloc, edges)?;
+    let members = by_group(alloc, edges)?;
+    let mut places = Vec::new(alloc);
+    for i in 0..members.len() {
+        places.push(members[i].1)?;
+        if is_last(&members, i) {
+            let group = group_of(alloc, edges, &places)?;
+            put_group(&mut groups, alloc, &places, group.as_str())?;
+            places.clear();
         }
     }
     Ok(groups)
 }
 
-/// The one condition of some edges, as JSON: null where one has none, and an array of keys where one is a name.
-fn group_of(alloc: Global, edges: &[Edge<'_>], members: &[usize]) -> Result<String, AllocError> {
-    let mut keys = Vec::new(alloc);
-    for member in members {
-        let Some(edge) = edges.get(*member) else {
-            continue;
-        };
-        match &edge.condition {
-            Some(condition) => keys.push(condition.clone(alloc)?)?,
-            None => return String::from_str(alloc, "null"),
+/// Whether some edge has no condition.
+fn has_no_condition(edges: &[Edge<'_>], places: &[usize]) -> bool {
+    for place in places {
+        if let Some(edge) = edges.get(*place) {
+            if edge.condition.is_none() {
+                return true;
+            }
         }
     }
+    false
+}
+
+/// Copies of the conditions of some edges.
+fn conditions_of(
+    alloc: Global,
+    edges: &[Edge<'_>],
+    places: &[usize],
+) -> Result<Vec<Platform>, AllocError> {
+    let mut keys = Vec::new(alloc);
+    for place in places {
+        if let Some(edge) = edges.get(*place) {
+            if let Some(condition) = &edge.condition {
+                keys.push(condition.clone(alloc)?)?;
+            }
+        }
+    }
+    Ok(keys)
+}
+
+/// The one condition of some edges, as JSON: null where one has none, and an array of keys where one is a name.
+fn group_of(alloc: Global, edges: &[Edge<'_>], places: &[usize]) -> Result<String, AllocError> {
+    if has_no_condition(edges, places) {
+        return String::from_str(alloc, "null");
+    }
+    let mut keys = conditions_of(alloc, edges, places)?;
     keys.sort()?;
     keys.dedup();
     any_of(alloc, keys)
@@ -292,24 +346,33 @@ fn is_expression(condition: &Platform) -> bool {
     matches!(condition, Platform::Cfg(_))
 }
 
+/// A key as a text of JSON.
+fn push_key(text: &mut String, alloc: Global, key: &Platform) -> Result<(), AllocError> {
+    let key = format!(in alloc; "{key}")?;
+    push_text(text, alloc, key.as_str())
+}
+
+/// An array of keys.
+fn array_of(alloc: Global, keys: &[Platform]) -> Result<String, AllocError> {
+    let mut text = String::from_str(alloc, "[")?;
+    let mut is_first = true;
+    for key in keys {
+        push_comma(&mut text, is_first)?;
+        is_first = false;
+        push_key(&mut text, alloc, key)?;
+    }
+    push(&mut text, "]")?;
+    Ok(text)
+}
+
 /// The only key, the `any(..)` of several expressions, or an array of keys where one of several is a name.
 fn any_of(alloc: Global, keys: Vec<Platform>) -> Result<String, AllocError> {
-    let mut text = String::new(alloc);
     if keys.len() > 1 && !keys.iter().all(is_expression) {
-        push(&mut text, "[")?;
-        let mut is_first = true;
-        for key in &keys {
-            push_comma(&mut text, is_first)?;
-            is_first = false;
-            let key = format!(in alloc; "{key}")?;
-            push_text(&mut text, alloc, key.as_str())?;
-        }
-        push(&mut text, "]")?;
-        return Ok(text);
+        return array_of(alloc, &keys);
     }
+    let mut text = String::new(alloc);
     let whole = any_of_expressions(alloc, keys)?;
-    let whole = format!(in alloc; "{whole}")?;
-    push_text(&mut text, alloc, whole.as_str())?;
+    push_key(&mut text, alloc, &whole)?;
     Ok(text)
 }
 

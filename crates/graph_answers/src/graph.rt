@@ -6,7 +6,7 @@ use crate::features::show_features;
 use crate::licences::{Audit, show_licences};
 use crate::packages::show_packages;
 use crate::page::page_of;
-use crate::refused::{refused_depth, refused_document, refused_graph, unusable};
+use crate::refused::{refuse_depth, refused_document, refused_graph, unusable};
 use crate::resolving::{Features, features_of};
 use crate::targets::show_targets;
 use crate::unified::show_unified;
@@ -14,11 +14,11 @@ use crate::why::show_why;
 use cargo_metadata::graphs::{Linked, link};
 use cargo_metadata::{Metadata, Package as Described, read};
 use cargo_platform::shown_text;
-use key_answers::answer::{Answer, Status};
+use key_answers::answer::{Answer, Refusal, Status, answered};
 use key_answers::printing::shown_name;
 use known_targets::{KnownTarget, TargetSet};
 use package_graphs::{PackageSets, present_packages};
-use serde_json::Value;
+use serde_json::{Error, Value};
 use std::alloc::{AllocError, Global};
 
 /// A graph, with the targets at which each of its packages is there.
@@ -136,43 +136,65 @@ pub fn package_lines<'a>(
     Ok(answer.output)
 }
 
-/// The graph of a document that is JSON, or what is said of one that can't be used.
+/// What a document has, where no condition is nested too deep.
+fn metadata_of<'a>(
+    alloc: Global,
+    file: &str,
+    document: &'a Value,
+) -> Result<Metadata<'a>, Refusal> {
+    match read(alloc, document) {
+        Ok(metadata) => {
+            refuse_depth(alloc, file, &metadata)?;
+            Ok(metadata)
+        }
+        Err(refusal) => Err(refused_document(alloc, file, document, &refusal)),
+    }
+}
+
+/// What is said of a name that no member of the workspace has.
+fn no_member(alloc: Global, name: &str) -> Result<String, AllocError> {
+    let name = shown_name(alloc, name)?;
+    format!(in alloc; "no member of the workspace is named {name}")
+}
+
+/// The graph of a document, from the roots that are asked for.
+fn linked_from<'a>(
+    alloc: Global,
+    file: &str,
+    metadata: &Metadata<'a>,
+    roots: &[&str],
+) -> Result<Linked<'a>, Refusal> {
+    let mut linked = match link(alloc, metadata) {
+        Ok(linked) => linked,
+        Err(refusal) => return Err(refused_graph(alloc, file, metadata, &refusal)),
+    };
+    if let Err(name) = choose_roots(&mut linked, roots) {
+        let reason = no_member(alloc, name)?;
+        return Err(unusable(alloc, file, reason.as_str()));
+    }
+    Ok(linked)
+}
+
+/// The graph of a document that is JSON.
 fn graph_of<'a>(
     alloc: Global,
     file: &str,
     document: &'a Value,
     asked: &Asked<'_>,
     words: &Words<'_>,
-) -> Result<Result<Graph<'a>, Answer>, AllocError> {
-    let metadata = match read(alloc, document) {
-        Ok(metadata) => metadata,
-        Err(refusal) => return Ok(Err(refused_document(alloc, file, document, &refusal)?)),
-    };
-    if let Some(answer) = refused_depth(alloc, file, &metadata)? {
-        return Ok(Err(answer));
-    }
-    let mut linked = match link(alloc, &metadata) {
-        Ok(linked) => linked,
-        Err(refusal) => return Ok(Err(refused_graph(alloc, file, &metadata, &refusal)?)),
-    };
-    if let Err(name) = choose_roots(&mut linked, asked.packages) {
-        let name = shown_name(alloc, name)?;
-        let reason = format!(in alloc; "no member of the workspace is named {name}")?;
-        return Ok(Err(unusable(alloc, file, reason.as_str())?));
-    }
+) -> Result<Graph<'a>, Refusal> {
+    let metadata = metadata_of(alloc, file, document)?;
+    let linked = linked_from(alloc, file, &metadata, asked.packages)?;
     let sets = present_packages(alloc, &linked.packages, asked.kinds, asked.host)?;
     let order = in_order(alloc, &linked.described)?;
-    let features = match features_of(alloc, file, document, &metadata, &linked, asked, words)? {
-        Ok(features) => features,
-        Err(answer) => return Ok(Err(answer)),
-    };
-    Ok(Ok(Graph {
+    let features = features_of(alloc, file, document, &metadata, &linked, asked, words)?;
+    Ok(Graph {
         metadata,
         linked,
         sets,
         order,
         features,
-    }))
+    })
 }
 
 /// What is printed of a graph.
@@ -218,11 +240,8 @@ fn report_on_document(
     asked: &Asked<'_>,
     audit: &Option<Audit<'_>>,
     words: &Words<'_>,
-) -> Result<Report, AllocError> {
-    let graph = match graph_of(alloc, file, document, asked, words)? {
-        Ok(graph) => graph,
-        Err(answer) => return Ok(Report::without_page(answer)),
-    };
+) -> Result<Report, Refusal> {
+    let graph = graph_of(alloc, file, document, asked, words)?;
     let answer = answer_of(alloc, file, &graph, asked, audit)?;
     if !asked.html || answer.status == Status::Unusable {
         return Ok(Report::without_page(answer));
@@ -234,6 +253,38 @@ fn report_on_document(
     })
 }
 
+/// Why a text is no JSON.
+fn no_json(alloc: Global, error: &Error) -> Result<String, AllocError> {
+    let reason = format!(in alloc; "{error}")?;
+    let reason = shown_text(alloc, reason.as_str())?;
+    format!(in alloc; "no JSON: {reason}")
+}
+
+/// The document that a text spells.
+fn document_of(alloc: Global, file: &str, text: &str) -> Result<Value, Refusal> {
+    match Value::from_str(alloc, text) {
+        Ok(document) => Ok(document),
+        Err(error) => {
+            let reason = no_json(alloc, &error)?;
+            Err(unusable(alloc, file, reason.as_str()))
+        }
+    }
+}
+
+/// The report on what `cargo metadata` printed.
+fn report_on_text(
+    alloc: Global,
+    file: &str,
+    text: &str,
+    words: &Words<'_>,
+) -> Result<Report, Refusal> {
+    let asked = Asked::of(alloc, words)?;
+    let audit = Audit::of(alloc, words)?;
+    let file = shown_text(alloc, file)?;
+    let document = document_of(alloc, file.as_str(), text)?;
+    report_on_document(alloc, file.as_str(), &document, &asked, &audit, words)
+}
+
 /// The report to the words on what `cargo metadata` printed; `file` is where that was read.
 pub fn report_on(
     alloc: Global,
@@ -241,22 +292,8 @@ pub fn report_on(
     text: &str,
     words: &Words<'_>,
 ) -> Result<Report, AllocError> {
-    let asked = match Asked::of(alloc, words)? {
-        Ok(asked) => asked,
-        Err(answer) => return Ok(Report::without_page(answer)),
-    };
-    let audit = match Audit::of(alloc, words)? {
-        Ok(audit) => audit,
-        Err(answer) => return Ok(Report::without_page(answer)),
-    };
-    let file = shown_text(alloc, file)?;
-    match Value::from_str(alloc, text) {
-        Ok(document) => report_on_document(alloc, file.as_str(), &document, &asked, &audit, words),
-        Err(error) => {
-            let reason = format!(in alloc; "{error}")?;
-            let reason = shown_text(alloc, reason.as_str())?;
-            let reason = format!(in alloc; "no JSON: {reason}")?;
-            Ok(Report::without_page(unusable(alloc, file.as_str(), reason.as_str())?))
-        }
+    match report_on_text(alloc, file, text, words) {
+        Ok(report) => Ok(report),
+        Err(refusal) => Ok(Report::without_page(answered(alloc, Err(refusal))?)),
     }
 }

@@ -9,7 +9,7 @@ use crate::lines::{push, shown_package, shown_targets};
 use crate::packages::push_package;
 use crate::refused::unusable;
 use cargo_platform::{shown_start, shown_text};
-use key_answers::answer::{Answer, Status};
+use key_answers::answer::{Answer, Refusal, Status, answered};
 use key_answers::printing::shown_name;
 use licence_audits::{Exception, Finding, Subject, audit};
 use spdx_expressions::{Licence, ParseError, ReadError};
@@ -22,39 +22,39 @@ pub struct Audit<'a> {
     pub exceptions: Vec<Exception<'a>>,
 }
 
-/// Adds an entry to a list of allowed licences. The text that an `Err` has says why it is none.
+/// What is said of an entry that spells no licence.
+fn no_licence(alloc: Global, place: &str, error: &ParseError) -> Result<String, AllocError> {
+    let lines = fault_lines(alloc, error)?;
+    format!(in alloc; "{place}the entry spells no licence\n{lines}")
+}
+
+/// The licence that an entry spells.
+fn licence_of(alloc: Global, place: &str, entry: &str) -> Result<Licence, Refusal> {
+    match Licence::from_str(alloc, entry) {
+        Ok(licence) => Ok(licence),
+        Err(ReadError::Parse(error)) => Err(Refusal::Unusable(no_licence(alloc, place, &error)?)),
+        Err(ReadError::Memory(refused)) => Err(Refusal::Memory(refused)),
+    }
+}
+
+/// Adds an entry to a list of allowed licences.
 fn add_entry(
     allowed: &mut Vec<Licence>,
     alloc: Global,
     place: &str,
     entry: &str,
-) -> Result<Result<(), Answer>, AllocError> {
-    match Licence::from_str(alloc, entry) {
-        Ok(licence) => {
-            allowed.push(licence)?;
-            Ok(Ok(()))
-        }
-        Err(ReadError::Parse(error)) => {
-            let lines = fault_lines(alloc, &error)?;
-            let text = format!(in alloc; "{place}the entry spells no licence\n{lines}")?;
-            Ok(Err(Answer::unusable(alloc, text)))
-        }
-        Err(ReadError::Memory(error)) => Err(error),
-    }
+) -> Result<(), Refusal> {
+    let licence = licence_of(alloc, place, entry)?;
+    allowed.push(licence).map_err(AllocError::from)?;
+    Ok(())
 }
 
 /// Adds the entries of `--allow`, which commas part.
-fn add_list(
-    allowed: &mut Vec<Licence>,
-    alloc: Global,
-    list: &str,
-) -> Result<Result<(), Answer>, AllocError> {
+fn add_list(allowed: &mut Vec<Licence>, alloc: Global, list: &str) -> Result<(), Refusal> {
     for entry in list.split(',') {
-        if let Err(answer) = add_entry(allowed, alloc, "error: --allow: ", entry)? {
-            return Ok(Err(answer));
-        }
+        add_entry(allowed, alloc, "error: --allow: ", entry)?;
     }
-    Ok(Ok(()))
+    Ok(())
 }
 
 /// Adds the entries of a file, one a line. Empty lines and those that begin with `#` are passed over.
@@ -63,7 +63,7 @@ fn add_lines(
     alloc: Global,
     file: &str,
     text: &str,
-) -> Result<Result<(), Answer>, AllocError> {
+) -> Result<(), Refusal> {
     let file = shown_text(alloc, file)?;
     let mut number: usize = 0;
     for line in text.lines() {
@@ -73,67 +73,66 @@ fn add_lines(
             continue;
         }
         let place = format!(in alloc; "{file}:{number}: error: ")?;
-        if let Err(answer) = add_entry(allowed, alloc, place.as_str(), entry)? {
-            return Ok(Err(answer));
-        }
+        add_entry(allowed, alloc, place.as_str(), entry)?;
     }
-    Ok(Ok(()))
+    Ok(())
 }
 
-/// The exceptions of these words, each the name and the version of a package; or what is said of a word that is none.
-fn exceptions_of<'a>(
-    alloc: Global,
-    words: &[&'a str],
-) -> Result<Result<Vec<Exception<'a>>, Answer>, AllocError> {
+/// What is said of a word that is no exception.
+fn no_exception(alloc: Global, word: &str) -> Result<String, AllocError> {
+    let shown = shown_name(alloc, word)?;
+    format!(in alloc; "--except names NAME@VERSION, and not {shown}")
+}
+
+/// The exceptions of these words, each the name and the version of a package.
+fn exceptions_of<'a>(alloc: Global, words: &[&'a str]) -> Result<Vec<Exception<'a>>, Refusal> {
     let mut exceptions = Vec::new(alloc);
     for word in words {
         match word.split_once('@') {
-            Some((name, version)) => exceptions.push(Exception { name, version })?,
+            Some((name, version)) => exceptions
+                .push(Exception { name, version })
+                .map_err(AllocError::from)?,
             None => {
-                let shown = shown_name(alloc, word)?;
-                let text = format!(in alloc; "--except names NAME@VERSION, and not {shown}")?;
-                return Ok(Err(unusable_words(alloc, text.as_str())?));
+                let text = no_exception(alloc, word)?;
+                return Err(unusable_words(alloc, text.as_str()));
             }
         }
     }
-    Ok(Ok(exceptions))
+    Ok(exceptions)
+}
+
+/// The licences that the words allow.
+fn allowed_by(alloc: Global, words: &Words<'_>) -> Result<Vec<Licence>, Refusal> {
+    let mut allowed = Vec::new(alloc);
+    if let Some(list) = words.allow {
+        add_list(&mut allowed, alloc, list)?;
+    }
+    if let Some((file, text)) = words.allow_file {
+        add_lines(&mut allowed, alloc, file, text)?;
+    }
+    Ok(allowed)
 }
 
 impl<'a> Audit<'a> {
-    /// The audit that the words ask for, if they ask for one, or what is said of words that can't be used.
-    pub fn of(
-        alloc: Global,
-        words: &Words<'a>,
-    ) -> Result<Result<Option<Audit<'a>>, Answer>, AllocError> {
+    /// The audit that the words ask for, if they ask for one.
+    pub fn of(alloc: Global, words: &Words<'a>) -> Result<Option<Audit<'a>>, Refusal> {
         if words.allow.is_none() && words.allow_file.is_none() {
             if words.except.is_empty() {
-                return Ok(Ok(None));
+                return Ok(None);
             }
             let text = "`--except` goes with `--allow` or `--allow-file`";
-            return Ok(Err(unusable_words(alloc, text)?));
+            return Err(unusable_words(alloc, text));
         }
         if words.show.is_some() {
             let text = "`--show` does not go with `--allow` and `--allow-file`";
-            return Ok(Err(unusable_words(alloc, text)?));
+            return Err(unusable_words(alloc, text));
         }
-        let mut allowed = Vec::new(alloc);
-        if let Some(list) = words.allow {
-            if let Err(answer) = add_list(&mut allowed, alloc, list)? {
-                return Ok(Err(answer));
-            }
-        }
-        if let Some((file, text)) = words.allow_file {
-            if let Err(answer) = add_lines(&mut allowed, alloc, file, text)? {
-                return Ok(Err(answer));
-            }
-        }
-        match exceptions_of(alloc, words.except)? {
-            Ok(exceptions) => Ok(Ok(Some(Audit {
-                allowed,
-                exceptions,
-            }))),
-            Err(answer) => Ok(Err(answer)),
-        }
+        let allowed = allowed_by(alloc, words)?;
+        let exceptions = exceptions_of(alloc, words.except)?;
+        Ok(Some(Audit {
+            allowed,
+            exceptions,
+        }))
     }
 }
 
@@ -188,7 +187,7 @@ pub fn show_licences(
         let name = shown_name(alloc, exception.name)?;
         let version = shown_name(alloc, exception.version)?;
         let reason = format!(in alloc; "--except: no package is {name}@{version}")?;
-        return unusable(alloc, file, reason.as_str());
+        return answered(alloc, Err(unusable(alloc, file, reason.as_str())));
     }
     let told = audit(alloc, &subjects, &by.exceptions, &by.allowed)?;
     let mut answer = Answer::of(alloc, String::new(alloc), Status::Fine);

@@ -8,16 +8,18 @@ use crate::lines::{push, shown};
 use cargo_metadata::graphs::{InDependency, Refusal as Unlinked};
 use cargo_metadata::{InResolve, Metadata, Refusal};
 use cargo_platform::ParseError;
-use key_answers::answer::Answer;
+use key_answers::answer::Refusal as NoAnswer;
 use key_answers::printing::refused_key;
 use key_limits::{deep_at, deep_text};
 use serde_json::Value;
 use std::alloc::{AllocError, Global};
 
-/// The answer that is this reason on a line of its own.
-pub fn unusable(alloc: Global, file: &str, reason: &str) -> Result<Answer, AllocError> {
-    let text = format!(in alloc; "{file}: error: {reason}\n")?;
-    Ok(Answer::unusable(alloc, text))
+/// This reason on a line of its own.
+pub fn unusable(alloc: Global, file: &str, reason: &str) -> NoAnswer {
+    match format!(in alloc; "{file}: error: {reason}\n") {
+        Ok(line) => NoAnswer::Unusable(line),
+        Err(refused) => NoAnswer::Memory(refused),
+    }
 }
 
 /// The reason with the package that it is about, where one is known.
@@ -70,22 +72,37 @@ pub fn refused_document(
     file: &str,
     document: &Value,
     refusal: &Refusal,
-) -> Result<Answer, AllocError> {
-    let reason = document_reason(alloc, document, refusal)?;
-    unusable(alloc, file, reason.as_str())
+) -> NoAnswer {
+    match document_reason(alloc, document, refusal) {
+        Ok(reason) => unusable(alloc, file, reason.as_str()),
+        Err(refused) => NoAnswer::Memory(refused),
+    }
+}
+
+/// The id of a package.
+fn id_of_package<'a>(metadata: &Metadata<'a>, i: usize) -> Option<&'a str> {
+    Some(metadata.packages.get(i)?.id)
+}
+
+/// The id of a node.
+fn id_of_node<'a>(metadata: &Metadata<'a>, i: usize) -> Option<&'a str> {
+    Some(metadata.nodes.get(i)?.id)
+}
+
+/// The id on which a node depends.
+fn id_depended_on<'a>(metadata: &Metadata<'a>, i: usize, j: usize) -> Option<&'a str> {
+    Some(metadata.nodes.get(i)?.dependencies.get(j)?.on)
 }
 
 /// The id that a refusal is about.
 fn id_of<'a>(metadata: &Metadata<'a>, refusal: &Unlinked) -> Option<&'a str> {
     match refusal {
-        Unlinked::SamePackage { again, .. } => Some(metadata.packages.get(*again)?.id),
-        Unlinked::NoPackage(i) => Some(metadata.nodes.get(*i)?.id),
-        Unlinked::SameNode { again, .. } => Some(metadata.nodes.get(*again)?.id),
-        Unlinked::NoMember(i) => Some(metadata.members.get(*i)?),
-        Unlinked::Dependency(i, j, InDependency::NoNode) => {
-            Some(metadata.nodes.get(*i)?.dependencies.get(*j)?.on)
-        }
-        Unlinked::Dependency(i, _, _) => Some(metadata.nodes.get(*i)?.id),
+        Unlinked::SamePackage { again, .. } => id_of_package(metadata, *again),
+        Unlinked::NoPackage(i) => id_of_node(metadata, *i),
+        Unlinked::SameNode { again, .. } => id_of_node(metadata, *again),
+        Unlinked::NoMember(i) => metadata.members.get(*i).copied(),
+        Unlinked::Dependency(i, j, InDependency::NoNode) => id_depended_on(metadata, *i, *j),
+        Unlinked::Dependency(i, _, _) => id_of_node(metadata, *i),
         Unlinked::Memory(_) => None,
     }
 }
@@ -113,22 +130,30 @@ fn first_deep(metadata: &Metadata<'_>) -> Option<((usize, usize, usize), usize)>
     None
 }
 
-/// What is said of a document with a condition that is nested too deep; of others there is nothing.
-pub fn refused_depth(
+/// Why the condition at these places is not read: from this byte on it is nested too deep.
+fn deep_reason(
     alloc: Global,
-    file: &str,
     metadata: &Metadata<'_>,
-) -> Result<Option<Answer>, AllocError> {
-    let Some(((i, j, k), at)) = first_deep(metadata) else {
-        return Ok(None);
-    };
+    places: (usize, usize, usize),
+    at: usize,
+) -> Result<String, AllocError> {
+    let (i, j, k) = places;
     let reason = deep_text(alloc, at)?;
     let reason = format!(in alloc;
         "resolve.nodes[{i}].deps[{j}].dep_kinds[{k}].target: the text is {reason}"
     )?;
-    let subject = metadata.nodes.get(i).map(|node| node.id);
-    let reason = about(alloc, reason, subject)?;
-    Ok(Some(unusable(alloc, file, reason.as_str())?))
+    about(alloc, reason, id_of_node(metadata, i))
+}
+
+/// Refuses a document with a condition that is nested too deep.
+pub fn refuse_depth(alloc: Global, file: &str, metadata: &Metadata<'_>) -> Result<(), NoAnswer> {
+    match first_deep(metadata) {
+        Some((places, at)) => {
+            let reason = deep_reason(alloc, metadata, places, at)?;
+            Err(unusable(alloc, file, reason.as_str()))
+        }
+        None => Ok(()),
+    }
 }
 
 /// Where a condition is refused and why, indented, as `targets` shows it, behind a line end.
@@ -171,7 +196,9 @@ pub fn refused_graph(
     file: &str,
     metadata: &Metadata<'_>,
     refusal: &Unlinked,
-) -> Result<Answer, AllocError> {
-    let reason = graph_reason(alloc, metadata, refusal)?;
-    unusable(alloc, file, reason.as_str())
+) -> NoAnswer {
+    match graph_reason(alloc, metadata, refusal) {
+        Ok(reason) => unusable(alloc, file, reason.as_str()),
+        Err(refused) => NoAnswer::Memory(refused),
+    }
 }

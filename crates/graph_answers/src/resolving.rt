@@ -8,7 +8,7 @@ use cargo_metadata::graphs::Linked;
 use declared_features::{
     Asked as AskedFeatures, Described, Manifest, Refusal, described_features, read_manifests,
 };
-use key_answers::answer::Answer;
+use key_answers::answer::Refusal as NoAnswer;
 use key_answers::printing::shown_name;
 use known_targets::{KnownTarget, TargetSet};
 use package_graphs::{Kinds, Side};
@@ -91,32 +91,31 @@ impl<'a> Features<'a> {
     }
 }
 
-/// The edition of the root package: the one whose manifest is that of the workspace.
-fn root_edition<'a>(
-    alloc: Global,
-    document: &'a Value,
-    manifests: &[Manifest<'a>],
-) -> Result<Option<&'a str>, AllocError> {
-    let Some(root) = text_at(document, "workspace_root") else {
-        return Ok(None);
-    };
-    let Some(Value::Array(packages)) = document.get("packages") else {
-        return Ok(None);
-    };
-    let slash = format!(in alloc; "{root}/Cargo.toml")?;
-    let backslash = format!(in alloc; "{root}\\Cargo.toml")?;
+/// Whether a path is that of the manifest in a folder, with either sign between them.
+fn is_manifest_in(path: &str, folder: &str) -> bool {
+    match path.strip_prefix(folder) {
+        Some(rest) => rest == "/Cargo.toml" || rest == "\\Cargo.toml",
+        None => false,
+    }
+}
+
+/// The place of the root package: the one whose manifest is that of the workspace.
+fn root_place(document: &Value) -> Option<usize> {
+    let root = text_at(document, "workspace_root")?;
+    let packages = document.get("packages")?.as_array()?;
     for i in 0..packages.len() {
-        let Some(path) = text_at(&packages[i], "manifest_path") else {
-            continue;
-        };
-        if path == slash.as_str() || path == backslash.as_str() {
-            return Ok(match manifests.get(i) {
-                Some(manifest) => manifest.edition,
-                None => None,
-            });
+        if let Some(path) = text_at(&packages[i], "manifest_path") {
+            if is_manifest_in(path, root) {
+                return Some(i);
+            }
         }
     }
-    Ok(None)
+    None
+}
+
+/// The edition of the root package.
+fn root_edition<'a>(document: &Value, manifests: &[Manifest<'a>]) -> Option<&'a str> {
+    manifests.get(root_place(document)?)?.edition
 }
 
 /// The text at a field.
@@ -124,47 +123,47 @@ fn text_at<'a>(value: &'a Value, field: &str) -> Option<&'a str> {
     value.get(field)?.as_str()
 }
 
-/// The resolver that Cargo takes by the edition of the root package, or what is said where that is not told.
-fn resolver_by_edition<'a>(
+/// What is said of an edition whose resolver is not known.
+fn no_resolver(alloc: Global, edition: &str) -> Result<String, AllocError> {
+    let shown = shown_name(alloc, edition)?;
+    format!(in alloc; "no resolver is known of edition {shown}: say --resolver 1, 2 or 3")
+}
+
+/// The resolver that Cargo takes by the edition of the root package.
+fn resolver_by_edition(
     alloc: Global,
     file: &str,
-    document: &'a Value,
-    manifests: &[Manifest<'a>],
-) -> Result<Result<Resolver, Answer>, AllocError> {
-    match root_edition(alloc, document, manifests)? {
-        Some("2015" | "2018") => Ok(Ok(Resolver::One)),
-        Some("2021" | "2024") => Ok(Ok(Resolver::Two)),
+    document: &Value,
+    manifests: &[Manifest<'_>],
+) -> Result<Resolver, NoAnswer> {
+    match root_edition(document, manifests) {
+        Some("2015" | "2018") => Ok(Resolver::One),
+        Some("2021" | "2024") => Ok(Resolver::Two),
         Some(edition) => {
-            let shown = shown_name(alloc, edition)?;
-            let reason = format!(in alloc;
-                "no resolver is known of edition {shown}: say --resolver 1, 2 or 3"
-            )?;
-            Ok(Err(unusable(alloc, file, reason.as_str())?))
+            let reason = no_resolver(alloc, edition)?;
+            Err(unusable(alloc, file, reason.as_str()))
         }
         None => {
             let reason =
                 "the workspace has no root package, whose edition tells the resolver: say --resolver 1, 2 or 3";
-            Ok(Err(unusable(alloc, file, reason)?))
+            Err(unusable(alloc, file, reason))
         }
     }
 }
 
-/// The resolver of the word, or what is said where it names none.
-fn resolver_of<'a>(
+/// The resolver of the word.
+fn resolver_of(
     alloc: Global,
     file: &str,
     words: &Words<'_>,
-    document: &'a Value,
-    manifests: &[Manifest<'a>],
-) -> Result<Result<Resolver, Answer>, AllocError> {
+    document: &Value,
+    manifests: &[Manifest<'_>],
+) -> Result<Resolver, NoAnswer> {
     match words.resolver {
-        Some("1") => Ok(Ok(Resolver::One)),
-        Some("2" | "3") => Ok(Ok(Resolver::Two)),
+        Some("1") => Ok(Resolver::One),
+        Some("2" | "3") => Ok(Resolver::Two),
         None | Some("edition") => resolver_by_edition(alloc, file, document, manifests),
-        Some(_) => {
-            let text = "--resolver names 1, 2, 3 or edition";
-            Ok(Err(unusable_words(alloc, text)?))
-        }
+        Some(_) => Err(unusable_words(alloc, "--resolver names 1, 2, 3 or edition")),
     }
 }
 
@@ -253,13 +252,57 @@ fn places_of(
     Ok(places)
 }
 
-/// What is said of a document whose packages declare something that is not as it has to be.
-fn refused_manifests(alloc: Global, file: &str, refusal: &Refusal) -> Result<Answer, AllocError> {
-    let reason = format!(in alloc; "{refusal}")?;
-    unusable(alloc, file, reason.as_str())
+/// What packages declare. Of what is not as it has to be, the reason is said.
+fn manifests_of<'a>(
+    alloc: Global,
+    file: &str,
+    document: &'a Value,
+) -> Result<Vec<Manifest<'a>>, NoAnswer> {
+    match read_manifests(alloc, document) {
+        Ok(manifests) => Ok(manifests),
+        Err(Refusal::Memory(refused)) => Err(NoAnswer::Memory(refused)),
+        Err(refusal) => {
+            let reason = format!(in alloc; "{refusal}")?;
+            Err(unusable(alloc, file, reason.as_str()))
+        }
+    }
 }
 
-/// What the features of a graph turn on, if that is asked for, or what is said where it can't be told.
+/// Refuses names of features that no root has.
+fn refuse_unknown(
+    alloc: Global,
+    file: &str,
+    names: &[&str],
+    metadata: &Metadata<'_>,
+    manifests: &[Manifest<'_>],
+    linked: &Linked<'_>,
+    places: &[usize],
+) -> Result<(), NoAnswer> {
+    match unknown_feature(names, metadata, manifests, linked, places) {
+        Some(name) => {
+            let name = shown_name(alloc, name)?;
+            let reason = format!(in alloc; "no root has the feature {name}")?;
+            Err(unusable(alloc, file, reason.as_str()))
+        }
+        None => Ok(()),
+    }
+}
+
+/// The host for which features are resolved, where that can be asked.
+fn host_of(alloc: Global, asked: &Asked<'_>) -> Result<KnownTarget, NoAnswer> {
+    let Some(host) = asked.host else {
+        let text = "features are resolved for a host: say --host NAME";
+        return Err(unusable_words(alloc, text));
+    };
+    if asked.show == Show::Why {
+        let text =
+            "`--show why` knows no features: leave out --resolver and what is asked of features";
+        return Err(unusable_words(alloc, text));
+    }
+    Ok(host)
+}
+
+/// What the features of a graph turn on, if that is asked for.
 pub fn features_of<'a>(
     alloc: Global,
     file: &str,
@@ -268,35 +311,16 @@ pub fn features_of<'a>(
     linked: &Linked<'a>,
     asked: &Asked<'_>,
     words: &Words<'_>,
-) -> Result<Result<Option<Features<'a>>, Answer>, AllocError> {
+) -> Result<Option<Features<'a>>, NoAnswer> {
     if !is_asked(words, asked.show) {
-        return Ok(Ok(None));
+        return Ok(None);
     }
-    let Some(host) = asked.host else {
-        let text = "features are resolved for a host: say --host NAME";
-        return Ok(Err(unusable_words(alloc, text)?));
-    };
-    if asked.show == Show::Why {
-        let text =
-            "`--show why` knows no features: leave out --resolver and what is asked of features";
-        return Ok(Err(unusable_words(alloc, text)?));
-    }
-    let manifests = match read_manifests(alloc, document) {
-        Ok(manifests) => manifests,
-        Err(Refusal::Memory(error)) => return Err(error),
-        Err(refusal) => return Ok(Err(refused_manifests(alloc, file, &refusal)?)),
-    };
-    let resolver = match resolver_of(alloc, file, words, document, &manifests)? {
-        Ok(resolver) => resolver,
-        Err(answer) => return Ok(Err(answer)),
-    };
+    let host = host_of(alloc, asked)?;
+    let manifests = manifests_of(alloc, file, document)?;
+    let resolver = resolver_of(alloc, file, words, document, &manifests)?;
     let places = places_of(alloc, metadata, linked)?;
     let names = names_of(alloc, words.features)?;
-    if let Some(name) = unknown_feature(&names, metadata, &manifests, linked, &places) {
-        let name = shown_name(alloc, name)?;
-        let reason = format!(in alloc; "no root has the feature {name}")?;
-        return Ok(Err(unusable(alloc, file, reason.as_str())?));
-    }
+    refuse_unknown(alloc, file, &names, metadata, &manifests, linked, &places)?;
     let features = AskedFeatures {
         names: &names,
         default: !words.no_default,
@@ -306,10 +330,10 @@ pub fn features_of<'a>(
         alloc, metadata, &manifests, linked, &features,
     )?;
     let resolved = resolve(alloc, packages, build_of(resolver, asked.kinds, host))?;
-    Ok(Ok(Some(Features {
+    Ok(Some(Features {
         manifests,
         places,
         edges,
         resolved,
-    })))
+    }))
 }

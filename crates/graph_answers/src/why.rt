@@ -7,7 +7,7 @@ use crate::json::{push_comma, push_field, push_targets};
 use crate::lines::{joined_names, push, shown_count, shown_package};
 use crate::packages::push_package;
 use crate::refused::unusable;
-use key_answers::answer::{Answer, Status};
+use key_answers::answer::{Answer, Status, answered};
 use key_answers::printing::shown_name;
 use known_targets::TargetSet;
 use package_graphs::{Step, shortest_path};
@@ -80,7 +80,7 @@ pub fn show_why(
     }
     let name = shown_name(alloc, asked.of)?;
     let reason = format!(in alloc; "no package of the graph is named {name}")?;
-    unusable(alloc, file, reason.as_str())
+    answered(alloc, Err(unusable(alloc, file, reason.as_str())))
 }
 
 /// The edge that a step goes along.
