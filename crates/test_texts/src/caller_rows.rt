@@ -1,5 +1,6 @@
 //! What the callers of the crate `callers` answer.
 
+use crate::asked;
 use callers::audit::{canonical, is_one_key, note, note_hashed};
 use callers::describe::describe;
 use callers::fixed_key::is_unix;
@@ -12,7 +13,7 @@ use callers::planner::plan;
 use callers::printed_facts::holds_for;
 use callers::selected::is_selected;
 use callers::underline::underlined;
-use cargo_platform::{FactsError, ReadError};
+use cargo_platform::{CfgExpr, FactsError, Platform, ReadError};
 use std::alloc::{AllocError, Global};
 use std::collections::{BTreeMap, HashMap};
 use test_rows::bars::{add_text, barred};
@@ -24,53 +25,92 @@ use test_rows::{Fault, facts};
 /// The line that keys stand in.
 const LINE: usize = 7;
 
+/// A key that is in no row.
+const OTHER: &str = "cfg(other)";
+
 pub fn answer(alloc: Global, call: &str, fields: &mut Fields<'_>) -> Result<String, Fault> {
     if call == "unix" {
-        let holds = is_unix(alloc, &facts::values(alloc, fields)?)?;
-        return Ok(yes(alloc, holds)?);
+        return unix(alloc, fields);
     }
     let text = fields.text(alloc)?;
+    of_text(alloc, call, &text, fields)
+}
+
+/// The answer to a row that begins with a text.
+fn of_text(
+    alloc: Global,
+    call: &str,
+    text: &str,
+    fields: &mut Fields<'_>,
+) -> Result<String, Fault> {
     match call {
-        "selects" => {
-            let target = fields.text(alloc)?;
-            let facts = facts::values(alloc, fields)?;
-            match unless_refused(is_selected(alloc, &text, &target, &facts))? {
-                Some(holds) => Ok(yes(alloc, holds)?),
-                None => Ok(word(alloc, "refused")?),
-            }
-        }
-        "holds" => {
-            let e = spelled(alloc, &text)?;
-            held(alloc, holds_for(alloc, &e, &fields.text(alloc)?))
-        }
-        "plan" => planned(alloc, &text, fields),
-        "lint" => Ok(barred(alloc, &lint(alloc, "Cargo.toml", &text)?)?),
-        "canonical" => match unless_refused(canonical(alloc, &text))? {
-            Some(text) => Ok(barred(alloc, &text)?),
-            None => Ok(word(alloc, "refused")?),
-        },
-        "one" => one(alloc, &text, &fields.text(alloc)?),
-        "key" => key(alloc, &text),
-        "describe" => {
-            let target = fields.text(alloc)?;
-            let facts = facts::values(alloc, fields)?;
-            Ok(barred(alloc, &describe(alloc, &text, &target, &facts)?)?)
-        }
-        "underline" => match underlined(alloc, &text)? {
-            Some(lines) => Ok(barred(alloc, &lines)?),
-            None => Ok(word(alloc, "nothing")?),
-        },
-        "members" => members(alloc, &text),
-        "within" => {
-            let most = fields.number()?;
-            match unless_refused(read_within(alloc, &text, most as usize))? {
-                Some(Some(platform)) => Ok(barred(alloc, &platform.to_string(alloc)?)?),
-                Some(None) => Ok(word(alloc, "too deep")?),
-                None => Ok(word(alloc, "refused")?),
-            }
-        }
-        "system" => of_system(alloc, &text, fields),
+        "selects" => selects(alloc, text, fields),
+        "holds" => holds(alloc, text, fields),
+        "plan" => planned(alloc, text, fields),
+        "lint" => linted(alloc, text),
+        "canonical" => in_one_form(alloc, text),
+        "one" => one(alloc, text, fields),
+        "key" => key(alloc, text),
+        "describe" => described(alloc, text, fields),
+        "underline" => underline(alloc, text),
+        "members" => members(alloc, text),
+        "within" => within(alloc, text, fields.number()?),
+        "system" => of_system(alloc, text, fields),
         _ => Err(Fault::Row("there is no such kind")),
+    }
+}
+
+fn unix(alloc: Global, fields: &mut Fields<'_>) -> Result<String, Fault> {
+    let facts = facts::values(alloc, fields)?;
+    Ok(yes(alloc, is_unix(alloc, &facts)?)?)
+}
+
+/// Whether a key selects a target with these facts.
+fn selects(alloc: Global, key: &str, fields: &mut Fields<'_>) -> Result<String, Fault> {
+    let target = fields.text(alloc)?;
+    let facts = facts::values(alloc, fields)?;
+    match unless_refused(is_selected(alloc, key, &target, &facts))? {
+        Some(holds) => Ok(yes(alloc, holds)?),
+        None => Ok(word(alloc, "refused")?),
+    }
+}
+
+/// Whether an expression holds over facts as rustc prints them.
+fn holds(alloc: Global, text: &str, fields: &mut Fields<'_>) -> Result<String, Fault> {
+    let e = spelled(alloc, text)?;
+    held(alloc, holds_for(alloc, &e, &fields.text(alloc)?))
+}
+
+fn linted(alloc: Global, key: &str) -> Result<String, Fault> {
+    Ok(barred(alloc, &lint(alloc, "Cargo.toml", key)?)?)
+}
+
+fn in_one_form(alloc: Global, key: &str) -> Result<String, Fault> {
+    match unless_refused(canonical(alloc, key))? {
+        Some(text) => Ok(barred(alloc, &text)?),
+        None => Ok(word(alloc, "refused")?),
+    }
+}
+
+fn described(alloc: Global, key: &str, fields: &mut Fields<'_>) -> Result<String, Fault> {
+    let target = fields.text(alloc)?;
+    let facts = facts::values(alloc, fields)?;
+    Ok(barred(alloc, &describe(alloc, key, &target, &facts)?)?)
+}
+
+fn underline(alloc: Global, key: &str) -> Result<String, Fault> {
+    match underlined(alloc, key)? {
+        Some(lines) => Ok(barred(alloc, &lines)?),
+        None => Ok(word(alloc, "nothing")?),
+    }
+}
+
+/// The key in print, where it is nested no deeper than so.
+fn within(alloc: Global, key: &str, most: u64) -> Result<String, Fault> {
+    match unless_refused(read_within(alloc, key, most as usize))? {
+        Some(Some(platform)) => Ok(barred(alloc, &platform.to_string(alloc)?)?),
+        Some(None) => Ok(word(alloc, "too deep")?),
+        None => Ok(word(alloc, "refused")?),
     }
 }
 
@@ -95,62 +135,108 @@ fn held(alloc: Global, answer: Result<bool, FactsError>) -> Result<String, Fault
 fn planned(alloc: Global, lines: &str, fields: &mut Fields<'_>) -> Result<String, Fault> {
     let target = fields.text(alloc)?;
     let facts = facts::values(alloc, fields)?;
-    let mut keys = Vec::new(alloc);
-    for line in lines.lines() {
-        keys.push(platform(alloc, line)?).map_err(AllocError::from)?;
-    }
+    let plan = plan(alloc, &target, &facts, &keys(alloc, lines)?)?;
     let mut out = word(alloc, "applies:")?;
-    for applies in plan(alloc, &target, &facts, &keys)? {
-        out.push_str(if applies { " yes" } else { " no" })?;
+    for applies in &plan {
+        out.push_str(if *applies { " yes" } else { " no" })?;
     }
     Ok(out)
 }
 
+/// The keys that stand one a line.
+fn keys(alloc: Global, lines: &str) -> Result<Vec<Platform>, Fault> {
+    let mut keys = Vec::new(alloc);
+    for line in lines.lines() {
+        keys.push(platform(alloc, line)?).map_err(AllocError::from)?;
+    }
+    Ok(keys)
+}
+
+/// Licences under keys, in each kind of map.
+#[derive(Drop)]
+struct Licences {
+    sorted: BTreeMap<Platform, String>,
+    hashed: HashMap<Platform, String>,
+}
+
+impl Licences {
+    /// `Zlib` under another key, and then `MIT` under this one.
+    fn of(alloc: Global, key: &str) -> Result<Licences, Fault> {
+        let mut licences = Licences {
+            sorted: BTreeMap::new(alloc),
+            hashed: HashMap::new(alloc),
+        };
+        licences.note(alloc, OTHER, "Zlib")?;
+        licences.note(alloc, key, "MIT")?;
+        Ok(licences)
+    }
+
+    fn note(&mut self, alloc: Global, key: &str, licence: &str) -> Result<(), Fault> {
+        note(
+            &mut self.sorted,
+            platform(alloc, key)?,
+            word(alloc, licence)?,
+        )?;
+        note_hashed(
+            &mut self.hashed,
+            platform(alloc, key)?,
+            word(alloc, licence)?,
+        )?;
+        Ok(())
+    }
+
+    /// Adds the licences under a key.
+    fn add(&self, out: &mut String, key: &Platform) -> Result<(), AllocError> {
+        add_licence(out, self.sorted.get(key))?;
+        add_licence(out, self.hashed.get(key))
+    }
+}
+
+fn add_licence(out: &mut String, licence: Option<&String>) -> Result<(), AllocError> {
+    out.push(' ')?;
+    out.push_str(licence.map_or("none", |it| it.as_str()))
+}
+
 /// Whether two keys are one, and the licences under the second one and under another, in each kind of map, once `MIT`
 /// is noted under the first, and `Zlib` under that other one.
-fn one(alloc: Global, a: &str, b: &str) -> Result<String, Fault> {
-    let second = platform(alloc, b)?;
-    let other = platform(alloc, "cfg(other)")?;
-    let mut licences = BTreeMap::new(alloc);
-    let mut hashed = HashMap::new(alloc);
-    for (key, licence) in [("cfg(other)", "Zlib"), (a, "MIT")] {
-        note(&mut licences, platform(alloc, key)?, word(alloc, licence)?)?;
-        note_hashed(&mut hashed, platform(alloc, key)?, word(alloc, licence)?)?;
-    }
-    let mut out = yes(alloc, is_one_key(&platform(alloc, a)?, &second))?;
-    for found in [
-        licences.get(&second),
-        hashed.get(&second),
-        licences.get(&other),
-        hashed.get(&other),
-    ] {
-        out.push(' ')?;
-        out.push_str(found.map_or("none", |it| it.as_str()))?;
-    }
+fn one(alloc: Global, first: &str, fields: &mut Fields<'_>) -> Result<String, Fault> {
+    let second = asked::key(alloc, fields)?;
+    let licences = Licences::of(alloc, first)?;
+    let mut out = yes(alloc, is_one_key(&platform(alloc, first)?, &second))?;
+    licences.add(&mut out, &second)?;
+    licences.add(&mut out, &platform(alloc, OTHER)?)?;
     Ok(out)
 }
 
 fn key(alloc: Global, key: &str) -> Result<String, Fault> {
     match read_key(alloc, LINE, key) {
         Ok(platform) => Ok(barred(alloc, &printed(alloc, &platform)?)?),
-        Err(error @ ManifestError::Key { .. }) => {
-            let mut out = word(alloc, "refused ")?;
-            add_text(&mut out, &printed(alloc, &error)?)?;
-            Ok(out)
-        }
-        Err(ManifestError::Memory(_)) => Err(Fault::Memory),
+        Err(refusal) => refused(alloc, &refusal),
     }
+}
+
+fn refused(alloc: Global, refusal: &ManifestError) -> Result<String, Fault> {
+    if let ManifestError::Memory(_) = refusal {
+        return Err(Fault::Memory);
+    }
+    let mut out = word(alloc, "refused ")?;
+    add_text(&mut out, &printed(alloc, refusal)?)?;
+    Ok(out)
 }
 
 /// The members of an `all`, in print.
 fn members(alloc: Global, text: &str) -> Result<String, Fault> {
-    let Some(members) = members_of_all(spelled(alloc, text)?) else {
-        return Ok(word(alloc, "none")?);
-    };
+    match members_of_all(spelled(alloc, text)?) {
+        Some(members) => Ok(in_print(alloc, &members)?),
+        None => Ok(word(alloc, "none")?),
+    }
+}
+
+fn in_print(alloc: Global, members: &[CfgExpr]) -> Result<String, AllocError> {
     let mut out = word(alloc, "members:")?;
     for member in members {
         out.push(' ')?;
-        add_text(&mut out, &printed(alloc, &member)?)?;
+        add_text(&mut out, &printed(alloc, member)?)?;
     }
     Ok(out)
 }

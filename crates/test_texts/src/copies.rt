@@ -1,7 +1,7 @@
 //! Copies: what each prints, that of a name or a pair behind what a text holds.
 
-use cargo_platform::Platform;
-use std::alloc::Global;
+use cargo_platform::{CfgExpr, Platform};
+use std::alloc::{AllocError, Global};
 use std::fmt::Display;
 use test_rows::bars::add_text;
 use test_rows::fields::Fields;
@@ -11,35 +11,41 @@ use test_rows::{Fault, facts};
 
 pub fn answer(alloc: Global, call: &str, fields: &mut Fields<'_>) -> Result<String, Fault> {
     match call {
-        "name" => {
-            let copy = facts::name(alloc, fields.need()?)?.clone(alloc)?;
-            let mut out = String::new(alloc);
-            add_name(&mut out, &copy)?;
-            printed(alloc, out, &copy)
-        }
-        "fact" => {
-            let copy = facts::value(alloc, fields.need()?)?.clone(alloc)?;
-            let mut out = String::new(alloc);
-            add_value(&mut out, &copy)?;
-            printed(alloc, out, &copy)
-        }
-        "target" => {
-            let copy = Platform::Name(fields.text(alloc)?).clone(alloc)?;
-            printed(alloc, String::new(alloc), &copy)
-        }
-        "expr" => {
-            let is_same = prints_itself(alloc, &fields.text(alloc)?)?;
-            Ok(word(
-                alloc,
-                if is_same {
-                    "prints itself"
-                } else {
-                    "otherwise"
-                },
-            )?)
-        }
+        "name" => name(alloc, fields.need()?),
+        "fact" => fact(alloc, fields.need()?),
+        "target" => target(alloc, fields),
+        "expr" => expression(alloc, fields),
         _ => Err(Fault::Row("there is no such kind")),
     }
+}
+
+fn name(alloc: Global, word: &str) -> Result<String, Fault> {
+    let copy = facts::name(alloc, word)?.clone(alloc)?;
+    let mut out = String::new(alloc);
+    add_name(&mut out, &copy)?;
+    printed(alloc, out, &copy)
+}
+
+fn fact(alloc: Global, word: &str) -> Result<String, Fault> {
+    let copy = facts::value(alloc, word)?.clone(alloc)?;
+    let mut out = String::new(alloc);
+    add_value(&mut out, &copy)?;
+    printed(alloc, out, &copy)
+}
+
+fn target(alloc: Global, fields: &mut Fields<'_>) -> Result<String, Fault> {
+    let copy = Platform::Name(fields.text(alloc)?).clone(alloc)?;
+    printed(alloc, String::new(alloc), &copy)
+}
+
+fn expression(alloc: Global, fields: &mut Fields<'_>) -> Result<String, Fault> {
+    let is_same = prints_itself(alloc, &fields.text(alloc)?)?;
+    let answer = if is_same {
+        "prints itself"
+    } else {
+        "otherwise"
+    };
+    Ok(word(alloc, answer)?)
 }
 
 /// Adds what a copy prints behind what a text holds.
@@ -60,9 +66,17 @@ fn printed<T: Display>(alloc: Global, mut out: String, copy: &T) -> Result<Strin
 /// its JSON. No level takes stack of the driver.
 fn prints_itself(alloc: Global, text: &str) -> Result<bool, Fault> {
     let copy = spelled(alloc, text)?.clone(alloc)?;
-    let printed = forms::printed(alloc, &copy)?;
-    let debugged = format!(in alloc; "{copy:?}")?;
+    Ok(is_print(alloc, &copy, text)? && is_condition(alloc, copy, text)?)
+}
+
+fn is_print(alloc: Global, e: &CfgExpr, text: &str) -> Result<bool, AllocError> {
+    let printed = forms::printed(alloc, e)?;
+    let debugged = format!(in alloc; "{e:?}")?;
+    Ok(printed.as_str() == text && debugged.as_str() == text)
+}
+
+fn is_condition(alloc: Global, e: CfgExpr, text: &str) -> Result<bool, AllocError> {
+    let json = Platform::Cfg(e).clone(alloc)?.to_json(alloc)?;
     let key = format!(in alloc; "cfg({text})")?;
-    let json = Platform::Cfg(copy).clone(alloc)?.to_json(alloc)?;
-    Ok(printed.as_str() == text && debugged.as_str() == text && json.as_str() == Some(key.as_str()))
+    Ok(json.as_str() == Some(key.as_str()))
 }

@@ -2,6 +2,7 @@
 //! on licence expressions.
 #![tactic(auto)]
 
+mod asked;
 mod caller_rows;
 mod calls;
 mod copies;

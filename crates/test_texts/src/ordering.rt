@@ -1,5 +1,6 @@
 //! Equality, order and hash, and keys of maps.
 
+use crate::asked;
 use cargo_platform::{Cfg, CfgExpr};
 use std::alloc::{AllocError, Global};
 use std::cmp::Ordering;
@@ -8,38 +9,47 @@ use std::hash::{DefaultHasher, Hash, Hasher};
 use test_rows::bars::text_of;
 use test_rows::fields::Fields;
 use test_rows::forms::{self, word};
-use test_rows::texts::{platform, spelled};
+use test_rows::texts::spelled;
 use test_rows::{Fault, facts};
 
 pub fn answer(alloc: Global, call: &str, fields: &mut Fields<'_>) -> Result<String, Fault> {
     match call {
-        "exprs" => {
-            let a = spelled(alloc, &fields.text(alloc)?)?;
-            stands(alloc, &a, &spelled(alloc, &fields.text(alloc)?)?)
-        }
-        "keys" => {
-            let a = platform(alloc, &fields.text(alloc)?)?;
-            stands(alloc, &a, &platform(alloc, &fields.text(alloc)?)?)
-        }
-        "facts" => {
-            let a = facts::value(alloc, fields.need()?)?;
-            stands(alloc, &a, &facts::value(alloc, fields.need()?)?)
-        }
-        "names" => {
-            let a = facts::name(alloc, fields.need()?)?;
-            stands(alloc, &a, &facts::name(alloc, fields.need()?)?)
-        }
-        "name-is" => {
-            let a = facts::name(alloc, fields.need()?)?;
-            Ok(forms::yes(alloc, a.eq_text(&fields.text(alloc)?))?)
-        }
-        "in-maps" => in_maps(alloc, facts::values(alloc, fields)?),
-        "found" => {
-            let inserted = expressions(alloc, fields)?;
-            found(alloc, inserted, &expressions(alloc, fields)?)
-        }
+        "exprs" => of_expressions(alloc, fields),
+        "keys" => of_keys(alloc, fields),
+        "facts" => of_facts(alloc, fields),
+        "names" => of_names(alloc, fields),
+        "name-is" => is_name(alloc, fields),
+        "in-maps" => in_maps(alloc, fields),
+        "found" => found(alloc, fields),
         _ => Err(Fault::Row("there is no such kind")),
     }
+}
+
+fn of_expressions(alloc: Global, fields: &mut Fields<'_>) -> Result<String, Fault> {
+    let a = asked::expression(alloc, fields)?;
+    stands(alloc, &a, &asked::expression(alloc, fields)?)
+}
+
+fn of_keys(alloc: Global, fields: &mut Fields<'_>) -> Result<String, Fault> {
+    let a = asked::key(alloc, fields)?;
+    stands(alloc, &a, &asked::key(alloc, fields)?)
+}
+
+fn of_facts(alloc: Global, fields: &mut Fields<'_>) -> Result<String, Fault> {
+    let a = facts::value(alloc, fields.need()?)?;
+    stands(alloc, &a, &facts::value(alloc, fields.need()?)?)
+}
+
+fn of_names(alloc: Global, fields: &mut Fields<'_>) -> Result<String, Fault> {
+    let a = facts::name(alloc, fields.need()?)?;
+    stands(alloc, &a, &facts::name(alloc, fields.need()?)?)
+}
+
+/// Whether a name is that of a text.
+fn is_name(alloc: Global, fields: &mut Fields<'_>) -> Result<String, Fault> {
+    let name = facts::name(alloc, fields.need()?)?;
+    let text = fields.text(alloc)?;
+    Ok(forms::yes(alloc, name.eq_text(&text))?)
 }
 
 fn hash_of<T: Hash>(x: &T) -> u64 {
@@ -51,37 +61,45 @@ fn hash_of<T: Hash>(x: &T) -> u64 {
 /// How the first stands to the second, if all comparisons and the hashes agree.
 fn stands<T: Ord + Hash>(alloc: Global, a: &T, b: &T) -> Result<String, Fault> {
     let order = a.cmp(b);
-    let is_same = b.cmp(a) == order.reverse()
-        && a.partial_cmp(b) == Some(order)
-        && (a == b) == order.is_eq()
-        && (hash_of(a) == hash_of(b)) == order.is_eq();
-    if !is_same {
+    if !is_agreed(a, b, order) {
         return Ok(word(alloc, "the comparisons do not agree")?);
     }
-    Ok(word(
-        alloc,
-        match order {
-            Ordering::Less => "less",
-            Ordering::Equal => "equal",
-            Ordering::Greater => "greater",
-        },
-    )?)
+    let order = match order {
+        Ordering::Less => "less",
+        Ordering::Equal => "equal",
+        Ordering::Greater => "greater",
+    };
+    Ok(word(alloc, order)?)
+}
+
+fn is_agreed<T: Ord + Hash>(a: &T, b: &T, order: Ordering) -> bool {
+    b.cmp(a) == order.reverse()
+        && a.partial_cmp(b) == Some(order)
+        && (a == b) == order.is_eq()
+        && (hash_of(a) == hash_of(b)) == order.is_eq()
 }
 
 /// The values as keys of a map in their order, and how many keys a hashed map has.
-fn in_maps(alloc: Global, values: Vec<Cfg>) -> Result<String, Fault> {
+fn in_maps(alloc: Global, fields: &mut Fields<'_>) -> Result<String, Fault> {
     let mut sorted: BTreeMap<Cfg, usize> = BTreeMap::new(alloc);
     let mut hashed: HashMap<Cfg, usize> = HashMap::new(alloc);
-    for value in values {
+    for value in facts::values(alloc, fields)? {
         insert_hashed(&mut hashed, value.clone(alloc)?, 0)?;
         insert_sorted(&mut sorted, value, 0)?;
     }
+    Ok(in_order(alloc, &sorted, hashed.len())?)
+}
+
+fn in_order(
+    alloc: Global,
+    sorted: &BTreeMap<Cfg, usize>,
+    count: usize,
+) -> Result<String, AllocError> {
     let mut out = String::new(alloc);
     for key in sorted.keys() {
         forms::add_value(&mut out, key)?;
         out.push(' ')?;
     }
-    let count = hashed.len();
     write!(out, "of {count}")?;
     Ok(out)
 }
@@ -89,21 +107,34 @@ fn in_maps(alloc: Global, values: Vec<Cfg>) -> Result<String, Fault> {
 /// The expressions of a list of texts.
 fn expressions(alloc: Global, fields: &mut Fields<'_>) -> Result<Vec<CfgExpr>, Fault> {
     let mut all = Vec::new(alloc);
-    for text in fields.list(alloc)? {
-        let e = spelled(alloc, &text_of(alloc, text)?)?;
-        all.push(e).map_err(AllocError::from)?;
+    for word in fields.list(alloc)? {
+        all.push(expression(alloc, word)?)
+            .map_err(AllocError::from)?;
     }
     Ok(all)
 }
 
+fn expression(alloc: Global, word: &str) -> Result<CfgExpr, Fault> {
+    spelled(alloc, &text_of(alloc, word)?)
+}
+
 /// For each that is asked, the number of the last one that was put in under it, in maps of both kinds.
-fn found(alloc: Global, inserted: Vec<CfgExpr>, asked: &[CfgExpr]) -> Result<String, Fault> {
+fn found(alloc: Global, fields: &mut Fields<'_>) -> Result<String, Fault> {
     let mut sorted: BTreeMap<CfgExpr, usize> = BTreeMap::new(alloc);
     let mut hashed: HashMap<CfgExpr, usize> = HashMap::new(alloc);
-    for (at, key) in inserted.into_iter().enumerate() {
+    for (at, key) in expressions(alloc, fields)?.into_iter().enumerate() {
         insert_hashed(&mut hashed, key.clone(alloc)?, at.saturating_add(1))?;
         insert_sorted(&mut sorted, key, at.saturating_add(1))?;
     }
+    Ok(numbers(alloc, &sorted, &hashed, &expressions(alloc, fields)?)?)
+}
+
+fn numbers(
+    alloc: Global,
+    sorted: &BTreeMap<CfgExpr, usize>,
+    hashed: &HashMap<CfgExpr, usize>,
+    asked: &[CfgExpr],
+) -> Result<String, AllocError> {
     let mut out = word(alloc, "found:")?;
     for key in asked {
         let number = sorted.get(key).copied();

@@ -4,7 +4,7 @@ use cargo_platform::{
     Cfg, CfgExpr, FactsError, JsonError, ParseError, Platform, ReadError, read_facts,
 };
 use serde_json::Value;
-use std::alloc::Global;
+use std::alloc::{AllocError, Global};
 use test_rows::bars::{add_text, barred};
 use test_rows::fields::Fields;
 use test_rows::forms::{self, add_error, add_other, add_printed, add_span, refused, tree, word};
@@ -17,17 +17,23 @@ const LOOKS_A_CHARACTER: u128 = 12;
 
 pub fn answer(alloc: Global, call: &str, fields: &mut Fields<'_>) -> Result<String, Fault> {
     match call {
-        "expr" => expression(alloc, &fields.text(alloc)?),
-        "fact" => fact(alloc, &fields.text(alloc)?),
-        "key" => key(alloc, &fields.text(alloc)?),
-        "facts" => lines(alloc, &fields.text(alloc)?),
-        "looks" => looks(alloc, &fields.text(alloc)?),
-        "bounds" => bounds(alloc, &fields.text(alloc)?),
-        "json" => json(alloc, &fields.text(alloc)?),
-        "from-json" => from_json(alloc, &fields.text(alloc)?),
         "print" => print(alloc, trees::tree(alloc, fields)?),
         "print-target" => print_target(alloc, fields.text(alloc)?),
-        "debug" => debug(alloc, &fields.text(alloc)?),
+        _ => of_text(alloc, call, &fields.text(alloc)?),
+    }
+}
+
+fn of_text(alloc: Global, call: &str, text: &str) -> Result<String, Fault> {
+    match call {
+        "expr" => expression(alloc, text),
+        "fact" => fact(alloc, text),
+        "key" => key(alloc, text),
+        "facts" => lines(alloc, text),
+        "looks" => looks(alloc, text),
+        "bounds" => bounds(alloc, text),
+        "json" => json(alloc, text),
+        "from-json" => from_json(alloc, text),
+        "debug" => debug(alloc, text),
         _ => Err(Fault::Row("there is no such kind")),
     }
 }
@@ -35,19 +41,38 @@ pub fn answer(alloc: Global, call: &str, fields: &mut Fields<'_>) -> Result<Stri
 /// The tree of an expression and what it prints, if not the text. Its print and its copy have to give the same tree.
 fn expression(alloc: Global, text: &str) -> Result<String, Fault> {
     match CfgExpr::from_str(alloc, text) {
-        Ok(e) => {
-            let form = tree(alloc, &e)?;
-            let mut out = word(alloc, &form)?;
-            let printed = forms::printed(alloc, &e)?;
-            add_other(&mut out, " prints ", &printed, text)?;
-            let again = tree(alloc, &spelled(alloc, &printed)?)?;
-            add_other(&mut out, ", but reads back as ", &again, &form)?;
-            let copy = tree(alloc, &e.clone(alloc)?)?;
-            add_other(&mut out, ", but copies as ", &copy, &form)?;
-            Ok(out)
-        }
+        Ok(e) => read_expression(alloc, &e, text),
         Err(refusal) => refused(alloc, &refusal, text),
     }
+}
+
+fn read_expression(alloc: Global, e: &CfgExpr, text: &str) -> Result<String, Fault> {
+    let form = tree(alloc, e)?;
+    let mut out = word(alloc, &form)?;
+    add_again(alloc, &mut out, e, text, &form)?;
+    add_copy(alloc, &mut out, e, &form)?;
+    Ok(out)
+}
+
+/// Adds what an expression prints, if not the text, and the tree of that, if not the same.
+fn add_again(
+    alloc: Global,
+    out: &mut String,
+    e: &CfgExpr,
+    text: &str,
+    form: &str,
+) -> Result<(), Fault> {
+    let printed = forms::printed(alloc, e)?;
+    add_other(out, " prints ", &printed, text)?;
+    let again = tree(alloc, &spelled(alloc, &printed)?)?;
+    add_other(out, ", but reads back as ", &again, form)?;
+    Ok(())
+}
+
+/// Adds the tree of a copy, if not the same.
+fn add_copy(alloc: Global, out: &mut String, e: &CfgExpr, form: &str) -> Result<(), AllocError> {
+    let copy = tree(alloc, &e.clone(alloc)?)?;
+    add_other(out, ", but copies as ", &copy, form)
 }
 
 fn fact(alloc: Global, text: &str) -> Result<String, Fault> {
@@ -65,21 +90,25 @@ fn fact(alloc: Global, text: &str) -> Result<String, Fault> {
 /// The target or the condition. Of a refused one also where the fault lies in the key, where its part is another text.
 fn key(alloc: Global, text: &str) -> Result<String, Fault> {
     match Platform::from_str(alloc, text) {
-        Ok(p) => {
-            let mut out = forms::platform(alloc, &p, text)?;
-            let copy = forms::platform(alloc, &p.clone(alloc)?, text)?;
-            let form = forms::platform(alloc, &p, text)?;
-            add_other(&mut out, ", but copies as ", &copy, &form)?;
-            Ok(out)
-        }
-        Err(refusal) => {
-            let mut out = refused(alloc, &refusal, text)?;
-            if let ReadError::Parse(error) = &refusal {
-                add_place(&mut out, error, text)?;
-            }
-            Ok(out)
-        }
+        Ok(p) => Ok(read_key(alloc, &p, text)?),
+        Err(refusal) => refused_key(alloc, &refusal, text),
     }
+}
+
+fn read_key(alloc: Global, p: &Platform, text: &str) -> Result<String, AllocError> {
+    let mut out = forms::platform(alloc, p, text)?;
+    let copy = forms::platform(alloc, &p.clone(alloc)?, text)?;
+    let form = forms::platform(alloc, p, text)?;
+    add_other(&mut out, ", but copies as ", &copy, &form)?;
+    Ok(out)
+}
+
+fn refused_key(alloc: Global, refusal: &ReadError, text: &str) -> Result<String, Fault> {
+    let mut out = refused(alloc, refusal, text)?;
+    if let ReadError::Parse(error) = refusal {
+        add_place(&mut out, error, text)?;
+    }
+    Ok(out)
 }
 
 fn add_place(out: &mut String, error: &ParseError, key: &str) -> Result<(), Fault> {
@@ -158,11 +187,15 @@ fn bounds(alloc: Global, text: &str) -> Result<String, Fault> {
 /// The text that is the JSON of a condition, which has to read back as what prints so.
 fn json(alloc: Global, text: &str) -> Result<String, Fault> {
     let value = platform(alloc, text)?.to_json(alloc)?;
-    let Some(written) = value.as_str() else {
-        return Ok(word(alloc, "no text")?);
-    };
+    match value.as_str() {
+        Some(written) => written_json(alloc, &value, written),
+        None => Ok(word(alloc, "no text")?),
+    }
+}
+
+fn written_json(alloc: Global, value: &Value, written: &str) -> Result<String, Fault> {
     let mut out = barred(alloc, written)?;
-    let again = from_value(alloc, &value)?;
+    let again = from_value(alloc, value)?;
     let wanted = key(alloc, written)?;
     add_other(&mut out, ", but reads back as ", &again, &wanted)?;
     Ok(out)
@@ -180,32 +213,40 @@ fn from_value(alloc: Global, value: &Value) -> Result<String, Fault> {
     let text = value.as_str().unwrap_or("");
     match Platform::from_json(alloc, value) {
         Ok(p) => Ok(forms::platform(alloc, &p, text)?),
-        Err(JsonError::NotText) => Ok(word(alloc, "no text")?),
-        Err(JsonError::Parse(error)) => {
+        Err(refusal) => refused_value(alloc, &refusal, text),
+    }
+}
+
+fn refused_value(alloc: Global, refusal: &JsonError, text: &str) -> Result<String, Fault> {
+    match refusal {
+        JsonError::NotText => Ok(word(alloc, "no text")?),
+        JsonError::Parse(error) => {
             let mut out = word(alloc, "refused")?;
-            add_error(alloc, &mut out, &error, text)?;
+            add_error(alloc, &mut out, error, text)?;
             Ok(out)
         }
-        Err(JsonError::Memory(_)) => Err(Fault::Memory),
+        JsonError::Memory(_) => Err(Fault::Memory),
     }
 }
 
 /// What a tree that is made by hand prints, also in a condition. Its copy has to be the same.
 fn print(alloc: Global, e: CfgExpr) -> Result<String, Fault> {
     let printed = forms::printed(alloc, &e)?;
-    let form = tree(alloc, &e)?;
     let mut out = barred(alloc, &printed)?;
-    let copy = tree(alloc, &e.clone(alloc)?)?;
-    add_other(&mut out, ", but copies as ", &copy, &form)?;
-    let condition = format!(in alloc; "cfg({printed})")?;
-    add_printed(
-        alloc,
-        &mut out,
-        ", but as a condition ",
-        &Platform::Cfg(e),
-        &condition,
-    )?;
+    add_copy(alloc, &mut out, &e, &tree(alloc, &e)?)?;
+    add_condition(alloc, &mut out, &Platform::Cfg(e), &printed)?;
     Ok(out)
+}
+
+/// Adds what a condition prints, if not that of its expression.
+fn add_condition(
+    alloc: Global,
+    out: &mut String,
+    p: &Platform,
+    printed: &str,
+) -> Result<(), AllocError> {
+    let wanted = format!(in alloc; "cfg({printed})")?;
+    add_printed(alloc, out, ", but as a condition ", p, &wanted)
 }
 
 /// What a target of this name prints.

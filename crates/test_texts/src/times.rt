@@ -12,15 +12,19 @@ pub fn answer(alloc: Global, call: &str, fields: &mut Fields<'_>) -> Result<Stri
     let text = fields.text(alloc)?;
     let mut is_read = false;
     for _ in 0..times {
-        is_read = match call {
-            "expr" => was_read(CfgExpr::from_str(alloc, &text))?,
-            "fact" => was_read(Cfg::from_str(alloc, &text))?,
-            "key" => was_read(Platform::from_str(alloc, &text))?,
-            "facts" => were_read(alloc, &text)?,
-            _ => return Err(Fault::Row("there is no such kind")),
-        };
+        is_read = once(alloc, call, &text)?;
     }
     Ok(word(alloc, if is_read { "read" } else { "refused" })?)
+}
+
+fn once(alloc: Global, call: &str, text: &str) -> Result<bool, Fault> {
+    match call {
+        "expr" => was_read(CfgExpr::from_str(alloc, text)),
+        "fact" => was_read(Cfg::from_str(alloc, text)),
+        "key" => was_read(Platform::from_str(alloc, text)),
+        "facts" => were_read(alloc, text),
+        _ => Err(Fault::Row("there is no such kind")),
+    }
 }
 
 fn was_read<T: Drop>(read: Result<T, ReadError>) -> Result<bool, Fault> {

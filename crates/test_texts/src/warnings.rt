@@ -1,6 +1,7 @@
 //! What is warned about in conditions.
 
-use cargo_platform::{CfgExpr, Platform};
+use crate::asked;
+use cargo_platform::Platform;
 use std::alloc::{AllocError, Global};
 use test_rows::bars::add_text;
 use test_rows::fields::Fields;
@@ -24,28 +25,37 @@ const BEFORE: &str = "w";
 
 pub fn answer(alloc: Global, call: &str, fields: &mut Fields<'_>) -> Result<String, Fault> {
     match call {
-        "attributes" => {
-            let p = Platform::Cfg(test_rows::texts::spelled(alloc, &fields.text(alloc)?)?);
-            attributes(alloc, &p)
-        }
-        "target" => {
-            let p = Platform::Name(fields.text(alloc)?);
-            let mut out = attributes(alloc, &p)?;
-            out.push_str(", ")?;
-            out.push_str(&keywords(alloc, &p, "-")?)?;
-            Ok(out)
-        }
-        "keywords" => {
-            let path = fields.text(alloc)?;
-            let e = trees::tree(alloc, fields)?;
-            keywords(alloc, &Platform::Cfg(e), &path)
-        }
-        "keywords-read" => {
-            let e: CfgExpr = test_rows::texts::spelled(alloc, &fields.text(alloc)?)?;
-            keywords(alloc, &Platform::Cfg(e), "-")
-        }
+        "attributes" => of_attributes(alloc, fields),
+        "target" => of_target(alloc, fields),
+        "keywords" => of_keywords(alloc, fields),
+        "keywords-read" => of_read_keywords(alloc, fields),
         _ => Err(Fault::Row("there is no such kind")),
     }
+}
+
+fn of_attributes(alloc: Global, fields: &mut Fields<'_>) -> Result<String, Fault> {
+    let e = asked::expression(alloc, fields)?;
+    attributes(alloc, &Platform::Cfg(e))
+}
+
+fn of_target(alloc: Global, fields: &mut Fields<'_>) -> Result<String, Fault> {
+    let p = Platform::Name(fields.text(alloc)?);
+    let mut out = attributes(alloc, &p)?;
+    out.push_str(", ")?;
+    out.push_str(&keywords(alloc, &p, "-")?)?;
+    Ok(out)
+}
+
+/// The warnings on a tree that is made by hand.
+fn of_keywords(alloc: Global, fields: &mut Fields<'_>) -> Result<String, Fault> {
+    let path = fields.text(alloc)?;
+    let e = trees::tree(alloc, fields)?;
+    keywords(alloc, &Platform::Cfg(e), &path)
+}
+
+fn of_read_keywords(alloc: Global, fields: &mut Fields<'_>) -> Result<String, Fault> {
+    let e = asked::expression(alloc, fields)?;
+    keywords(alloc, &Platform::Cfg(e), "-")
 }
 
 /// A list with one warning in it. What is added has to stand behind it, and nothing where memory is lacking.
