@@ -24,8 +24,6 @@ pub struct Asked<'a> {
 struct Names<'a> {
     /// For each node the place of its package among those of the document.
     packages: Vec<usize>,
-    /// The places of the nodes' ids.
-    nodes: Places<'a>,
     /// For each node the places of its features' names.
     features: Vec<Places<'a>>,
 }
@@ -56,33 +54,46 @@ fn are_same(name: &str, other: &str) -> bool {
         })
 }
 
+/// The places of the packages' ids.
+fn places_of_ids<'a>(alloc: Global, metadata: &Metadata<'a>) -> Result<Places<'a>, AllocError> {
+    let mut ids = Places::new(alloc);
+    'packages: for i in 0..metadata.packages.len() {
+        ids.add(metadata.packages[i].id, i)?;
+    }
+    Ok(ids)
+}
+
+/// The places of the names of a package's features. Of one that is not described there are none.
+fn places_of_features<'a>(
+    alloc: Global,
+    manifest: Option<&Manifest<'a>>,
+) -> Result<Places<'a>, AllocError> {
+    let mut features = Places::new(alloc);
+    if let Some(manifest) = manifest {
+        'features: for i in 0..manifest.features.len() {
+            features.add(manifest.features[i].name, i)?;
+        }
+    }
+    Ok(features)
+}
+
 /// The names of a graph.
 fn names_of<'a>(
     alloc: Global,
     metadata: &Metadata<'a>,
     manifests: &[Manifest<'a>],
 ) -> Result<Names<'a>, AllocError> {
-    let mut ids = Places::new(alloc);
-    'packages: for i in 0..metadata.packages.len() {
-        ids.add(metadata.packages[i].id, i)?;
-    }
+    let ids = places_of_ids(alloc, metadata)?;
     let mut names = Names {
         packages: Vec::new(alloc),
-        nodes: Places::new(alloc),
         features: Vec::new(alloc),
     };
-    'nodes: for i in 0..metadata.nodes.len() {
-        let id = metadata.nodes[i].id;
-        names.nodes.add(id, i)?;
-        let place = ids.find(id).unwrap_or(manifests.len());
+    for node in &metadata.nodes {
+        let place = ids.find(node.id).unwrap_or(manifests.len());
         names.packages.push(place)?;
-        let mut features = Places::new(alloc);
-        if let Some(manifest) = manifests.get(place) {
-            'features: for j in 0..manifest.features.len() {
-                features.add(manifest.features[j].name, j)?;
-            }
-        }
-        names.features.push(features)?;
+        names
+            .features
+            .push(places_of_features(alloc, manifests.get(place))?)?;
     }
     Ok(names)
 }
@@ -139,6 +150,27 @@ fn is_edge_of<'a>(
     }
 }
 
+/// The places of the features that a declared dependency asks for, of those that the package has.
+fn features_asked<'a>(
+    alloc: Global,
+    names: &Names<'a>,
+    to: usize,
+    declared: &Declared<'a>,
+) -> Result<Vec<usize>, AllocError> {
+    let mut features = Vec::new(alloc);
+    for feature in &declared.features {
+        if let Some(place) = names.feature(to, feature) {
+            features.push(place)?;
+        }
+    }
+    if declared.uses_default {
+        if let Some(place) = names.feature(to, "default") {
+            features.push(place)?;
+        }
+    }
+    Ok(features)
+}
+
 /// The dependency that a declared one is, along an edge of the graph.
 fn dependency_of<'a>(
     alloc: Global,
@@ -147,23 +179,12 @@ fn dependency_of<'a>(
     edge: &LinkedEdge,
     declared: &Declared<'a>,
 ) -> Result<Dependency, AllocError> {
-    let mut features = Vec::new(alloc);
-    for feature in &declared.features {
-        if let Some(place) = names.feature(edge.to, feature) {
-            features.push(place)?;
-        }
-    }
-    if declared.uses_default {
-        if let Some(place) = names.feature(edge.to, "default") {
-            features.push(place)?;
-        }
-    }
     Ok(Dependency {
         to: edge.to,
         kind: edge.kind,
         is_optional: declared.is_optional,
         holds: edge.holds,
-        features,
+        features: features_asked(alloc, names, edge.to, declared)?,
         named: names.feature(from, toml_name(declared)),
     })
 }
@@ -171,6 +192,22 @@ fn dependency_of<'a>(
 /// The name that a package's manifest gives a dependency.
 fn toml_name<'a>(declared: &Declared<'a>) -> &'a str {
     declared.rename.unwrap_or(declared.name)
+}
+
+/// The dependency that a declared one is, along the edge at a place, with its name.
+fn named_of<'a>(
+    alloc: Global,
+    names: &Names<'a>,
+    from: usize,
+    linked: &LinkedEdge,
+    declared: &Declared<'a>,
+    edge: usize,
+) -> Result<Named<'a>, AllocError> {
+    Ok(Named {
+        name: toml_name(declared),
+        dependency: dependency_of(alloc, names, from, linked, declared)?,
+        edge,
+    })
 }
 
 /// The dependencies that the package of a node declares and that the graph has.
@@ -200,12 +237,7 @@ fn dependencies_of<'a>(
                     && declared.condition == row.condition
                     && is_edge_of(metadata, manifests, names, node, linked.to, edge, declared)
                 {
-                    let dependency = dependency_of(alloc, names, node, linked, declared)?;
-                    found.push(Named {
-                        name: toml_name(declared),
-                        dependency,
-                        edge: place,
-                    })?;
+                    found.push(named_of(alloc, names, node, linked, declared, place)?)?;
                 }
             }
             place = place.saturating_add(1);
@@ -266,23 +298,44 @@ fn push_listed<'a>(
     Ok(())
 }
 
-/// What each feature of the package of a node lists.
+/// What a feature of the package of a node lists.
+fn listed_of<'a>(
+    alloc: Global,
+    names: &Names<'a>,
+    found: &[Named<'a>],
+    node: usize,
+    texts: &[&'a str],
+) -> Result<Vec<Member>, AllocError> {
+    let mut members = Vec::new(alloc);
+    for text in texts {
+        push_listed(names, found, node, text, &mut members)?;
+    }
+    Ok(members)
+}
+
+/// What each feature of the package of a node lists. Of a package that is not described there are none.
 fn features_of<'a>(
     alloc: Global,
     names: &Names<'a>,
     found: &[Named<'a>],
     node: usize,
-    manifest: &Manifest<'a>,
+    manifest: Option<&Manifest<'a>>,
 ) -> Result<Vec<Vec<Member>>, AllocError> {
     let mut features = Vec::new(alloc);
-    for feature in &manifest.features {
-        let mut members = Vec::new(alloc);
-        for text in &feature.lists {
-            push_listed(names, found, node, text, &mut members)?;
+    if let Some(manifest) = manifest {
+        for feature in &manifest.features {
+            features.push(listed_of(alloc, names, found, node, &feature.lists)?)?;
         }
-        features.push(members)?;
     }
     Ok(features)
+}
+
+/// The text of a feature that is asked of a root: without the root's own name, where that stands before it.
+fn text_asked<'a>(root: &str, text: &'a str) -> &'a str {
+    match text.split_once('/') {
+        Some((first, feature)) if first == root => feature,
+        _ => text,
+    }
 }
 
 /// What is asked of a root, as the list of a feature.
@@ -304,15 +357,84 @@ fn asked_of<'a>(
     if asked.default {
         push_listed(names, found, node, "default", &mut members)?;
     }
-    for name in asked.names {
-        match name.split_once('/') {
-            Some((first, feature)) if first == name_of(metadata, names, node) => {
-                push_listed(names, found, node, feature, &mut members)?;
-            }
-            _ => push_listed(names, found, node, name, &mut members)?,
-        }
+    let root = name_of(metadata, names, node);
+    for text in asked.names {
+        push_listed(names, found, node, text_asked(root, text), &mut members)?;
     }
     Ok(members)
+}
+
+/// For each dependency its place among those of the linked package.
+fn edges_of(alloc: Global, found: &[Named<'_>]) -> Result<Vec<usize>, AllocError> {
+    let mut edges = Vec::new(alloc);
+    for one in found {
+        edges.push(one.edge)?;
+    }
+    Ok(edges)
+}
+
+/// The dependencies without their names.
+fn unnamed(alloc: Global, found: Vec<Named<'_>>) -> Result<Vec<Dependency>, AllocError> {
+    let mut dependencies = Vec::new(alloc);
+    for one in found {
+        dependencies.push(one.dependency)?;
+    }
+    Ok(dependencies)
+}
+
+/// The package that a linked one is. The last feature of a root lists what is asked of it.
+fn package_of(
+    alloc: Global,
+    unit: &Unit,
+    found: Vec<Named<'_>>,
+    features: Vec<Vec<Member>>,
+) -> Result<Package, AllocError> {
+    let mut asked = Vec::new(alloc);
+    if unit.is_root {
+        asked.push(features.len().saturating_sub(1))?;
+    }
+    Ok(Package {
+        is_root: unit.is_root,
+        is_macro: unit.is_macro,
+        dependencies: unnamed(alloc, found)?,
+        features,
+        asked,
+    })
+}
+
+/// What the features of the package of a node list. The last of a root lists what is asked of it.
+fn lists_of<'a>(
+    alloc: Global,
+    metadata: &Metadata<'a>,
+    manifests: &[Manifest<'a>],
+    names: &Names<'a>,
+    found: &[Named<'a>],
+    node: usize,
+    asked: Option<&Asked<'a>>,
+) -> Result<Vec<Vec<Member>>, AllocError> {
+    let mut features = features_of(alloc, names, found, node, names.manifest(manifests, node))?;
+    if let Some(asked) = asked {
+        let count = features.len();
+        features.push(asked_of(alloc, metadata, names, found, node, count, asked)?)?;
+    }
+    Ok(features)
+}
+
+/// The package of a node, and for each of its dependencies its place among those of the linked package.
+fn described_of<'a>(
+    alloc: Global,
+    metadata: &Metadata<'a>,
+    manifests: &[Manifest<'a>],
+    names: &Names<'a>,
+    node: usize,
+    unit: &Unit,
+    asked: &Asked<'a>,
+) -> Result<(Package, Vec<usize>), AllocError> {
+    let asked = if unit.is_root { Some(asked) } else { None };
+    let found = dependencies_of(alloc, metadata, manifests, names, node, unit)?;
+    let features = lists_of(alloc, metadata, manifests, names, &found, node, asked)?;
+    let edges = edges_of(alloc, &found)?;
+    Ok((package_of(alloc, unit, found, features)?, edges))
 }
 
 /// The packages of a graph, as the feature resolver wants them. It refuses only where memory is refused.
@@ -324,39 +446,15 @@ pub fn described_features<'a>(
     asked: &Asked<'a>,
 ) -> Result<Described, AllocError> {
     let names = names_of(alloc, metadata, manifests)?;
-    let mut packages = Vec::new(alloc);
-    let mut edges = Vec::new(alloc);
+    let mut described = Described {
+        packages: Vec::new(alloc),
+        edges: Vec::new(alloc),
+    };
     for i in 0..linked.packages.len() {
         let unit = &linked.packages[i];
-        let found = dependencies_of(alloc, metadata, manifests, &names, i, unit)?;
-        let mut features = match names.manifest(manifests, i) {
-            Some(manifest) => features_of(alloc, &names, &found, i, manifest)?,
-            None => Vec::new(alloc),
-        };
-        let mut first = Vec::new(alloc);
-        if unit.is_root {
-            let count = features.len();
-            first.push(count)?;
-            features.push(asked_of(alloc, metadata, &names, &found, i, count, asked)?)?;
-        }
-        let mut dependencies = Vec::new(alloc);
-        let mut places = Vec::new(alloc);
-        for Named {
-            dependency,
-            edge,
-            ..
-        } in found {
-            dependencies.push(dependency)?;
-            places.push(edge)?;
-        }
-        edges.push(places)?;
-        packages.push(Package {
-            is_root: unit.is_root,
-            is_macro: unit.is_macro,
-            dependencies,
-            features,
-            asked: first,
-        })?;
+        let (package, edges) = described_of(alloc, metadata, manifests, &names, i, unit, asked)?;
+        described.packages.push(package)?;
+        described.edges.push(edges)?;
     }
-    Ok(Described { packages, edges })
+    Ok(described)
 }

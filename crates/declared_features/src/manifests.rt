@@ -8,6 +8,9 @@ use serde_json::Value;
 use std::alloc::{AllocError, Global};
 use std::fmt::{self, Display, Formatter, Write};
 
+/// The kinds of libraries that other packages can use.
+const LIBRARIES: [&str; 6] = ["lib", "rlib", "dylib", "cdylib", "staticlib", "proc-macro"];
+
 /// A dependency as a package declares it.
 #[derive(Drop)]
 pub struct Declared<'a> {
@@ -124,18 +127,20 @@ fn declared_of<'a>(alloc: Global, value: &'a Value) -> Result<Declared<'a>, InDe
     })
 }
 
+/// Whether a target's kind is that of a library that other packages can use.
+fn is_of_library(kind: &Value) -> bool {
+    match kind.as_str() {
+        Some(kind) => LIBRARIES.iter().any(|library| *library == kind),
+        None => false,
+    }
+}
+
 /// Whether one of a target's kinds is that of a library that other packages can use.
 fn is_library(target: &Value) -> bool {
-    let Some(kinds) = list_at(target, "kind") else {
-        return false;
-    };
-    for kind in kinds {
-        match kind.as_str() {
-            Some("lib" | "rlib" | "dylib" | "cdylib" | "staticlib" | "proc-macro") => return true,
-            _ => {}
-        }
+    match list_at(target, "kind") {
+        Some(kinds) => kinds.iter().any(|kind| is_of_library(kind)),
+        None => false,
     }
-    false
 }
 
 /// The name of a package's library.
@@ -169,13 +174,13 @@ fn features_of<'a>(
     alloc: Global,
     value: &'a Value,
 ) -> Result<Option<Vec<Feature<'a>>>, AllocError> {
-    let mut features = Vec::new(alloc);
     let Some(found) = value.get("features") else {
         return Ok(None);
     };
     let Some(members) = found.as_object() else {
         return Ok(None);
     };
+    let mut features = Vec::new(alloc);
     for (name, listed) in members.iter() {
         let Some(lists) = texts_of(alloc, listed)? else {
             return Ok(None);

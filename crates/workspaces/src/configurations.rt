@@ -1,7 +1,7 @@
 //! Files of Cargo's own configuration, and the manifests beside them.
 
 use crate::finding::{depth_at_hand, shorter};
-use crate::manifests::{MANIFEST, folder_of, inside, is_file};
+use crate::manifests::{MANIFEST, folder_of, from_above, inside, is_file, manifest_inside};
 use std::alloc::{AllocError, Global};
 use std::env;
 use std::rt::{Env, Files};
@@ -73,31 +73,45 @@ fn home<R: Env + AllocGlobal>(rt: &R) -> Result<Option<String>, AllocError> {
     }
 }
 
+/// Adds the configuration in a folder that may hold one, if it does.
+fn add_configuration<R: Files + AllocGlobal>(
+    rt: &R,
+    folder: &str,
+    found: &mut Vec<String>,
+) -> Result<(), AllocError> {
+    if let Some(file) = configuration_in(rt, folder)? {
+        found.push(file)?;
+    }
+    Ok(())
+}
+
+/// Adds the configurations of the folder at hand and of those above, from the nearest on.
+fn add_above<R: Files + Env + AllocGlobal>(
+    rt: &R,
+    found: &mut Vec<String>,
+) -> Result<(), AllocError> {
+    for count in 0..=depth_at_hand(rt)? {
+        let folder = from_above(rt.alloc(), count, FOLDER)?;
+        add_configuration(rt, folder.as_str(), found)?;
+    }
+    Ok(())
+}
+
 /// The configurations that Cargo reads where it is called in the folder at hand: that of this folder, those of the
 /// folders above from the nearest on, and the user's own. One may be there twice.
 pub fn configurations_at_hand<R: Files + Env + AllocGlobal>(
     rt: &R,
 ) -> Result<Vec<String>, AllocError> {
-    let alloc = rt.alloc();
-    let mut found = Vec::new(alloc);
-    let mut folder = String::from_str(alloc, FOLDER)?;
-    for _ in 0..=depth_at_hand(rt)? {
-        if let Some(file) = configuration_in(rt, folder.as_str())? {
-            found.push(file)?;
-        }
-        folder = format!(in alloc; "../{folder}")?;
-    }
+    let mut found = Vec::new(rt.alloc());
+    add_above(rt, &mut found)?;
     if let Some(folder) = home(rt)? {
-        if let Some(file) = configuration_in(rt, folder.as_str())? {
-            found.push(file)?;
-        }
+        add_configuration(rt, folder.as_str(), &mut found)?;
     }
     Ok(found)
 }
 
 /// The path of the manifest beside a configuration, whether or not a file is there.
 pub fn manifest_beside(alloc: Global, configuration: &str) -> Result<String, AllocError> {
-    let folder = inside(alloc, folder_of(configuration), "..")?;
-    let file = inside(alloc, folder.as_str(), MANIFEST)?;
+    let file = manifest_inside(alloc, folder_of(configuration), "..")?;
     shorter(alloc, file.as_str())
 }

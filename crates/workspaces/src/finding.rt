@@ -1,10 +1,10 @@
 //! Which manifests are meant: by their names, or by the folder at hand.
 
-use crate::dependencies::path_dependencies;
+use crate::dependencies::{PathDependency, path_dependencies};
 use crate::folders::candidates;
 use crate::manifests::{
-    MANIFEST, folder_of, inside, is_file, is_folder, package_name, table_at, table_in,
-    table_with_word, text_in, texts_in, unless_refused,
+    MANIFEST, folder_of, from_above, inside, is_file, is_folder, manifest_inside, package_name,
+    table_at, table_in, table_with_word, text_in, texts_in, unless_refused,
 };
 use cargo_platform::shown_text;
 use limited_texts::{INPUT, Unusable};
@@ -40,13 +40,18 @@ pub struct Found {
     pub unusable: Vec<Unusable>,
 }
 
-/// Adds what can't be found or read.
+impl Found {
+    /// Adds what can't be found or read.
+    fn push(&mut self, file: Option<String>, reason: String) -> Result<(), AllocError> {
+        self.unusable.push(Unusable { file, reason })?;
+        Ok(())
+    }
+}
+
+/// Adds what can't be found or read of a file.
 fn tell(found: &mut Found, alloc: Global, file: &str, reason: &str) -> Result<(), AllocError> {
-    found.unusable.push(Unusable {
-        file: Some(shown_text(alloc, file)?),
-        reason: shown_text(alloc, reason)?,
-    })?;
-    Ok(())
+    let file = shown_text(alloc, file)?;
+    found.push(Some(file), shown_text(alloc, reason)?)
 }
 
 /// How many components the path of the folder at hand has; none where that is not known.
@@ -59,14 +64,11 @@ pub fn depth_at_hand<R: Env + AllocGlobal>(rt: &R) -> Result<usize, AllocError> 
 
 /// The manifest of the folder at hand, or of the nearest one above it.
 fn manifest_above<R: Files + Env + AllocGlobal>(rt: &R) -> Result<Option<String>, AllocError> {
-    let alloc = rt.alloc();
-    let depth = depth_at_hand(rt)?;
-    let mut file = String::from_str(alloc, MANIFEST)?;
-    for _ in 0..=depth {
+    for count in 0..=depth_at_hand(rt)? {
+        let file = from_above(rt.alloc(), count, MANIFEST)?;
         if is_file(rt, file.as_str())? {
             return Ok(Some(file));
         }
-        file = format!(in alloc; "../{file}")?;
     }
     Ok(None)
 }
@@ -80,6 +82,59 @@ fn file_of<R: Files + AllocGlobal>(rt: &R, path: &str) -> Result<String, AllocEr
     String::from_str(rt.alloc(), path)
 }
 
+/// The path that `package.workspace` of a manifest gives.
+fn path_of_root(manifest: &Table) -> Option<&str> {
+    text_in(table_in(manifest, "package")?, "workspace")
+}
+
+/// The manifest of the root that a manifest is or names.
+fn root_by_manifest<R: Files + AllocGlobal>(
+    rt: &R,
+    file: &str,
+    limit: u64,
+) -> Result<Option<String>, AllocError> {
+    let Some(manifest) = table_with_word(rt, file, "workspace", limit)? else {
+        return Ok(None);
+    };
+    if manifest.get("workspace").is_some() {
+        return Ok(Some(String::from_str(rt.alloc(), file)?));
+    }
+    match path_of_root(&manifest) {
+        Some(path) => Ok(Some(manifest_inside(rt.alloc(), folder_of(file), path)?)),
+        None => Ok(None),
+    }
+}
+
+/// Whether a manifest has a table `workspace`.
+fn is_root<R: Files + AllocGlobal>(rt: &R, file: &str, limit: u64) -> Result<bool, AllocError> {
+    match table_with_word(rt, file, "workspace", limit)? {
+        Some(manifest) => Ok(manifest.get("workspace").is_some()),
+        None => Ok(false),
+    }
+}
+
+/// The path of the manifest that lies so many folders above a folder.
+fn manifest_over(alloc: Global, folder: &str, count: usize) -> Result<String, AllocError> {
+    let file = from_above(alloc, count, MANIFEST)?;
+    inside(alloc, folder, file.as_str())
+}
+
+/// The nearest manifest above a folder with a table `workspace`.
+fn root_above<R: Files + Env + AllocGlobal>(
+    rt: &R,
+    folder: &str,
+    limit: u64,
+) -> Result<Option<String>, AllocError> {
+    let depth = depth_at_hand(rt)?.saturating_add(folder.split('/').count());
+    for count in 1..=depth {
+        let root = manifest_over(rt.alloc(), folder, count)?;
+        if is_root(rt, root.as_str(), limit)? {
+            return Ok(Some(shorter(rt.alloc(), root.as_str())?));
+        }
+    }
+    Ok(None)
+}
+
 /// The manifest of the root of the workspace that a manifest belongs to: its own, the one that `package.workspace`
 /// names, or the nearest above with a table `workspace`. Of one that belongs to none it is its own. Manifests of more
 /// bytes than the limit are passed over.
@@ -88,31 +143,13 @@ pub fn root_of<R: Files + Env + AllocGlobal>(
     file: &str,
     limit: u64,
 ) -> Result<String, AllocError> {
-    let alloc = rt.alloc();
-    let folder = folder_of(file);
-    if let Some(manifest) = table_with_word(rt, file, "workspace", limit)? {
-        if manifest.get("workspace").is_some() {
-            return String::from_str(alloc, file);
-        }
-        if let Some(package) = table_in(&manifest, "package") {
-            if let Some(path) = text_in(package, "workspace") {
-                let root = inside(alloc, folder, path)?;
-                return inside(alloc, root.as_str(), MANIFEST);
-            }
-        }
+    if let Some(root) = root_by_manifest(rt, file, limit)? {
+        return Ok(root);
     }
-    let depth = depth_at_hand(rt)?.saturating_add(folder.split('/').count());
-    let mut above = inside(alloc, folder, "..")?;
-    for _ in 0..depth {
-        let root = inside(alloc, above.as_str(), MANIFEST)?;
-        if let Some(manifest) = table_with_word(rt, root.as_str(), "workspace", limit)? {
-            if manifest.get("workspace").is_some() {
-                return shorter(alloc, root.as_str());
-            }
-        }
-        above = inside(alloc, above.as_str(), "..")?;
+    match root_above(rt, folder_of(file), limit)? {
+        Some(root) => Ok(root),
+        None => String::from_str(rt.alloc(), file),
     }
-    String::from_str(alloc, file)
 }
 
 /// The path without the components that lead nowhere.
@@ -135,22 +172,17 @@ fn fault_text(fault: Fault) -> &'static str {
     }
 }
 
-/// The rules of a workspace. A text that is no glob is told.
-fn rules_of(
+/// The globs that texts of `members` are. A text that is no glob is told.
+fn globs_of(
     alloc: Global,
     file: &str,
-    members: &[&str],
-    excluded: &[&str],
+    texts: &[&str],
     found: &mut Found,
-) -> Result<Rules, AllocError> {
-    let mut rules = Rules {
-        members: Vec::new(alloc),
-        excluded: Vec::new(alloc),
-        named: Vec::new(alloc),
-    };
-    for text in members {
+) -> Result<Vec<Pattern>, AllocError> {
+    let mut globs = Vec::new(alloc);
+    for text in texts {
         match Pattern::from_str(alloc, text) {
-            Ok(pattern) => rules.members.push(pattern)?,
+            Ok(pattern) => globs.push(pattern)?,
             Err(PatternError::Memory(refused)) => return Err(refused),
             Err(PatternError::Fault(fault)) => {
                 let fault = fault_text(fault);
@@ -158,17 +190,76 @@ fn rules_of(
                 tell(found, alloc, file, reason.as_str())?;
             }
         }
-        rules.named.push(Pattern::below(alloc, text)?)?;
     }
-    for text in excluded {
-        rules.excluded.push(Pattern::below(alloc, text)?)?;
+    Ok(globs)
+}
+
+/// For each path what is in or below it.
+fn all_below(alloc: Global, paths: &[&str]) -> Result<Vec<Pattern>, AllocError> {
+    let mut patterns = Vec::new(alloc);
+    for path in paths {
+        patterns.push(Pattern::below(alloc, path)?)?;
     }
-    Ok(rules)
+    Ok(patterns)
+}
+
+/// The rules of a workspace with these texts of `members`. A text that is no glob is told.
+fn rules_of(
+    alloc: Global,
+    file: &str,
+    workspace: &Table,
+    texts: &[&str],
+    found: &mut Found,
+) -> Result<Rules, AllocError> {
+    let excluded = texts_in(alloc, workspace, "exclude")?;
+    Ok(Rules {
+        members: globs_of(alloc, file, texts, found)?,
+        excluded: all_below(alloc, &excluded)?,
+        named: all_below(alloc, texts)?,
+    })
 }
 
 /// Whether the members have the path.
 fn has(members: &[String], path: &str) -> bool {
     members.iter().any(|member| member.as_str() == path)
+}
+
+/// Adds a folder that a glob takes, if the rules do and it is not there yet.
+fn add_taken(
+    alloc: Global,
+    path: &str,
+    rules: &Rules,
+    members: &mut Vec<String>,
+) -> Result<(), AllocError> {
+    let names = names_of(alloc, path)?;
+    if rules.have(alloc, &names)? && !has(members, path) {
+        members.push(String::from_str(alloc, path)?)?;
+    }
+    Ok(())
+}
+
+/// Adds the folders that a glob of a workspace takes. A glob that takes none is told.
+fn add_by_glob<R: Files + AllocGlobal + Clone + Drop>(
+    rt: &R,
+    file: &str,
+    text: &str,
+    rules: &Rules,
+    members: &mut Vec<String>,
+    found: &mut Found,
+) -> Result<(), AllocError> {
+    let alloc = rt.alloc();
+    let Ok(pattern) = Pattern::from_str(alloc, text) else {
+        return Ok(());
+    };
+    let folders = candidates(rt, folder_of(file), text, &pattern)?;
+    if folders.is_empty() {
+        let reason = format!(in alloc; "workspace.members: no folder matches {text}")?;
+        return tell(found, alloc, file, reason.as_str());
+    }
+    for path in &folders {
+        add_taken(alloc, path.as_str(), rules, members)?;
+    }
+    Ok(())
 }
 
 /// The folders that the globs of a workspace take, in the order of the globs. A glob that takes none is told.
@@ -179,29 +270,59 @@ fn members_by_globs<R: Files + Env + AllocGlobal + Clone + Drop>(
     rules: &Rules,
     found: &mut Found,
 ) -> Result<Vec<String>, AllocError> {
-    let alloc = rt.alloc();
-    let mut members = Vec::new(alloc);
+    let mut members = Vec::new(rt.alloc());
     for text in texts {
-        let Ok(pattern) = Pattern::from_str(alloc, text) else {
-            continue;
-        };
-        let folders = candidates(rt, folder_of(file), text, &pattern)?;
-        if folders.is_empty() {
-            let reason = format!(in alloc; "workspace.members: no folder matches {text}")?;
-            tell(found, alloc, file, reason.as_str())?;
-        }
-        for path in folders {
-            let names = names_of(alloc, path.as_str())?;
-            if rules.have(alloc, &names)? && !has(&members, path.as_str()) {
-                members.push(path)?;
-            }
-        }
+        add_by_glob(rt, file, text, rules, &mut members, found)?;
     }
     Ok(members)
 }
 
-/// Adds the packages in the workspace to which path dependencies of one of them lead.
-fn add_dependencies<R: Files + Env + AllocGlobal + Clone + Drop>(
+/// The path from the root on to which a path dependency of the package at a path leads.
+fn path_from_root(
+    alloc: Global,
+    path: &str,
+    dependency: &PathDependency<'_>,
+) -> Result<String, AllocError> {
+    if dependency.is_of_root {
+        return shorter(alloc, dependency.path);
+    }
+    let path = inside(alloc, path, dependency.path)?;
+    shorter(alloc, path.as_str())
+}
+
+/// Adds a folder to which a path dependency leads, if it is in the workspace and not there yet.
+fn add_folder(
+    alloc: Global,
+    path: &str,
+    rules: &Rules,
+    members: &mut Vec<String>,
+) -> Result<(), AllocError> {
+    let names = names_of(alloc, path)?;
+    let is_outside = path.starts_with("../") || path.starts_with('/') || path == "..";
+    if !is_outside && !has(members, path) && !rules.exclude(alloc, &names)? {
+        members.push(String::from_str(alloc, path)?)?;
+    }
+    Ok(())
+}
+
+/// Adds the packages in the workspace to which path dependencies of the one at a path lead.
+fn add_dependencies(
+    alloc: Global,
+    path: &str,
+    manifest: &Table,
+    shared: Option<&Table>,
+    rules: &Rules,
+    members: &mut Vec<String>,
+) -> Result<(), AllocError> {
+    for dependency in &path_dependencies(alloc, manifest, shared)? {
+        let path = path_from_root(alloc, path, dependency)?;
+        add_folder(alloc, path.as_str(), rules, members)?;
+    }
+    Ok(())
+}
+
+/// Adds the packages in the workspace to which path dependencies of the member at a path lead.
+fn add_of_member<R: Files + AllocGlobal>(
     rt: &R,
     root: &str,
     path: &str,
@@ -210,24 +331,39 @@ fn add_dependencies<R: Files + Env + AllocGlobal + Clone + Drop>(
     limit: u64,
     members: &mut Vec<String>,
 ) -> Result<(), AllocError> {
-    let alloc = rt.alloc();
-    let folder = inside(alloc, root, path)?;
-    let file = inside(alloc, folder.as_str(), MANIFEST)?;
-    let Some(manifest) = table_at(rt, file.as_str(), limit)? else {
-        return Ok(());
-    };
-    for dependency in &path_dependencies(alloc, &manifest, shared)? {
-        let path = if dependency.is_of_root {
-            shorter(alloc, dependency.path)?
-        } else {
-            let path = inside(alloc, path, dependency.path)?;
-            shorter(alloc, path.as_str())?
+    let file = manifest_inside(rt.alloc(), root, path)?;
+    match table_at(rt, file.as_str(), limit)? {
+        Some(manifest) => add_dependencies(rt.alloc(), path, &manifest, shared, rules, members),
+        None => Ok(()),
+    }
+}
+
+/// Adds the packages in the workspace to which path dependencies of the members lead, and those of the packages added.
+fn add_all_dependencies<R: Files + AllocGlobal>(
+    rt: &R,
+    root: &str,
+    shared: Option<&Table>,
+    rules: &Rules,
+    limit: u64,
+    members: &mut Vec<String>,
+) -> Result<(), AllocError> {
+    for at in 0..u64::MAX {
+        let Ok(at) = usize::try_from(at) else {
+            return Ok(());
         };
-        let names = names_of(alloc, path.as_str())?;
-        let is_outside = path.starts_with("../") || path.starts_with('/') || path.as_str() == "..";
-        if !is_outside && !has(members, path.as_str()) && !rules.exclude(alloc, &names)? {
-            members.push(path)?;
-        }
+        let Some(path) = members.get(at) else {
+            return Ok(());
+        };
+        let path = path.clone()?;
+        add_of_member(rt, root, path.as_str(), shared, rules, limit, members)?;
+    }
+    Ok(())
+}
+
+/// Adds the folder of the root, if the root has a package and is not there yet.
+fn add_root(alloc: Global, manifest: &Table, members: &mut Vec<String>) -> Result<(), AllocError> {
+    if manifest.get("package").is_some() && !has(members, "") {
+        members.push(String::new(alloc))?;
     }
     Ok(())
 }
@@ -244,33 +380,46 @@ fn members_of<R: Files + Env + AllocGlobal + Clone + Drop>(
 ) -> Result<Vec<String>, AllocError> {
     let alloc = rt.alloc();
     let texts = texts_in(alloc, workspace, "members")?;
-    let excluded = texts_in(alloc, workspace, "exclude")?;
-    let rules = rules_of(alloc, file, &texts, &excluded, found)?;
+    let rules = rules_of(alloc, file, workspace, &texts, found)?;
     let mut members = members_by_globs(rt, file, &texts, &rules, found)?;
-    if manifest.get("package").is_some() && !has(&members, "") {
-        members.push(String::new(alloc))?;
-    }
+    add_root(alloc, manifest, &mut members)?;
     let shared = table_in(workspace, "dependencies");
-    for at in 0..u64::MAX {
-        let Ok(at) = usize::try_from(at) else {
-            break;
-        };
-        let path = match members.get(at) {
-            Some(path) => path.clone()?,
-            None => break,
-        };
-        add_dependencies(
-            rt,
-            folder_of(file),
-            path.as_str(),
-            shared,
-            &rules,
-            limit,
-            &mut members,
-        )?;
-    }
+    add_all_dependencies(rt, folder_of(file), shared, &rules, limit, &mut members)?;
     members.sort()?;
     Ok(members)
+}
+
+/// The manifest that one stands for: that of the root of its workspace, where the root's members are asked for.
+fn first_of<R: Files + Env + AllocGlobal>(
+    rt: &R,
+    asked: &Asked,
+    file: &str,
+) -> Result<String, AllocError> {
+    if asked.whole || !asked.packages.is_empty() {
+        root_of(rt, file, asked.limit)
+    } else {
+        String::from_str(rt.alloc(), file)
+    }
+}
+
+/// Adds the manifests of the members of the workspace whose root a manifest is, but for its own.
+fn add_members<R: Files + Env + AllocGlobal + Clone + Drop>(
+    rt: &R,
+    file: &str,
+    manifest: &Table,
+    limit: u64,
+    found: &mut Found,
+) -> Result<(), AllocError> {
+    let Some(workspace) = table_in(manifest, "workspace") else {
+        return Ok(());
+    };
+    for path in &members_of(rt, file, manifest, workspace, limit, found)? {
+        if !path.is_empty() {
+            let member = manifest_inside(rt.alloc(), folder_of(file), path.as_str())?;
+            found.paths.push(member)?;
+        }
+    }
+    Ok(())
 }
 
 /// Adds the manifests that one stands for: of the root of a workspace those of its members too.
@@ -280,35 +429,16 @@ fn add_meant<R: Files + Env + AllocGlobal + Clone + Drop>(
     file: &str,
     found: &mut Found,
 ) -> Result<(), AllocError> {
-    let alloc = rt.alloc();
     if file == INPUT {
-        return found
-            .paths
-            .push(String::from_str(alloc, file)?)
-            .map_err(AllocError::from);
+        found.paths.push(String::from_str(rt.alloc(), file)?)?;
+        return Ok(());
     }
-    let file = if asked.whole || !asked.packages.is_empty() {
-        root_of(rt, file, asked.limit)?
-    } else {
-        String::from_str(alloc, file)?
-    };
-    let manifest = table_with_word(rt, file.as_str(), "workspace", asked.limit)?;
+    let file = first_of(rt, asked, file)?;
     found.paths.push(file.clone()?)?;
-    let Some(manifest) = manifest else {
-        return Ok(());
-    };
-    let Some(workspace) = table_in(&manifest, "workspace") else {
-        return Ok(());
-    };
-    let members = members_of(rt, file.as_str(), &manifest, workspace, asked.limit, found)?;
-    for path in &members {
-        if !path.is_empty() {
-            let folder = inside(alloc, folder_of(file.as_str()), path.as_str())?;
-            let member = inside(alloc, folder.as_str(), MANIFEST)?;
-            found.paths.push(member)?;
-        }
+    match table_with_word(rt, file.as_str(), "workspace", asked.limit)? {
+        Some(manifest) => add_members(rt, file.as_str(), &manifest, asked.limit, found),
+        None => Ok(()),
     }
-    Ok(())
 }
 
 /// The name of the package of a manifest, or an empty text.
@@ -319,6 +449,36 @@ fn name_at<R: Files + AllocGlobal>(rt: &R, file: &str, limit: u64) -> Result<Str
     }
 }
 
+/// The name of the package of each manifest.
+fn names_at<R: Files + AllocGlobal>(
+    rt: &R,
+    files: &[String],
+    limit: u64,
+) -> Result<Vec<String>, AllocError> {
+    let mut names = Vec::new(rt.alloc());
+    for file in files {
+        names.push(name_at(rt, file.as_str(), limit)?)?;
+    }
+    Ok(names)
+}
+
+/// Those of the manifests, with these names of packages, that are asked for.
+fn chosen_of(
+    alloc: Global,
+    asked: &Asked,
+    files: &[String],
+    names: &[String],
+) -> Result<Vec<String>, AllocError> {
+    let mut chosen = Vec::new(alloc);
+    for (file, name) in files.iter().zip(names) {
+        let is_asked = asked.packages.is_empty() || has(&asked.packages, name.as_str());
+        if is_asked && !has(&asked.excluded, name.as_str()) {
+            chosen.push(file.clone()?)?;
+        }
+    }
+    Ok(chosen)
+}
+
 /// Leaves the packages that are asked for. A name that no package has is told.
 fn choose<R: Files + AllocGlobal>(
     rt: &R,
@@ -326,16 +486,8 @@ fn choose<R: Files + AllocGlobal>(
     found: &mut Found,
 ) -> Result<(), AllocError> {
     let alloc = rt.alloc();
-    let mut names: Vec<String> = Vec::new(alloc);
-    let mut chosen: Vec<String> = Vec::new(alloc);
-    for path in &found.paths {
-        let name = name_at(rt, path.as_str(), asked.limit)?;
-        let is_asked = asked.packages.is_empty() || has(&asked.packages, name.as_str());
-        if is_asked && !has(&asked.excluded, name.as_str()) {
-            chosen.push(path.clone()?)?;
-        }
-        names.push(name)?;
-    }
+    let names = names_at(rt, &found.paths, asked.limit)?;
+    let chosen = chosen_of(alloc, asked, &found.paths, &names)?;
     tell_unknown(alloc, &asked.packages, &names, found)?;
     tell_unknown(alloc, &asked.excluded, &names, found)?;
     found.paths = chosen;
@@ -352,10 +504,8 @@ fn tell_unknown(
     for name in asked {
         if !has(names, name.as_str()) {
             let name = shown_text(alloc, name.as_str())?;
-            found.unusable.push(Unusable {
-                file: None,
-                reason: format!(in alloc; "no package of the workspace is named {name}")?,
-            })?;
+            let reason = format!(in alloc; "no package of the workspace is named {name}")?;
+            found.push(None, reason)?;
         }
     }
     Ok(())
@@ -375,6 +525,19 @@ fn add_all<R: Files + Env + AllocGlobal + Clone + Drop>(
     Ok(())
 }
 
+/// Adds what the manifest of the folder at hand, or of the nearest above, stands for. Where none is there that is told.
+fn add_at_hand<R: Files + Env + AllocGlobal + Clone + Drop>(
+    rt: &R,
+    asked: &Asked,
+    found: &mut Found,
+) -> Result<(), AllocError> {
+    let Some(file) = manifest_above(rt)? else {
+        let reason = "no `Cargo.toml` is here or in a folder above";
+        return found.push(None, String::from_str(rt.alloc(), reason)?);
+    };
+    add_meant(rt, asked, file.as_str(), found)
+}
+
 /// The manifests that are meant, in the order of the arguments: the root of a workspace before its members, and these
 /// in the order of their paths.
 pub fn find<R: Files + Env + AllocGlobal + Clone + Drop>(
@@ -387,16 +550,7 @@ pub fn find<R: Files + Env + AllocGlobal + Clone + Drop>(
         unusable: Vec::new(alloc),
     };
     if asked.paths.is_empty() && asked.manifests.is_empty() {
-        match manifest_above(rt)? {
-            Some(file) => add_meant(rt, asked, file.as_str(), &mut found)?,
-            None => {
-                let reason = "no `Cargo.toml` is here or in a folder above";
-                found.unusable.push(Unusable {
-                    file: None,
-                    reason: String::from_str(alloc, reason)?,
-                })?;
-            }
-        }
+        add_at_hand(rt, asked, &mut found)?;
     }
     add_all(rt, asked, &asked.paths, &mut found)?;
     add_all(rt, asked, &asked.manifests, &mut found)?;

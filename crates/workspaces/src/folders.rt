@@ -1,13 +1,26 @@
 //! The folders below a root that a glob may take.
 
 use crate::manifests::{inside, is_folder, unless_refused};
-use std::alloc::AllocError;
-use std::fs;
+use std::alloc::{AllocError, Global};
+use std::fs::{self, DirEntry};
+use std::io;
 use std::rt::Files;
 use workspace_members::{Component, Name, Pattern, Piece, is_glob, plain_components};
 
 /// What stands behind `**` at the end of a glob: it takes at least one folder.
 const ANY: &str = "*";
+
+/// Adds the name of an entry of a folder, if the entry can be read.
+fn add_name<R: Files + AllocGlobal + Clone + Drop>(
+    names: &mut Vec<String>,
+    alloc: Global,
+    entry: io::Result<DirEntry<R>>,
+) -> Result<(), AllocError> {
+    if let Some(entry) = unless_refused(entry)? {
+        names.push(String::from_str(alloc, entry.file_name())?)?;
+    }
+    Ok(())
+}
 
 /// The names in a folder. A folder that can't be read has none.
 fn names_in<R: Files + AllocGlobal + Clone + Drop>(
@@ -19,21 +32,59 @@ fn names_in<R: Files + AllocGlobal + Clone + Drop>(
     let folder = if folder.is_empty() { "." } else { folder };
     if let Some(entries) = unless_refused(fs::read_dir(rt, folder))? {
         for entry in entries {
-            if let Some(entry) = unless_refused(entry)? {
-                names.push(String::from_str(alloc, entry.file_name())?)?;
-            }
+            add_name(&mut names, alloc, entry)?;
         }
     }
     names.sort()?;
     Ok(names)
 }
 
-/// Whether a folder, and no link to one, stands at the path.
-fn is_own_folder<R: Files + AllocGlobal>(rt: &R, path: &str) -> Result<bool, AllocError> {
-    match unless_refused(fs::symlink_metadata(rt, path))? {
+/// The names in the folder at a path from the root on.
+fn names_below<R: Files + AllocGlobal + Clone + Drop>(
+    rt: &R,
+    root: &str,
+    path: &str,
+) -> Result<Vec<String>, AllocError> {
+    let folder = inside(rt.alloc(), root, path)?;
+    names_in(rt, folder.as_str())
+}
+
+/// Whether a folder, and no link to one, stands at a path from the root on.
+fn is_own_folder<R: Files + AllocGlobal>(
+    rt: &R,
+    root: &str,
+    path: &str,
+) -> Result<bool, AllocError> {
+    let place = inside(rt.alloc(), root, path)?;
+    match unless_refused(fs::symlink_metadata(rt, place.as_str()))? {
         Some(found) => Ok(found.is_dir()),
         None => Ok(false),
     }
+}
+
+/// Whether a folder stands at a path from the root on.
+fn is_folder_below<R: Files + AllocGlobal>(
+    rt: &R,
+    root: &str,
+    path: &str,
+) -> Result<bool, AllocError> {
+    let place = inside(rt.alloc(), root, path)?;
+    is_folder(rt, place.as_str())
+}
+
+/// Adds the folder with a name in the one at a path, if it is there and no link.
+fn add_own<R: Files + AllocGlobal>(
+    rt: &R,
+    root: &str,
+    path: &str,
+    name: &str,
+    found: &mut Vec<String>,
+) -> Result<(), AllocError> {
+    let lower = inside(rt.alloc(), path, name)?;
+    if is_own_folder(rt, root, lower.as_str())? {
+        found.push(lower)?;
+    }
+    Ok(())
 }
 
 /// Adds the folders below the last ones, links not followed.
@@ -42,7 +93,6 @@ fn add_below<R: Files + AllocGlobal + Clone + Drop>(
     root: &str,
     found: &mut Vec<String>,
 ) -> Result<(), AllocError> {
-    let alloc = rt.alloc();
     for at in 0..u64::MAX {
         let Ok(at) = usize::try_from(at) else {
             return Ok(());
@@ -51,16 +101,32 @@ fn add_below<R: Files + AllocGlobal + Clone + Drop>(
             return Ok(());
         };
         let path = path.clone()?;
-        let folder = inside(alloc, root, path.as_str())?;
-        for name in &names_in(rt, folder.as_str())? {
-            let lower = inside(alloc, path.as_str(), name.as_str())?;
-            let place = inside(alloc, root, lower.as_str())?;
-            if is_own_folder(rt, place.as_str())? {
-                found.push(lower)?;
-            }
+        for name in &names_below(rt, root, path.as_str())? {
+            add_own(rt, root, path.as_str(), name.as_str(), found)?;
         }
     }
     Ok(())
+}
+
+/// Adds the folder with a name in the one at a path, if it is there.
+fn add_lower<R: Files + AllocGlobal>(
+    rt: &R,
+    root: &str,
+    path: &str,
+    name: &str,
+    found: &mut Vec<String>,
+) -> Result<(), AllocError> {
+    let lower = inside(rt.alloc(), path, name)?;
+    if is_folder_below(rt, root, lower.as_str())? {
+        found.push(lower)?;
+    }
+    Ok(())
+}
+
+/// Whether the component takes a name.
+fn takes(alloc: Global, component: &Component, name: &str) -> Result<bool, AllocError> {
+    let characters: Name = name.chars().collect(alloc)?;
+    component.takes(alloc, &characters)
 }
 
 /// Adds the folders in one whose names the component takes.
@@ -71,19 +137,36 @@ fn add_named<R: Files + AllocGlobal + Clone + Drop>(
     component: &Component,
     found: &mut Vec<String>,
 ) -> Result<(), AllocError> {
-    let alloc = rt.alloc();
-    let folder = inside(alloc, root, path)?;
-    for name in &names_in(rt, folder.as_str())? {
-        let characters: Name = name.chars().collect(alloc)?;
-        if component.takes(alloc, &characters)? {
-            let lower = inside(alloc, path, name.as_str())?;
-            let place = inside(alloc, root, lower.as_str())?;
-            if is_folder(rt, place.as_str())? {
-                found.push(lower)?;
-            }
+    for name in &names_below(rt, root, path)? {
+        if takes(rt.alloc(), component, name.as_str())? {
+            add_lower(rt, root, path, name.as_str(), found)?;
         }
     }
     Ok(())
+}
+
+/// The folders in these that a component of a glob may take. `text` is the component as it is written.
+fn next_of<R: Files + AllocGlobal + Clone + Drop>(
+    rt: &R,
+    root: &str,
+    folders: &[String],
+    text: &str,
+    component: &Component,
+) -> Result<Vec<String>, AllocError> {
+    let mut next = Vec::new(rt.alloc());
+    for path in folders {
+        if is_glob(text) {
+            add_named(rt, root, path.as_str(), component, &mut next)?;
+        } else {
+            add_lower(rt, root, path.as_str(), text, &mut next)?;
+        }
+    }
+    Ok(next)
+}
+
+/// The component at a place in the text of a glob.
+fn text_at<'a>(texts: &[&'a str], at: usize) -> &'a str {
+    texts.get(at).copied().unwrap_or(ANY)
 }
 
 /// The paths, from the root on, of the folders that the pattern of this text may take.
@@ -98,24 +181,11 @@ pub fn candidates<R: Files + AllocGlobal + Clone + Drop>(
     found.push(String::new(alloc))?;
     let texts = plain_components(alloc, text)?;
     for (at, component) in pattern.components.iter().enumerate() {
-        let mut next = Vec::new(alloc);
-        let text: &str = texts.get(at).copied().unwrap_or(ANY);
         if component.is_many() {
             add_below(rt, root, &mut found)?;
-            continue;
+        } else {
+            found = next_of(rt, root, &found, text_at(&texts, at), component)?;
         }
-        for path in &found {
-            if is_glob(text) {
-                add_named(rt, root, path.as_str(), component, &mut next)?;
-            } else {
-                let lower = inside(alloc, path.as_str(), text)?;
-                let place = inside(alloc, root, lower.as_str())?;
-                if is_folder(rt, place.as_str())? {
-                    next.push(lower)?;
-                }
-            }
-        }
-        found = next;
     }
     Ok(found)
 }

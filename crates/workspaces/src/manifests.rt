@@ -21,6 +21,22 @@ pub fn inside(alloc: Global, folder: &str, path: &str) -> Result<String, AllocEr
     format!(in alloc; "{folder}/{path}")
 }
 
+/// The path of the manifest in the folder to which a path leads from another.
+pub fn manifest_inside(alloc: Global, folder: &str, path: &str) -> Result<String, AllocError> {
+    let folder = inside(alloc, folder, path)?;
+    inside(alloc, folder.as_str(), MANIFEST)
+}
+
+/// A path that lies so many folders above the one at hand.
+pub fn from_above(alloc: Global, count: usize, path: &str) -> Result<String, AllocError> {
+    let mut text = String::new(alloc);
+    for _ in 0..count {
+        text.push_str("../")?;
+    }
+    text.push_str(path)?;
+    Ok(text)
+}
+
 /// The folder of a file.
 pub fn folder_of(file: &str) -> &str {
     match file.rsplit_once('/') {
