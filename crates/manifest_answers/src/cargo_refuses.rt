@@ -15,35 +15,69 @@ fn is_dependency(value: &Value) -> bool {
     value.as_str().is_some() || value.as_table().is_some()
 }
 
+/// The first member at which no dependency stands.
+fn first_other(members: &Table) -> Option<&str> {
+    for (member, value) in members.iter() {
+        if !is_dependency(value) {
+            return Some(member.as_str());
+        }
+    }
+    None
+}
+
+/// What is said of a member at which no dependency stands, in the table of this name.
+fn no_dependency(alloc: Global, table: &str, member: &str) -> Result<String, AllocError> {
+    let member = shown_start(alloc, member)?;
+    format!(in alloc; "{table}.{member} is no version and no table")
+}
+
 /// What is said of the first thing that Cargo refuses in the table of dependencies of this name.
 fn refused_among(alloc: Global, name: &str, value: &Value) -> Result<Option<String>, AllocError> {
     let Some(members) = value.as_table() else {
         return Ok(Some(format!(in alloc; "{name} is no table")?));
     };
-    for (member, value) in members.iter() {
-        if !is_dependency(value) {
-            let member = shown_start(alloc, member.as_str())?;
-            let message = format!(in alloc; "{name}.{member} is no version and no table")?;
-            return Ok(Some(message));
-        }
+    match first_other(members) {
+        Some(member) => Ok(Some(no_dependency(alloc, name, member)?)),
+        None => Ok(None),
     }
-    Ok(None)
+}
+
+/// What is said of the first thing that Cargo refuses in the table of dependencies of this kind.
+fn refused_of_kind(
+    alloc: Global,
+    table: &Table,
+    kind: Kind,
+    before: &str,
+) -> Result<Option<String>, AllocError> {
+    let Some(value) = table_of(table, kind) else {
+        return Ok(None);
+    };
+    let name = kind.table_name();
+    let name = format!(in alloc; "{before}{name}")?;
+    refused_among(alloc, name.as_str(), value)
 }
 
 /// What is said of the first thing that Cargo refuses in tables of dependencies here. `before` is what stands before
 /// their names in a header.
 fn refused_in(alloc: Global, table: &Table, before: &str) -> Result<Option<String>, AllocError> {
     for kind in KINDS {
-        if let Some(value) = table_of(table, kind) {
-            let name = kind.table_name();
-            let name = format!(in alloc; "{before}{name}")?;
-            let found = refused_among(alloc, name.as_str(), value)?;
-            if found.is_some() {
-                return Ok(found);
-            }
+        let found = refused_of_kind(alloc, table, kind, before)?;
+        if found.is_some() {
+            return Ok(found);
         }
     }
     Ok(None)
+}
+
+/// What is said of the first thing that Cargo refuses below this key of `target`.
+fn refused_below_key(
+    alloc: Global,
+    key: &str,
+    table: &Table,
+) -> Result<Option<String>, AllocError> {
+    let key = shown_start(alloc, key)?;
+    let before = format!(in alloc; "target.'{key}'.")?;
+    refused_in(alloc, table, before.as_str())
 }
 
 /// What is said of the first thing that Cargo refuses below a key of `target`.
@@ -53,12 +87,22 @@ fn refused_below(alloc: Global, manifest: &Table) -> Result<Option<String>, Allo
     };
     for (key, value) in targets.iter() {
         if let Some(table) = value.as_table() {
-            let key = shown_start(alloc, key.as_str())?;
-            let before = format!(in alloc; "target.'{key}'.")?;
-            let found = refused_in(alloc, table, before.as_str())?;
+            let found = refused_below_key(alloc, key.as_str(), table)?;
             if found.is_some() {
                 return Ok(found);
             }
+        }
+    }
+    Ok(None)
+}
+
+/// What is said of the first table or package whose name Cargo does not take where it stands.
+fn refused_place(alloc: Global, manifest: &Table) -> Result<Option<String>, AllocError> {
+    for it in &wrong_places(alloc, manifest)? {
+        if it.weight == Weight::Error {
+            let subject = it.subject.as_str();
+            let message = it.message.as_str();
+            return Ok(Some(format!(in alloc; "{subject}: {message}")?));
         }
     }
     Ok(None)
@@ -68,12 +112,9 @@ fn refused_below(alloc: Global, manifest: &Table) -> Result<Option<String>, Allo
 /// Cargo does not take there, a table of dependencies that is none, and a dependency that is neither a version nor a
 /// table. `None` where there is nothing of this.
 pub fn refused_by_cargo(alloc: Global, manifest: &Table) -> Result<Option<String>, AllocError> {
-    for it in &wrong_places(alloc, manifest)? {
-        if it.weight == Weight::Error {
-            let subject = it.subject.as_str();
-            let message = it.message.as_str();
-            return Ok(Some(format!(in alloc; "{subject}: {message}")?));
-        }
+    let found = refused_place(alloc, manifest)?;
+    if found.is_some() {
+        return Ok(found);
     }
     let found = refused_in(alloc, manifest, "")?;
     if found.is_some() {

@@ -1,21 +1,23 @@
 //! What a manifest says of a dependency beside its name: which package it is, and where that comes from.
 
 use key_answers::printing::{put, put_text, text_value};
+use lint_reports::number_value;
 use manifest_documents::document::Document;
 use manifest_documents::{Dependency, table_of};
-use serde_json::{Map, Value, json};
+use serde_json::{Map, Value};
 use std::alloc::{AllocError, Global};
-use toml::Value as Told;
+use toml::{Table, Value as Told};
+
+/// What stands at a key of `target`.
+fn below_key<'d>(document: &'d Document, key: &str) -> Option<&'d Table> {
+    let targets = document.table.get("target")?.as_table()?;
+    targets.get(key)?.as_table()
+}
 
 /// What stands at a dependency: a text is its version, and a table says more.
 fn told_of<'d>(document: &'d Document, dependency: &Dependency<'_>) -> Option<&'d Told> {
     let tables = match dependency.key {
-        Some(key) => document
-            .table
-            .get("target")?
-            .as_table()?
-            .get(key)?
-            .as_table()?,
+        Some(key) => below_key(document, key)?,
         None => &document.table,
     };
     table_of(tables, dependency.kind)?
@@ -79,6 +81,29 @@ fn line_of(document: &Document, dependency: &Dependency<'_>) -> Option<usize> {
     first_line(document, dependency.key?)
 }
 
+/// Adds `package` and `version`.
+fn put_package(
+    object: &mut Map<String, Value>,
+    alloc: Global,
+    told: Option<&Told>,
+    name: &str,
+) -> Result<(), AllocError> {
+    let package = text_at(told, "package").unwrap_or(name);
+    put_text(object, alloc, "package", package)?;
+    let version = text_value(alloc, version_of(told))?;
+    put(object, alloc, "version", version)
+}
+
+/// Adds `features`.
+fn put_features(
+    object: &mut Map<String, Value>,
+    alloc: Global,
+    told: Option<&Told>,
+) -> Result<(), AllocError> {
+    let features = features_of(alloc, told)?;
+    put(object, alloc, "features", Value::Array(features))
+}
+
 /// Adds `package`, `version`, `source`, `features` and `line`.
 pub fn put_described(
     object: &mut Map<String, Value>,
@@ -87,20 +112,9 @@ pub fn put_described(
     dependency: &Dependency<'_>,
 ) -> Result<(), AllocError> {
     let told = told_of(document, dependency);
-    let package = text_at(told, "package").unwrap_or(dependency.name);
-    put_text(object, alloc, "package", package)?;
-    put(
-        object,
-        alloc,
-        "version",
-        text_value(alloc, version_of(told))?,
-    )?;
+    put_package(object, alloc, told, dependency.name)?;
     put_text(object, alloc, "source", source_of(told))?;
-    let features = features_of(alloc, told)?;
-    put(object, alloc, "features", Value::Array(features))?;
-    let line = match line_of(document, dependency) {
-        Some(line) => json!(in alloc; line)?,
-        None => Value::Null,
-    };
+    put_features(object, alloc, told)?;
+    let line = number_value(alloc, line_of(document, dependency))?;
     put(object, alloc, "line", line)
 }

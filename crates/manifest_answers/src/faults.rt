@@ -50,17 +50,52 @@ pub fn span_of(key: &str, error: &ParseError) -> Option<(usize, usize)> {
     Some((span.start, span.end))
 }
 
+/// Adds what is wrong.
+fn put_fault(
+    object: &mut Map<String, Value>,
+    alloc: Global,
+    fault: &Fault<'_, '_>,
+) -> Result<(), AllocError> {
+    put_text(object, alloc, "message", fault.message)?;
+    put(object, alloc, "key", text_value(alloc, fault.key)?)?;
+    put(object, alloc, "line", number_value(alloc, fault.line)?)?;
+    put(object, alloc, "span", span_value(alloc, fault.span)?)
+}
+
 /// What is wrong, as JSON.
 fn error_value(alloc: Global, fault: &Fault<'_, '_>) -> Result<Value, AllocError> {
     let mut object = Map::new(alloc);
-    put_text(&mut object, alloc, "message", fault.message)?;
-    put(&mut object, alloc, "key", text_value(alloc, fault.key)?)?;
-    put(&mut object, alloc, "line", number_value(alloc, fault.line)?)?;
-    put(&mut object, alloc, "span", span_value(alloc, fault.span)?)?;
+    put_fault(&mut object, alloc, fault)?;
     Ok(Value::Object(object))
 }
 
 impl<'a> Asking<'a> {
+    /// Adds the manifest, the target and what is wrong.
+    fn put_told(
+        &self,
+        object: &mut Map<String, Value>,
+        alloc: Global,
+        fault: &Fault<'_, '_>,
+    ) -> Result<(), AllocError> {
+        put(
+            object,
+            alloc,
+            "manifest",
+            text_value(alloc, fault.manifest)?,
+        )?;
+        put_text(object, alloc, "target", self.target)?;
+        put(object, alloc, "error", error_value(alloc, fault)?)
+    }
+
+    /// The object that tells a fault, on a line of its own.
+    fn told(&self, alloc: Global, fault: &Fault<'_, '_>) -> Result<String, AllocError> {
+        let mut object = Map::new(alloc);
+        self.put_told(&mut object, alloc, fault)?;
+        let mut text = String::new(alloc);
+        push_json(&mut text, alloc, &Value::Object(object))?;
+        Ok(text)
+    }
+
     /// The answer that tells a fault: these lines, or an object.
     pub fn tell(
         &self,
@@ -71,14 +106,7 @@ impl<'a> Asking<'a> {
         if !self.json {
             return Ok(Answer::unusable(alloc, String::from_str(alloc, lines)?));
         }
-        let mut object = Map::new(alloc);
-        let manifest = text_value(alloc, fault.manifest)?;
-        put(&mut object, alloc, "manifest", manifest)?;
-        put_text(&mut object, alloc, "target", self.target)?;
-        put(&mut object, alloc, "error", error_value(alloc, fault)?)?;
-        let mut output = String::new(alloc);
-        push_json(&mut output, alloc, &Value::Object(object))?;
-        Ok(Answer::of(alloc, output, Status::Unusable))
+        Ok(Answer::of(alloc, self.told(alloc, fault)?, Status::Unusable))
     }
 
     /// The answer that tells what these lines say of the words of a command line.
@@ -88,14 +116,19 @@ impl<'a> Asking<'a> {
         self.tell(alloc, &Fault::of(None, message), lines)
     }
 
+    /// The answer that tells an input that can't be used.
+    fn tell_unusable(&self, alloc: Global, unusable: &Unusable) -> Result<Answer, AllocError> {
+        let line = unusable.line(alloc)?;
+        let file = unusable.file.as_ref().map(|file: &String| file.as_str());
+        let fault = Fault::of(file, unusable.reason.as_str());
+        self.tell(alloc, &fault, line.as_str())
+    }
+
     /// The answer that tells inputs that can't be used, in their order.
     pub fn tell_each(&self, alloc: Global, unusable: &[Unusable]) -> Result<Answer, AllocError> {
         let mut whole = Answer::of(alloc, String::new(alloc), Status::Fine);
         for it in unusable {
-            let line = it.line(alloc)?;
-            let file = it.file.as_ref().map(|file: &String| file.as_str());
-            let fault = Fault::of(file, it.reason.as_str());
-            whole.append(self.tell(alloc, &fault, line.as_str())?)?;
+            whole.append(self.tell_unusable(alloc, it)?)?;
         }
         Ok(whole)
     }

@@ -6,6 +6,7 @@ ghost use Rattle.manifest_answers.specs.Deep.{HasNoDeepKey};
 
 use crate::deep::first_deep;
 use key_answers::answer::{Answer, Status};
+use limited_texts::Unusable;
 use manifest_documents::reading::{Manifest, ReadError, read_manifest};
 use std::alloc::{AllocError, Global};
 use std::rt::Files;
@@ -43,6 +44,35 @@ pub fn answer_each<R: Files + Input + AllocGlobal, Q: Question>(
     Ok(whole)
 }
 
+/// The answer on a manifest that is read.
+fn answer_on_read<Q: Question>(
+    alloc: Global,
+    manifest: &Manifest,
+    question: &mut Q,
+) -> Result<Answer, AllocError> {
+    match first_deep(alloc, manifest)? {
+        Some(deep) => {
+            let line = deep.line(alloc)?;
+            let reason = deep.reason.as_str();
+            question.refuse(alloc, manifest.path.as_str(), reason, line.as_str())
+        }
+        None => question.answer(alloc, manifest),
+    }
+}
+
+/// The answer where what stands at this path can't be used.
+fn answer_on_unusable<Q: Question>(
+    alloc: Global,
+    path: &str,
+    unusable: &Unusable,
+    question: &mut Q,
+) -> Result<Answer, AllocError> {
+    let line = unusable.line(alloc)?;
+    let file = unusable.file.as_ref().map(|file: &String| file.as_str());
+    let reason = unusable.reason.as_str();
+    question.refuse(alloc, file.unwrap_or(path), reason, line.as_str())
+}
+
 /// The answer on the manifest that is named.
 fn answer_on<R: Files + Input + AllocGlobal, Q: Question>(
     rt: &R,
@@ -52,20 +82,8 @@ fn answer_on<R: Files + Input + AllocGlobal, Q: Question>(
 ) -> Result<Answer, AllocError> {
     let alloc = rt.alloc();
     match read_manifest(rt, path, limit) {
-        Ok(manifest) => match first_deep(alloc, &manifest)? {
-            Some(deep) => {
-                let line = deep.line(alloc)?;
-                let reason = deep.reason.as_str();
-                question.refuse(alloc, manifest.path.as_str(), reason, line.as_str())
-            }
-            None => question.answer(alloc, &manifest),
-        },
-        Err(ReadError::Unusable(unusable)) => {
-            let line = unusable.line(alloc)?;
-            let file = unusable.file.as_ref().map(|file: &String| file.as_str());
-            let reason = unusable.reason.as_str();
-            question.refuse(alloc, file.unwrap_or(path), reason, line.as_str())
-        }
+        Ok(manifest) => answer_on_read(alloc, &manifest, question),
+        Err(ReadError::Unusable(unusable)) => answer_on_unusable(alloc, path, &unusable, question),
         Err(ReadError::Memory(refused)) => Err(refused),
     }
 }

@@ -19,6 +19,18 @@ struct Opened {
     near: Option<String>,
 }
 
+impl Opened {
+    /// Notes that a key asks for this name.
+    fn note(&mut self, alloc: Global, name: &str) -> Result<(), AllocError> {
+        if self.name.as_str() == name {
+            self.is_asked = true;
+        } else if self.near.is_none() && near(self.name.as_str(), &[name]).is_some() {
+            self.near = Some(String::from_str(alloc, name)?);
+        }
+        Ok(())
+    }
+}
+
 /// The names that are left open.
 #[derive(Drop)]
 pub struct OpenNames {
@@ -42,11 +54,7 @@ impl OpenNames {
     /// Notes that a key asks for this name.
     fn note_name(&mut self, alloc: Global, name: &str) -> Result<(), AllocError> {
         for opened in &mut self.names {
-            if opened.name.as_str() == name {
-                opened.is_asked = true;
-            } else if opened.near.is_none() && near(opened.name.as_str(), &[name]).is_some() {
-                opened.near = Some(String::from_str(alloc, name)?);
-            }
+            opened.note(alloc, name)?;
         }
         Ok(())
     }

@@ -227,17 +227,22 @@ fn line_of_fact(text: &str, facts: usize) -> usize {
     number
 }
 
+/// The facts that the lines of a file spell.
+fn facts_of_lines(alloc: Global, text: &str) -> Result<Vec<Cfg>, Refusal> {
+    match read_facts(alloc, fact_lines_of(alloc, text)?.as_str()) {
+        Ok(facts) => Ok(facts),
+        Err(FactsError::Memory(refused)) => Err(Refusal::Memory(refused)),
+        Err(FactsError::Line { number, error }) => {
+            let line = line_of_fact(text, number);
+            Err(Refusal::Unusable(refused_fact(alloc, line, &error)?))
+        }
+    }
+}
+
 /// The facts of a target: those of the lines where there are some, else those of the table.
 pub fn table_or_lines(alloc: Global, name: &str, lines: Option<&str>) -> Result<Vec<Cfg>, Refusal> {
     match lines {
-        Some(text) => match read_facts(alloc, fact_lines_of(alloc, text)?.as_str()) {
-            Ok(facts) => Ok(facts),
-            Err(FactsError::Memory(refused)) => Err(Refusal::Memory(refused)),
-            Err(FactsError::Line { number, error }) => {
-                let line = line_of_fact(text, number);
-                Err(Refusal::Unusable(refused_fact(alloc, line, &error)?))
-            }
-        },
+        Some(text) => facts_of_lines(alloc, text),
         None => match KnownTarget::by_name(name) {
             Some(target) => Ok(target.facts(alloc)?),
             None => Err(Refusal::Unusable(without_facts(alloc, name)?)),
@@ -245,17 +250,21 @@ pub fn table_or_lines(alloc: Global, name: &str, lines: Option<&str>) -> Result<
     }
 }
 
+/// The fact that an argument spells.
+fn added_fact(alloc: Global, text: &str) -> Result<Cfg, Refusal> {
+    match Cfg::from_str(alloc, text) {
+        Ok(fact) => Ok(fact),
+        Err(ReadError::Memory(refused)) => Err(Refusal::Memory(refused)),
+        Err(ReadError::Parse(error)) => Err(Refusal::Unusable(refused_cfg(alloc, &error)?)),
+    }
+}
+
 /// The facts that arguments spell.
 pub fn added_facts(alloc: Global, texts: &[&str]) -> Result<Vec<Cfg>, Refusal> {
     let mut facts = Vec::new(alloc);
     for text in texts {
-        match Cfg::from_str(alloc, text) {
-            Ok(fact) => facts.push(fact).map_err(AllocError::from)?,
-            Err(ReadError::Memory(refused)) => return Err(Refusal::Memory(refused)),
-            Err(ReadError::Parse(error)) => {
-                return Err(Refusal::Unusable(refused_cfg(alloc, &error)?));
-            }
-        }
+        let fact = added_fact(alloc, text)?;
+        facts.push(fact).map_err(AllocError::from)?;
     }
     Ok(facts)
 }

@@ -6,7 +6,7 @@ use crate::faults::{Asking, Fault, span_of};
 use crate::in_turn::{Question, answer_each};
 use crate::opened::OpenNames;
 use crate::questions::{added_facts, table_or_lines, unknown_name};
-use cargo_platform::shown_start;
+use cargo_platform::{ParseError, shown_start};
 use key_answers::answer::{Answer, Refusal, Status};
 use key_answers::printing::{push_json, put, put_text, refused_key, text_value};
 use known_targets::KnownTarget;
@@ -57,13 +57,8 @@ fn shown_residual(alloc: Global, choice: &Choice) -> Result<String, AllocError> 
     }
 }
 
-/// Appends the line of a dependency.
-fn push_line(
-    text: &mut String,
-    alloc: Global,
-    path: &str,
-    row: &Row<'_>,
-) -> Result<(), AllocError> {
+/// A dependency with its table, as they are shown.
+fn shown_dependency(alloc: Global, row: &Row<'_>) -> Result<String, AllocError> {
     let optional = if row.dependency.optional {
         ", optional"
     } else {
@@ -71,9 +66,20 @@ fn push_line(
     };
     let name = shown_start(alloc, row.dependency.name)?;
     let table = shown_table(alloc, row)?;
+    format!(in alloc; "{name} ({table}{optional})")
+}
+
+/// Appends the line of a dependency.
+fn push_line(
+    text: &mut String,
+    alloc: Global,
+    path: &str,
+    row: &Row<'_>,
+) -> Result<(), AllocError> {
+    let dependency = shown_dependency(alloc, row)?;
     let word = choice_word(&row.choice);
     let left = shown_residual(alloc, &row.choice)?;
-    let line = format!(in alloc; "{path}: {name} ({table}{optional}): {word}{left}\n")?;
+    let line = format!(in alloc; "{path}: {dependency}: {word}{left}\n")?;
     text.push_str(line.as_str())
 }
 
@@ -103,6 +109,21 @@ fn put_choice(
     put(object, alloc, "residual", residual)
 }
 
+/// Adds what is told of a row, with its manifest and the target.
+fn put_row(
+    object: &mut Map<String, Value>,
+    alloc: Global,
+    manifest: &Manifest,
+    target: &str,
+    row: &Row<'_>,
+) -> Result<(), AllocError> {
+    put_text(object, alloc, "manifest", manifest.path.as_str())?;
+    put_text(object, alloc, "target", target)?;
+    put_dependency(object, alloc, &row.dependency)?;
+    put_described(object, alloc, &manifest.document, &row.dependency)?;
+    put_choice(object, alloc, &row.choice)
+}
+
 /// Appends the object of a dependency, on a line of its own.
 fn push_object(
     text: &mut String,
@@ -112,12 +133,25 @@ fn push_object(
     row: &Row<'_>,
 ) -> Result<(), AllocError> {
     let mut object = Map::new(alloc);
-    put_text(&mut object, alloc, "manifest", manifest.path.as_str())?;
-    put_text(&mut object, alloc, "target", target)?;
-    put_dependency(&mut object, alloc, &row.dependency)?;
-    put_described(&mut object, alloc, &manifest.document, &row.dependency)?;
-    put_choice(&mut object, alloc, &row.choice)?;
+    put_row(&mut object, alloc, manifest, target, row)?;
     push_json(text, alloc, &Value::Object(object))
+}
+
+/// What people read of a key that is no table.
+fn no_table_line(alloc: Global, path: &str, key: &str) -> Result<String, AllocError> {
+    let key = shown_start(alloc, key)?;
+    format!(in alloc; "{path}: error: target.'{key}' is no table\n")
+}
+
+/// What people read of a key that spells no condition.
+fn refused_key_lines(
+    alloc: Global,
+    path: &str,
+    key: &str,
+    error: &ParseError,
+) -> Result<String, AllocError> {
+    let fault = refused_key(alloc, key, error)?;
+    format!(in alloc; "{path}: {fault}")
 }
 
 /// What people read of a manifest from which nothing is selected.
@@ -125,14 +159,8 @@ fn refused_lines(alloc: Global, path: &str, error: &SelectError<'_>) -> Result<S
     match error {
         SelectError::Memory(_) => Err(AllocError),
         SelectError::TargetIsNoTable => format!(in alloc; "{path}: error: `target` is no table\n"),
-        SelectError::KeyIsNoTable(key) => {
-            let key = shown_start(alloc, key)?;
-            format!(in alloc; "{path}: error: target.'{key}' is no table\n")
-        }
-        SelectError::Refused(key, error) => {
-            let fault = refused_key(alloc, key, error)?;
-            format!(in alloc; "{path}: {fault}")
-        }
+        SelectError::KeyIsNoTable(key) => no_table_line(alloc, path, key),
+        SelectError::Refused(key, error) => refused_key_lines(alloc, path, key, error),
     }
 }
 
@@ -158,6 +186,26 @@ fn key_at_fault<'a>(error: &SelectError<'a>) -> (Option<&'a str>, Option<(usize,
     }
 }
 
+/// The fault for which nothing is selected from a manifest, with what is said of it.
+fn fault_in<'a, 'm>(
+    manifest: &'a Manifest,
+    error: &SelectError<'a>,
+    message: &'m str,
+) -> Fault<'a, 'm> {
+    let (key, span) = key_at_fault(error);
+    let line = match key {
+        Some(key) => first_line(&manifest.document, key),
+        None => None,
+    };
+    Fault {
+        manifest: Some(manifest.path.as_str()),
+        key,
+        line,
+        span,
+        message,
+    }
+}
+
 /// The answer on a manifest from which nothing is selected.
 fn refused<'a>(
     alloc: Global,
@@ -165,21 +213,9 @@ fn refused<'a>(
     manifest: &'a Manifest,
     error: &SelectError<'a>,
 ) -> Result<Answer, AllocError> {
-    let path = manifest.path.as_str();
-    let lines = refused_lines(alloc, path, error)?;
+    let lines = refused_lines(alloc, manifest.path.as_str(), error)?;
     let message = refused_message(alloc, error)?;
-    let (key, span) = key_at_fault(error);
-    let line = match key {
-        Some(key) => first_line(&manifest.document, key),
-        None => None,
-    };
-    let fault = Fault {
-        manifest: Some(path),
-        key,
-        line,
-        span,
-        message: message.as_str(),
-    };
+    let fault = fault_in(manifest, error, message.as_str());
     asking.tell(alloc, &fault, lines.as_str())
 }
 
@@ -212,6 +248,20 @@ fn rows_text(
     Ok(text)
 }
 
+/// The answer on a manifest of which these rows are selected, unless Cargo refuses it beside its keys.
+fn selected(
+    alloc: Global,
+    asking: &Asking<'_>,
+    manifest: &Manifest,
+    rows: &[Row<'_>],
+) -> Result<Answer, AllocError> {
+    if let Some(reason) = refused_by_cargo(alloc, &manifest.document.table)? {
+        return refused_for(alloc, asking, manifest.path.as_str(), reason.as_str());
+    }
+    let text = rows_text(alloc, manifest, asking, rows)?;
+    Ok(Answer::of(alloc, text, Status::Fine))
+}
+
 /// `select`: the target and the host that are asked, and how the answer is printed.
 #[derive(Drop)]
 struct Selecting<'a> {
@@ -226,16 +276,10 @@ impl<'a> Question for Selecting<'a> {
     fn answer(&mut self, alloc: Global, manifest: &Manifest) -> Result<Answer, AllocError> {
         let table = &manifest.document.table;
         self.opened.note(alloc, table)?;
-        let rows = match select(alloc, table, self.asking.target, self.known, self.host) {
-            Ok(rows) => rows,
-            Err(error) => return refused(alloc, &self.asking, manifest, &error),
-        };
-        if let Some(reason) = refused_by_cargo(alloc, table)? {
-            let path = manifest.path.as_str();
-            return refused_for(alloc, &self.asking, path, reason.as_str());
+        match select(alloc, table, self.asking.target, self.known, self.host) {
+            Ok(rows) => selected(alloc, &self.asking, manifest, &rows),
+            Err(error) => refused(alloc, &self.asking, manifest, &error),
         }
-        let text = rows_text(alloc, manifest, &self.asking, &rows)?;
-        Ok(Answer::of(alloc, text, Status::Fine))
     }
 
     fn refuse(
@@ -272,6 +316,33 @@ fn known_host(alloc: Global, name: Option<&str>) -> Result<Option<KnownTarget>, 
     }
 }
 
+/// Appends what is said of the names that are left open, and for which no key asks.
+fn add_unasked(answer: &mut Answer, alloc: Global, opened: &OpenNames) -> Result<(), AllocError> {
+    let unasked = opened.unasked(alloc)?;
+    answer.errors.push_str(unasked.as_str())
+}
+
+/// What is selected of the manifests that are named, where this is known of the target and the host.
+fn selected_of_each<R: Files + Input + AllocGlobal>(
+    rt: &R,
+    paths: &[&str],
+    asking: Asking<'_>,
+    known: &Asked<'_>,
+    host: Option<KnownTarget>,
+    limit: u64,
+) -> Result<Answer, AllocError> {
+    let alloc = rt.alloc();
+    let mut selecting = Selecting {
+        asking,
+        known,
+        host,
+        opened: OpenNames::new(alloc, known.open)?,
+    };
+    let mut answer = answer_each(rt, paths, limit, &mut selecting)?;
+    add_unasked(&mut answer, alloc, &selecting.opened)?;
+    Ok(answer)
+}
+
 /// What is selected of the manifests that are named, in their order. The target's own facts are those of `lines`, where
 /// these are given, and else it is a known one. Manifests of more bytes than the limit are refused.
 pub fn select_each<R: Files + Input + AllocGlobal>(
@@ -290,14 +361,7 @@ pub fn select_each<R: Files + Input + AllocGlobal>(
         added: &added,
         open: target.open,
     };
-    let mut selecting = Selecting {
-        asking: target.asking,
-        known: &known,
-        host: known_host(alloc, host)?,
-        opened: OpenNames::new(alloc, target.open)?,
-    };
-    let mut answer = answer_each(rt, paths, limit, &mut selecting)?;
-    let unasked = selecting.opened.unasked(alloc)?;
-    answer.errors.push_str(unasked.as_str())?;
+    let host = known_host(alloc, host)?;
+    let answer = selected_of_each(rt, paths, target.asking, &known, host, limit)?;
     Ok(answer)
 }
