@@ -211,11 +211,11 @@ pub fn explanation_of(code: Code) -> Explained {
 /// What is said of each code, in the order in which they are told of a key, and of those that are not about keys.
 pub fn all_explained(alloc: Global) -> Result<Vec<Explained>, AllocError> {
     let mut all = Vec::new(alloc);
-    for code in CODES {
-        all.push(explanation_of(code))?;
+    for code in &CODES {
+        all.push(explanation_of(*code))?;
     }
-    for other in OTHERS {
-        all.push(other)?;
+    for other in &OTHERS {
+        all.push(*other)?;
     }
     Ok(all)
 }

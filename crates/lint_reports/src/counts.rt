@@ -68,13 +68,19 @@ impl Counts {
         }
     }
 
+    /// The findings of each weight.
+    fn findings(self, alloc: Global) -> Result<String, AllocError> {
+        let errors = counted(alloc, self.errors, "error")?;
+        let warnings = counted(alloc, self.warnings, "warning")?;
+        let notes = counted(alloc, self.notes, "note")?;
+        format!(in alloc; "{errors}, {warnings}, {notes}")
+    }
+
     /// The last line, which sums up.
     pub fn line(self, alloc: Global) -> Result<String, AllocError> {
         let files = self.files(alloc)?;
         let keys = counted(alloc, self.keys, "key")?;
-        let errors = counted(alloc, self.errors, "error")?;
-        let warnings = counted(alloc, self.warnings, "warning")?;
-        let notes = counted(alloc, self.notes, "note")?;
-        format!(in alloc; "{files}, {keys} checked: {errors}, {warnings}, {notes}\n")
+        let findings = self.findings(alloc)?;
+        format!(in alloc; "{files}, {keys} checked: {findings}\n")
     }
 }

@@ -17,6 +17,35 @@ const OF_NAMES: &str = "rustdocflags";
 /// The fields of a key. At the name of a target other members are tables for libraries of `links`.
 const FIELDS: [&str; 4] = ["linker", "runner", "rustflags", OF_NAMES];
 
+/// What is told of a field that Cargo reads at some key, and how much it weighs; nothing where it is read at this one.
+fn misplaced(
+    alloc: Global,
+    name: &str,
+    is_condition: bool,
+) -> Result<Option<(Weight, String)>, AllocError> {
+    if name == OF_NAMES && is_condition {
+        let message = format!(in alloc; "Cargo reads `{name}` at the name of a target alone")?;
+        return Ok(Some((Weight::Warning, message)));
+    }
+    Ok(None)
+}
+
+/// What Cargo makes of a field that it reads at no key. `name` is the field as it is shown.
+fn reason_of(
+    alloc: Global,
+    name: &str,
+    is_condition: bool,
+    is_table: bool,
+) -> Result<String, AllocError> {
+    if is_condition {
+        format!(in alloc; "Cargo does not read `{name}`")
+    } else if is_table {
+        format!(in alloc; "Cargo takes `{name}` for a library of `links`")
+    } else {
+        format!(in alloc; "Cargo refuses `{name}` where it builds for the target")
+    }
+}
+
 /// What is told of a field, and how much it weighs; nothing of one that Cargo reads, or that is near to no such one.
 fn unread(
     alloc: Global,
@@ -26,34 +55,37 @@ fn unread(
 ) -> Result<Option<(Weight, String)>, AllocError> {
     let is_condition = key.starts_with("cfg(");
     if FIELDS.iter().any(|field| *field == name) {
-        if name == OF_NAMES && is_condition {
-            let message = format!(in alloc; "Cargo reads `{name}` at the name of a target alone")?;
-            return Ok(Some((Weight::Warning, message)));
-        }
-        return Ok(None);
+        return misplaced(alloc, name, is_condition);
     }
     let Some(meant) = near(name, &FIELDS) else {
         return Ok(None);
     };
-    let name = shown_start(alloc, name)?;
-    let (weight, reason) = if is_condition {
-        (
-            Weight::Warning,
-            format!(in alloc; "Cargo does not read `{name}`")?,
-        )
-    } else if value.as_table().is_some() {
-        (
-            Weight::Warning,
-            format!(in alloc; "Cargo takes `{name}` for a library of `links`")?,
-        )
+    let is_table = value.as_table().is_some();
+    let weight = if is_condition || is_table {
+        Weight::Warning
     } else {
-        (
-            Weight::Error,
-            format!(in alloc; "Cargo refuses `{name}` where it builds for the target")?,
-        )
+        Weight::Error
     };
+    let name = shown_start(alloc, name)?;
+    let reason = reason_of(alloc, name.as_str(), is_condition, is_table)?;
     let message = format!(in alloc; "{reason}; perhaps `{meant}` is meant")?;
     Ok(Some((weight, message)))
+}
+
+/// A field of a key that is not read, with what is told of it.
+fn field_of(
+    alloc: Global,
+    key: &str,
+    weight: Weight,
+    message: String,
+) -> Result<WrongPlace, AllocError> {
+    Ok(WrongPlace {
+        code: UNREAD_FIELD,
+        weight,
+        subject: String::from_str(alloc, TARGET)?,
+        key: Some(String::from_str(alloc, key)?),
+        message,
+    })
 }
 
 /// Adds the fields of a key that are not read.
@@ -65,13 +97,7 @@ fn add_of_key(
 ) -> Result<(), AllocError> {
     for (name, value) in fields.iter() {
         if let Some((weight, message)) = unread(alloc, key, name.as_str(), value)? {
-            found.push(WrongPlace {
-                code: UNREAD_FIELD,
-                weight,
-                subject: String::from_str(alloc, TARGET)?,
-                key: Some(String::from_str(alloc, key)?),
-                message,
-            })?;
+            found.push(field_of(alloc, key, weight, message)?)?;
         }
     }
     Ok(())

@@ -2,7 +2,7 @@
 
 use crate::escapes::escaped;
 use crate::sarif::{push_result, sarif_begin, sarif_end};
-use crate::told::{Place, Told, weight_word};
+use crate::told::{Place, Told, sentence_of, weight_word};
 use key_answers::printing::{push_indented, push_json, put, put_text, text_value};
 use lint_levels::Weight;
 use serde_json::{Map, Value, json};
@@ -66,6 +66,14 @@ fn coloured(alloc: Global, weight: Weight, colours: bool) -> Result<String, Allo
     format!(in alloc; "\x1b[{colour}m{word}\x1b[0m")
 }
 
+/// A line behind a text, or nothing where no line is certain.
+fn line_behind(alloc: Global, before: &str, line: Option<usize>) -> Result<String, AllocError> {
+    match line {
+        Some(line) => format!(in alloc; "{before}{line}"),
+        None => Ok(String::new(alloc)),
+    }
+}
+
 /// Appends the line of a finding: where it is, its weight and code, what it is on and what is told.
 fn push_line(
     text: &mut String,
@@ -73,16 +81,12 @@ fn push_line(
     told: &Told<'_>,
     colours: bool,
 ) -> Result<(), AllocError> {
-    let path = told.place.path;
-    let line = match told.place.line {
-        Some(line) => format!(in alloc; ":{line}")?,
-        None => String::new(alloc),
-    };
+    let line = line_behind(alloc, ":", told.place.line)?;
     let word = coloured(alloc, told.weight, colours)?;
+    let sentence = sentence_of(alloc, told)?;
+    let path = told.place.path;
     let code = told.code;
-    let subject = told.on(alloc)?;
-    let message = told.message;
-    let head = format!(in alloc; "{path}{line}: {word}[{code}]: {subject}: {message}\n")?;
+    let head = format!(in alloc; "{path}{line}: {word}[{code}]: {sentence}\n")?;
     text.push_str(head.as_str())
 }
 
@@ -127,36 +131,50 @@ fn put_place(
     put(object, alloc, "key", text_value(alloc, place.key)?)
 }
 
+/// Adds what is told of a finding to its object.
+fn put_told(
+    object: &mut Map<String, Value>,
+    alloc: Global,
+    told: &Told<'_>,
+) -> Result<(), AllocError> {
+    put(object, alloc, "span", span_value(alloc, told.span)?)?;
+    let suggestion = text_value(alloc, told.suggestion)?;
+    put(object, alloc, "suggestion", suggestion)?;
+    put_text(object, alloc, "level", weight_word(told.weight))?;
+    put_text(object, alloc, "code", told.code)?;
+    put_text(object, alloc, "message", told.message)
+}
+
 /// Appends the object of a finding, on a line of its own.
 fn push_object(text: &mut String, alloc: Global, told: &Told<'_>) -> Result<(), AllocError> {
     let mut object = Map::new(alloc);
     put_place(&mut object, alloc, &told.place)?;
-    put(&mut object, alloc, "span", span_value(alloc, told.span)?)?;
-    let suggestion = text_value(alloc, told.suggestion)?;
-    put(&mut object, alloc, "suggestion", suggestion)?;
-    put_text(&mut object, alloc, "level", weight_word(told.weight))?;
-    put_text(&mut object, alloc, "code", told.code)?;
-    put_text(&mut object, alloc, "message", told.message)?;
+    put_told(&mut object, alloc, told)?;
     push_json(text, alloc, &Value::Object(object))
+}
+
+/// The command for a weight.
+fn command_word(weight: Weight) -> &'static str {
+    match weight {
+        Weight::Error => "error",
+        Weight::Warning => "warning",
+        Weight::Note | Weight::Allowed => "notice",
+    }
+}
+
+/// What a command says of a finding.
+fn command_body(alloc: Global, told: &Told<'_>) -> Result<String, AllocError> {
+    let sentence = sentence_of(alloc, told)?;
+    escaped(alloc, sentence.as_str(), false)
 }
 
 /// Appends the command of a finding, which shows it beside the line in a change.
 fn push_command(text: &mut String, alloc: Global, told: &Told<'_>) -> Result<(), AllocError> {
-    let word = match told.weight {
-        Weight::Error => "error",
-        Weight::Warning => "warning",
-        Weight::Note | Weight::Allowed => "notice",
-    };
+    let word = command_word(told.weight);
     let file = escaped(alloc, told.place.path, true)?;
-    let line = match told.place.line {
-        Some(line) => format!(in alloc; ",line={line}")?,
-        None => String::new(alloc),
-    };
+    let line = line_behind(alloc, ",line=", told.place.line)?;
     let code = told.code;
-    let message = told.message;
-    let subject = told.on(alloc)?;
-    let body = format!(in alloc; "{subject}: {message}")?;
-    let body = escaped(alloc, body.as_str(), false)?;
+    let body = command_body(alloc, told)?;
     let command = format!(in alloc; "::{word} file={file}{line},title={code}::{body}\n")?;
     text.push_str(command.as_str())
 }

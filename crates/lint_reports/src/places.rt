@@ -55,6 +55,42 @@ fn unread(alloc: Global, name: &str, meant: &str) -> Result<WrongPlace, AllocErr
     })
 }
 
+/// Adds a table of this name, which Cargo does not read.
+fn add_unread(
+    alloc: Global,
+    name: &str,
+    meant: &str,
+    found: &mut Vec<WrongPlace>,
+) -> Result<(), AllocError> {
+    found.push(unread(alloc, name, meant)?)?;
+    Ok(())
+}
+
+/// Adds what stands at a name at the top, where it is a table that Cargo does not read.
+fn add_of_name(
+    alloc: Global,
+    name: &str,
+    value: &Value,
+    found: &mut Vec<WrongPlace>,
+) -> Result<(), AllocError> {
+    if name.starts_with("cfg(") {
+        let meant = format!(in alloc; "target.'{name}'")?;
+        return add_unread(alloc, name, meant.as_str(), found);
+    }
+    if name == "targets" && has_keys(value) {
+        return add_unread(alloc, name, "target", found);
+    }
+    Ok(())
+}
+
+/// Whether `target` stands in the table of the workspace.
+fn is_in_workspace(manifest: &Table) -> bool {
+    match manifest.get("workspace") {
+        Some(Value::Table(workspace)) => workspace.get("target").is_some(),
+        _ => false,
+    }
+}
+
 /// Adds the tables at the top of a manifest, or of a configuration, that Cargo does not read.
 pub fn add_at_top(
     alloc: Global,
@@ -62,20 +98,26 @@ pub fn add_at_top(
     found: &mut Vec<WrongPlace>,
 ) -> Result<(), AllocError> {
     for (name, value) in manifest.iter() {
-        let name = name.as_str();
-        if name.starts_with("cfg(") {
-            let meant = format!(in alloc; "target.'{name}'")?;
-            found.push(unread(alloc, name, meant.as_str())?)?;
-        } else if name == "targets" && has_keys(value) {
-            found.push(unread(alloc, name, "target")?)?;
-        }
+        add_of_name(alloc, name.as_str(), value, found)?;
     }
-    if let Some(Value::Table(workspace)) = manifest.get("workspace") {
-        if workspace.get("target").is_some() {
-            found.push(unread(alloc, "workspace.target", "target")?)?;
-        }
+    if is_in_workspace(manifest) {
+        add_unread(alloc, "workspace.target", "target", found)?;
     }
     Ok(())
+}
+
+/// A key of `target` that stands in the table of dependencies of this name.
+fn among_packages(alloc: Global, name: &str, key: &str) -> Result<WrongPlace, AllocError> {
+    let key = shown_start(alloc, key)?;
+    Ok(WrongPlace {
+        code: MISPLACED,
+        weight: Weight::Error,
+        subject: format!(in alloc; "{name}.'{key}'")?,
+        key: None,
+        message: format!(in alloc;
+            "Cargo refuses this name of a package; perhaps `target.'{key}'.{name}` is meant"
+        )?,
+    })
 }
 
 /// Adds the keys of `target` that stand in a table of dependencies, as if they were names of packages.
@@ -90,16 +132,7 @@ fn add_among_packages(
         };
         for (key, _) in table.iter() {
             if key.as_str().starts_with("cfg(") {
-                let key = shown_start(alloc, key.as_str())?;
-                found.push(WrongPlace {
-                    code: MISPLACED,
-                    weight: Weight::Error,
-                    subject: format!(in alloc; "{name}.'{key}'")?,
-                    key: None,
-                    message: format!(in alloc;
-                        "Cargo refuses this name of a package; perhaps `target.'{key}'.{name}` is meant"
-                    )?,
-                })?;
+                found.push(among_packages(alloc, name, key.as_str())?)?;
             }
         }
     }
@@ -117,6 +150,36 @@ fn is_of_2024(manifest: &Table) -> bool {
     }
 }
 
+/// What is told of a name with underscores, in whose place the other one stands.
+fn underscored_message(alloc: Global, other: &str, is_refused: bool) -> Result<String, AllocError> {
+    if is_refused {
+        format!(in alloc; "Cargo refuses this name in the edition of 2024; `{other}` is the name")
+    } else {
+        format!(in alloc; "Cargo warns of this name; `{other}` is the name")
+    }
+}
+
+/// A table whose name has underscores, in whose place the other one stands.
+fn underscored(
+    alloc: Global,
+    before: &str,
+    name: &str,
+    other: &str,
+    is_refused: bool,
+) -> Result<WrongPlace, AllocError> {
+    Ok(WrongPlace {
+        code: UNDERSCORED,
+        weight: if is_refused {
+            Weight::Error
+        } else {
+            Weight::Warning
+        },
+        subject: format!(in alloc; "{before}{name}")?,
+        key: None,
+        message: underscored_message(alloc, other, is_refused)?,
+    })
+}
+
 /// Adds the tables with underscores in their names, which Cargo refuses from the edition of 2024 on. `before` is what
 /// stands before their names in a header.
 fn add_underscored(
@@ -127,29 +190,24 @@ fn add_underscored(
     found: &mut Vec<WrongPlace>,
 ) -> Result<(), AllocError> {
     for (name, other) in UNDERSCORES {
-        if table.get(name).is_none() {
-            continue;
+        if table.get(name).is_some() {
+            found.push(underscored(alloc, before, name, other, is_refused)?)?;
         }
-        let message = if is_refused {
-            format!(in alloc;
-                "Cargo refuses this name in the edition of 2024; `{other}` is the name"
-            )?
-        } else {
-            format!(in alloc; "Cargo warns of this name; `{other}` is the name")?
-        };
-        found.push(WrongPlace {
-            code: UNDERSCORED,
-            weight: if is_refused {
-                Weight::Error
-            } else {
-                Weight::Warning
-            },
-            subject: format!(in alloc; "{before}{name}")?,
-            key: None,
-            message,
-        })?;
     }
     Ok(())
+}
+
+/// Adds the tables with underscores in their names at a key of `target`.
+fn add_underscored_at(
+    alloc: Global,
+    table: &Table,
+    key: &str,
+    is_refused: bool,
+    found: &mut Vec<WrongPlace>,
+) -> Result<(), AllocError> {
+    let key = shown_start(alloc, key)?;
+    let before = format!(in alloc; "target.'{key}'.")?;
+    add_underscored(alloc, table, before.as_str(), is_refused, found)
 }
 
 /// The tables of a manifest that are meant for targets and stand elsewhere, and those with an old name.
@@ -162,9 +220,7 @@ pub fn wrong_places(alloc: Global, manifest: &Table) -> Result<Vec<WrongPlace>, 
     if let Some(Value::Table(targets)) = manifest.get("target") {
         for (key, value) in targets.iter() {
             if let Some(table) = value.as_table() {
-                let key = shown_start(alloc, key.as_str())?;
-                let before = format!(in alloc; "target.'{key}'.")?;
-                add_underscored(alloc, table, before.as_str(), is_refused, &mut found)?;
+                add_underscored_at(alloc, table, key.as_str(), is_refused, &mut found)?;
             }
         }
     }

@@ -2,7 +2,7 @@
 
 use crate::codes::{Explained, all_explained};
 use crate::escapes::uri_of;
-use crate::told::{Told, weight_word};
+use crate::told::{Told, sentence_of, weight_word};
 use key_answers::printing::{put, put_text};
 use lint_levels::Weight;
 use serde_json::{Map, Value, json};
@@ -13,8 +13,14 @@ const SCHEMA: &str = "https://json.schemastore.org/sarif-2.1.0.json";
 
 /// An object with one member that is a text.
 fn with_text(alloc: Global, member: &str, text: &str) -> Result<Value, AllocError> {
+    let text = String::from_str(alloc, text)?;
+    with_member(alloc, member, Value::String(text))
+}
+
+/// An object with one member.
+fn with_member(alloc: Global, member: &str, value: Value) -> Result<Value, AllocError> {
     let mut object = Map::new(alloc);
-    put_text(&mut object, alloc, member, text)?;
+    put(&mut object, alloc, member, value)?;
     Ok(Value::Object(object))
 }
 
@@ -22,10 +28,10 @@ fn with_text(alloc: Global, member: &str, text: &str) -> Result<Value, AllocErro
 fn rule_of(alloc: Global, explained: &Explained) -> Result<Value, AllocError> {
     let mut rule = Map::new(alloc);
     put_text(&mut rule, alloc, "id", explained.word)?;
-    let text = with_text(alloc, "text", explained.short)?;
-    put(&mut rule, alloc, "shortDescription", text)?;
-    let text = with_text(alloc, "text", explained.text)?;
-    put(&mut rule, alloc, "fullDescription", text)?;
+    let short = with_text(alloc, "text", explained.short)?;
+    put(&mut rule, alloc, "shortDescription", short)?;
+    let full = with_text(alloc, "text", explained.text)?;
+    put(&mut rule, alloc, "fullDescription", full)?;
     Ok(Value::Object(rule))
 }
 
@@ -34,18 +40,29 @@ fn text_of(alloc: Global, value: &Value) -> Result<String, AllocError> {
     value.to_string(alloc)
 }
 
-/// What stands before the first result: the schema, the tool and its rules.
-pub fn sarif_begin(alloc: Global, version: &str) -> Result<String, AllocError> {
+/// The rules of all codes.
+fn all_rules(alloc: Global) -> Result<Value, AllocError> {
+    let all = all_explained(alloc)?;
     let mut rules = Vec::new(alloc);
-    for explained in &all_explained(alloc)? {
+    for explained in &all {
         rules.push(rule_of(alloc, explained)?)?;
     }
+    Ok(Value::Array(rules))
+}
+
+/// The tool, with its rules.
+fn driver_of(alloc: Global, version: &str) -> Result<Value, AllocError> {
     let mut driver = Map::new(alloc);
     put_text(&mut driver, alloc, "name", "manifest_check")?;
     put_text(&mut driver, alloc, "version", version)?;
-    put(&mut driver, alloc, "rules", Value::Array(rules))?;
-    let driver = text_of(alloc, &Value::Object(driver))?;
-    let driver = driver.as_str();
+    put(&mut driver, alloc, "rules", all_rules(alloc)?)?;
+    Ok(Value::Object(driver))
+}
+
+/// What stands before the first result: the schema, the tool and its rules.
+pub fn sarif_begin(alloc: Global, version: &str) -> Result<String, AllocError> {
+    let driver = driver_of(alloc, version)?;
+    let driver = text_of(alloc, &driver)?;
     format!(in alloc;
         "{{\"$schema\":\"{SCHEMA}\",\"version\":\"2.1.0\",\"runs\":[{{\"tool\":{{\"driver\":{driver}}},\"results\":[\n"
     )
@@ -56,25 +73,57 @@ pub fn sarif_end() -> &'static str {
     "]}]}\n"
 }
 
+/// The path of a manifest as a reference of a URI.
+fn artifact_of(alloc: Global, path: &str) -> Result<Value, AllocError> {
+    let uri = uri_of(alloc, path)?;
+    with_text(alloc, "uri", uri.as_str())
+}
+
+/// The line at which a region begins.
+fn region_of(alloc: Global, line: usize) -> Result<Value, AllocError> {
+    with_member(alloc, "startLine", json!(in alloc; line)?)
+}
+
 /// Where a result is: the path of the manifest and the line.
 fn location_of(alloc: Global, told: &Told<'_>) -> Result<Value, AllocError> {
     let mut place = Map::new(alloc);
-    let file = uri_of(alloc, told.place.path)?;
-    let file = with_text(alloc, "uri", file.as_str())?;
-    put(&mut place, alloc, "artifactLocation", file)?;
+    let artifact = artifact_of(alloc, told.place.path)?;
+    put(&mut place, alloc, "artifactLocation", artifact)?;
     if let Some(line) = told.place.line {
-        let mut region = Map::new(alloc);
-        put(&mut region, alloc, "startLine", json!(in alloc; line)?)?;
-        put(&mut place, alloc, "region", Value::Object(region))?;
+        put(&mut place, alloc, "region", region_of(alloc, line)?)?;
     }
-    let mut location = Map::new(alloc);
-    put(
-        &mut location,
-        alloc,
-        "physicalLocation",
-        Value::Object(place),
-    )?;
-    Ok(Value::Object(location))
+    with_member(alloc, "physicalLocation", Value::Object(place))
+}
+
+/// Where a result is, as a list of one place.
+fn locations_of(alloc: Global, told: &Told<'_>) -> Result<Value, AllocError> {
+    let mut locations = Vec::new(alloc);
+    locations.push(location_of(alloc, told)?)?;
+    Ok(Value::Array(locations))
+}
+
+/// The word for the level of a result.
+fn level_word(weight: Weight) -> &'static str {
+    match weight {
+        Weight::Allowed => "none",
+        weight => weight_word(weight),
+    }
+}
+
+/// The message of a result.
+fn message_of(alloc: Global, told: &Told<'_>) -> Result<Value, AllocError> {
+    let message = sentence_of(alloc, told)?;
+    with_text(alloc, "text", message.as_str())
+}
+
+/// The result of a finding.
+fn result_of(alloc: Global, told: &Told<'_>) -> Result<Value, AllocError> {
+    let mut result = Map::new(alloc);
+    put_text(&mut result, alloc, "ruleId", told.code)?;
+    put_text(&mut result, alloc, "level", level_word(told.weight))?;
+    put(&mut result, alloc, "message", message_of(alloc, told)?)?;
+    put(&mut result, alloc, "locations", locations_of(alloc, told)?)?;
+    Ok(Value::Object(result))
 }
 
 /// Appends the result of a finding, on a line of its own.
@@ -84,22 +133,8 @@ pub fn push_result(
     told: &Told<'_>,
     is_first: bool,
 ) -> Result<(), AllocError> {
-    let mut result = Map::new(alloc);
-    put_text(&mut result, alloc, "ruleId", told.code)?;
-    let level = match told.weight {
-        Weight::Allowed => "none",
-        weight => weight_word(weight),
-    };
-    put_text(&mut result, alloc, "level", level)?;
-    let subject = told.on(alloc)?;
-    let message = told.message;
-    let message = format!(in alloc; "{subject}: {message}")?;
-    let message = with_text(alloc, "text", message.as_str())?;
-    put(&mut result, alloc, "message", message)?;
-    let mut locations = Vec::new(alloc);
-    locations.push(location_of(alloc, told)?)?;
-    put(&mut result, alloc, "locations", Value::Array(locations))?;
-    let result = text_of(alloc, &Value::Object(result))?;
+    let result = result_of(alloc, told)?;
+    let result = text_of(alloc, &result)?;
     text.push_str(if is_first { "" } else { "," })?;
     text.push_str(result.as_str())?;
     text.push_str("\n")

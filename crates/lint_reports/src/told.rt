@@ -121,6 +121,13 @@ impl<'a> Told<'a> {
     }
 }
 
+/// What is told of what a finding is on, in one text.
+pub fn sentence_of(alloc: Global, told: &Told<'_>) -> Result<String, AllocError> {
+    let subject = told.on(alloc)?;
+    let message = told.message;
+    format!(in alloc; "{subject}: {message}")
+}
+
 /// The word for a weight.
 pub fn weight_word(weight: Weight) -> &'static str {
     match weight {
