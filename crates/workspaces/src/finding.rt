@@ -248,8 +248,10 @@ fn add_by_glob<R: Files + AllocGlobal + Clone + Drop>(
     found: &mut Found,
 ) -> Result<(), AllocError> {
     let alloc = rt.alloc();
-    let Ok(pattern) = Pattern::from_str(alloc, text) else {
-        return Ok(());
+    let pattern = match Pattern::from_str(alloc, text) {
+        Ok(pattern) => pattern,
+        Err(PatternError::Fault(_)) => return Ok(()),
+        Err(PatternError::Memory(refused)) => return Err(refused),
     };
     let folders = candidates(rt, folder_of(file), text, &pattern)?;
     if folders.is_empty() {
