@@ -1,6 +1,6 @@
 //! What is known of a key by itself, from its text, one walk of its tree, and what the manifest declares.
 
-ghost use Rattle.std.specs.Prelude.{◌≡◌, IfOk, not, string_bytes};
+ghost use Rattle.std.specs.Prelude.{◌≡◌, [], IfOk, not, string_bytes};
 ghost use Rattle.cargo_platform.specs.Trees.{value_of, condition_of};
 ghost use Rattle.cargo_platform.specs.Print.{print_condition};
 ghost use Rattle.manifest_documents.specs.Declarations.{declarations_of};
@@ -66,6 +66,14 @@ impl<'a> KnownKey<'a> {
                 is_unknown_target: false,
             }),
         }
+    }
+
+    /// What is known of a key that stands in no manifest.
+    pub(crate) fn alone(alloc: Global, read: &'a ReadKey<'a>) -> Result<KnownKey<'a>, AllocError>
+        ensures place { IfOk result (λ k. k.place ≡ 0) }
+        ensures known { IfOk result (λ k. IsKnown [] read.now k) }
+    {
+        KnownKey::of(alloc, read, 0, &Declared::none(alloc))
     }
 
     /// Whether a code holds of the key. What is asked over sets of facts, and beside other keys, does not.

@@ -68,26 +68,43 @@ pub fn near<'a>(text: &str, words: &[&'a str]) -> Option<&'a str> {
     None
 }
 
+/// Values, and other words that people have for them.
+const OTHER_WORDS: &[(&str, &[&str])] = &[
+    ("macos", &["darwin", "mac", "macosx", "osx"]),
+    ("windows", &["win32", "win64"]),
+    ("dragonfly", &["dragonflybsd"]),
+    ("x86_64", &["amd64", "x64", "x86-64"]),
+    ("x86", &["i386", "i486", "i586", "i686"]),
+    ("aarch64", &["arm64"]),
+    ("arm", &["armv5", "armv6", "armv7"]),
+    ("wasm32", &["wasm"]),
+    (
+        "gnu",
+        &[
+            "glibc",
+            "mingw",
+            "mingw32",
+            "mingw64",
+            "gnueabi",
+            "gnueabihf",
+        ],
+    ),
+    ("musl", &["musleabi", "musleabihf"]),
+    ("little", &["le"]),
+    ("big", &["be"]),
+    ("16", &["16bit", "16-bit"]),
+    ("32", &["32bit", "32-bit"]),
+    ("64", &["64bit", "64-bit"]),
+];
+
 /// The value that people mean by another word for it.
 fn other_word(word: &str) -> Option<&'static str> {
-    match word {
-        "darwin" | "mac" | "macosx" | "osx" => Some("macos"),
-        "win32" | "win64" => Some("windows"),
-        "dragonflybsd" => Some("dragonfly"),
-        "amd64" | "x64" | "x86-64" => Some("x86_64"),
-        "i386" | "i486" | "i586" | "i686" => Some("x86"),
-        "arm64" => Some("aarch64"),
-        "armv5" | "armv6" | "armv7" => Some("arm"),
-        "wasm" => Some("wasm32"),
-        "glibc" | "mingw" | "mingw32" | "mingw64" | "gnueabi" | "gnueabihf" => Some("gnu"),
-        "musleabi" | "musleabihf" => Some("musl"),
-        "le" => Some("little"),
-        "be" => Some("big"),
-        "16bit" | "16-bit" => Some("16"),
-        "32bit" | "32-bit" => Some("32"),
-        "64bit" | "64-bit" => Some("64"),
-        _ => None,
+    for (value, words) in OTHER_WORDS {
+        if words.contains(&word) {
+            return Some(*value);
+        }
     }
+    None
 }
 
 /// The value of the key that is meant by another word, by a fixed rule.
@@ -108,20 +125,51 @@ pub fn meant_value(
     }
 }
 
+/// The name, where a known target has it.
+pub fn if_known(name: String) -> Option<String> {
+    if KnownTarget::by_name(name.as_str()).is_some() {
+        Some(name)
+    } else {
+        None
+    }
+}
+
+/// What is meant by the first part of a target's name, by a fixed rule.
+fn first_by_rule(first: &str) -> &str {
+    match first {
+        "i386" => "i686",
+        _ => other_word(first).unwrap_or(first),
+    }
+}
+
+/// What is meant by what stands behind the first part of a target's name, by a fixed rule.
+fn rest_by_rule(rest: &str) -> &str {
+    match rest {
+        "apple-macos" | "apple-macosx" | "apple-osx" | "macos" | "darwin" => "apple-darwin",
+        _ => rest,
+    }
+}
+
 /// The name of the known target that is meant by its first part and what stands behind it, by a fixed rule: a vendor is
 /// left out, or the last parts have other words.
 fn target_by_rule(alloc: Global, first: &str, rest: &str) -> Result<Option<String>, AllocError> {
-    let rest = match rest {
-        "apple-macos" | "apple-macosx" | "apple-osx" | "macos" | "darwin" => "apple-darwin",
-        _ => rest,
-    };
+    let rest = rest_by_rule(rest);
     for vendor in ["", "unknown-", "pc-", "apple-"] {
-        let name = format!(in alloc; "{first}-{vendor}{rest}")?;
-        if KnownTarget::by_name(name.as_str()).is_some() {
-            return Ok(Some(name));
+        let name = if_known(format!(in alloc; "{first}-{vendor}{rest}")?);
+        if name.is_some() {
+            return Ok(name);
         }
     }
     Ok(None)
+}
+
+/// The name of the known target that these parts mean, the first part as it stands or as another word.
+fn target_of_parts(alloc: Global, first: &str, rest: &str) -> Result<Option<String>, AllocError> {
+    let name = target_by_rule(alloc, first, rest)?;
+    if name.is_some() {
+        return Ok(name);
+    }
+    target_by_rule(alloc, first_by_rule(first), rest)
 }
 
 /// The name of the known target that is meant by this text: by a fixed rule, or where one edit leads there.
@@ -130,21 +178,13 @@ pub fn nearest_target(alloc: Global, text: &str) -> Result<Option<String>, Alloc
         return Ok(Some(String::from_str(alloc, "wasm32-wasip1")?));
     }
     if let Some((first, rest)) = text.split_once('-') {
-        if let Some(name) = target_by_rule(alloc, first, rest)? {
-            return Ok(Some(name));
-        }
-        let first = match first {
-            "i386" => "i686",
-            _ => other_word(first).unwrap_or(first),
-        };
-        if let Some(name) = target_by_rule(alloc, first, rest)? {
-            return Ok(Some(name));
+        let name = target_of_parts(alloc, first, rest)?;
+        if name.is_some() {
+            return Ok(name);
         }
     }
-    for name in names() {
-        if is_one_edit(text, name) {
-            return Ok(Some(String::from_str(alloc, name)?));
-        }
+    match near(text, names()) {
+        Some(name) => Ok(Some(String::from_str(alloc, name)?)),
+        None => Ok(None),
     }
-    Ok(None)
 }

@@ -95,13 +95,21 @@ const INSTEAD: [(&str, &str); 8] = [
     (" or ", "use `any(..)` in place of `or`"),
 ];
 
+/// Whether these words stand in a key, outside of its values.
+fn stands_outside(key: &str, words: &str) -> bool {
+    for (place, part) in key.split('"').enumerate() {
+        if place % 2 == 0 && part.contains(words) {
+            return true;
+        }
+    }
+    false
+}
+
 /// What to write in place of what stands in a key that is refused. What stands in a value is not meant.
 fn instead_of_fault(key: &str) -> Option<&'static str> {
     for (written, hint) in INSTEAD {
-        for (place, part) in key.split('"').enumerate() {
-            if place % 2 == 0 && part.contains(written) {
-                return Some(hint);
-            }
+        if stands_outside(key, written) {
+            return Some(hint);
         }
     }
     if key.contains("not(") && key.contains(',') {

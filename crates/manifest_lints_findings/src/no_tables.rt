@@ -45,6 +45,12 @@ fn other_member(alloc: Global, name: &str) -> Result<String, AllocError> {
     }
 }
 
+/// What is told of a member of this name, which is no table.
+fn no_table(alloc: Global, name: &str) -> Result<String, AllocError> {
+    let name = quoted(alloc, name)?;
+    format!(in alloc; "{name} is no table")
+}
+
 /// What of what stands at a key is no table of dependencies, by words for each.
 pub fn no_tables(alloc: Global, value: &Value) -> Result<Vec<String>, AllocError>
     ensures { IfOk result (λ found. is_empty_list found.items ≡ not (is_no_table (view value.now))) }
@@ -59,8 +65,7 @@ pub fn no_tables(alloc: Global, value: &Value) -> Result<Vec<String>, AllocError
         if !is_table_name(name) {
             found.push(other_member(alloc, name)?)?;
         } else if member.as_table().is_none() {
-            let name = quoted(alloc, name)?;
-            found.push(format!(in alloc; "{name} is no table")?)?;
+            found.push(no_table(alloc, name)?)?;
         }
     }
     Ok(found)

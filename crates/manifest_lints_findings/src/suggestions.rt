@@ -6,12 +6,11 @@ ghost use Rattle.manifest_lints_findings.specs.Shown.{IsRidOf, IsMended};
 
 use crate::codes::Code;
 use crate::known_keys::KnownKey;
-use crate::meant::{meant_value, near, nearest_target};
+use crate::meant::{if_known, meant_value, near, nearest_target};
 use crate::meant_features::feature_instead_of;
 use crate::readings::{ReadKey, Spelled};
 use cargo_platform::{Cfg, CfgExpr, Platform, ReadError};
-use known_targets::{KnownFact, KnownTarget, all_facts};
-use manifest_documents::Declared;
+use known_targets::{KnownFact, all_facts};
 use manifest_lints_standings::asked_facts::AskedFact;
 use manifest_lints_standings::standing::{Sort, Standing, is_value_of};
 use std::alloc::{AllocError, Global};
@@ -105,6 +104,19 @@ fn by_value_of_other(alloc: Global, key: &str, value: &str) -> Result<Option<Str
     Ok(None)
 }
 
+/// Appends a pair at this place in a group.
+fn push_pair(
+    text: &mut String,
+    alloc: Global,
+    place: usize,
+    key: &str,
+    value: &str,
+) -> Result<(), AllocError> {
+    let comma = if place == 0 { "" } else { ", " };
+    let fact = format!(in alloc; "{comma}{key} = \"{value}\"")?;
+    text.push_str(fact.as_str())
+}
+
 /// `any(..)` of the values that a value joins by commas or bars, where each is one.
 fn any_of_joined(alloc: Global, key: &str, value: &str) -> Result<Option<String>, AllocError> {
     let mark = if value.contains('|') { '|' } else { ',' };
@@ -117,9 +129,7 @@ fn any_of_joined(alloc: Global, key: &str, value: &str) -> Result<Option<String>
         if !is_value_of(alloc, key, part)? {
             return Ok(None);
         }
-        let comma = if place == 0 { "" } else { ", " };
-        let fact = format!(in alloc; "{comma}{key} = \"{part}\"")?;
-        text.push_str(fact.as_str())?;
+        push_pair(&mut text, alloc, place, key, part)?;
     }
     text.push_str(")")?;
     Ok(Some(text))
@@ -153,19 +163,22 @@ fn fact_instead_of(
     }
 }
 
-/// The pair with the whole key, and the value that is meant. What people call a platform is a system.
-fn long_fact(
+/// The whole key of a shortened one. What people call a platform is a system.
+fn long_key(alloc: Global, key: &str) -> Result<String, AllocError> {
+    if key == "platform" {
+        String::from_str(alloc, "target_os")
+    } else {
+        format!(in alloc; "target_{key}")
+    }
+}
+
+/// The pair of a key with a value, or with the one that is meant.
+fn fact_of_value(
     alloc: Global,
     words: &Words,
     key: &str,
     value: &str,
 ) -> Result<Option<String>, AllocError> {
-    let key = if key == "platform" {
-        String::from_str(alloc, "target_os")?
-    } else {
-        format!(in alloc; "target_{key}")?
-    };
-    let key = key.as_str();
     if is_value_of(alloc, key, value)? {
         return with_value(alloc, key, value);
     }
@@ -178,11 +191,38 @@ fn long_fact(
     }
 }
 
+/// The pair with the whole key, and the value that is meant.
+fn long_fact(
+    alloc: Global,
+    words: &Words,
+    key: &str,
+    value: &str,
+) -> Result<Option<String>, AllocError> {
+    let key = long_key(alloc, key)?;
+    fact_of_value(alloc, words, key.as_str(), value)
+}
+
 /// The fact that is meant by another word for it.
 fn by_other_word(alloc: Global, word: &str) -> Result<Option<String>, AllocError> {
     match meant_value(alloc, "target_os", word)? {
         Some("windows") => Ok(Some(String::from_str(alloc, "windows")?)),
         Some(system) => with_value(alloc, "target_os", system),
+        None => Ok(None),
+    }
+}
+
+/// `cfg(..)` around the pair of a key.
+fn cfg_of(alloc: Global, key: &str, value: &str) -> Result<Option<String>, AllocError> {
+    Ok(Some(format!(in alloc; "cfg({key} = \"{value}\")")?))
+}
+
+/// `cfg(..)` around the pair of a key whose value a target's name is, or means.
+fn cfg_instead_of(alloc: Global, key: &str, name: &str) -> Result<Option<String>, AllocError> {
+    if is_value_of(alloc, key, name)? {
+        return cfg_of(alloc, key, name);
+    }
+    match meant_value(alloc, key, name)? {
+        Some(word) => cfg_of(alloc, key, word),
         None => Ok(None),
     }
 }
@@ -193,16 +233,15 @@ fn key_instead_of(alloc: Global, key: &KnownKey<'_>) -> Result<Option<String>, A
     if name == "windows" || name == "unix" {
         return Ok(Some(format!(in alloc; "cfg({name})")?));
     }
-    for key in ["target_os", "target_arch"] {
-        if is_value_of(alloc, key, name)? {
-            return Ok(Some(format!(in alloc; "cfg({key} = \"{name}\")")?));
-        }
-        if let Some(word) = meant_value(alloc, key, name)? {
-            return Ok(Some(format!(in alloc; "cfg({key} = \"{word}\")")?));
+    for word in ["target_os", "target_arch"] {
+        let found = cfg_instead_of(alloc, word, name)?;
+        if found.is_some() {
+            return Ok(found);
         }
     }
-    if let Some(whole) = dotted_target(alloc, key)? {
-        return Ok(Some(whole));
+    let whole = dotted_target(alloc, key)?;
+    if whole.is_some() {
+        return Ok(whole);
     }
     nearest_target(alloc, name)
 }
@@ -214,9 +253,9 @@ fn dotted_target(alloc: Global, key: &KnownKey<'_>) -> Result<Option<String>, Al
     };
     let name = key.read.text;
     for (member, _) in table.iter() {
-        let whole = format!(in alloc; "{name}.{member}")?;
-        if KnownTarget::by_name(whole.as_str()).is_some() {
-            return Ok(Some(whole));
+        let whole = if_known(format!(in alloc; "{name}.{member}")?);
+        if whole.is_some() {
+            return Ok(whole);
         }
     }
     Ok(None)
@@ -231,34 +270,58 @@ fn asked_target<'a>(key: &KnownKey<'a>) -> Option<&'a str> {
     }
 }
 
+/// Appends the key's text from this byte up to a mistaken fact, and what stands in place of the fact. Gives the byte
+/// behind the fact, or `None` where nothing can stand in its place.
+fn push_repaired(
+    repaired: &mut String,
+    alloc: Global,
+    words: &Words,
+    rest: (&str, usize),
+    asked: &AskedFact<'_>,
+) -> Result<Option<usize>, AllocError> {
+    let Some(other) = instead_of(alloc, words, asked)? else {
+        return Ok(None);
+    };
+    let Some(span) = asked.span else {
+        return Ok(None);
+    };
+    let (text, copied) = rest;
+    repaired.push_str(text.get(copied..span.start).unwrap_or(""))?;
+    repaired.push_str(other.as_str())?;
+    Ok(Some(span.end))
+}
+
 /// The key with each mistaken fact replaced, where each has something to stand in its place.
+fn with_facts_replaced(
+    alloc: Global,
+    words: &Words,
+    key: &KnownKey<'_>,
+) -> Result<Option<String>, AllocError> {
+    let text = key.read.text;
+    let mut repaired = String::new(alloc);
+    let mut copied = 0;
+    for asked in &key.asked {
+        if asked.standing.sort().is(Sort::Mistaken) {
+            match push_repaired(&mut repaired, alloc, words, (text, copied), asked)? {
+                Some(end) => copied = end,
+                None => return Ok(None),
+            }
+        }
+    }
+    repaired.push_str(text.get(copied..).unwrap_or(""))?;
+    Ok(Some(repaired))
+}
+
+/// The target that a key asks for alone, or the key with each mistaken fact replaced.
 fn repaired(
     alloc: Global,
     words: &Words,
     key: &KnownKey<'_>,
 ) -> Result<Option<String>, AllocError> {
-    if let Some(name) = asked_target(key) {
-        return Ok(Some(String::from_str(alloc, name)?));
+    match asked_target(key) {
+        Some(name) => Ok(Some(String::from_str(alloc, name)?)),
+        None => with_facts_replaced(alloc, words, key),
     }
-    let text = key.read.text;
-    let mut repaired = String::new(alloc);
-    let mut copied = 0;
-    for asked in &key.asked {
-        if !asked.standing.sort().is(Sort::Mistaken) {
-            continue;
-        }
-        let Some(other) = instead_of(alloc, words, asked)? else {
-            return Ok(None);
-        };
-        let Some(span) = asked.span else {
-            return Ok(None);
-        };
-        repaired.push_str(text.get(copied..span.start).unwrap_or(""))?;
-        repaired.push_str(other.as_str())?;
-        copied = span.end;
-    }
-    repaired.push_str(text.get(copied..).unwrap_or(""))?;
-    Ok(Some(repaired))
 }
 
 /// What may stand in the place of the whole key, by the finding of this code. It spells a condition, of which no such
@@ -293,7 +356,7 @@ fn is_rid_of(alloc: Global, text: &str, condition: Platform, code: Code) -> Resu
     ensures { IfOk result (λ b. IsTrue b → IsRidOf code text.now (condition_of condition)) }
 {
     let read = ReadKey::alone(text, condition);
-    let known = KnownKey::of(alloc, &read, 0, &Declared::none(alloc))?;
+    let known = KnownKey::alone(alloc, &read)?;
     match code {
         Code::ReadOtherwise | Code::UnknownTarget | Code::UnknownFact | Code::NotCanonical => {
             Ok(!known.holds(code))

@@ -13,7 +13,6 @@ use crate::making::finding_on;
 use crate::readings::ReadKey;
 use crate::suggestions::Words;
 use cargo_platform::Platform;
-use manifest_documents::Declared;
 use std::alloc::{AllocError, Global};
 
 /// The findings on a key that stands in no manifest, and spells this condition, that ask nothing over every set of
@@ -28,7 +27,7 @@ pub fn unknown_in(
     ensures { IfOk result (λ fs. AreUnknown (condition_of condition) (marks fs.items)) }
 {
     let read = ReadKey::alone(key, condition);
-    let known = KnownKey::of(alloc, &read, 0, &Declared::none(alloc))?;
+    let known = KnownKey::alone(alloc, &read)?;
     let mut findings = Vec::new(alloc);
     add_where(alloc, words, &known, Code::UnknownTarget, &mut findings)?;
     add_where(alloc, words, &known, Code::UnknownFact, &mut findings)?;
