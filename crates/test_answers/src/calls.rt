@@ -12,18 +12,24 @@ use test_rows::texts::platform;
 
 pub fn answer(alloc: Global, call: &str, fields: &mut Fields<'_>) -> Result<String, Fault> {
     match call {
-        "rule" => {
-            let rule = printed(alloc, &family_rule(alloc)?)?;
-            Ok(barred(alloc, &rule)?)
-        }
-        "certain" => {
-            let p = platform(alloc, &fields.text(alloc)?)?;
-            names(alloc, certainly_matching(alloc, &p, &fields.list(alloc)?)?)
-        }
-        "possible" => {
-            let p = platform(alloc, &fields.text(alloc)?)?;
-            names(alloc, possibly_matching(alloc, &p, &fields.list(alloc)?)?)
-        }
+        "rule" => rule(alloc),
+        "certain" => certain(alloc, fields),
+        "possible" => possible(alloc, fields),
         _ => Err(Fault::Row("there is no such kind")),
     }
+}
+
+fn rule(alloc: Global) -> Result<String, Fault> {
+    let rule = printed(alloc, &family_rule(alloc)?)?;
+    Ok(barred(alloc, &rule)?)
+}
+
+fn certain(alloc: Global, fields: &mut Fields<'_>) -> Result<String, Fault> {
+    let p = platform(alloc, &fields.text(alloc)?)?;
+    names(alloc, certainly_matching(alloc, &p, &fields.list(alloc)?)?)
+}
+
+fn possible(alloc: Global, fields: &mut Fields<'_>) -> Result<String, Fault> {
+    let p = platform(alloc, &fields.text(alloc)?)?;
+    names(alloc, possibly_matching(alloc, &p, &fields.list(alloc)?)?)
 }

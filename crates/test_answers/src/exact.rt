@@ -10,6 +10,7 @@ use exact_answers::{
 };
 use std::alloc::{AllocError, Global};
 use test_rows::Fault;
+use test_rows::bars::text_of;
 use test_rows::fields::Fields;
 use test_rows::forms::{self, word};
 use test_rows::texts::{platform, spelled};
@@ -21,6 +22,17 @@ struct Held<'a> {
     complete: Vec<&'a str>,
     single: Vec<&'a str>,
     assumed: CfgExpr,
+}
+
+impl<'a> Held<'a> {
+    fn known(&self) -> Known<'_> {
+        Known {
+            facts: &self.facts,
+            complete: &self.complete,
+            single: &self.single,
+            assumed: &self.assumed,
+        }
+    }
 }
 
 /// The keys with one value: those that are named, where `rustc` stands for those of rustc.
@@ -47,17 +59,22 @@ fn set_under<'a>(alloc: Global, fields: &mut Fields<'a>) -> Result<Held<'a>, Fau
     let facts = facts::values(alloc, &mut set)?;
     let complete = set.list(alloc)?;
     let single = keys(alloc, &set.list(alloc)?)?;
-    let assumed = match set.word() {
-        None => CfgExpr::True,
-        Some("family") => family_rule(alloc)?,
-        Some(word) => spelled(alloc, &test_rows::bars::text_of(alloc, word)?)?,
-    };
+    let assumed = assumed(alloc, set.word())?;
     Ok(Held {
         facts,
         complete,
         single,
         assumed,
     })
+}
+
+/// What is assumed, as the last word of a setting has it: the rule of families, a text or nothing.
+fn assumed(alloc: Global, word: Option<&str>) -> Result<CfgExpr, Fault> {
+    match word {
+        None => Ok(CfgExpr::True),
+        Some("family") => Ok(family_rule(alloc)?),
+        Some(word) => spelled(alloc, &text_of(alloc, word)?),
+    }
 }
 
 /// The kind of the question, and behind a `.` how it is asked and told.
@@ -69,23 +86,38 @@ pub fn answer(alloc: Global, call: &str, fields: &mut Fields<'_>) -> Result<Stri
         1000
     };
     let held = set_under(alloc, fields)?;
-    let known = Known {
-        facts: &held.facts,
-        complete: &held.complete,
-        single: &held.single,
-        assumed: &held.assumed,
-    };
     let of_keys = matches!(more, "key" | "target");
     let question = question(alloc, kind, of_keys, fields)?;
-    if more == "least" {
-        return least(alloc, &question, &known);
+    answered(alloc, &question, &held.known(), budget, more)
+}
+
+fn answered(
+    alloc: Global,
+    question: &Question<'_>,
+    known: &Known<'_>,
+    budget: u64,
+    more: &str,
+) -> Result<String, Fault> {
+    match more {
+        "least" => least(alloc, question, known),
+        "key" | "target" => {
+            let found = of_targets(alloc, question, known)?;
+            judged(alloc, question, known, &found, more)
+        }
+        _ => within(alloc, question, known, budget, more),
     }
-    let found = if of_keys {
-        of_targets(alloc, &question, &known)?
-    } else {
-        of_facts(alloc, &question, &known, budget)?
-    };
-    judged(alloc, &question, &known, &found, more)
+}
+
+/// The answer on expressions within a budget.
+fn within(
+    alloc: Global,
+    question: &Question<'_>,
+    known: &Known<'_>,
+    budget: u64,
+    more: &str,
+) -> Result<String, Fault> {
+    let found = of_facts(alloc, question, known, budget)?;
+    judged(alloc, question, known, &found, more)
 }
 
 /// Expressions are asked as conditions, but by the calls for expressions.
@@ -241,8 +273,7 @@ fn least(alloc: Global, question: &Question<'_>, known: &Known<'_>) -> Result<St
     let mut before = word(alloc, "undecided")?;
     let mut least = 0u64;
     for budget in 0..20u64 {
-        let found = of_facts(alloc, question, known, budget)?;
-        let answer = judged(alloc, question, known, &found, "")?;
+        let answer = within(alloc, question, known, budget, "")?;
         if answer == before {
             continue;
         }

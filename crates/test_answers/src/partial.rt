@@ -2,12 +2,12 @@
 
 use crate::facts;
 use crate::trying::{over_completions, without};
-use cargo_platform::{CfgExpr, Listed};
+use cargo_platform::{Cfg, CfgExpr, Listed, Platform};
 use partial_facts::{
     Complete, Knowledge, ONE_VALUED, OneValued, Partial, decide, decide_platform, residual,
     residual_platform,
 };
-use std::alloc::Global;
+use std::alloc::{AllocError, Global};
 use test_rows::Fault;
 use test_rows::fields::Fields;
 use test_rows::forms::{self, add_other, add_text_of, word};
@@ -24,6 +24,28 @@ pub fn answer(alloc: Global, call: &str, fields: &mut Fields<'_>) -> Result<Stri
     }
 }
 
+/// What is known of a target, as a row has it: facts, and complete names.
+#[derive(Drop)]
+struct Held<'a> {
+    facts: Vec<Cfg>,
+    complete: Vec<&'a str>,
+}
+
+impl<'a> Held<'a> {
+    fn read(alloc: Global, fields: &mut Fields<'a>) -> Result<Held<'a>, Fault> {
+        let facts = facts::values(alloc, fields)?;
+        let complete = fields.list(alloc)?;
+        Ok(Held { facts, complete })
+    }
+
+    fn known(&self) -> Partial<'_> {
+        Partial {
+            facts: &self.facts,
+            complete: &self.complete,
+        }
+    }
+}
+
 /// What is decided, in a word.
 fn decision(decided: Option<bool>) -> &'static str {
     match decided {
@@ -37,10 +59,15 @@ fn decided<K: Knowledge>(e: &CfgExpr, known: &K) -> Option<bool> {
     decide(e, known)
 }
 
+/// What is left of an expression, in print.
+fn print_left<K: Knowledge>(alloc: Global, e: &CfgExpr, known: &K) -> Result<String, AllocError> {
+    forms::printed(alloc, &residual(alloc, e, known)?)
+}
+
 /// What is decided, and what is left where that is not the decision.
 fn left<K: Knowledge>(alloc: Global, e: &CfgExpr, known: &K) -> Result<String, Fault> {
     let decided = decided(e, known);
-    let left = forms::printed(alloc, &residual(alloc, e, known)?)?;
+    let left = print_left(alloc, e, known)?;
     leaves(alloc, decided, &left, "true", "false")
 }
 
@@ -62,22 +89,16 @@ fn leaves(
 
 fn in_part(alloc: Global, fields: &mut Fields<'_>) -> Result<String, Fault> {
     let e = spelled(alloc, &fields.text(alloc)?)?;
-    let facts = facts::values(alloc, fields)?;
-    let complete = fields.list(alloc)?;
-    let known = Partial {
-        facts: &facts,
-        complete: &complete,
-    };
-    left(alloc, &e, &known)
+    let held = Held::read(alloc, fields)?;
+    left(alloc, &e, &held.known())
 }
 
 fn with_single(alloc: Global, fields: &mut Fields<'_>) -> Result<String, Fault> {
     let e = spelled(alloc, &fields.text(alloc)?)?;
-    let facts = facts::values(alloc, fields)?;
-    let complete = fields.list(alloc)?;
+    let held = Held::read(alloc, fields)?;
     let known = OneValued {
-        facts: &facts,
-        complete: &complete,
+        facts: &held.facts,
+        complete: &held.complete,
         single: ONE_VALUED,
     };
     left(alloc, &e, &known)
@@ -86,20 +107,10 @@ fn with_single(alloc: Global, fields: &mut Fields<'_>) -> Result<String, Fault> 
 /// In two steps: what is left by the facts and complete names of the first one is asked by those of the second.
 fn later(alloc: Global, fields: &mut Fields<'_>) -> Result<String, Fault> {
     let e = spelled(alloc, &fields.text(alloc)?)?;
-    let facts = facts::values(alloc, fields)?;
-    let complete = fields.list(alloc)?;
-    let first = Partial {
-        facts: &facts,
-        complete: &complete,
-    };
-    let asked = residual(alloc, &e, &first)?;
-    let facts = facts::values(alloc, fields)?;
-    let complete = fields.list(alloc)?;
-    let second = Partial {
-        facts: &facts,
-        complete: &complete,
-    };
-    Ok(forms::printed(alloc, &residual(alloc, &asked, &second)?)?)
+    let first = Held::read(alloc, fields)?;
+    let asked = residual(alloc, &e, &first.known())?;
+    let second = Held::read(alloc, fields)?;
+    Ok(print_left(alloc, &asked, &second.known())?)
 }
 
 /// Of a condition, where the target's name is known or `-`.
@@ -109,14 +120,18 @@ fn of_key(alloc: Global, fields: &mut Fields<'_>) -> Result<String, Fault> {
         "-" => None,
         name => Some(name),
     };
-    let facts = facts::values(alloc, fields)?;
-    let complete = fields.list(alloc)?;
-    let known = Partial {
-        facts: &facts,
-        complete: &complete,
-    };
-    let decided = decide_platform(&p, name, &known);
-    let left = forms::printed(alloc, &residual_platform(alloc, &p, name, &known)?)?;
+    let held = Held::read(alloc, fields)?;
+    key_left(alloc, &p, name, &held.known())
+}
+
+fn key_left(
+    alloc: Global,
+    p: &Platform,
+    name: Option<&str>,
+    known: &Partial<'_>,
+) -> Result<String, Fault> {
+    let decided = decide_platform(p, name, known);
+    let left = forms::printed(alloc, &residual_platform(alloc, p, name, known)?)?;
     leaves(alloc, decided, &left, "cfg(true)", "cfg(false)")
 }
 
@@ -124,24 +139,28 @@ fn of_key(alloc: Global, fields: &mut Fields<'_>) -> Result<String, Fault> {
 /// name or key of one of these.
 fn tried(alloc: Global, fields: &mut Fields<'_>) -> Result<String, Fault> {
     let e = spelled(alloc, &fields.text(alloc)?)?;
-    let listed = facts::values(alloc, fields)?;
-    let complete = fields.list(alloc)?;
+    let mut held = Held::read(alloc, fields)?;
     let unknown = facts::values(alloc, fields)?;
-    let facts = without(alloc, &listed, &unknown)?;
-    let known = Partial {
-        facts: &facts,
-        complete: &complete,
-    };
-    let decided = decided(&e, &known);
-    let left = residual(alloc, &e, &known)?;
-    if over_completions(alloc, &e, &facts, &unknown)? != decided {
-        return Ok(word(alloc, "the completions say otherwise")?);
+    held.facts = without(alloc, &held.facts, &unknown)?;
+    Ok(word(alloc, beside_trying(alloc, &e, &held.known(), &unknown)?)?)
+}
+
+fn beside_trying(
+    alloc: Global,
+    e: &CfgExpr,
+    known: &Partial<'_>,
+    unknown: &[Cfg],
+) -> Result<&'static str, Fault> {
+    let decided = decided(e, known);
+    if over_completions(alloc, e, known.facts, unknown)? != decided {
+        return Ok("the completions say otherwise");
     }
-    if over_completions(alloc, &left, &facts, &unknown)? != decided {
-        return Ok(word(alloc, "the completions of what is left say otherwise")?);
+    let left = residual(alloc, e, known)?;
+    if over_completions(alloc, &left, known.facts, unknown)? != decided {
+        return Ok("the completions of what is left say otherwise");
     }
-    if decide(&e, &Complete(&Listed(&facts))) != Some(e.matches(&facts)) {
-        return Ok(word(alloc, "not decided where all is known")?);
+    if decide(e, &Complete(&Listed(known.facts))) != Some(e.matches(known.facts)) {
+        return Ok("not decided where all is known");
     }
-    Ok(word(alloc, decision(decided))?)
+    Ok(decision(decided))
 }

@@ -17,77 +17,99 @@ use test_rows::texts::{platform, spelled};
 
 pub fn answer(alloc: Global, call: &str, fields: &mut Fields<'_>) -> Result<String, Fault> {
     match call {
-        "targets" | "set" => {
-            let p = platform(alloc, &fields.text(alloc)?)?;
-            counted(alloc, &p, call == "targets")
-        }
-        "names" => {
-            let p = platform(alloc, &fields.text(alloc)?)?;
-            names(alloc, matching(alloc, &p)?)
-        }
-        "open" | "bounds" => {
-            let p = platform(alloc, &fields.text(alloc)?)?;
-            open(alloc, &p, &fields.list(alloc)?, call == "open")
-        }
-        "having" => {
-            let fact = test_rows::facts::value(alloc, fields.need()?)?;
-            had(alloc, &fact)
-        }
-        "match" => {
-            let e = spelled(alloc, &fields.text(alloc)?)?;
-            over_facts(alloc, e, fields.need()?)
-        }
-        "facts" => match KnownTarget::by_name(fields.need()?) {
-            Some(target) => facts_of(alloc, target),
-            None => Ok(word(alloc, "no target")?),
-        },
-        "only" => only(alloc, &fields.list(alloc)?),
-        "classes" => sizes_of_classes(alloc, &fields.list(alloc)?),
+        "targets" | "set" | "names" | "open" | "bounds" => of_key(alloc, call, fields),
+        "having" => had(alloc, fields.need()?),
+        "match" => over_facts(alloc, fields),
+        "facts" => facts_of(alloc, fields.need()?),
+        "only" => only(alloc, fields),
+        "classes" => sizes_of_classes(alloc, fields),
         "values" => values_of(alloc, fields.need()?),
-        "named" => {
-            let name = fields.text(alloc)?;
-            Ok(word(alloc, name_of(KnownTarget::by_name(&name)))?)
-        }
+        "named" => named(alloc, fields),
         "each" => each(alloc, fields.need()?),
         _ => Err(Fault::Row("there is no such kind")),
     }
 }
 
+/// At which targets a key holds. Those by `targets` and `open` ask each target by itself too.
+fn of_key(alloc: Global, call: &str, fields: &mut Fields<'_>) -> Result<String, Fault> {
+    let p = platform(alloc, &fields.text(alloc)?)?;
+    match call {
+        "targets" | "set" => counted(alloc, &p, call == "targets"),
+        "names" => names(alloc, matching(alloc, &p)?),
+        _ => open(alloc, &p, &fields.list(alloc)?, call == "open"),
+    }
+}
+
 /// Whether an expression holds over the facts of a target, where a list, an index and the target itself say the same.
-fn over_facts(alloc: Global, e: CfgExpr, name: &str) -> Result<String, Fault> {
-    let Some(target) = KnownTarget::by_name(name) else {
+fn over_facts(alloc: Global, fields: &mut Fields<'_>) -> Result<String, Fault> {
+    let e = spelled(alloc, &fields.text(alloc)?)?;
+    let Some(target) = KnownTarget::by_name(fields.need()?) else {
         return Ok(word(alloc, "no target")?);
     };
-    let facts = target.facts(alloc)?;
-    let index = FactIndex::new(alloc, &facts)?;
-    let answer = e.matches(&facts);
-    let is_same = e.matches_in(&index) == answer;
-    if is_same && target.matches(&Platform::Cfg(e)) == answer {
+    let by_facts = by_facts(alloc, &e, target)?;
+    let answer = target.matches(&Platform::Cfg(e));
+    if by_facts == Some(answer) {
         return Ok(forms::yes(alloc, answer)?);
     }
     Ok(word(alloc, "the facts say one thing, the target another")?)
 }
 
-/// How many targets are in each class that the keys tell apart, the smallest first.
-fn sizes_of_classes(alloc: Global, keys: &[&str]) -> Result<String, Fault> {
-    let mut sets = Vec::new(alloc);
-    for key in keys {
-        let p = platform(alloc, &text_of(alloc, key)?)?;
-        sets.push(matching(alloc, &p)?).map_err(AllocError::from)?;
+/// Whether an expression holds over the facts of a target, where a list and an index say the same.
+fn by_facts(alloc: Global, e: &CfgExpr, target: KnownTarget) -> Result<Option<bool>, AllocError> {
+    let facts = target.facts(alloc)?;
+    let index = FactIndex::new(alloc, &facts)?;
+    let answer = e.matches(&facts);
+    if e.matches_in(&index) == answer {
+        return Ok(Some(answer));
     }
+    Ok(None)
+}
+
+/// How many targets are in each class that the keys tell apart, the smallest first.
+fn sizes_of_classes(alloc: Global, fields: &mut Fields<'_>) -> Result<String, Fault> {
+    let sets = sets_of(alloc, &fields.list(alloc)?)?;
     let mut sizes = Vec::new(alloc);
     for class in &classes(alloc, &sets)? {
         sizes.push(class.len()).map_err(AllocError::from)?;
     }
     sizes.sort()?;
+    Ok(listed(alloc, &sizes)?)
+}
+
+/// The targets of each key.
+fn sets_of(alloc: Global, keys: &[&str]) -> Result<Vec<TargetSet>, Fault> {
+    let mut sets = Vec::new(alloc);
+    for key in keys {
+        sets.push(set_of(alloc, key)?).map_err(AllocError::from)?;
+    }
+    Ok(sets)
+}
+
+fn set_of(alloc: Global, key: &str) -> Result<TargetSet, Fault> {
+    let p = platform(alloc, &text_of(alloc, key)?)?;
+    Ok(matching(alloc, &p)?)
+}
+
+fn listed(alloc: Global, sizes: &[usize]) -> Result<String, AllocError> {
     let mut out = String::new(alloc);
-    for size in &sizes {
-        if !out.is_empty() {
-            out.push(' ')?;
-        }
+    for size in sizes {
+        space(&mut out)?;
         write!(out, "{size}")?;
     }
     Ok(out)
+}
+
+/// Adds a space behind what was written before, if anything was.
+fn space(out: &mut String) -> Result<(), AllocError> {
+    if out.is_empty() {
+        return Ok(());
+    }
+    out.push(' ')
+}
+
+fn named(alloc: Global, fields: &mut Fields<'_>) -> Result<String, Fault> {
+    let name = fields.text(alloc)?;
+    Ok(word(alloc, name_of(KnownTarget::by_name(&name)))?)
 }
 
 /// The target's name, `-` where there is none.
@@ -131,18 +153,15 @@ fn counted(alloc: Global, p: &Platform, each: bool) -> Result<String, Fault> {
 
 /// The names of the targets of a set.
 pub fn names(alloc: Global, set: TargetSet) -> Result<String, Fault> {
+    if set.is_empty() {
+        return Ok(word(alloc, "none")?);
+    }
     let mut out = String::new(alloc);
     for target in set.iter() {
-        if !out.is_empty() {
-            out.push(' ')?;
-        }
+        space(&mut out)?;
         out.push_str(target.name())?;
     }
-    if out.is_empty() {
-        Ok(word(alloc, "none")?)
-    } else {
-        Ok(out)
-    }
+    Ok(out)
 }
 
 /// What is decided of a target by itself, where names and keys are open.
@@ -186,16 +205,20 @@ fn times(facts: &[KnownFact], fact: &Cfg) -> usize {
 }
 
 /// How many targets have a fact, which the list of all facts has once or not at all.
-fn had(alloc: Global, fact: &Cfg) -> Result<String, Fault> {
-    let count = count(having(fact))?;
-    if times(&all_facts(alloc)?, fact) != usize::from(count > 0) {
+fn had(alloc: Global, word_of_fact: &str) -> Result<String, Fault> {
+    let fact = test_rows::facts::value(alloc, word_of_fact)?;
+    let count = count(having(&fact))?;
+    if times(&all_facts(alloc)?, &fact) != usize::from(count > 0) {
         return Ok(word(alloc, "the list of all facts says otherwise")?);
     }
     Ok(format!(in alloc; "{count}")?)
 }
 
 /// The facts of a target, each of which it has, also among those that have the fact.
-fn facts_of(alloc: Global, target: KnownTarget) -> Result<String, Fault> {
+fn facts_of(alloc: Global, name: &str) -> Result<String, Fault> {
+    let Some(target) = KnownTarget::by_name(name) else {
+        return Ok(word(alloc, "no target")?);
+    };
     let facts = target.facts(alloc)?;
     for fact in &facts {
         if !target.holds(fact) || !having(fact).contains(target) {
@@ -206,9 +229,9 @@ fn facts_of(alloc: Global, target: KnownTarget) -> Result<String, Fault> {
 }
 
 /// The targets of these names in their order, after which no more come.
-fn only(alloc: Global, wanted: &[&str]) -> Result<String, Fault> {
+fn only(alloc: Global, fields: &mut Fields<'_>) -> Result<String, Fault> {
     let mut set = TargetSet::none();
-    for name in wanted {
+    for name in &fields.list(alloc)? {
         let Some(target) = KnownTarget::by_name(name) else {
             return Ok(word(alloc, "no target")?);
         };
@@ -257,17 +280,22 @@ fn each(alloc: Global, of: &str) -> Result<String, Fault> {
 /// Each name is found, but neither with a character more nor without its last one.
 fn each_name(alloc: Global) -> Result<String, Fault> {
     for name in known_targets::names() {
-        let longer = format!(in alloc; "{name}0")?;
-        let shorter = name.get(..name.len().saturating_sub(1)).unwrap_or("");
-        if name_of(KnownTarget::by_name(name)) != *name
-            || KnownTarget::by_name(&longer).is_some()
-            || KnownTarget::by_name(shorter).is_some()
-        {
+        if !is_found_alone(alloc, name)? {
             return Ok(format!(in alloc; "otherwise at {name}")?);
         }
     }
     let count = known_targets::names().len();
     Ok(format!(in alloc; "{count} of {COUNT}, rustc {RUSTC_VERSION}")?)
+}
+
+fn is_found_alone(alloc: Global, name: &str) -> Result<bool, AllocError> {
+    let longer = format!(in alloc; "{name}0")?;
+    let shorter = name.get(..name.len().saturating_sub(1)).unwrap_or("");
+    Ok(
+        name_of(KnownTarget::by_name(name)) == name
+            && KnownTarget::by_name(&longer).is_none()
+            && KnownTarget::by_name(shorter).is_none(),
+    )
 }
 
 /// Each fact is listed once, with the targets that have it, of which there are some.
