@@ -3,8 +3,8 @@
 use clap::{Arg, ArgAction, Command, value_parser};
 use std::alloc::{AllocError, Global};
 
-/// How many steps of work each line of `compare` may take, unless `--budget` says another number. So many take less than
-/// two seconds for all lines.
+/// How many steps of work each line of `compare` may take, unless `--budget` says another number. So many take less
+/// than two seconds for all lines.
 const BUDGET: &str = "75000000";
 
 /// How many bytes of an input are read at most, unless `--limit` says another number: 64 MiB.

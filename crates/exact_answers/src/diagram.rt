@@ -24,8 +24,8 @@ pub enum End<'a> {
     Missed,
 }
 
-/// How many nodes the diagrams may have that are tried one after the other. Those of real keys mostly fit the first
-/// one, whose table is made in no time. Of 500 hard pairs of keys with up to 27 facts, each fits half of the last one.
+/// How many nodes the diagrams may have that are tried one after the other. The table of the first one is made in no
+/// time. Of 500 hard pairs of keys with up to 27 facts, each takes fewer than half of the last one.
 const MOST_NODES: [usize; 3] = [1_024, 8_192, 131_072];
 
 /// Of more pairs no diagram is made: it takes stack for each of them, and would mostly be too large.

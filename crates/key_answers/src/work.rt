@@ -27,8 +27,8 @@ fn count_of_facts(alloc: Global, keys: &Keys<'_>) -> Result<u64, AllocError> {
     Ok(u64::try_from(facts.len()).unwrap_or(u64::MAX))
 }
 
-/// How many steps of work a split takes: one for each byte of both keys, which are looked at whole, and one for each two
-/// of their facts, which are compared.
+/// How many steps of work a split takes: one for each byte of both keys, which are looked at whole, and one for each
+/// two of their facts, which are compared.
 fn steps_of_split(alloc: Global, keys: &Keys<'_>) -> Result<u64, AllocError> {
     let facts = count_of_facts(alloc, keys)?;
     let bytes = keys.first.len().saturating_add(keys.second.len());
