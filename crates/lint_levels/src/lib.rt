@@ -10,4 +10,4 @@ mod tables;
 
 pub use laws::{one_weight, the_last_decides, unheard_rules_do_nothing};
 pub use rules::{Rule, Setting, Subject, Weighed, Weight, weight_by, weight_by_each};
-pub use tables::{Fault, Settings, TOOL, settings_at};
+pub use tables::{Fault, Settings, TOOL, release_of, settings_at};

@@ -1,6 +1,7 @@
 //! The rules that stand in a manifest.
 
 use crate::rules::{Rule, Setting, Subject};
+use former_names::Release;
 use std::alloc::{AllocError, Global};
 use toml::{Table, Value};
 
@@ -18,6 +19,9 @@ const UNKNOWN_TARGET: &str = "unknown-target";
 /// The list of facts that a project sets by flags of its own.
 const KNOWN_FACTS: &str = "known-facts";
 
+/// The release of rustc that builds a project.
+const RUSTC: &str = "rustc";
+
 /// What can't be used of a table of rules.
 #[derive(Drop)]
 pub enum Fault {
@@ -29,6 +33,8 @@ pub enum Fault {
     NoEntry(&'static str),
     /// An entry of this list is no text.
     NoText(&'static str),
+    /// What stands at this word is no release.
+    NoRelease(&'static str),
     /// No code has this word.
     UnknownCode(String),
     /// Nothing is set by this word.
@@ -43,6 +49,8 @@ pub struct Settings {
     pub rules: Vec<Rule>,
     /// The facts that are known, as `rustc --print cfg` prints them.
     pub facts: Vec<String>,
+    /// The release of rustc that builds the project.
+    pub rustc: Option<Release>,
     /// What can't be used.
     pub faults: Vec<Fault>,
 }
@@ -90,7 +98,7 @@ fn text_at<'a>(entry: &'a Table, member: &str) -> Option<&'a str> {
 fn is_word(word: &str) -> bool {
     matches!(
         word,
-        "allow" | "warn" | "deny" | KNOWN_TARGETS | KNOWN_FACTS
+        "allow" | "warn" | "deny" | KNOWN_TARGETS | KNOWN_FACTS | RUSTC
     )
 }
 
@@ -100,6 +108,26 @@ fn named_by(entry: &Value) -> Option<(&str, Option<&str>)> {
         Value::String(word) => Some((word.as_str(), None)),
         Value::Table(table) => Some((text_at(table, "code")?, Some(text_at(table, "key")?))),
         _ => None,
+    }
+}
+
+/// The release that a value spells.
+pub fn release_of(value: &Value) -> Option<Release> {
+    Release::of(value.as_str()?)
+}
+
+impl Rule {
+    /// Whether it allows that no known target has this name.
+    fn is_of_target(&self, name: &str) -> bool {
+        let is_unknown = match &self.subject {
+            Subject::Code(code) => code.as_str() == UNKNOWN_TARGET,
+            _ => false,
+        };
+        let is_named = match &self.key {
+            Some(key) => key.as_str() == name,
+            None => false,
+        };
+        self.setting == Setting::Allow && is_unknown && is_named
     }
 }
 
@@ -200,6 +228,32 @@ impl Settings {
         Ok(texts)
     }
 
+    /// The release at a word.
+    fn release(
+        &mut self,
+        table: &Table,
+        word: &'static str,
+    ) -> Result<Option<Release>, AllocError> {
+        let Some(value) = table.get(word) else {
+            return Ok(None);
+        };
+        let release = release_of(value);
+        if release.is_none() {
+            self.faults.push(Fault::NoRelease(word))?;
+        }
+        Ok(release)
+    }
+
+    /// Whether a target with this name is among those that are known.
+    pub fn knows_target(&self, name: &str) -> bool {
+        for rule in &self.rules {
+            if rule.is_of_target(name) {
+                return true;
+            }
+        }
+        false
+    }
+
     /// What stands at a place for rules, whose codes are these.
     pub fn of(
         alloc: Global,
@@ -209,12 +263,14 @@ impl Settings {
         let mut settings = Settings {
             rules: Vec::new(alloc),
             facts: Vec::new(alloc),
+            rustc: None,
             faults: Vec::new(alloc),
         };
         match value {
             Some(Value::Table(table)) => {
                 settings.add_targets(alloc, table)?;
                 settings.facts = settings.texts(alloc, table, KNOWN_FACTS)?;
+                settings.rustc = settings.release(table, RUSTC)?;
                 settings.add_lists(alloc, table, false, codes)?;
                 settings.add_lists(alloc, table, true, codes)?;
                 for (word, _) in table.iter() {

@@ -20,6 +20,9 @@ pub const UNDERSCORED: &str = "underscored";
 /// The code of a field that Cargo does not read at a key of its own configuration.
 pub const UNREAD_FIELD: &str = "unread-field";
 
+/// The code of a name that rustc knew before.
+pub const FORMER: &str = "former";
+
 /// What is said of a code.
 #[derive(Clone, Copy, Drop)]
 pub struct Explained {
@@ -34,7 +37,17 @@ pub struct Explained {
 }
 
 /// What is said of the codes that are not about a key.
-const OTHERS: [Explained; 5] = [
+const OTHERS: [Explained; 6] = [
+    Explained {
+        word: FORMER,
+        weight: Weight::Note,
+        short: "rustc knew a name or value until some release; a warning where no rustc of the project knows it",
+        text: "The key is the name of a target, or asks for a value, that rustc knew until some release, so that Cargo \
+               selects the dependencies with older compilers alone. It is a warning where `rust-version`, or `rustc` in \
+               a table `manifest-check` of the metadata, is a release that does not know it, and is not told where \
+               that `rustc` knows it.\n\n\
+               Example: [target.wasm32-wasi.dependencies]\nwhich rustc knew until 1.83.0.",
+    },
     Explained {
         word: MISPLACED,
         weight: Weight::Warning,

@@ -85,6 +85,7 @@ fn field_of(
         subject: String::from_str(alloc, TARGET)?,
         key: Some(String::from_str(alloc, key)?),
         message,
+        suggestion: None,
     })
 }
 

@@ -17,6 +17,8 @@ pub struct WrongPlace {
     /// The key of `target` that it is on, if it is on one. The subject is then what stands before that.
     pub key: Option<String>,
     pub message: String,
+    /// A text that may stand in place of the whole key.
+    pub suggestion: Option<&'static str>,
 }
 
 /// The tables of dependencies of a package.
@@ -52,6 +54,7 @@ fn unread(alloc: Global, name: &str, meant: &str) -> Result<WrongPlace, AllocErr
         subject: name,
         key: None,
         message: format!(in alloc; "Cargo does not read this table; perhaps `{meant}` is meant")?,
+        suggestion: None,
     })
 }
 
@@ -117,6 +120,7 @@ fn among_packages(alloc: Global, name: &str, key: &str) -> Result<WrongPlace, Al
         message: format!(in alloc;
             "Cargo refuses this name of a package; perhaps `target.'{key}'.{name}` is meant"
         )?,
+        suggestion: None,
     })
 }
 
@@ -177,6 +181,7 @@ fn underscored(
         subject: format!(in alloc; "{before}{name}")?,
         key: None,
         message: underscored_message(alloc, other, is_refused)?,
+        suggestion: None,
     })
 }
 

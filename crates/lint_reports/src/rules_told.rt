@@ -17,6 +17,9 @@ pub fn fault_message(alloc: Global, fault: &Fault) -> Result<String, AllocError>
             "an entry of `{word}` is neither a code nor a table with the texts `key` and `code`"
         ),
         Fault::NoText(word) => format!(in alloc; "an entry of `{word}` is no text"),
+        Fault::NoRelease(word) => {
+            format!(in alloc; "`{word}` is no release, as `1.84` and `1.84.1` are")
+        }
         Fault::UnknownCode(word) => {
             let word = shown_start(alloc, word.as_str())?;
             format!(in alloc; "no code is named `{word}`; `lint --list-codes` prints all")
@@ -90,6 +93,7 @@ pub fn told_of_wrong<'a>(manifest: &'a Manifest, wrong: &'a WrongPlace) -> Told<
     match &wrong.key {
         Some(key) => Told {
             place: place_of_key(manifest, key.as_str()),
+            suggestion: wrong.suggestion,
             ..told
         },
         None => told,

@@ -2,20 +2,21 @@
 
 use crate::configurations::{as_manifest, reword};
 use crate::declaring::declare;
-use crate::roots::{Root, inherit_lints, is_unneeded};
+use crate::roots::{Root, inherit_lints, is_unneeded, rust_version};
 use cargo_platform::{shown_start, shown_text};
 use key_answers::answer::{Answer, Status};
 use lint_levels::{Rule, Settings, Weighed, Weight, settings_at, weight_by_each};
 use lint_reports::{
-    Counts, Printed, Style, Told, WrongPlace, fault_message, own_weight, place_of, status_of,
-    told_of, told_of_fault, told_of_unneeded, told_of_wrong, unneeded_message, wrong_fields,
-    wrong_places,
+    Counts, Formers, Printed, Project, Style, Told, WrongPlace, fault_message, own_weight,
+    place_of, status_of, told_of, told_of_fault, told_of_unneeded, told_of_wrong, unneeded_message,
+    wrong_fields, wrong_places,
 };
 use manifest_answers::deep::first_deep;
 use manifest_documents::reading::{Manifest, ReadError, read_manifest};
-use manifest_lints::{Code, Report, Words, lint};
+use manifest_lints::{Code, Finding, Report, Words, lint};
 use std::alloc::{AllocError, Global};
 use std::rt::{Env, Files};
+use toml::Table;
 use workspaces::{configuration_beside, is_configuration, manifest_beside, shorter};
 
 /// What is asked of manifests.
@@ -169,19 +170,28 @@ impl<'a> Telling<'a> {
     }
 }
 
+/// What is found of a manifest.
+#[derive(Clone, Copy, Drop)]
+struct Found<'a> {
+    report: &'a Report<'a>,
+    /// Names that rustc knew before.
+    formers: &'a Formers,
+    /// What stands at wrong places.
+    wrong: &'a [WrongPlace],
+}
+
 impl<'a> Telling<'a> {
-    /// Tells what a report on a manifest has, and what stands at wrong places in it.
+    /// Tells what is found of a manifest.
     fn tell_found(
         &mut self,
         alloc: Global,
         root: &mut Root,
         settings: &Settings,
         manifest: &Manifest,
-        report: &Report<'_>,
-        wrong: &[WrongPlace],
+        found: &Found<'_>,
     ) -> Result<(), AllocError> {
-        let found = told_in(alloc, root, manifest, report, wrong)?;
-        self.tell_of(alloc, root, settings, manifest, &found)
+        let told = told_in(alloc, root, manifest, found)?;
+        self.tell_of(alloc, root, settings, manifest, &told)
     }
 }
 
@@ -203,26 +213,59 @@ fn weighed_in<'a>(alloc: Global, found: &[Told<'a>]) -> Result<Vec<Weighed<'a>>,
     Ok(weighed)
 }
 
-/// What is found of the keys of a manifest. Where its lints can't be read, what they declare is not known.
+/// Whether a finding is left out: lints that can't be read hide what a manifest declares, and of a name that rustc knew
+/// before that is told.
+fn is_left_out(root: &Root, found: &Found<'_>, finding: &Finding) -> bool {
+    match finding.code {
+        Code::Custom => root.hides_lints,
+        Code::UnknownTarget => match finding.key {
+            Some(place) => match found.report.keys.get(place) {
+                Some(key) => found.formers.has_target(key.key),
+                None => false,
+            },
+            None => false,
+        },
+        _ => false,
+    }
+}
+
+/// What is told of the keys of a manifest.
 fn told_in<'a>(
     alloc: Global,
     root: &Root,
     manifest: &'a Manifest,
-    report: &'a Report<'a>,
-    wrong: &'a [WrongPlace],
+    found: &Found<'a>,
 ) -> Result<Vec<Told<'a>>, AllocError> {
-    let mut found = Vec::new(alloc);
+    let mut told = Vec::new(alloc);
+    let report = found.report;
     for finding in &report.findings {
-        if finding.code == Code::Custom && root.hides_lints {
+        if is_left_out(root, found, finding) {
             continue;
         }
         let weight = own_weight(finding.code, finding.level);
-        found.push(told_of(place_of(manifest, report, finding), finding, weight))?;
+        told.push(told_of(place_of(manifest, report, finding), finding, weight))?;
     }
-    for it in wrong {
-        found.push(told_of_wrong(manifest, it))?;
+    for it in formers_told(alloc, manifest, found.formers)? {
+        told.push(it)?;
     }
-    Ok(found)
+    for it in found.wrong {
+        told.push(told_of_wrong(manifest, it))?;
+    }
+    Ok(told)
+}
+
+/// What is told of names that rustc knew before, in the order in which their keys appear, where that is known.
+fn formers_told<'a>(
+    alloc: Global,
+    manifest: &'a Manifest,
+    formers: &'a Formers,
+) -> Result<Vec<Told<'a>>, AllocError> {
+    let mut told = Vec::new(alloc);
+    for it in &formers.told {
+        told.push(told_of_wrong(manifest, it))?;
+    }
+    told.sort_by_key(|it| it.place.line.unwrap_or(0))?;
+    Ok(told)
 }
 
 /// What is told of the keys that are not decided.
@@ -251,11 +294,10 @@ fn tell_report(
     telling: &mut Telling<'_>,
     settings: &Settings,
     manifest: &Manifest,
-    report: &Report<'_>,
-    wrong: &[WrongPlace],
+    found: &Found<'_>,
 ) -> Result<(), AllocError> {
-    telling.tell_found(alloc, root, settings, manifest, report, wrong)?;
-    if telling.asked.is_verbose && report.keys.is_empty() {
+    telling.tell_found(alloc, root, settings, manifest, found)?;
+    if telling.asked.is_verbose && found.report.keys.is_empty() {
         let path = manifest.path.as_str();
         let line = format!(in alloc; "{path}: no key of `target` to check\n")?;
         telling.answer.errors.push_str(line.as_str())?;
@@ -264,8 +306,19 @@ fn tell_report(
         &mut telling.answer.errors,
         alloc,
         manifest.path.as_str(),
-        report,
+        found.report,
     )
+}
+
+/// What a manifest has of names that rustc knew before, whose facts are declared then.
+fn declare_formers(
+    alloc: Global,
+    manifest: &mut Table,
+    project: &Project<'_>,
+) -> Result<Formers, AllocError> {
+    let formers = Formers::of(alloc, manifest, project)?;
+    declare(alloc, manifest, &formers.facts)?;
+    Ok(formers)
 }
 
 /// The manifest at a path. One that can't be used is told.
@@ -303,13 +356,24 @@ fn lint_configuration<R: Files + Input + AllocGlobal>(
     let lints = root.lints_for_all(rt, telling.asked.limit)?;
     let mut table = as_manifest(alloc, &manifest.document.table, lints)?;
     declare(alloc, &mut table, &root.settings.facts)?;
+    let settings = Settings::of(alloc, None, &[])?;
+    let project = Project {
+        of_workspace: &root.settings,
+        of_package: &settings,
+        rust_version: None,
+    };
+    let formers = declare_formers(alloc, &mut table, &project)?;
     manifest.document.table = table;
     root.hides_lints = false;
     let mut report = lint(alloc, &manifest.document, words)?;
     reword(alloc, &mut report)?;
     telling.counts.add_configuration(report.keys.len());
-    let settings = Settings::of(alloc, None, &[])?;
-    tell_report(alloc, root, telling, &settings, &manifest, &report, &wrong)
+    let found = Found {
+        report: &report,
+        formers: &formers,
+        wrong: &wrong,
+    };
+    tell_report(alloc, root, telling, &settings, &manifest, &found)
 }
 
 /// Tells what is found of the manifest at a path, or that it can't be used.
@@ -329,10 +393,21 @@ fn lint_at<R: Files + Input + AllocGlobal>(
     declare(alloc, table, &root.settings.facts)?;
     let settings = Settings::of(alloc, settings_at(table, "package"), &telling.asked.codes)?;
     declare(alloc, table, &settings.facts)?;
+    let project = Project {
+        of_workspace: &root.settings,
+        of_package: &settings,
+        rust_version: rust_version(root, table),
+    };
+    let formers = declare_formers(alloc, table, &project)?;
     let report = lint(alloc, &manifest.document, words)?;
     let wrong = wrong_places(alloc, &manifest.document.table)?;
     telling.counts.add_manifest(report.keys.len());
-    tell_report(alloc, root, telling, &settings, &manifest, &report, &wrong)
+    let found = Found {
+        report: &report,
+        formers: &formers,
+        wrong: &wrong,
+    };
+    tell_report(alloc, root, telling, &settings, &manifest, &found)
 }
 
 /// Whether one of the paths leads to the file.

@@ -1,12 +1,16 @@
 //! What the root of a workspace says to its members.
 
 use crate::tables::put;
+use former_names::Release;
 use limited_texts::INPUT;
-use lint_levels::{Rule, Setting, Settings, Weighed, settings_at};
+use lint_levels::{Rule, Setting, Settings, Weighed, release_of, settings_at};
 use std::alloc::{AllocError, Global};
 use std::rt::{Env, Files};
 use toml::{Table, Value};
 use workspaces::{root_of, shorter, table_in, table_with_word};
+
+/// The member with the oldest rustc that builds a package.
+const RUST_VERSION: &str = "rust-version";
 
 /// What the root of a workspace says.
 #[derive(Drop)]
@@ -18,6 +22,8 @@ pub struct Root {
     pub needed: Vec<bool>,
     /// What stands at `workspace.lints`.
     lints: Option<Value>,
+    /// The release at `workspace.package.rust-version`.
+    rust_version: Option<Release>,
     /// Whether it has a table `workspace`.
     is_workspace: bool,
     /// Whether its manifest was asked too.
@@ -38,6 +44,16 @@ fn settings_of(
         needed.push(false)?;
     }
     Ok((settings, needed))
+}
+
+/// The table `workspace.package`.
+fn workspace_package(manifest: &Table) -> Option<&Table> {
+    table_in(table_in(manifest, "workspace")?, "package")
+}
+
+/// The release at `rust-version` of a table.
+fn release_in(package: Option<&Table>) -> Option<Release> {
+    release_of(package?.get(RUST_VERSION)?)
 }
 
 impl Root {
@@ -67,6 +83,7 @@ impl Root {
             settings,
             needed,
             lints,
+            rust_version: release_in(workspace_package(manifest)),
             is_workspace: workspace.is_some(),
             is_asked: false,
             hides_lints: false,
@@ -137,14 +154,29 @@ pub fn is_unneeded(rule: &Rule, is_needed: bool) -> bool {
     rule.setting == Setting::Allow && !is_needed
 }
 
-/// Whether the manifest takes its lints from the root.
-fn takes_lints(manifest: &Table) -> bool {
-    match table_in(manifest, "lints") {
-        Some(lints) => match lints.get("workspace") {
+/// Whether a table says `workspace = true`.
+fn is_of_workspace(table: Option<&Table>) -> bool {
+    match table {
+        Some(table) => match table.get("workspace") {
             Some(takes) => takes.as_bool() == Some(true),
             None => false,
         },
         None => false,
+    }
+}
+
+/// Whether the manifest takes its lints from the root.
+fn takes_lints(manifest: &Table) -> bool {
+    is_of_workspace(table_in(manifest, "lints"))
+}
+
+/// The `rust-version` of a manifest's package: its own, or that of the root where it says so.
+pub fn rust_version(root: &Root, manifest: &Table) -> Option<Release> {
+    let package = table_in(manifest, "package")?;
+    if is_of_workspace(table_in(package, RUST_VERSION)) {
+        root.rust_version
+    } else {
+        release_in(Some(package))
     }
 }
 

@@ -1,0 +1,4 @@
+pub mod Releases
+pub mod Rows
+pub mod Verdicts
+pub mod Laws

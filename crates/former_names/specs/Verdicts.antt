@@ -1,0 +1,29 @@
+-- What it comes to for a project that rustc does not know a name any more.
+use Rattle.std.specs.Prelude.{◌≡◌, ◌⊎◌, ◌+◌, Option}
+use Rattle.std.specs.Option.{IsSomeAnd}
+use Rattle.former_names.specs.Releases.{IsAtMost}
+use Rattle.former_names.specs.declared.releases.Release.{Release}
+use Rattle.former_names.specs.declared.rows.Bounds.{Bounds}
+use Rattle.former_names.specs.declared.verdicts.Verdict.{Verdict}
+use Rattle.former_names.specs.declared.verdicts.Verdict.TheVariants.{Known, Gone, GoneForAll}
+
+-- a rustc is named, and is at most the last one that is known to have had the name
+abbrev pub IsKnownTo : Bounds → Option Release → Type 0
+IsKnownTo b rustc = IsSomeAnd rustc (λ r. IsAtMost r b.last)
+
+-- a release is named, and is at least the first one that is known not to have it
+abbrev pub IsLacking : Bounds → Option Release → Type 0
+IsLacking b named = IsSomeAnd named (λ r. IsAtMost b.gone r)
+
+-- the second minor number follows the first
+abbrev pub IsClose : Bounds → Type 0
+IsClose b = (b.last.major ≡ b.gone.major) × (b.gone.minor ≡ 1 + b.last.minor)
+
+-- the project's rustc has no name, or the oldest one that may build it has none
+abbrev pub IsGoneForAll : Bounds → Option Release → Option Release → Type 0
+IsGoneForAll b rustc version = IsLacking b rustc ⊎ IsLacking b version
+
+abbrev pub IsVerdict : Bounds → Option Release → Option Release → Verdict → Type 0
+IsVerdict b rustc version Known = IsKnownTo b rustc
+IsVerdict b rustc version GoneForAll = (IsKnownTo b rustc → ⊥) × IsGoneForAll b rustc version
+IsVerdict b rustc version Gone = (IsKnownTo b rustc → ⊥) × (IsGoneForAll b rustc version → ⊥)

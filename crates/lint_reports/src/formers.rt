@@ -1,0 +1,287 @@
+//! What is told of names that rustc knew before.
+
+use crate::codes::FORMER;
+use crate::places::WrongPlace;
+use cargo_platform::{Cfg, Platform, ReadError};
+use expression_folds::values_of;
+use former_names::{Bounds, Release, Verdict, former_fact, former_target, name_now};
+use lint_levels::{Settings, Weight};
+use manifest_documents::{Declared, Targets, target_keys};
+use std::alloc::{AllocError, Global};
+use toml::Table;
+
+/// What says which rustc builds a project.
+#[derive(Clone, Copy, Drop)]
+pub struct Project<'a> {
+    pub of_workspace: &'a Settings,
+    pub of_package: &'a Settings,
+    /// The `rust-version` of the package.
+    pub rust_version: Option<Release>,
+}
+
+impl<'a> Project<'a> {
+    /// The rustc that builds it: that of the package, or else that of the workspace.
+    fn rustc(&self) -> Option<Release> {
+        match self.of_package.rustc {
+            Some(release) => Some(release),
+            None => self.of_workspace.rustc,
+        }
+    }
+
+    /// Whether it knows a target of this name by itself.
+    fn knows_target(&self, name: &str) -> bool {
+        self.of_package.knows_target(name) || self.of_workspace.knows_target(name)
+    }
+
+    /// Why no rustc that builds it knows a name, to be put behind what is told of that.
+    fn reason(&self, alloc: Global, bounds: Bounds) -> Result<String, AllocError> {
+        if bounds.is_lacking(self.rustc()) {
+            return reason(alloc, "the rustc of this project", self.rustc());
+        }
+        reason(alloc, "rust-version", self.rust_version)
+    }
+}
+
+/// A reason that names a release.
+fn reason(alloc: Global, subject: &str, release: Option<Release>) -> Result<String, AllocError> {
+    match release {
+        Some(release) => format!(in alloc; ", and {subject} is {release}"),
+        None => Ok(String::new(alloc)),
+    }
+}
+
+/// Until when rustc knew a name.
+fn until(alloc: Global, name: &str, bounds: Bounds) -> Result<String, AllocError> {
+    let Bounds { last, gone } = bounds;
+    if bounds.is_close() {
+        format!(in alloc; "rustc knew `{name}` until {last}")
+    } else {
+        format!(in alloc; "rustc {last} knew `{name}`, and {gone} does not")
+    }
+}
+
+/// What is told of a name that rustc knew before, at a key; nothing where the project's rustc knows it.
+fn former(
+    alloc: Global,
+    key: &str,
+    name: &str,
+    bounds: Bounds,
+    project: &Project<'_>,
+) -> Result<Option<WrongPlace>, AllocError> {
+    let verdict = bounds.verdict(project.rustc(), project.rust_version);
+    if verdict == Verdict::Known {
+        return Ok(None);
+    }
+    let mut message = until(alloc, name, bounds)?;
+    let mut weight = Weight::Note;
+    if verdict == Verdict::GoneForAll {
+        weight = Weight::Warning;
+        message.push_str(project.reason(alloc, bounds)?.as_str())?;
+    }
+    Ok(Some(WrongPlace {
+        code: FORMER,
+        weight,
+        subject: String::from_str(alloc, "target")?,
+        key: Some(String::from_str(alloc, key)?),
+        message,
+        suggestion: None,
+    }))
+}
+
+/// What is told of the name of a target that rustc knew before.
+fn former_of_target(
+    alloc: Global,
+    name: &str,
+    bounds: Bounds,
+    project: &Project<'_>,
+) -> Result<Option<WrongPlace>, AllocError> {
+    let Some(mut told) = former(alloc, name, name, bounds, project)? else {
+        return Ok(None);
+    };
+    if let Some(now) = name_now(name) {
+        let text = format!(in alloc; "; it is `{now}` now")?;
+        told.message.push_str(text.as_str())?;
+        told.suggestion = Some(now);
+    }
+    Ok(Some(told))
+}
+
+/// A fact that a target had before, and between which releases it went.
+#[derive(Clone, Copy, Drop)]
+struct FormerFact<'a> {
+    key: &'a str,
+    value: &'a str,
+    bounds: Bounds,
+}
+
+impl<'a> FormerFact<'a> {
+    /// The fact, where it is one.
+    fn of(fact: &'a Cfg) -> Option<FormerFact<'a>> {
+        let bounds = former_fact(fact)?;
+        match fact {
+            Cfg::KeyPair(key, value) => Some(FormerFact {
+                key: key.as_str(),
+                value: value.as_str(),
+                bounds,
+            }),
+            Cfg::Name(_) => None,
+        }
+    }
+
+    /// Whether one of the facts is the same.
+    fn is_among(&self, facts: &[FormerFact<'_>]) -> bool {
+        for other in facts {
+            if other.key == self.key && other.value == self.value {
+                return true;
+            }
+        }
+        false
+    }
+
+    /// What is told of it at a key.
+    fn told(
+        &self,
+        alloc: Global,
+        key: &str,
+        project: &Project<'_>,
+    ) -> Result<Option<WrongPlace>, AllocError> {
+        let name = self.key;
+        let value = self.value;
+        let fact = format!(in alloc; "{name} = \"{value}\"")?;
+        former(alloc, key, fact.as_str(), self.bounds, project)
+    }
+
+    /// It, as `rustc --print cfg` printed it.
+    fn printed(&self, alloc: Global) -> Result<String, AllocError> {
+        let name = self.key;
+        let value = self.value;
+        format!(in alloc; "{name}=\"{value}\"")
+    }
+}
+
+/// What a manifest has of names that rustc knew before.
+#[derive(Drop)]
+pub struct Formers {
+    /// What is told of them.
+    pub told: Vec<WrongPlace>,
+    /// The facts among them, as `rustc --print cfg` printed them.
+    pub facts: Vec<String>,
+    /// The keys that are names of targets among them.
+    targets: Vec<String>,
+}
+
+/// Those among the facts of a key that targets had before and that are not declared, each once.
+fn formers_among<'a>(
+    alloc: Global,
+    values: &[&'a Cfg],
+    declared: &Declared<'_>,
+) -> Result<Vec<FormerFact<'a>>, AllocError> {
+    let mut facts: Vec<FormerFact<'a>> = Vec::new(alloc);
+    for value in values {
+        if let Some(fact) = FormerFact::of(value) {
+            if !fact.is_among(&facts) && !declared.declares(value) {
+                facts.push(fact)?;
+            }
+        }
+    }
+    Ok(facts)
+}
+
+impl Formers {
+    /// Adds a fact that a key asks for.
+    fn add_fact(
+        &mut self,
+        alloc: Global,
+        key: &str,
+        fact: &FormerFact<'_>,
+        project: &Project<'_>,
+    ) -> Result<(), AllocError> {
+        self.facts.push(fact.printed(alloc)?)?;
+        if let Some(told) = fact.told(alloc, key, project)? {
+            self.told.push(told)?;
+        }
+        Ok(())
+    }
+
+    /// Adds the facts of a condition.
+    fn add_facts(
+        &mut self,
+        alloc: Global,
+        key: &str,
+        condition: &Platform,
+        declared: &Declared<'_>,
+        project: &Project<'_>,
+    ) -> Result<(), AllocError> {
+        let values = values_of(alloc, condition)?;
+        for fact in &formers_among(alloc, &values, declared)? {
+            self.add_fact(alloc, key, fact, project)?;
+        }
+        Ok(())
+    }
+
+    /// Adds a key that is the name of a target.
+    fn add_target(
+        &mut self,
+        alloc: Global,
+        name: &str,
+        bounds: Bounds,
+        project: &Project<'_>,
+    ) -> Result<(), AllocError> {
+        if project.knows_target(name) {
+            return Ok(());
+        }
+        self.targets.push(String::from_str(alloc, name)?)?;
+        if let Some(told) = former_of_target(alloc, name, bounds, project)? {
+            self.told.push(told)?;
+        }
+        Ok(())
+    }
+
+    /// Adds what a key has of them. One that spells no condition has nothing.
+    fn add_key(
+        &mut self,
+        alloc: Global,
+        key: &str,
+        declared: &Declared<'_>,
+        project: &Project<'_>,
+    ) -> Result<(), AllocError> {
+        if let Some(bounds) = former_target(key) {
+            return self.add_target(alloc, key, bounds, project);
+        }
+        match Platform::from_str(alloc, key) {
+            Ok(condition) => self.add_facts(alloc, key, &condition, declared, project),
+            Err(ReadError::Parse(_)) => Ok(()),
+            Err(ReadError::Memory(refused)) => Err(refused),
+        }
+    }
+
+    /// What a manifest has of them, beside the facts that it declares and the targets that its project knows.
+    pub fn of(
+        alloc: Global,
+        manifest: &Table,
+        project: &Project<'_>,
+    ) -> Result<Formers, AllocError> {
+        let mut formers = Formers {
+            told: Vec::new(alloc),
+            facts: Vec::new(alloc),
+            targets: Vec::new(alloc),
+        };
+        let declared = Declared::of(alloc, manifest)?;
+        if let Targets::Keys(keys) = target_keys(alloc, manifest)? {
+            for key in &keys {
+                formers.add_key(alloc, key.key, &declared, project)?;
+            }
+        }
+        Ok(formers)
+    }
+
+    /// Whether a key is the name of a target among them.
+    pub fn has_target(&self, key: &str) -> bool {
+        for name in &self.targets {
+            if name.as_str() == key {
+                return true;
+            }
+        }
+        false
+    }
+}
