@@ -188,6 +188,16 @@ fn formers_among<'a>(
 }
 
 impl Formers {
+    /// Whether a fact is among them, as rustc printed it.
+    fn has_fact(&self, printed: &str) -> bool {
+        for fact in &self.facts {
+            if fact.as_str() == printed {
+                return true;
+            }
+        }
+        false
+    }
+
     /// Adds a fact that a key asks for.
     fn add_fact(
         &mut self,
@@ -196,7 +206,10 @@ impl Formers {
         fact: &FormerFact<'_>,
         project: &Project<'_>,
     ) -> Result<(), AllocError> {
-        self.facts.push(fact.printed(alloc)?)?;
+        let printed = fact.printed(alloc)?;
+        if !self.has_fact(printed.as_str()) {
+            self.facts.push(printed)?;
+        }
         if let Some(told) = fact.told(alloc, key, project)? {
             self.told.push(told)?;
         }
@@ -255,17 +268,22 @@ impl Formers {
         }
     }
 
+    /// Nothing of them.
+    pub fn none(alloc: Global) -> Formers {
+        Formers {
+            told: Vec::new(alloc),
+            facts: Vec::new(alloc),
+            targets: Vec::new(alloc),
+        }
+    }
+
     /// What a manifest has of them, beside the facts that it declares and the targets that its project knows.
     pub fn of(
         alloc: Global,
         manifest: &Table,
         project: &Project<'_>,
     ) -> Result<Formers, AllocError> {
-        let mut formers = Formers {
-            told: Vec::new(alloc),
-            facts: Vec::new(alloc),
-            targets: Vec::new(alloc),
-        };
+        let mut formers = Formers::none(alloc);
         let declared = Declared::of(alloc, manifest)?;
         if let Targets::Keys(keys) = target_keys(alloc, manifest)? {
             for key in &keys {

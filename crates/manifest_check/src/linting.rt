@@ -2,6 +2,7 @@
 
 use crate::configurations::{as_manifest, reword};
 use crate::declaring::declare;
+use crate::other_rustc::{OtherRustc, declare_by, judge_by};
 use crate::roots::{Root, inherit_lints, is_unneeded, rust_version};
 use cargo_platform::{shown_start, shown_text};
 use key_answers::answer::{Answer, Status};
@@ -37,6 +38,8 @@ pub struct Asked {
     pub limit: u64,
     /// No package is left out.
     pub is_whole: bool,
+    /// Whose targets and facts count in place of those that are known.
+    pub other: Option<OtherRustc>,
 }
 
 /// The words for parts of a manifest that have rules.
@@ -310,12 +313,17 @@ fn tell_report(
     )
 }
 
-/// What a manifest has of names that rustc knew before, whose facts are declared then.
+/// What a manifest has of names that rustc knew before, whose facts are declared then. Where the targets of another
+/// rustc count, it has nothing of them.
 fn declare_formers(
     alloc: Global,
     manifest: &mut Table,
     project: &Project<'_>,
+    other: &Option<OtherRustc>,
 ) -> Result<Formers, AllocError> {
+    if other.is_some() {
+        return Ok(Formers::none(alloc));
+    }
     let formers = Formers::of(alloc, manifest, project)?;
     declare(alloc, manifest, &formers.facts)?;
     Ok(formers)
@@ -356,16 +364,23 @@ fn lint_configuration<R: Files + Input + AllocGlobal>(
     let lints = root.lints_for_all(rt, telling.asked.limit)?;
     let mut table = as_manifest(alloc, &manifest.document.table, lints)?;
     declare(alloc, &mut table, &root.settings.facts)?;
+    declare_by(alloc, &telling.asked.other, &mut table)?;
     let settings = Settings::of(alloc, None, &[])?;
     let project = Project {
         of_workspace: &root.settings,
         of_package: &settings,
         rust_version: None,
     };
-    let formers = declare_formers(alloc, &mut table, &project)?;
+    let formers = declare_formers(alloc, &mut table, &project, &telling.asked.other)?;
     manifest.document.table = table;
     root.hides_lints = false;
     let mut report = lint(alloc, &manifest.document, words)?;
+    judge_by(
+        alloc,
+        &telling.asked.other,
+        &manifest.document.table,
+        &mut report,
+    )?;
     reword(alloc, &mut report)?;
     telling.counts.add_configuration(report.keys.len());
     let found = Found {
@@ -393,13 +408,20 @@ fn lint_at<R: Files + Input + AllocGlobal>(
     declare(alloc, table, &root.settings.facts)?;
     let settings = Settings::of(alloc, settings_at(table, "package"), &telling.asked.codes)?;
     declare(alloc, table, &settings.facts)?;
+    declare_by(alloc, &telling.asked.other, table)?;
     let project = Project {
         of_workspace: &root.settings,
         of_package: &settings,
         rust_version: rust_version(root, table),
     };
-    let formers = declare_formers(alloc, table, &project)?;
-    let report = lint(alloc, &manifest.document, words)?;
+    let formers = declare_formers(alloc, table, &project, &telling.asked.other)?;
+    let mut report = lint(alloc, &manifest.document, words)?;
+    judge_by(
+        alloc,
+        &telling.asked.other,
+        &manifest.document.table,
+        &mut report,
+    )?;
     let wrong = wrong_places(alloc, &manifest.document.table)?;
     telling.counts.add_manifest(report.keys.len());
     let found = Found {
