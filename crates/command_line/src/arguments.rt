@@ -73,6 +73,17 @@ const FACTS: Argument = Argument {
     help: "The facts of the target, as `rustc --print cfg` prints them, in place of rustc's; - for standard input",
 };
 
+/// What a table of another rustc is, for the help.
+const TABLE: &str =
+    "Targets and facts of another rustc from this file, or - for standard input, which this writes: for t in \
+     $(rustc --print target-list); do echo $t; rustc --print cfg --target $t; echo; done > FILE";
+
+const FACTS_OF: Argument = Argument {
+    name: "facts-of",
+    given: Given::Value("FILE"),
+    help: TABLE,
+};
+
 const ADDED_FACTS: Argument = Argument {
     name: "cfg",
     given: Given::Values("FACT"),
@@ -252,7 +263,7 @@ const TARGETS: Subcommand = Subcommand {
     ],
 };
 
-const FACTS_OF: Subcommand = Subcommand {
+const FACTS_OF_TARGET: Subcommand = Subcommand {
     name: "facts",
     about: "Prints the facts of a known target, as `rustc --print cfg` does",
     end: "Example: manifest_check facts x86_64-unknown-linux-gnu",
@@ -317,6 +328,7 @@ const GRAPH: Subcommand = Subcommand {
             given: Given::Value("NAME"),
             help: "Asks what build scripts and procedural macros need of this target",
         },
+        FACTS_OF,
         Argument {
             name: "package",
             given: Given::Values("NAME"),
@@ -383,7 +395,7 @@ const GRAPH: Subcommand = Subcommand {
 /// The subcommands on manifests, keys and graphs, in the order of the help.
 const ON_MANIFESTS: &[Subcommand] = &[LINT, SELECT];
 
-const ON_KEYS: &[Subcommand] = &[MATCH, TARGETS, FACTS_OF, COMPARE];
+const ON_KEYS: &[Subcommand] = &[MATCH, TARGETS, FACTS_OF_TARGET, COMPARE];
 
 const ON_GRAPHS: &[Subcommand] = &[GRAPH];
 

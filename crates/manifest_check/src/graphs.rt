@@ -6,11 +6,12 @@ use cargo_platform::shown_text;
 use clap::ArgMatches;
 use graph_answers::asked::Words;
 use graph_answers::{Report, report_on};
-use key_answers::answer::{Answer, answered};
+use key_answers::answer::{Answer, Refusal, answered};
 use limited_texts::INPUT;
-use std::alloc::Global;
+use std::alloc::{AllocError, Global};
 use std::rt::Files;
 use std::{fs, io};
+use target_tables::{TableError, TargetTable, read_table};
 
 /// What is said of a file that can't be written.
 fn unusable(alloc: Global, file: &str, error: &io::Error) -> Result<Answer> {
@@ -24,28 +25,88 @@ pub fn graph_answer<R: Files + Input + AllocGlobal>(
     rt: &R,
     matches: &ArgMatches<'_>,
 ) -> Result<Answer> {
-    let file = matches.get_str("metadata").unwrap_or(INPUT);
+    match allowed_of(rt, matches) {
+        Ok(None) => answer_of(rt, matches, None),
+        Ok(Some((list, text))) => answer_of(rt, matches, Some((list, text.as_str()))),
+        Err(refusal) => Ok(answered(rt.alloc(), Err(refusal))?),
+    }
+}
+
+/// The name and the text of the file of allowed licences, where one is named.
+fn allowed_of<'a, R: Files + AllocGlobal>(
+    rt: &R,
+    matches: &ArgMatches<'a>,
+) -> Result<Option<(&'a str, String)>, Refusal> {
     match matches.get_str("allow-file") {
-        Some(list) => match text_at(rt, list, limit_of(matches)) {
-            Ok(text) => answer_with(rt, matches, file, Some((list, text.as_str()))),
-            Err(refusal) => Ok(answered(rt.alloc(), Err(refusal))?),
-        },
-        None => answer_with(rt, matches, file, None),
+        Some(list) => Ok(Some((list, text_at(rt, list, limit_of(matches))?))),
+        None => Ok(None),
+    }
+}
+
+/// Why a text is no table, as people read it.
+fn table_reason(alloc: Global, error: &TableError) -> Result<String, AllocError> {
+    match error {
+        TableError::Line { number, error } => {
+            let reason = format!(in alloc; "{error}")?;
+            let reason = shown_text(alloc, reason.as_str())?;
+            format!(in alloc; "line {number} spells no fact: {reason}")
+        }
+        TableError::Twice { number } => {
+            format!(in alloc; "line {number} names a target for the second time")
+        }
+        TableError::Memory(_) => Err(AllocError),
+    }
+}
+
+/// What is said of a file that is no table.
+fn no_table(alloc: Global, file: &str, error: &TableError) -> Result<Refusal, AllocError> {
+    let file = shown_text(alloc, file)?;
+    let reason = table_reason(alloc, error)?;
+    Ok(Refusal::Unusable(format!(in alloc; "{file}: error: {reason}\n")?))
+}
+
+/// The targets of the file that is named, where one is.
+fn table_of<'a, R: Files + Input + AllocGlobal>(
+    rt: &R,
+    matches: &ArgMatches<'a>,
+) -> Result<Option<(&'a str, TargetTable)>, Refusal> {
+    let Some(file) = matches.get_str("facts-of") else {
+        return Ok(None);
+    };
+    let text = text_of(rt, file, limit_of(matches))?;
+    match read_table(rt.alloc(), text.as_str()) {
+        Ok(table) => Ok(Some((file, table))),
+        Err(error) => Err(no_table(rt.alloc(), file, &error)?),
     }
 }
 
 /// Answers `graph`, with the name and the text of a file of allowed licences.
+fn answer_of<R: Files + Input + AllocGlobal>(
+    rt: &R,
+    matches: &ArgMatches<'_>,
+    allow_file: Option<(&str, &str)>,
+) -> Result<Answer> {
+    match table_of(rt, matches) {
+        Ok(None) => answer_with(rt, matches, allow_file, None),
+        Ok(Some((file, table))) => answer_with(rt, matches, allow_file, Some((file, &table))),
+        Err(refusal) => Ok(answered(rt.alloc(), Err(refusal))?),
+    }
+}
+
+/// Answers `graph`, with a file of allowed licences, and with the targets of a file.
 fn answer_with<R: Files + Input + AllocGlobal>(
     rt: &R,
     matches: &ArgMatches<'_>,
-    file: &str,
     allow_file: Option<(&str, &str)>,
+    facts_of: Option<(&str, &TargetTable)>,
 ) -> Result<Answer> {
+    let file = matches.get_str("metadata").unwrap_or(INPUT);
     let alloc = rt.alloc();
     let words = Words {
         targets: matches.get_strs("target").unwrap_or(&[]),
         edges: matches.get_str("edges"),
         host: matches.get_str("host"),
+        facts_of,
         packages: matches.get_strs("package").unwrap_or(&[]),
         show: matches.get_str("show"),
         of: matches.get_str("of"),
