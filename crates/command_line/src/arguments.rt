@@ -22,6 +22,8 @@ enum Given {
     ShortFlag(char),
     /// One value, of any text.
     Value(&'static str),
+    /// The same, where the argument of this name is not there.
+    ValueWithout(&'static str, &'static str),
     /// One of these words.
     OneOf(&'static str, &'static [&'static str]),
     /// A number, and what it is where none is given.
@@ -81,6 +83,12 @@ const TABLE: &str =
 const FACTS_OF: Argument = Argument {
     name: "facts-of",
     given: Given::Value("FILE"),
+    help: TABLE,
+};
+
+const FACTS_OF_ALONE: Argument = Argument {
+    name: "facts-of",
+    given: Given::ValueWithout("FILE", "facts"),
     help: TABLE,
 };
 
@@ -187,6 +195,7 @@ const LINT: Subcommand = Subcommand {
             given: Given::ShortFlag('v'),
             help: "Names each manifest without a key of `target`",
         },
+        FACTS_OF,
         MANIFEST_PATH,
         PACKAGE,
         EXCLUDE,
@@ -210,6 +219,7 @@ const SELECT: Subcommand = Subcommand {
             help: "The target of build-dependencies; without it those under a key are open",
         },
         FACTS,
+        FACTS_OF_ALONE,
         ADDED_FACTS,
         Argument {
             name: "open",
@@ -244,6 +254,7 @@ const MATCH: Subcommand = Subcommand {
         },
         TARGET,
         FACTS,
+        FACTS_OF_ALONE,
         ADDED_FACTS,
         LIMIT,
     ],
@@ -255,6 +266,8 @@ const TARGETS: Subcommand = Subcommand {
     end: "Example: manifest_check targets 'cfg(all(unix, target_pointer_width = \"16\"))'",
     arguments: &[
         JSON,
+        FACTS_OF,
+        LIMIT,
         Argument {
             name: "key",
             given: Given::Place("KEY"),
@@ -267,11 +280,15 @@ const FACTS_OF_TARGET: Subcommand = Subcommand {
     name: "facts",
     about: "Prints the facts of a known target, as `rustc --print cfg` does",
     end: "Example: manifest_check facts x86_64-unknown-linux-gnu",
-    arguments: &[Argument {
-        name: "name",
-        given: Given::Place("NAME"),
-        help: "The name of a target that rustc knows",
-    }],
+    arguments: &[
+        FACTS_OF,
+        LIMIT,
+        Argument {
+            name: "name",
+            given: Given::Place("NAME"),
+            help: "The name of a target that rustc knows",
+        },
+    ],
 };
 
 const COMPARE: Subcommand = Subcommand {
@@ -456,20 +473,30 @@ fn to_subcommand<'a>(alloc: Global, told: &Subcommand) -> Result<Command<'a>, Al
         .about(told.about)
         .after_help(told.end);
     for it in told.arguments {
-        made = made.arg(to_argument(alloc, it))?;
+        made = made.arg(to_argument(alloc, it)?)?;
     }
     Ok(made)
 }
 
-fn to_argument<'a>(alloc: Global, told: &Argument) -> Arg<'a> {
+fn to_argument<'a>(alloc: Global, told: &Argument) -> Result<Arg<'a>, AllocError> {
     let made = Arg::new(alloc, told.name).help(told.help);
+    if let Given::ValueWithout(_, other) = told.given {
+        return given_to(made, told).conflicts_with(other);
+    }
+    Ok(given_to(made, told))
+}
+
+/// The argument, with what is given to it.
+fn given_to<'a>(made: Arg<'a>, told: &Argument) -> Arg<'a> {
     match told.given {
         Given::Flag => made.long(told.name).action(ArgAction::SetTrue),
         Given::ShortFlag(letter) => made
             .long(told.name)
             .short(letter)
             .action(ArgAction::SetTrue),
-        Given::Value(value) => option(made, told.name, value).action(ArgAction::Set),
+        Given::Value(value) | Given::ValueWithout(value, _) => option(
+            made, told.name, value,
+        ).action(ArgAction::Set),
         Given::Needed(value) => option(made, told.name, value)
             .required(true)
             .action(ArgAction::Set),

@@ -4,7 +4,7 @@ use crate::asked::{Words, unusable_words};
 use crate::refused::unusable;
 use cargo_metadata::Metadata;
 use cargo_metadata::graphs::Linked;
-use cargo_platform::{Platform, ReadError, shown_text};
+use cargo_platform::{Platform, ReadError};
 use key_answers::answer::Refusal;
 use key_answers::printing::shown_name;
 use known_targets::{COUNT, KnownTarget, TargetSet};
@@ -15,7 +15,7 @@ use target_tables::{TargetRow, TargetTable};
 #[derive(Drop)]
 pub struct AskedTable<'a> {
     /// The file, as it is shown.
-    file: String,
+    file: &'a str,
     table: &'a TargetTable,
     /// For each target whether it is asked for.
     is_asked: Vec<bool>,
@@ -77,9 +77,8 @@ impl<'a> AskedTable<'a> {
         let Some((file, table)) = words.facts_of else {
             return Ok(None);
         };
-        let file = shown_text(alloc, file)?;
-        let is_asked = asked_of(alloc, file.as_str(), table, words.targets)?;
-        let host = host_of(alloc, file.as_str(), table, words.host)?;
+        let is_asked = asked_of(alloc, file, table, words.targets)?;
+        let host = host_of(alloc, file, table, words.host)?;
         Ok(Some(AskedTable {
             file,
             table,
@@ -290,7 +289,7 @@ pub fn grouped<'a>(
 ) -> Result<Groups<'a>, Refusal> {
     let mut conditions = conditions_of(alloc, asked.table, metadata)?;
     let numbers = numbers_of(alloc, &asked.is_asked, &conditions)?;
-    let places = places_of(alloc, asked.file.as_str(), &numbers)?;
+    let places = places_of(alloc, asked.file, &numbers)?;
     for condition in &mut conditions {
         condition.set = set_of(&places, &condition.at);
     }
@@ -300,8 +299,8 @@ pub fn grouped<'a>(
 
 impl<'a> Groups<'a> {
     /// The file, as it is shown.
-    pub fn file(&self) -> &str {
-        self.asked.file.as_str()
+    pub fn file(&self) -> &'a str {
+        self.asked.file
     }
 
     /// The targets that are asked for.

@@ -5,6 +5,7 @@ mod cargo_refuses;
 pub mod deep;
 mod described;
 pub mod faults;
+pub mod given_targets;
 pub mod in_turn;
 mod opened;
 pub mod questions;

@@ -4,11 +4,13 @@ ghost use Rattle.std.specs.Prelude.{◌↔◌, IsTrue, IfOk, map};
 ghost use Rattle.cargo_platform.specs.Trees.{value_of, condition_of};
 ghost use Rattle.cargo_platform.specs.Facts.{fact_set, IsTrueCondition};
 
+use crate::given_targets::{FactsFrom, GivenTargets, line_that_says, without_mark};
 use cargo_platform::{Cfg, FactIndex, FactsError, Platform, ReadError, read_facts, shown_start};
+use expression_folds::values_of;
 use key_answers::answer::{Answer, Refusal, Status};
 use key_answers::conditions::read_key;
 use key_answers::printing::{fact_lines, refused_cfg, refused_fact, shown_name};
-use known_targets::{COUNT, KnownTarget, RUSTC_VERSION, TargetSet, matching};
+use known_targets::{COUNT, KnownTarget, RUSTC_VERSION, TargetSet, having, matching};
 use manifest_lints_findings::{Code, Finding, Words, nearest_target, unknown_in};
 use serde_json::Value;
 use std::alloc::{AllocError, Global};
@@ -91,6 +93,41 @@ pub fn unknown_words(alloc: Global, key: &str) -> Result<String, Refusal> {
     Ok(unknown_lines(alloc, key, condition, true)?)
 }
 
+/// Whether the key asks for a fact that some target of the file has, and no known one.
+fn asks_for_new(
+    alloc: Global,
+    condition: &Platform,
+    given: &GivenTargets,
+) -> Result<bool, AllocError> {
+    for fact in &values_of(alloc, condition)? {
+        if having(fact).is_empty() && given.has(fact) {
+            return Ok(true);
+        }
+    }
+    Ok(false)
+}
+
+/// What there is to tell of a key whose name no target of the file has, or whose facts no target has.
+fn unknown_in_file(
+    alloc: Global,
+    key: &str,
+    condition: Platform,
+    given: &GivenTargets,
+) -> Result<String, AllocError> {
+    if let Platform::Name(name) = &condition {
+        if given.by_name(name.as_str()).is_some() {
+            return Ok(String::new(alloc));
+        }
+        let word = Code::UnknownTarget.word();
+        let told = given.unknown(alloc, name.as_str())?;
+        return format!(in alloc; "warning[{word}]: {told}\n");
+    }
+    if asks_for_new(alloc, &condition, given)? {
+        return Ok(String::new(alloc));
+    }
+    unknown_lines(alloc, key, condition, true)
+}
+
 /// The facts of the target with this name.
 pub fn facts(alloc: Global, name: &str) -> Result<Answer, AllocError> {
     match KnownTarget::by_name(name) {
@@ -103,25 +140,44 @@ pub fn facts(alloc: Global, name: &str) -> Result<Answer, AllocError> {
     }
 }
 
-/// The names of the targets, one a line.
-fn name_lines(alloc: Global, targets: TargetSet) -> Result<String, AllocError> {
+/// The facts of the target with this name in a file.
+pub fn facts_in(alloc: Global, name: &str, given: &GivenTargets) -> Result<Answer, Refusal> {
+    let row = given.named(alloc, name)?;
+    let text = fact_lines(alloc, row.facts())?;
+    Ok(Answer::of(alloc, text, Status::Fine))
+}
+
+/// The names, one a line.
+fn name_lines(alloc: Global, names: &[&str]) -> Result<String, AllocError> {
     let mut text = String::new(alloc);
-    for target in targets.iter() {
-        text.push_str(target.name())?;
+    for name in names {
+        text.push_str(name)?;
         text.push_str("\n")?;
     }
     Ok(text)
 }
 
-/// The names of the targets, as one array.
-fn name_array(alloc: Global, targets: TargetSet) -> Result<String, AllocError> {
-    let mut names = Vec::new(alloc);
-    for target in targets.iter() {
-        names.push(Value::String(String::from_str(alloc, target.name())?))?;
+/// The names, as one array.
+fn name_array(alloc: Global, names: &[&str]) -> Result<String, AllocError> {
+    let mut values = Vec::new(alloc);
+    for name in names {
+        values.push(Value::String(String::from_str(alloc, name)?))?;
     }
-    let mut text = Value::Array(names).to_string(alloc)?;
+    let mut text = Value::Array(values).to_string(alloc)?;
     text.push_str("\n")?;
     Ok(text)
+}
+
+/// The answer that names these targets: one array, or lines, and on standard error what is said beside them.
+fn named(alloc: Global, names: &[&str], errors: String, json: bool) -> Result<Answer, AllocError> {
+    if json {
+        return Ok(Answer::of(alloc, name_array(alloc, names)?, Status::Fine));
+    }
+    Ok(Answer {
+        output: name_lines(alloc, names)?,
+        errors,
+        status: Status::Fine,
+    })
 }
 
 /// The key `cfg(NAME)`, where it holds at a known target.
@@ -167,35 +223,55 @@ fn counted(alloc: Global, condition: &Platform, targets: TargetSet) -> Result<St
     Ok(errors)
 }
 
+/// The names of known targets.
+fn names_of(alloc: Global, targets: TargetSet) -> Result<Vec<&'static str>, AllocError> {
+    let mut names = Vec::new(alloc);
+    for target in targets.iter() {
+        names.push(target.name())?;
+    }
+    Ok(names)
+}
+
 /// The known targets at which the key holds.
 pub fn targets(alloc: Global, key: &str, json: bool) -> Result<Answer, Refusal> {
     let condition = read_key(alloc, key)?;
     let targets = matching(alloc, &condition)?;
-    if json {
-        let text = name_array(alloc, targets)?;
-        return Ok(Answer::of(alloc, text, Status::Fine));
-    }
     let errors = counted(alloc, &condition, targets)?;
-    Ok(Answer {
-        output: name_lines(alloc, targets)?,
-        errors,
-        status: Status::Fine,
-    })
+    let names = names_of(alloc, targets)?;
+    Ok(named(alloc, &names, errors, json)?)
 }
 
-/// A line without the carriage return at its end; none where it is blank then.
-fn fact_on(line: &str) -> Option<&str> {
-    let line = line.strip_suffix("\r").unwrap_or(line);
-    if line.trim().is_empty() {
-        None
-    } else {
-        Some(line)
+/// What standard error is told beside names of a file: how many there are, and that none is the key's name.
+fn counted_in(
+    alloc: Global,
+    condition: &Platform,
+    count: usize,
+    given: &GivenTargets,
+) -> Result<String, AllocError> {
+    let whole = given.count();
+    let file = given.file.as_str();
+    let mut errors = format!(in alloc; "{count} of {whole} targets of {file}\n")?;
+    if let Platform::Name(name) = condition {
+        if given.by_name(name.as_str()).is_none() {
+            let told = given.unknown(alloc, name.as_str())?;
+            let note = format!(in alloc; "note: {told}\n")?;
+            errors.push_str(note.as_str())?;
+        }
     }
+    Ok(errors)
 }
 
-/// The text without a mark of the byte order.
-fn without_mark(text: &str) -> &str {
-    text.strip_prefix("\u{FEFF}").unwrap_or(text)
+/// The targets of a file at which the key holds.
+pub fn targets_in(
+    alloc: Global,
+    key: &str,
+    given: &GivenTargets,
+    json: bool,
+) -> Result<Answer, Refusal> {
+    let condition = read_key(alloc, key)?;
+    let names = given.matching(alloc, &condition)?;
+    let errors = counted_in(alloc, &condition, names.len(), given)?;
+    Ok(named(alloc, &names, errors, json)?)
 }
 
 /// A file of facts without what editors add: a mark of the byte order, carriage returns at the ends of lines, and blank
@@ -203,7 +279,7 @@ fn without_mark(text: &str) -> &str {
 fn fact_lines_of(alloc: Global, text: &str) -> Result<String, AllocError> {
     let mut lines = String::new(alloc);
     for line in without_mark(text).split('\n') {
-        if let Some(fact) = fact_on(line) {
+        if let Some(fact) = line_that_says(line) {
             lines.push_str(fact)?;
             lines.push_str("\n")?;
         }
@@ -220,7 +296,7 @@ fn line_of_fact(text: &str, facts: usize) -> usize {
             return number;
         }
         number = number.saturating_add(1);
-        if fact_on(line).is_some() {
+        if line_that_says(line).is_some() {
             left = left.saturating_sub(1);
         }
     }
@@ -239,11 +315,24 @@ fn facts_of_lines(alloc: Global, text: &str) -> Result<Vec<Cfg>, Refusal> {
     }
 }
 
-/// The facts of a target: those of the lines where there are some, else those of the table.
-pub fn table_or_lines(alloc: Global, name: &str, lines: Option<&str>) -> Result<Vec<Cfg>, Refusal> {
-    match lines {
-        Some(text) => facts_of_lines(alloc, text),
-        None => match KnownTarget::by_name(name) {
+/// Copies of facts.
+fn copied(alloc: Global, facts: &[Cfg]) -> Result<Vec<Cfg>, AllocError> {
+    let mut copies = Vec::new(alloc);
+    for fact in facts {
+        copies.push(fact.clone(alloc)?).map_err(AllocError::from)?;
+    }
+    Ok(copies)
+}
+
+/// The facts of the target of this name.
+pub fn facts_from(alloc: Global, name: &str, from: FactsFrom<'_>) -> Result<Vec<Cfg>, Refusal> {
+    match from {
+        FactsFrom::Lines(text) => facts_of_lines(alloc, text),
+        FactsFrom::File(given) => {
+            let row = given.named(alloc, name)?;
+            Ok(copied(alloc, row.facts())?)
+        }
+        FactsFrom::Known => match KnownTarget::by_name(name) {
             Some(target) => Ok(target.facts(alloc)?),
             None => Err(Refusal::Unusable(without_facts(alloc, name)?)),
         },
@@ -287,10 +376,10 @@ fn holds(alloc: Global, platform: &Platform, name: &str, facts: &[Cfg]) -> Resul
 fn all_facts(
     alloc: Global,
     name: &str,
-    lines: Option<&str>,
+    from: FactsFrom<'_>,
     added: &[&str],
 ) -> Result<Vec<Cfg>, Refusal> {
-    let mut facts = table_or_lines(alloc, name, lines)?;
+    let mut facts = facts_from(alloc, name, from)?;
     for fact in added_facts(alloc, added)? {
         facts.push(fact).map_err(AllocError::from)?;
     }
@@ -311,18 +400,21 @@ fn verdict(alloc: Global, applies: bool, errors: String) -> Result<Answer, Alloc
     })
 }
 
-/// Whether the key applies to the target with this name, whose facts are those of `lines` where these are given.
+/// Whether the key applies to the target with this name, whose facts come from there.
 pub fn applies(
     alloc: Global,
     key: &str,
     name: &str,
-    lines: Option<&str>,
+    from: FactsFrom<'_>,
     added: &[&str],
 ) -> Result<Answer, Refusal> {
     let condition = read_key(alloc, key)?;
-    let facts = all_facts(alloc, name, lines, added)?;
+    let facts = all_facts(alloc, name, from, added)?;
     let applies = holds(alloc, &condition, name, &facts)?;
-    let has_facts = lines.is_some() || !added.is_empty();
-    let errors = unknown_lines(alloc, key, condition, has_facts)?;
+    let errors = match from {
+        FactsFrom::File(given) => unknown_in_file(alloc, key, condition, given)?,
+        FactsFrom::Known => unknown_lines(alloc, key, condition, !added.is_empty())?,
+        FactsFrom::Lines(_) => unknown_lines(alloc, key, condition, true)?,
+    };
     Ok(verdict(alloc, applies, errors)?)
 }

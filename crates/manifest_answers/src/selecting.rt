@@ -3,19 +3,21 @@
 use crate::cargo_refuses::refused_by_cargo;
 use crate::described::{first_line, put_described};
 use crate::faults::{Asking, Fault, span_of};
+use crate::given_targets::FactsFrom;
 use crate::in_turn::{Question, answer_each};
 use crate::opened::OpenNames;
-use crate::questions::{added_facts, table_or_lines, unknown_name};
+use crate::questions::{added_facts, facts_from, unknown_name};
 use cargo_platform::{ParseError, shown_start};
 use key_answers::answer::{Answer, Refusal, Status};
 use key_answers::printing::{push_json, put, put_text, refused_key, text_value};
 use known_targets::KnownTarget;
-use manifest_documents::Dependency;
 use manifest_documents::reading::Manifest;
-use manifests::{Asked, Choice, Row, SelectError, select};
+use manifest_documents::{Dependency, Kind};
+use manifests::{Asked, Choice, Row, SelectError, choose, select};
 use serde_json::{Map, Value};
 use std::alloc::{AllocError, Global};
 use std::rt::Files;
+use target_tables::TargetRow;
 
 /// The word for a choice.
 fn choice_word(choice: &Choice) -> &'static str {
@@ -267,7 +269,7 @@ fn selected(
 struct Selecting<'a> {
     asking: Asking<'a>,
     known: &'a Asked<'a>,
-    host: Option<KnownTarget>,
+    host: Host<'a>,
     /// The names that are left open.
     opened: OpenNames,
 }
@@ -276,8 +278,17 @@ impl<'a> Question for Selecting<'a> {
     fn answer(&mut self, alloc: Global, manifest: &Manifest) -> Result<Answer, AllocError> {
         let table = &manifest.document.table;
         self.opened.note(alloc, table)?;
-        match select(alloc, table, self.asking.target, self.known, self.host) {
-            Ok(rows) => selected(alloc, &self.asking, manifest, &rows),
+        match select(
+            alloc,
+            table,
+            self.asking.target,
+            self.known,
+            self.host.known(),
+        ) {
+            Ok(mut rows) => {
+                self.host.decide(alloc, &mut rows)?;
+                selected(alloc, &self.asking, manifest, &rows)
+            }
             Err(error) => refused(alloc, &self.asking, manifest, &error),
         }
     }
@@ -305,14 +316,59 @@ pub struct Target<'a> {
     pub open: &'a [&'a str],
 }
 
-/// The host of this name.
-fn known_host(alloc: Global, name: Option<&str>) -> Result<Option<KnownTarget>, Refusal> {
-    let Some(name) = name else {
-        return Ok(None);
-    };
-    match KnownTarget::by_name(name) {
-        Some(host) => Ok(Some(host)),
-        None => Err(Refusal::Unusable(unknown_name(alloc, name)?)),
+/// The target that build scripts are built for.
+#[derive(Clone, Copy, Drop)]
+enum Host<'a> {
+    /// It is not said.
+    Open,
+    /// One that is known.
+    Known(KnownTarget),
+    /// One of a file.
+    OfFile(&'a TargetRow),
+}
+
+impl<'a> Host<'a> {
+    /// The one of this name.
+    fn of(alloc: Global, name: Option<&str>, from: FactsFrom<'a>) -> Result<Host<'a>, Refusal> {
+        let Some(name) = name else {
+            return Ok(Host::Open);
+        };
+        if let FactsFrom::File(given) = from {
+            return Ok(Host::OfFile(given.named(alloc, name)?));
+        }
+        match KnownTarget::by_name(name) {
+            Some(host) => Ok(Host::Known(host)),
+            None => Err(Refusal::Unusable(unknown_name(alloc, name)?)),
+        }
+    }
+
+    /// It, where it is one that is known.
+    fn known(self) -> Option<KnownTarget> {
+        match self {
+            Host::Known(host) => Some(host),
+            Host::Open | Host::OfFile(_) => None,
+        }
+    }
+
+    /// Decides the build-dependencies that are open by the target of a file.
+    fn decide(self, alloc: Global, rows: &mut [Row<'_>]) -> Result<(), AllocError> {
+        let Host::OfFile(host) = self else {
+            return Ok(());
+        };
+        let known = Asked {
+            facts: host.facts(),
+            added: &[],
+            open: &[],
+        };
+        for row in rows {
+            if row.dependency.kind != Kind::Build {
+                continue;
+            }
+            if let Choice::Open(condition) = &row.choice {
+                row.choice = choose(alloc, condition, host.name(), &known)?;
+            }
+        }
+        Ok(())
     }
 }
 
@@ -328,7 +384,7 @@ fn selected_of_each<R: Files + Input + AllocGlobal>(
     paths: &[&str],
     asking: Asking<'_>,
     known: &Asked<'_>,
-    host: Option<KnownTarget>,
+    host: Host<'_>,
     limit: u64,
 ) -> Result<Answer, AllocError> {
     let alloc = rt.alloc();
@@ -343,25 +399,25 @@ fn selected_of_each<R: Files + Input + AllocGlobal>(
     Ok(answer)
 }
 
-/// What is selected of the manifests that are named, in their order. The target's own facts are those of `lines`, where
-/// these are given, and else it is a known one. Manifests of more bytes than the limit are refused.
+/// What is selected of the manifests that are named, in their order, by the facts that the target and the host have
+/// there. Manifests of more bytes than the limit are refused.
 pub fn select_each<R: Files + Input + AllocGlobal>(
     rt: &R,
     paths: &[&str],
     target: &Target<'_>,
-    lines: Option<&str>,
+    from: FactsFrom<'_>,
     host: Option<&str>,
     limit: u64,
 ) -> Result<Answer, Refusal> {
     let alloc = rt.alloc();
-    let facts = table_or_lines(alloc, target.asking.target, lines)?;
+    let facts = facts_from(alloc, target.asking.target, from)?;
     let added = added_facts(alloc, target.added)?;
     let known = Asked {
         facts: &facts,
         added: &added,
         open: target.open,
     };
-    let host = known_host(alloc, host)?;
+    let host = Host::of(alloc, host, from)?;
     let answer = selected_of_each(rt, paths, target.asking, &known, host, limit)?;
     Ok(answer)
 }

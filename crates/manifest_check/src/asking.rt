@@ -7,13 +7,16 @@ use crate::levels::command_rules;
 use crate::limits::{limit_of, text_of};
 use crate::linting::{Asked, lint_each};
 use crate::named::{Named, named_manifests};
+use crate::other_rustc::OtherRustc;
 use crate::styles::{Shown, style_of};
 use anyhow::Result;
+use cargo_platform::shown_text;
 use clap::ArgMatches;
 use key_answers::answer::{Answer, Refusal, Status, answered};
 use key_answers::comparing::compare;
 use lint_reports::codes::words;
 use manifest_answers::faults::Asking;
+use manifest_answers::given_targets::{FactsFrom, GivenTargets};
 use manifest_answers::questions;
 use manifest_answers::selecting::{Target, select_each};
 use std::alloc::{AllocError, Global};
@@ -35,17 +38,41 @@ fn facts_file<R: Files + Input + AllocGlobal>(
     }
 }
 
+/// The targets of the file of another rustc, or of standard input, where one is named.
+pub fn given_targets<R: Files + Input + AllocGlobal>(
+    rt: &R,
+    matches: &ArgMatches<'_>,
+) -> Result<Option<GivenTargets>, Refusal> {
+    let Some(path) = matches.get_str("facts-of") else {
+        return Ok(None);
+    };
+    let alloc = rt.alloc();
+    let text = text_of(rt, path, limit_of(matches))?;
+    let file = shown_text(alloc, path)?;
+    Ok(Some(GivenTargets::of(alloc, file, text.as_str())?))
+}
+
+/// Where the facts of targets come from, by what two options name.
+fn facts_from<'a>(lines: &'a Option<String>, given: &'a Option<GivenTargets>) -> FactsFrom<'a> {
+    match (lines, given) {
+        (_, Some(given)) => FactsFrom::File(given),
+        (Some(lines), None) => FactsFrom::Lines(lines.as_str()),
+        (None, None) => FactsFrom::Known,
+    }
+}
+
 /// Answers `match`.
 fn match_answer<R: Files + Input + AllocGlobal>(
     rt: &R,
     matches: &ArgMatches<'_>,
 ) -> Result<Answer, Refusal> {
     let lines = facts_file(rt, matches)?;
+    let given = given_targets(rt, matches)?;
     questions::applies(
         rt.alloc(),
         word(matches, "key"),
         word(matches, "target"),
-        lines.as_ref().map(|text| text.as_str()),
+        facts_from(&lines, &given),
         matches.get_strs("cfg").unwrap_or(&[]),
     )
 }
@@ -62,7 +89,7 @@ fn asking_of<'a>(matches: &ArgMatches<'a>) -> Asking<'a> {
 fn selected_with<R: Files + Input + Env + AllocGlobal + Clone + Drop>(
     rt: &R,
     matches: &ArgMatches<'_>,
-    lines: Option<&str>,
+    from: FactsFrom<'_>,
     flags: &FlagFacts,
 ) -> Result<Answer, Refusal> {
     let alloc = rt.alloc();
@@ -78,7 +105,7 @@ fn selected_with<R: Files + Input + Env + AllocGlobal + Clone + Drop>(
     answer.errors.push_str(flags.notes.as_str())?;
     let paths: Vec<&str> = paths.iter().map(|path| path.as_str()).collect(alloc)?;
     let host = matches.get_str("host");
-    let selected = select_each(rt, &paths, &target, lines, host, limit_of(matches))?;
+    let selected = select_each(rt, &paths, &target, from, host, limit_of(matches))?;
     answer.append(selected)?;
     Ok(answer)
 }
@@ -89,10 +116,11 @@ fn select_answer<R: Files + Input + Env + AllocGlobal + Clone + Drop>(
     matches: &ArgMatches<'_>,
 ) -> Result<Answer, Refusal> {
     let lines = facts_file(rt, matches)?;
-    let lines = lines.as_ref().map(|text| text.as_str());
+    let given = given_targets(rt, matches)?;
+    let from = facts_from(&lines, &given);
     let target = Flagged {
         name: word(matches, "target"),
-        lines,
+        from,
         added: matches.get_strs("cfg").unwrap_or(&[]),
     };
     let flags = if matches.get_flag("no-config") {
@@ -100,7 +128,7 @@ fn select_answer<R: Files + Input + Env + AllocGlobal + Clone + Drop>(
     } else {
         facts_of_flags(rt, &target, limit_of(matches))?
     };
-    selected_with(rt, matches, lines, &flags)
+    selected_with(rt, matches, from, &flags)
 }
 
 /// Answers `select`, what can't be used too.
@@ -112,6 +140,17 @@ fn select_told<R: Files + Input + Env + AllocGlobal + Clone + Drop>(
         Ok(answer) => Ok(answer),
         Err(Refusal::Unusable(lines)) => asking_of(matches).tell_words(rt.alloc(), lines.as_str()),
         Err(Refusal::Memory(refused)) => Err(refused),
+    }
+}
+
+/// The other rustc whose targets count, where its file is named.
+fn other_rustc<R: Files + Input + AllocGlobal>(
+    rt: &R,
+    matches: &ArgMatches<'_>,
+) -> Result<Option<OtherRustc>, Refusal> {
+    match given_targets(rt, matches)? {
+        Some(given) => Ok(Some(OtherRustc::of(rt.alloc(), given)?)),
+        None => Ok(None),
     }
 }
 
@@ -128,6 +167,11 @@ fn lint_answer<R: Files + Input + Env + AllocGlobal + Clone + Drop>(
     if let Some(word) = matches.get_str("explain") {
         return explained_code(alloc, word);
     }
+    let other = match other_rustc(rt, matches) {
+        Ok(other) => other,
+        Err(Refusal::Unusable(lines)) => return Ok(Answer::unusable(alloc, lines)),
+        Err(Refusal::Memory(refused)) => return Err(refused.into()),
+    };
     let codes = words(alloc)?;
     let asked = Asked {
         style: style_of(rt, matches, shown.on_terminal),
@@ -138,6 +182,7 @@ fn lint_answer<R: Files + Input + Env + AllocGlobal + Clone + Drop>(
         is_quiet: matches.get_flag("quiet"),
         limit: limit_of(matches),
         is_whole: !matches.contains_id("package") && !matches.contains_id("exclude"),
+        other,
     };
     let Named { paths, unusable } = named_manifests(rt, matches)?;
     let mut answer = Answer::of(alloc, String::new(alloc), Status::Fine);
@@ -164,14 +209,42 @@ fn compare_answer(alloc: Global, matches: &ArgMatches<'_>) -> Result<Answer, Ref
     Ok(answer)
 }
 
+/// Answers `targets`.
+fn targets_answer<R: Files + Input + AllocGlobal>(
+    rt: &R,
+    matches: &ArgMatches<'_>,
+) -> Result<Answer, Refusal> {
+    let key = word(matches, "key");
+    let json = matches.get_flag("json");
+    match given_targets(rt, matches)? {
+        Some(given) => questions::targets_in(rt.alloc(), key, &given, json),
+        None => questions::targets(rt.alloc(), key, json),
+    }
+}
+
+/// Answers `facts`.
+fn facts_answer<R: Files + Input + AllocGlobal>(
+    rt: &R,
+    matches: &ArgMatches<'_>,
+) -> Result<Answer, Refusal> {
+    let name = word(matches, "name");
+    match given_targets(rt, matches)? {
+        Some(given) => questions::facts_in(rt.alloc(), name, &given),
+        None => Ok(questions::facts(rt.alloc(), name)?),
+    }
+}
+
 /// Answers a question on keys and targets.
-fn question_answer(alloc: Global, matches: &ArgMatches<'_>) -> Result<Answer> {
+fn question_answer<R: Files + Input + AllocGlobal>(
+    rt: &R,
+    matches: &ArgMatches<'_>,
+) -> Result<Answer> {
+    let alloc = rt.alloc();
     if let Some(m) = matches.subcommand_matches("targets") {
-        let answer = questions::targets(alloc, word(m, "key"), m.get_flag("json"));
-        return Ok(answered(alloc, answer)?);
+        return Ok(answered(alloc, targets_answer(rt, m))?);
     }
     if let Some(m) = matches.subcommand_matches("facts") {
-        return Ok(questions::facts(alloc, word(m, "name"))?);
+        return Ok(answered(alloc, facts_answer(rt, m))?);
     }
     if let Some(m) = matches.subcommand_matches("compare") {
         return Ok(answered(alloc, compare_answer(alloc, m))?);
@@ -198,5 +271,5 @@ pub fn answer_to<R: Files + Input + Env + AllocGlobal + Clone + Drop>(
     if let Some(m) = matches.subcommand_matches("match") {
         return Ok(answered(rt.alloc(), match_answer(rt, m))?);
     }
-    question_answer(rt.alloc(), matches)
+    question_answer(rt, matches)
 }

@@ -2,6 +2,7 @@
 
 use cargo_platform::{shown_start, shown_text};
 use key_answers::answer::{Refusal, Status};
+use manifest_answers::given_targets::FactsFrom;
 use manifest_answers::questions::applies;
 use manifest_documents::reading::{ReadError, read_manifest};
 use std::alloc::{AllocError, Global};
@@ -24,8 +25,8 @@ const RUSTFLAGS: &str = "rustflags";
 #[derive(Clone, Copy, Drop)]
 pub struct Flagged<'a> {
     pub name: &'a str,
-    /// The lines of its facts, where it is no known target.
-    pub lines: Option<&'a str>,
+    /// Where its facts come from.
+    pub from: FactsFrom<'a>,
     /// Facts that a command line adds.
     pub added: &'a [&'a str],
 }
@@ -360,7 +361,7 @@ fn are_for(
         return Ok(key.as_str() == target.name);
     };
     let added = facts.behind(alloc, target.added)?;
-    match applies(alloc, key.as_str(), target.name, target.lines, &added) {
+    match applies(alloc, key.as_str(), target.name, target.from, &added) {
         Ok(answer) => Ok(answer.status == Status::Fine),
         Err(Refusal::Unusable(_)) => Ok(false),
         Err(Refusal::Memory(refused)) => Err(refused),

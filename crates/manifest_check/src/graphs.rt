@@ -1,5 +1,6 @@
 //! `graph`: which packages are in a build at which targets.
 
+use crate::asking::given_targets;
 use crate::limits::{limit_of, text_at, text_of};
 use anyhow::Result;
 use cargo_platform::shown_text;
@@ -8,10 +9,10 @@ use graph_answers::asked::Words;
 use graph_answers::{Report, report_on};
 use key_answers::answer::{Answer, Refusal, answered};
 use limited_texts::INPUT;
-use std::alloc::{AllocError, Global};
+use manifest_answers::given_targets::GivenTargets;
+use std::alloc::Global;
 use std::rt::Files;
 use std::{fs, io};
-use target_tables::{TableError, TargetTable, read_table};
 
 /// What is said of a file that can't be written.
 fn unusable(alloc: Global, file: &str, error: &io::Error) -> Result<Answer> {
@@ -43,52 +44,15 @@ fn allowed_of<'a, R: Files + AllocGlobal>(
     }
 }
 
-/// Why a text is no table, as people read it.
-fn table_reason(alloc: Global, error: &TableError) -> Result<String, AllocError> {
-    match error {
-        TableError::Line { number, error } => {
-            let reason = format!(in alloc; "{error}")?;
-            let reason = shown_text(alloc, reason.as_str())?;
-            format!(in alloc; "line {number} spells no fact: {reason}")
-        }
-        TableError::Twice { number } => {
-            format!(in alloc; "line {number} names a target for the second time")
-        }
-        TableError::Memory(_) => Err(AllocError),
-    }
-}
-
-/// What is said of a file that is no table.
-fn no_table(alloc: Global, file: &str, error: &TableError) -> Result<Refusal, AllocError> {
-    let file = shown_text(alloc, file)?;
-    let reason = table_reason(alloc, error)?;
-    Ok(Refusal::Unusable(format!(in alloc; "{file}: error: {reason}\n")?))
-}
-
-/// The targets of the file that is named, where one is.
-fn table_of<'a, R: Files + Input + AllocGlobal>(
-    rt: &R,
-    matches: &ArgMatches<'a>,
-) -> Result<Option<(&'a str, TargetTable)>, Refusal> {
-    let Some(file) = matches.get_str("facts-of") else {
-        return Ok(None);
-    };
-    let text = text_of(rt, file, limit_of(matches))?;
-    match read_table(rt.alloc(), text.as_str()) {
-        Ok(table) => Ok(Some((file, table))),
-        Err(error) => Err(no_table(rt.alloc(), file, &error)?),
-    }
-}
-
 /// Answers `graph`, with the name and the text of a file of allowed licences.
 fn answer_of<R: Files + Input + AllocGlobal>(
     rt: &R,
     matches: &ArgMatches<'_>,
     allow_file: Option<(&str, &str)>,
 ) -> Result<Answer> {
-    match table_of(rt, matches) {
+    match given_targets(rt, matches) {
         Ok(None) => answer_with(rt, matches, allow_file, None),
-        Ok(Some((file, table))) => answer_with(rt, matches, allow_file, Some((file, &table))),
+        Ok(Some(given)) => answer_with(rt, matches, allow_file, Some(&given)),
         Err(refusal) => Ok(answered(rt.alloc(), Err(refusal))?),
     }
 }
@@ -98,10 +62,14 @@ fn answer_with<R: Files + Input + AllocGlobal>(
     rt: &R,
     matches: &ArgMatches<'_>,
     allow_file: Option<(&str, &str)>,
-    facts_of: Option<(&str, &TargetTable)>,
+    given: Option<&GivenTargets>,
 ) -> Result<Answer> {
     let file = matches.get_str("metadata").unwrap_or(INPUT);
     let alloc = rt.alloc();
+    let facts_of = match given {
+        Some(given) => Some((given.file.as_str(), given.table())),
+        None => None,
+    };
     let words = Words {
         targets: matches.get_strs("target").unwrap_or(&[]),
         edges: matches.get_str("edges"),

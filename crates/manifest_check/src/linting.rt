@@ -2,6 +2,7 @@
 
 use crate::configurations::{as_manifest, reword};
 use crate::declaring::declare;
+use crate::other_rustc::{OtherRustc, declare_by, judge_by};
 use crate::roots::{Root, inherit_lints, is_unneeded};
 use cargo_platform::{shown_start, shown_text};
 use key_answers::answer::{Answer, Status};
@@ -36,6 +37,8 @@ pub struct Asked {
     pub limit: u64,
     /// No package is left out.
     pub is_whole: bool,
+    /// Whose targets and facts count in place of those that are known.
+    pub other: Option<OtherRustc>,
 }
 
 /// The words for parts of a manifest that have rules.
@@ -303,9 +306,16 @@ fn lint_configuration<R: Files + Input + AllocGlobal>(
     let lints = root.lints_for_all(rt, telling.asked.limit)?;
     let mut table = as_manifest(alloc, &manifest.document.table, lints)?;
     declare(alloc, &mut table, &root.settings.facts)?;
+    declare_by(alloc, &telling.asked.other, &mut table)?;
     manifest.document.table = table;
     root.hides_lints = false;
     let mut report = lint(alloc, &manifest.document, words)?;
+    judge_by(
+        alloc,
+        &telling.asked.other,
+        &manifest.document.table,
+        &mut report,
+    )?;
     reword(alloc, &mut report)?;
     telling.counts.add_configuration(report.keys.len());
     let settings = Settings::of(alloc, None, &[])?;
@@ -329,7 +339,14 @@ fn lint_at<R: Files + Input + AllocGlobal>(
     declare(alloc, table, &root.settings.facts)?;
     let settings = Settings::of(alloc, settings_at(table, "package"), &telling.asked.codes)?;
     declare(alloc, table, &settings.facts)?;
-    let report = lint(alloc, &manifest.document, words)?;
+    declare_by(alloc, &telling.asked.other, table)?;
+    let mut report = lint(alloc, &manifest.document, words)?;
+    judge_by(
+        alloc,
+        &telling.asked.other,
+        &manifest.document.table,
+        &mut report,
+    )?;
     let wrong = wrong_places(alloc, &manifest.document.table)?;
     telling.counts.add_manifest(report.keys.len());
     tell_report(alloc, root, telling, &settings, &manifest, &report, &wrong)

@@ -11,6 +11,7 @@ mod levels;
 mod limits;
 mod linting;
 mod named;
+mod other_rustc;
 mod roots;
 mod styles;
 mod tables;

@@ -1,0 +1,195 @@
+//! The targets of another rustc, as a file has them, in place of the known ones.
+
+use cargo_platform::{Cfg, Platform};
+use key_answers::answer::Refusal;
+use key_answers::printing::{refused_fact, shown_name};
+use known_targets::having;
+use manifest_lints_findings::near;
+use partial_facts::decide_platform;
+use std::alloc::{AllocError, Global};
+use target_tables::{TableError, TargetRow, TargetTable, read_table};
+
+/// The targets of a file.
+#[derive(Drop)]
+pub struct GivenTargets {
+    /// The file, as it is shown.
+    pub file: String,
+    table: TargetTable,
+}
+
+/// Where the facts of targets come from.
+#[derive(Clone, Copy, Drop)]
+pub enum FactsFrom<'a> {
+    /// The targets that are known.
+    Known,
+    /// Lines that are the facts of any target.
+    Lines(&'a str),
+    /// The targets of a file.
+    File(&'a GivenTargets),
+}
+
+/// A line without the carriage return at its end; none where it is blank then.
+pub fn line_that_says(line: &str) -> Option<&str> {
+    let line = line.strip_suffix("\r").unwrap_or(line);
+    if line.trim().is_empty() {
+        None
+    } else {
+        Some(line)
+    }
+}
+
+/// The text without a mark of the byte order.
+pub fn without_mark(text: &str) -> &str {
+    text.strip_prefix("\u{FEFF}").unwrap_or(text)
+}
+
+/// A file without what editors add: a mark of the byte order, carriage returns at the ends of lines, and what blank
+/// lines have. Each line keeps its number.
+fn lines_of(alloc: Global, text: &str) -> Result<String, AllocError> {
+    let mut lines = String::new(alloc);
+    for line in without_mark(text).split('\n') {
+        lines.push_str(line_that_says(line).unwrap_or(""))?;
+        lines.push_str("\n")?;
+    }
+    Ok(lines)
+}
+
+/// What is said of a file that is no table.
+fn refused_file(alloc: Global, file: &str, error: &TableError) -> Result<Refusal, AllocError> {
+    let line = match error {
+        TableError::Line { number, error } => {
+            let told = refused_fact(alloc, *number, error)?;
+            let told = told.as_str().strip_prefix("error: ").unwrap_or("");
+            format!(in alloc; "{file}: error: {told}")?
+        }
+        TableError::Twice { number } => {
+            format!(in alloc; "{file}: error: line {number} names a target that stands above\n")?
+        }
+        TableError::Memory(_) => return Err(AllocError),
+    };
+    Ok(Refusal::Unusable(line))
+}
+
+impl GivenTargets {
+    /// The targets that this text of a file has, at least one of them.
+    pub fn of(alloc: Global, file: String, text: &str) -> Result<GivenTargets, Refusal> {
+        let lines = lines_of(alloc, text)?;
+        match read_table(alloc, lines.as_str()) {
+            Ok(table) => {
+                if table.rows().is_empty() {
+                    let file = file.as_str();
+                    let line = format!(in alloc; "{file}: error: it has no targets\n")?;
+                    return Err(Refusal::Unusable(line));
+                }
+                Ok(GivenTargets { file, table })
+            }
+            Err(error) => Err(refused_file(alloc, file.as_str(), &error)?),
+        }
+    }
+
+    /// They, in the order of the file.
+    pub fn table(&self) -> &TargetTable {
+        &self.table
+    }
+
+    /// How many they are.
+    pub fn count(&self) -> usize {
+        self.table.rows().len()
+    }
+
+    /// The one of this name.
+    pub fn by_name(&self, name: &str) -> Option<&TargetRow> {
+        self.table.by_name(name)
+    }
+
+    /// The one of this name, or what is said of a name that none has.
+    pub fn named(&self, alloc: Global, name: &str) -> Result<&TargetRow, Refusal> {
+        match self.table.by_name(name) {
+            Some(row) => Ok(row),
+            None => {
+                let told = self.unknown(alloc, name)?;
+                let line = format!(in alloc; "error: {told}\n")?;
+                Err(Refusal::Unusable(line))
+            }
+        }
+    }
+
+    /// The name of the first one to which one edit leads.
+    pub fn nearest(&self, alloc: Global, name: &str) -> Result<Option<&str>, AllocError> {
+        let mut names = Vec::new(alloc);
+        for row in self.table.rows() {
+            names.push(row.name())?;
+        }
+        Ok(near(name, &names))
+    }
+
+    /// What is said of a name that none has, with the nearest one.
+    pub fn unknown(&self, alloc: Global, name: &str) -> Result<String, AllocError> {
+        let file = self.file.as_str();
+        let shown = shown_name(alloc, name)?;
+        match self.nearest(alloc, name)? {
+            Some(nearest) => {
+                format!(in alloc;
+                    "no target of {file} is named {shown}; perhaps {nearest} is meant"
+                )
+            }
+            None => format!(in alloc; "no target of {file} is named {shown}"),
+        }
+    }
+
+    /// The names of those at which the condition holds.
+    pub fn matching(&self, alloc: Global, condition: &Platform) -> Result<Vec<&str>, AllocError> {
+        let mut names = Vec::new(alloc);
+        for place in &self.table.matching(alloc, condition)? {
+            if let Some(row) = self.table.rows().get(*place) {
+                names.push(row.name())?;
+            }
+        }
+        Ok(names)
+    }
+
+    /// Whether the condition may hold at none, and whether it is certain to hold at each, whatever the facts of these
+    /// names and keys are.
+    pub fn none_and_each(&self, condition: &Platform, open: &[&str]) -> (bool, bool) {
+        let mut none = true;
+        let mut each = true;
+        for row in self.table.rows() {
+            let known = manifests::Asked {
+                facts: row.facts(),
+                added: &[],
+                open,
+            };
+            match decide_platform(condition, Some(row.name()), &known) {
+                Some(true) => none = false,
+                Some(false) => each = false,
+                None => {
+                    none = false;
+                    each = false;
+                }
+            }
+        }
+        (none, each)
+    }
+
+    /// Whether one of them has the fact.
+    pub fn has(&self, fact: &Cfg) -> bool {
+        self.table
+            .rows()
+            .iter()
+            .any(|row| row.facts().iter().any(|it| it == fact))
+    }
+
+    /// The facts that no known target has, each once, as they are written.
+    pub fn new_facts(&self, alloc: Global) -> Result<Vec<String>, AllocError> {
+        let mut seen = std::collections::BTreeSet::new(alloc);
+        let mut texts = Vec::new(alloc);
+        for row in self.table.rows() {
+            for fact in row.facts() {
+                if seen.insert(fact)? && having(fact).is_empty() {
+                    texts.push(fact.to_string(alloc)?)?;
+                }
+            }
+        }
+        Ok(texts)
+    }
+}

@@ -1,0 +1,202 @@
+//! What another rustc makes of findings: its targets and facts count in place of those that are known.
+
+use crate::declaring::declare;
+use cargo_platform::{Platform, ReadError};
+use expression_folds::values_of;
+use known_targets::KnownTarget;
+use manifest_answers::given_targets::GivenTargets;
+use manifest_documents::Declared;
+use manifest_lints::{Code, Report};
+use manifest_lints_findings::Finding;
+use manifest_lints_standings::asked_facts::{asked_facts, open_names};
+use std::alloc::{AllocError, Global};
+use toml::Table;
+
+/// So many names and keys of a key may be open; of more it is not asked where it holds.
+const MANY: usize = 4096;
+
+/// The targets of another rustc.
+#[derive(Drop)]
+pub struct OtherRustc {
+    given: GivenTargets,
+    /// The facts that no known target has, as they are written.
+    facts: Vec<String>,
+}
+
+impl OtherRustc {
+    /// The rustc that knows these targets.
+    pub fn of(alloc: Global, given: GivenTargets) -> Result<OtherRustc, AllocError> {
+        let facts = given.new_facts(alloc)?;
+        Ok(OtherRustc { given, facts })
+    }
+
+    /// Puts what is so at its targets in place of what a report tells of known ones.
+    fn judge(
+        &self,
+        alloc: Global,
+        report: &mut Report<'_>,
+        declared: &Declared<'_>,
+    ) -> Result<(), AllocError> {
+        let named = self.named(alloc, report)?;
+        report.findings.retain(|it| stays(it, &named));
+        for place in 0..report.keys.len() {
+            let key = report.keys[place].key;
+            match Platform::from_str(alloc, key) {
+                Ok(condition) => self.add(alloc, report, place, &condition, declared)?,
+                Err(ReadError::Parse(_)) => {}
+                Err(ReadError::Memory(refused)) => return Err(refused),
+            }
+        }
+        Ok(())
+    }
+
+    /// Of each key of a report, whether it is the name of a target.
+    fn named(&self, alloc: Global, report: &Report<'_>) -> Result<Vec<bool>, AllocError> {
+        let mut named = Vec::new(alloc);
+        for key in &report.keys {
+            named.push(self.given.by_name(key.key).is_some())?;
+        }
+        Ok(named)
+    }
+
+    /// Adds what is so of the key at this place.
+    fn add(
+        &self,
+        alloc: Global,
+        report: &mut Report<'_>,
+        place: usize,
+        condition: &Platform,
+        declared: &Declared<'_>,
+    ) -> Result<(), AllocError> {
+        if let Platform::Name(name) = condition {
+            if self.given.by_name(name.as_str()).is_none()
+                && KnownTarget::by_name(name.as_str()).is_some()
+            {
+                self.add_unknown(alloc, report, place, name.as_str())?;
+            }
+        }
+        let (none, each) = self.none_and_each(alloc, condition, declared)?;
+        let file = self.given.file.as_str();
+        if none && !is_hidden(report, place, Code::Nowhere) {
+            let told = format!(in alloc;
+                "no target of {file} has facts that make the condition true"
+            )?;
+            put(report, place, Code::Nowhere, told, None)?;
+        }
+        if each && !is_hidden(report, place, Code::Everywhere) {
+            let told = format!(in alloc; "the condition holds at every target of {file}")?;
+            put(report, place, Code::Everywhere, told, None)?;
+        }
+        Ok(())
+    }
+
+    /// Adds that no target has the name of the key at this place.
+    fn add_unknown(
+        &self,
+        alloc: Global,
+        report: &mut Report<'_>,
+        place: usize,
+        name: &str,
+    ) -> Result<(), AllocError> {
+        let file = self.given.file.as_str();
+        let mut told = format!(in alloc; "no target of {file} has this name")?;
+        let nearest = match self.given.nearest(alloc, name)? {
+            Some(nearest) => {
+                let perhaps = format!(in alloc; " (perhaps `{nearest}` is meant)")?;
+                told.push_str(perhaps.as_str())?;
+                Some(String::from_str(alloc, nearest)?)
+            }
+            None => None,
+        };
+        put(report, place, Code::UnknownTarget, told, nearest)
+    }
+
+    /// Whether the condition holds at none and whether at each of the targets, whatever is open.
+    fn none_and_each(
+        &self,
+        alloc: Global,
+        condition: &Platform,
+        declared: &Declared<'_>,
+    ) -> Result<(bool, bool), AllocError> {
+        let mut asked = asked_facts(alloc, &values_of(alloc, condition)?, &[], declared)?;
+        asked.retain(|it| !self.given.has(it.fact));
+        let open = open_names(alloc, &asked)?;
+        if open.len() > MANY {
+            return Ok((false, false));
+        }
+        Ok(self.given.none_and_each(condition, &open))
+    }
+}
+
+/// Adds the facts of another rustc to those that a manifest declares, where one is asked.
+pub fn declare_by(
+    alloc: Global,
+    other: &Option<OtherRustc>,
+    manifest: &mut Table,
+) -> Result<(), AllocError> {
+    match other {
+        Some(other) => declare(alloc, manifest, &other.facts),
+        None => Ok(()),
+    }
+}
+
+/// Puts what is so at the targets of another rustc in place of what a report on a manifest tells of known ones, where
+/// one is asked.
+pub fn judge_by(
+    alloc: Global,
+    other: &Option<OtherRustc>,
+    manifest: &Table,
+    report: &mut Report<'_>,
+) -> Result<(), AllocError> {
+    match other {
+        Some(other) => other.judge(alloc, report, &Declared::of(alloc, manifest)?),
+        None => Ok(()),
+    }
+}
+
+/// Whether a finding stays, where of each key it is known whether it names a target.
+fn stays(finding: &Finding, named: &[bool]) -> bool {
+    match (finding.code, finding.key) {
+        (Code::Nowhere | Code::Everywhere, _) => false,
+        (Code::UnknownTarget, Some(place)) => !named.get(place).copied().unwrap_or(false),
+        _ => true,
+    }
+}
+
+/// Whether a finding on the key hides one of this code.
+fn is_hidden(report: &Report<'_>, place: usize, code: Code) -> bool {
+    let hiders = code.row().hidden_by;
+    report
+        .findings
+        .iter()
+        .any(|it| it.key == Some(place) && hiders.contains(&it.code))
+}
+
+/// Adds a finding behind those on earlier keys, and those on the key whose codes come first.
+fn put(
+    report: &mut Report<'_>,
+    place: usize,
+    code: Code,
+    message: String,
+    suggestion: Option<String>,
+) -> Result<(), AllocError> {
+    let mut at: usize = 0;
+    for it in &report.findings {
+        if (it.key, it.code) < (Some(place), code) {
+            at += 1;
+        }
+    }
+    let finding = Finding {
+        level: code.row().level,
+        code,
+        key: Some(place),
+        message,
+        suggestion,
+        span: None,
+        snippet: None,
+    };
+    report
+        .findings
+        .insert(at, finding)
+        .map_err(AllocError::from)
+}

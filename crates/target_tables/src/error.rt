@@ -1,0 +1,34 @@
+//! Why a text is no table.
+
+use cargo_platform::ParseError;
+use std::alloc::AllocError;
+
+/// Why a text is no table.
+#[derive(Debug, Drop)]
+pub enum TableError {
+    /// This line spells no fact, and a line of a target stands before it.
+    Line {
+        /// The number of the line in the whole text, counted from 1.
+        number: usize,
+        /// What is wrong with it.
+        error: ParseError,
+    },
+    /// This line names a target that an earlier line names.
+    Twice {
+        /// The number of the line in the whole text, counted from 1.
+        number: usize,
+    },
+    /// Memory was refused.
+    Memory(AllocError),
+}
+
+impl From<AllocError> for TableError {
+    ghost use Rattle.std.specs.Prelude.{◌≡◌};
+    ghost use Rattle.target_tables.specs.declared.error.TableError.TheVariants.{Memory};
+
+    ghost from_gives = { λ a e. e ≡ Memory a };
+
+    fn from(error: AllocError) -> TableError {
+        TableError::Memory(error)
+    }
+}

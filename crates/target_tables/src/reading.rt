@@ -1,0 +1,89 @@
+//! A table, read from a text.
+
+ghost use Rattle.std.specs.Prelude.{◌≡◌, ◌≢◌, ◌<◌, ◌≤◌, ◌+◌, ℕ, ◌^◌, map, length, IfOk};
+ghost use Rattle.cargo_platform.specs.Lines.{lines_of};
+ghost use Rattle.target_tables.specs.Rows.{row_of, rows_of, AreRows, AreDistinct};
+ghost use Rattle.target_tables.specs.Blocks.{IsBlock, IsNoFactOf, IsNoFactBehind};
+ghost use Rattle.cargo_platform.specs.Trees.{value_of};
+ghost use Rattle.cargo_platform.specs.FactLines.{SpellFacts};
+ghost use Rattle.target_tables.specs.Refusals.{IfLine, IfTwice, IsNoFact, IsRepeat};
+
+use crate::blocks::{behind_empty, filled_front, first_line};
+use crate::error::TableError;
+use crate::table::{TargetRow, TargetTable, place_of};
+use cargo_platform::{Cfg, FactsError, read_facts};
+use std::alloc::{AllocError, Global};
+
+/// The facts of a target, of which this many lines of the whole text stand before the first.
+fn read_block(alloc: Global, before: usize, text: &str) -> Result<Vec<Cfg>, TableError>
+    requires { before + length (lines_of text.now) < 2 ^ 64 }
+    ensures facts { IfOk result (λ v. SpellFacts (lines_of text.now) (map value_of v.items)) }
+    ensures refused { IfLine result (λ n e. IsNoFactOf (lines_of text.now) before n e) }
+    ensures not_twice { IfTwice result (λ n. ⊥) }
+{
+    match read_facts(alloc, text) {
+        Ok(facts) => Ok(facts),
+        Err(FactsError::Line { number, error }) => Err(TableError::Line {
+            number: before + number,
+            error,
+        }),
+        Err(FactsError::Memory(refused)) => Err(TableError::Memory(refused)),
+    }
+}
+
+/// The row of a target with this name, whose facts stand at the beginning of a text, behind this many lines of the
+/// whole text, and what stands behind them.
+fn read_row<'a>(
+    alloc: Global,
+    name: &str,
+    before: usize,
+    text: &'a str,
+) -> Result<(TargetRow, &'a str), TableError>
+    requires { before + length text.now < 2 ^ 64 }
+    ensures row { IfOk result (λ r. IsBlock (lines_of text.now) (row_of r.0).facts (lines_of r.1.now)) }
+    ensures name { IfOk result (λ r. (row_of r.0).name ≡ name.now) }
+    ensures length { IfOk result (λ r. length (row_of r.0).facts + length r.1.now ≤ length text.now) }
+    ensures refused { IfLine result (λ n e. IsNoFactBehind (lines_of text.now) before n e) }
+    ensures not_twice { IfTwice result (λ n. ⊥) }
+{
+    let (front, behind) = filled_front(alloc, text)?;
+    let facts = read_block(alloc, before, front.as_str())?;
+    let name = String::from_str(alloc, name)?;
+    Ok((TargetRow { name, facts }, behind))
+}
+
+/// Reads the targets of a rustc: for each a line with its name, and then its facts, one a line, as `rustc --print cfg
+/// --target NAME` prints them. Empty lines part the targets; more of them may stand before, between and behind.
+///
+/// A line ends with `\n` and with nothing else. A text with a line that spells no fact is refused with
+/// `TableError::Line`, and one that names a target for the second time with `TableError::Twice`, whichever comes first.
+/// Where memory is refused the answer is `TableError::Memory`.
+pub fn read_table(alloc: Global, text: &str) -> Result<TargetTable, TableError>
+    // The rows are exactly the blocks of the text, in order: each with its name, and the facts that its lines spell.
+    ensures rows { IfOk result (λ table. AreRows (lines_of text.now) (rows_of table)) }
+    // No two rows have the same name.
+    ensures distinct { IfOk result (λ table. AreDistinct (rows_of table)) }
+    // The line of the error is the first that spells no fact or names a target again, by its number in the whole text.
+    ensures no_fact { IfLine result (λ n e. IsNoFact (lines_of text.now) n e) }
+    ensures twice { IfTwice result (λ n. IsRepeat (lines_of text.now) n) }
+{
+    let _size = text.len();
+    let mut rows = Vec::new(alloc);
+    let (mut rest, mut passed) = behind_empty(text);
+    'blocks: while !rest.is_empty() {
+        let (name, facts) = first_line(rest);
+        passed += 1;
+        if place_of(&rows, name).is_some() {
+            return Err(TableError::Twice { number: passed });
+        }
+        let (row, behind) = read_row(alloc, name, passed, facts)?;
+        passed += row.facts.len();
+        if rows.push(row).is_err() {
+            return Err(TableError::Memory(AllocError));
+        }
+        let (next, empty) = behind_empty(behind);
+        passed += empty;
+        rest = next;
+    }
+    Ok(TargetTable { rows })
+}

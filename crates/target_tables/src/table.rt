@@ -1,0 +1,113 @@
+//! A table of targets, its rows, and those at which a condition holds.
+
+ghost use Rattle.std.specs.Prelude.{◌≡◌, ◌≢◌, ◌<◌, ◌↔◌, ℕ, [], map, length, IsTrue, IfOk, IfSome, IfNone};
+ghost use Rattle.std.specs.Prelude.{string_bytes};
+ghost use Rattle.std.specs.List.{slice_index_or, filter, range_with_len};
+ghost use Rattle.cargo_platform.specs.Trees.{value_of, condition_of};
+ghost use Rattle.cargo_platform.specs.Facts.{fact_set, IsTrueCondition};
+ghost use Rattle.target_tables.specs.Rows.{Row, row_of, rows_of, name_at, HasNoRow, IsRowNamed, holds_at};
+
+use cargo_platform::{Cfg, Platform};
+use std::alloc::{AllocError, Global};
+
+/// A target of a table.
+#[derive(Debug, Drop)]
+pub struct TargetRow {
+    pub(crate) name: String,
+    pub(crate) facts: Vec<Cfg>,
+}
+
+impl TargetRow {
+    /// Its name.
+    pub fn name(&self) -> &str
+        ensures { result.now ≡ (row_of self.now).name }
+    {
+        self.name.as_str()
+    }
+
+    /// Its facts, in the order of their lines.
+    pub fn facts(&self) -> &[Cfg]
+        ensures { map value_of result.now ≡ (row_of self.now).facts }
+    {
+        &self.facts
+    }
+
+    /// Whether the condition holds for the target, by its name and its facts.
+    pub fn matches(&self, platform: &Platform) -> bool
+        // The answer is yes exactly if the condition holds at the target.
+        ensures { IsTrue result ↔ IsTrueCondition (row_of self.now).name (fact_set (row_of self.now).facts)
+            (condition_of platform.now) }
+    {
+        platform.matches(self.name.as_str(), &self.facts)
+    }
+}
+
+/// The targets that some rustc knows.
+#[derive(Debug, Drop)]
+pub struct TargetTable {
+    pub(crate) rows: Vec<TargetRow>,
+}
+
+impl TargetTable {
+    /// The rows, in the order of the text.
+    pub fn rows(&self) -> &[TargetRow]
+        ensures { map row_of result.now ≡ rows_of self.now }
+    {
+        &self.rows
+    }
+
+    /// The row of the target with this name.
+    pub fn by_name(&self, name: &str) -> Option<&TargetRow>
+        // The row is one of the table, and has the name. Without an answer no row has it.
+        ensures found { IfSome result (λ row. IsRowNamed (rows_of self.now) name.now (row_of row.now)) }
+        ensures none { IfNone result (HasNoRow (rows_of self.now) name.now) }
+    {
+        match place_of(&self.rows, name) {
+            Some(place) => Some(&self.rows[place]),
+            None => None,
+        }
+    }
+
+    /// The places of the rows at which the condition holds, by their names and facts. It refuses only where memory is
+    /// refused.
+    pub fn matching(&self, alloc: Global, platform: &Platform) -> Result<Vec<usize>, AllocError>
+        // They are the places of all rows at which the condition holds, and of no other, in order.
+        ensures { IfOk result (λ places. places.items
+            ≡ filter (holds_at (rows_of self.now) (condition_of platform.now))
+            (range_with_len 0 (length (rows_of self.now)))) }
+    {
+        places_where(alloc, &self.rows, platform)
+    }
+}
+
+/// The place of the row with this name.
+pub(crate) fn place_of(rows: &[TargetRow], name: &str) -> Option<usize>
+    ensures found { IfSome result (λ k. name_at (map row_of rows.now) k ≡ name.now) }
+    ensures within { IfSome result (λ k. k < length rows.now) }
+    ensures none { IfNone result (HasNoRow (map row_of rows.now) name.now) }
+{
+    'rows: for i in 0..rows.len() {
+        if rows[i].name.as_str() == name {
+            return Some(i);
+        }
+    }
+    None
+}
+
+/// The places of the rows at which the condition holds.
+fn places_where(
+    alloc: Global,
+    rows: &[TargetRow],
+    platform: &Platform,
+) -> Result<Vec<usize>, AllocError>
+    ensures { IfOk result (λ places. places.items
+        ≡ filter (holds_at (map row_of rows.now) (condition_of platform.now)) (range_with_len 0 (length rows.now))) }
+{
+    let mut places = Vec::new(alloc);
+    'rows: for i in 0..rows.len() {
+        if rows[i].matches(platform) {
+            places.push(i)?;
+        }
+    }
+    Ok(places)
+}
