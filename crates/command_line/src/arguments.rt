@@ -345,6 +345,7 @@ const GRAPH: Subcommand = Subcommand {
             given: Given::Value("NAME"),
             help: "Asks what build scripts and procedural macros need of this target",
         },
+        FACTS_OF,
         Argument {
             name: "package",
             given: Given::Values("NAME"),

@@ -1,10 +1,12 @@
 //! What is asked of a graph.
 
+use crate::groups::Groups;
 use key_answers::answer::Refusal;
 use key_answers::printing::shown_name;
 use known_targets::{COUNT, KnownTarget, RUSTC_VERSION, TargetSet};
 use package_graphs::Kinds;
 use std::alloc::{AllocError, Global};
+use target_tables::TargetTable;
 
 /// What is printed.
 #[derive(Clone, Copy, Debug, PartialEq, Eq, Drop)]
@@ -25,6 +27,9 @@ pub struct Words<'a> {
     /// The kinds of dependencies that are followed, joined by commas; nothing stands for all.
     pub edges: Option<&'a str>,
     pub host: Option<&'a str>,
+    /// A file of the targets of another rustc, which are meant in place of the known ones: its name, as it is shown, and
+    /// these targets.
+    pub facts_of: Option<(&'a str, &'a TargetTable)>,
     /// Names of the workspace's members that are roots; none stands for all members.
     pub packages: &'a [&'a str],
     pub show: Option<&'a str>,
@@ -60,6 +65,8 @@ pub struct Asked<'a> {
     pub are_named: bool,
     pub kinds: Kinds,
     pub host: Option<KnownTarget>,
+    /// The targets of a file, where its targets are meant. Then a known target stands for a group of them.
+    pub groups: Option<&'a Groups<'a>>,
     pub packages: &'a [&'a str],
     pub show: Show,
     pub of: &'a str,
@@ -86,7 +93,7 @@ pub fn unusable_words(alloc: Global, text: &str) -> Refusal {
 fn no_target(alloc: Global, name: &str) -> Result<String, AllocError> {
     let shown = shown_name(alloc, name)?;
     let hint = if name.ends_with(".json") {
-        "; `graph` takes no target specification, and `select` its facts"
+        "; `graph` takes no target specification, and --facts-of its facts"
     } else {
         ""
     };
@@ -104,9 +111,10 @@ fn target_of(alloc: Global, name: &str) -> Result<KnownTarget, Refusal> {
     }
 }
 
-/// The targets with these names, or all known ones where there are none.
-fn targets_of(alloc: Global, names: &[&str]) -> Result<TargetSet, Refusal> {
-    if names.is_empty() {
+/// The targets with these names, or all known ones where there are none. Those of a file are found later.
+fn targets_of(alloc: Global, words: &Words<'_>) -> Result<TargetSet, Refusal> {
+    let names = words.targets;
+    if names.is_empty() || words.facts_of.is_some() {
         return Ok(TargetSet::all());
     }
     let mut targets = TargetSet::none();
@@ -147,11 +155,11 @@ fn kinds_of(alloc: Global, words: Option<&str>) -> Result<Kinds, Refusal> {
     Ok(kinds)
 }
 
-/// The host of this name, where one is named.
-fn host_of(alloc: Global, name: Option<&str>) -> Result<Option<KnownTarget>, Refusal> {
-    match name {
-        Some(name) => Ok(Some(target_of(alloc, name)?)),
-        None => Ok(None),
+/// The host, where one is named. One of a file is found later.
+fn host_of(alloc: Global, words: &Words<'_>) -> Result<Option<KnownTarget>, Refusal> {
+    match words.host {
+        Some(name) if words.facts_of.is_none() => Ok(Some(target_of(alloc, name)?)),
+        _ => Ok(None),
     }
 }
 
@@ -177,6 +185,7 @@ impl<'a> Asked<'a> {
             are_named: false,
             kinds: ALL_KINDS,
             host,
+            groups: None,
             packages: &[],
             show: Show::Packages,
             of: "",
@@ -195,9 +204,9 @@ impl<'a> Asked<'a> {
             let text = "`--show why` and `--of NAME` go together";
             return Err(unusable_words(alloc, text));
         }
-        let targets = targets_of(alloc, words.targets)?;
+        let targets = targets_of(alloc, words)?;
         let kinds = kinds_of(alloc, words.edges)?;
-        let host = host_of(alloc, words.host)?;
+        let host = host_of(alloc, words)?;
         let are_named = !words.targets.is_empty();
         Ok(Asked {
             targets,
@@ -205,11 +214,29 @@ impl<'a> Asked<'a> {
             are_named,
             kinds,
             host,
+            groups: None,
             packages: words.packages,
             show,
             of: words.of.unwrap_or(""),
             json: words.json,
             html: words.html,
         })
+    }
+    /// The same, asked of the targets of a file.
+    pub fn in_groups(self, groups: &'a Groups<'a>) -> Asked<'a> {
+        let mut asked = self;
+        asked.targets = groups.targets();
+        asked.count = groups.count_of(asked.targets);
+        asked.host = groups.host();
+        asked.groups = Some(groups);
+        asked
+    }
+
+    /// How many targets a set has.
+    pub fn count_of(&self, targets: TargetSet) -> usize {
+        match self.groups {
+            Some(groups) => groups.count_of(targets),
+            None => targets.len(),
+        }
     }
 }

@@ -1,6 +1,7 @@
 //! `--show edges`: each dependency that is followed, with its condition and the targets at which it is.
 
 use crate::asked::Asked;
+use crate::conditions::Finder;
 use crate::graph::Graph;
 use crate::json::{push_comma, push_field, push_optional, push_targets, push_text};
 use crate::lines::{kind_word, push, shown_condition, shown_package, shown_targets};
@@ -8,7 +9,6 @@ use cargo_metadata::Kind;
 use cargo_platform::{CfgExpr, Platform, ReadError};
 use key_answers::answer::{Answer, Status};
 use known_targets::TargetSet;
-use known_targets::classes::Simple;
 use std::alloc::{AllocError, Global};
 
 /// A dependency of a package, by one of its kinds.
@@ -96,7 +96,7 @@ pub fn show_edges(
     asked: &Asked<'_>,
 ) -> Result<Answer, AllocError> {
     let mut answer = Answer::of(alloc, String::new(alloc), Status::Fine);
-    let simple = Simple::new(alloc)?;
+    let finder = Finder::of(alloc, asked, Vec::new(alloc))?;
     let mut count: usize = 0;
     for from in &graph.order {
         let mut edges = edges_of(alloc, graph, *from)?;
@@ -113,7 +113,7 @@ pub fn show_edges(
                     graph,
                     edge,
                     group,
-                    &simple,
+                    &finder,
                     asked,
                 )?;
             } else {
@@ -194,29 +194,29 @@ fn push_object(
     graph: &Graph<'_>,
     edge: &Edge<'_>,
     group: &str,
-    simple: &Simple,
+    finder: &Finder<'_>,
     asked: &Asked<'_>,
 ) -> Result<(), AllocError> {
     push_edge(text, alloc, graph, edge)?;
-    push_targets(text, alloc, followed(graph, edge, asked), asked.targets)?;
+    push_targets(text, alloc, followed(graph, edge, asked), asked)?;
     push_field(text, ", ", "simple")?;
-    let smaller = smaller_condition(alloc, edge, simple)?;
+    let smaller = smaller_condition(alloc, edge, finder)?;
     push_optional(text, alloc, smaller.as_ref().map(|text| text.as_str()))?;
     push_field(text, ", ", "group")?;
     push(text, group)?;
     push(text, "}\n")
 }
 
-/// A shorter condition that holds at the same known targets, where the rules of `Simple` find one.
+/// A shorter condition that holds at the same targets: one fact or a name, where there is one.
 fn smaller_condition(
     alloc: Global,
     edge: &Edge<'_>,
-    simple: &Simple,
+    finder: &Finder<'_>,
 ) -> Result<Option<String>, AllocError> {
     let Some(condition) = canonical(alloc, &edge.condition)? else {
         return Ok(None);
     };
-    match simple.condition(alloc, edge.holds)? {
+    match finder.simple(alloc, edge.holds)? {
         Some(found) => {
             let found = format!(in alloc; "{found}")?;
             Ok(if found.len() < condition.len() {

@@ -126,6 +126,6 @@ fn push_object(
     push_text(text, alloc, name)?;
     push_field(text, ", ", "side")?;
     push_text(text, alloc, side_word(side))?;
-    push_targets(text, alloc, targets, asked.targets)?;
+    push_targets(text, alloc, targets, asked)?;
     push(text, "}\n")
 }

@@ -3,6 +3,7 @@
 use crate::asked::{Asked, Show, Words};
 use crate::edges::show_edges;
 use crate::features::show_features;
+use crate::groups::{AskedTable, grouped};
 use crate::licences::{Audit, show_licences};
 use crate::packages::show_packages;
 use crate::page::page_of;
@@ -175,16 +176,16 @@ fn linked_from<'a>(
     Ok(linked)
 }
 
-/// The graph of a document that is JSON.
+/// The graph of what a document has.
 fn graph_of<'a>(
     alloc: Global,
     file: &str,
     document: &'a Value,
+    metadata: Metadata<'a>,
+    linked: Linked<'a>,
     asked: &Asked<'_>,
     words: &Words<'_>,
 ) -> Result<Graph<'a>, Refusal> {
-    let metadata = metadata_of(alloc, file, document)?;
-    let linked = linked_from(alloc, file, &metadata, asked.packages)?;
     let sets = present_packages(alloc, &linked.packages, asked.kinds, asked.host)?;
     let order = in_order(alloc, &linked.described)?;
     let features = features_of(alloc, file, document, &metadata, &linked, asked, words)?;
@@ -232,25 +233,49 @@ impl Report {
     }
 }
 
+/// The report on a graph.
+fn report_on_graph(
+    alloc: Global,
+    file: &str,
+    graph: &Graph<'_>,
+    asked: &Asked<'_>,
+    audit: &Option<Audit<'_>>,
+) -> Result<Report, AllocError> {
+    let answer = answer_of(alloc, file, graph, asked, audit)?;
+    if !asked.html || answer.status == Status::Unusable {
+        return Ok(Report::without_page(answer));
+    }
+    let page = page_of(alloc, graph, asked)?;
+    Ok(Report {
+        answer,
+        page: Some(page),
+    })
+}
+
 /// The report on a document that is JSON.
 fn report_on_document(
     alloc: Global,
     file: &str,
     document: &Value,
     asked: &Asked<'_>,
+    table: Option<AskedTable<'_>>,
     audit: &Option<Audit<'_>>,
     words: &Words<'_>,
 ) -> Result<Report, Refusal> {
-    let graph = graph_of(alloc, file, document, asked, words)?;
-    let answer = answer_of(alloc, file, &graph, asked, audit)?;
-    if !asked.html || answer.status == Status::Unusable {
-        return Ok(Report::without_page(answer));
+    let metadata = metadata_of(alloc, file, document)?;
+    let mut linked = linked_from(alloc, file, &metadata, asked.packages)?;
+    match table {
+        Some(table) => {
+            let groups = grouped(alloc, table, &metadata, &mut linked)?;
+            let asked = asked.in_groups(&groups);
+            let graph = graph_of(alloc, file, document, metadata, linked, &asked, words)?;
+            Ok(report_on_graph(alloc, file, &graph, &asked, audit)?)
+        }
+        None => {
+            let graph = graph_of(alloc, file, document, metadata, linked, asked, words)?;
+            Ok(report_on_graph(alloc, file, &graph, asked, audit)?)
+        }
     }
-    let page = page_of(alloc, &graph, asked)?;
-    Ok(Report {
-        answer,
-        page: Some(page),
-    })
 }
 
 /// Why a text is no JSON.
@@ -279,10 +304,19 @@ fn report_on_text(
     words: &Words<'_>,
 ) -> Result<Report, Refusal> {
     let asked = Asked::of(alloc, words)?;
+    let table = AskedTable::of(alloc, words)?;
     let audit = Audit::of(alloc, words)?;
     let file = shown_text(alloc, file)?;
     let document = document_of(alloc, file.as_str(), text)?;
-    report_on_document(alloc, file.as_str(), &document, &asked, &audit, words)
+    report_on_document(
+        alloc,
+        file.as_str(),
+        &document,
+        &asked,
+        table,
+        &audit,
+        words,
+    )
 }
 
 /// The report to the words on what `cargo metadata` printed; `file` is where that was read.

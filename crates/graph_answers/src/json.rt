@@ -1,5 +1,7 @@
 //! JSON, written as text: an object a line. No text of a document can end a line or move one.
 
+use crate::asked::Asked;
+use crate::groups::Groups;
 use crate::lines::push;
 use cargo_platform::shown_text;
 use known_targets::TargetSet;
@@ -90,20 +92,24 @@ pub fn push_targets(
     text: &mut String,
     alloc: Global,
     targets: TargetSet,
-    asked: TargetSet,
+    asked: &Asked<'_>,
 ) -> Result<(), AllocError> {
     push_field(text, ", ", "targets")?;
-    push_count(text, alloc, targets.len())?;
+    push_count(text, alloc, asked.count_of(targets))?;
     push_field(text, ", ", "at")?;
-    if targets.equals(asked) {
+    if targets.equals(asked.targets) {
         return push(text, "\"all\"");
     }
-    push_names(text, targets)
+    push(text, "[")?;
+    match asked.groups {
+        Some(groups) => push_names(text, alloc, groups, targets)?,
+        None => push_known_names(text, targets)?,
+    }
+    push(text, "]")
 }
 
-/// Appends the names of targets, as an array.
-pub fn push_names(text: &mut String, targets: TargetSet) -> Result<(), AllocError> {
-    push(text, "[")?;
+/// Appends the names of known targets, as members of an array.
+fn push_known_names(text: &mut String, targets: TargetSet) -> Result<(), AllocError> {
     let mut is_first = true;
     for target in targets.iter() {
         push_comma(text, is_first)?;
@@ -112,7 +118,23 @@ pub fn push_names(text: &mut String, targets: TargetSet) -> Result<(), AllocErro
         push(text, target.name())?;
         push(text, "\"")?;
     }
-    push(text, "]")
+    Ok(())
+}
+
+/// Appends the names of targets of a file, as members of an array.
+fn push_names(
+    text: &mut String,
+    alloc: Global,
+    groups: &Groups<'_>,
+    targets: TargetSet,
+) -> Result<(), AllocError> {
+    let mut is_first = true;
+    for name in &groups.names(alloc, targets)? {
+        push_comma(text, is_first)?;
+        is_first = false;
+        push_text(text, alloc, name)?;
+    }
+    Ok(())
 }
 
 /// Appends a comma and a space before each part but the first.

@@ -3,10 +3,13 @@
 #![tactic(auto)]
 
 pub mod asked;
+mod conditions;
 mod edges;
 mod faults;
 mod features;
+mod file_conditions;
 mod graph;
+mod groups;
 mod json;
 mod licences;
 mod lines;

@@ -287,7 +287,7 @@ fn push_object(
     push_package(text, alloc, graph, index)?;
     push_field(text, ", ", "license")?;
     push_optional(text, alloc, license)?;
-    push_targets(text, alloc, graph.at(index, asked), asked.targets)?;
+    push_targets(text, alloc, graph.at(index, asked), asked)?;
     push_field(text, ", ", "finding")?;
     push_text(text, alloc, finding_word(finding))?;
     match finding {

@@ -38,12 +38,12 @@ pub fn shown_targets(
         return String::from_str(alloc, "nowhere");
     }
     if asked.are_named {
-        return joined_names(alloc, targets);
+        return joined_names(alloc, targets, asked);
     }
     if targets.equals(asked.targets) {
         return String::from_str(alloc, "all");
     }
-    shown_count(alloc, targets.len())
+    shown_count(alloc, asked.count_of(targets))
 }
 
 /// How many targets there are, in words.
@@ -56,13 +56,33 @@ pub fn shown_count(alloc: Global, count: usize) -> Result<String, AllocError> {
 }
 
 /// The names of targets, joined by commas.
-pub fn joined_names(alloc: Global, targets: TargetSet) -> Result<String, AllocError> {
+pub fn joined_names(
+    alloc: Global,
+    targets: TargetSet,
+    asked: &Asked<'_>,
+) -> Result<String, AllocError> {
+    if let Some(groups) = asked.groups {
+        return joined_texts(alloc, &groups.names(alloc, targets)?);
+    }
     let mut text = String::new(alloc);
     for target in targets.iter() {
         if !text.is_empty() {
             push(&mut text, ", ")?;
         }
         push(&mut text, target.name())?;
+    }
+    Ok(text)
+}
+
+/// Names of a file's targets as they are shown, joined by commas.
+fn joined_texts(alloc: Global, names: &[&str]) -> Result<String, AllocError> {
+    let mut text = String::new(alloc);
+    for name in names {
+        if !text.is_empty() {
+            push(&mut text, ", ")?;
+        }
+        let name = shown(alloc, name)?;
+        push(&mut text, name.as_str())?;
     }
     Ok(text)
 }

@@ -189,7 +189,7 @@ fn push_object(
     push_package(text, alloc, graph, index)?;
     push_field(text, ", ", "license")?;
     push_optional(text, alloc, described.license)?;
-    push_targets(text, alloc, targets, asked.targets)?;
+    push_targets(text, alloc, targets, asked)?;
     push_field(text, ", ", "kinds")?;
     reached.push(text)?;
     push_reasons(text, alloc, reasons, index, asked)?;

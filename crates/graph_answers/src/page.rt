@@ -70,6 +70,14 @@ fn push_number(page: &mut Page, alloc: Global, number: usize) -> Result<(), Allo
     add_text(page, text.as_str())
 }
 
+/// Whose targets are meant.
+fn source_of(alloc: Global, asked: &Asked<'_>) -> Result<String, AllocError> {
+    match asked.groups {
+        Some(groups) => String::from_str(alloc, groups.file()),
+        None => format!(in alloc; "rustc {RUSTC_VERSION}"),
+    }
+}
+
 /// Writes how many packages and targets the page is of.
 fn push_summary(
     page: &mut Page,
@@ -85,8 +93,9 @@ fn push_summary(
         }
     }
     let targets = shown_count(alloc, asked.count)?;
+    let source = source_of(alloc, asked)?;
     let text = format!(in alloc;
-        "{count} of {all} packages are in the build, at some of {targets} of rustc {RUSTC_VERSION}."
+        "{count} of {all} packages are in the build, at some of {targets} of {source}."
     )?;
     add_markup(page, "<p>")?;
     add_text(page, text.as_str())?;
@@ -132,10 +141,10 @@ fn push_class(
         add_text(page, condition.as_str())?;
     }
     add_markup(page, "</code></td><td>")?;
-    let count = shown_count(alloc, targets.len())?;
+    let count = shown_count(alloc, asked.count_of(targets))?;
     add_text(page, count.as_str())?;
     add_markup(page, ": <code>")?;
-    let names = joined_names(alloc, targets)?;
+    let names = joined_names(alloc, targets, asked)?;
     add_text(page, names.as_str())?;
     add_markup(page, "</code></td></tr>\n")
 }

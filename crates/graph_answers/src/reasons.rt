@@ -223,7 +223,7 @@ pub fn push_reasons(
         is_first = false;
         push_field(text, "{", "reason")?;
         push_text(text, alloc, reasons.told[i].0.word)?;
-        push_targets(text, alloc, targets, asked.targets)?;
+        push_targets(text, alloc, targets, asked)?;
         push(text, "}")?;
     }
     push(text, "]")

@@ -1,18 +1,19 @@
 //! `--show targets`: classes of targets that no package tells apart, and which packages each has.
 
 use crate::asked::Asked;
+use crate::conditions::Finder;
 use crate::edges::edges_of;
 use crate::graph::Graph;
 use crate::json::{push_comma, push_count, push_field, push_optional, push_targets, push_text};
 use crate::lines::{joined_names, push, shown_count, shown_package};
-use cargo_platform::Cfg;
+use cargo_platform::{Cfg, shown_text};
 use expression_folds::values_of;
 use key_answers::answer::{Answer, Status};
-use known_targets::classes::{Simple, classes, covering};
-use known_targets::{KnownFact, TargetSet, having};
+use known_targets::TargetSet;
+use known_targets::classes::classes;
 use std::alloc::{AllocError, Global};
 
-/// A class of targets, and a condition that holds at exactly these of all known targets, where one was found.
+/// A class of targets, and a condition that holds at exactly these of all targets, where one was found.
 #[derive(Drop)]
 pub struct Class {
     pub targets: TargetSet,
@@ -39,8 +40,8 @@ fn first_of(set: TargetSet) -> usize {
     }
 }
 
-/// The facts that the conditions of the graph ask for, each with its targets.
-fn asked_facts(alloc: Global, graph: &Graph<'_>) -> Result<Vec<KnownFact>, AllocError> {
+/// The facts that the conditions of the graph ask for, each once.
+fn asked_facts(alloc: Global, graph: &Graph<'_>) -> Result<Vec<Cfg>, AllocError> {
     let mut values = Vec::new(alloc);
     for i in 0..graph.linked.packages.len() {
         for edge in &edges_of(alloc, graph, i)? {
@@ -54,44 +55,33 @@ fn asked_facts(alloc: Global, graph: &Graph<'_>) -> Result<Vec<KnownFact>, Alloc
     }
     values.sort()?;
     values.dedup();
-    let mut facts = Vec::new(alloc);
-    for fact in values {
-        let targets = having(&fact);
-        facts.push(KnownFact { fact, targets })?;
-    }
-    Ok(facts)
+    Ok(values)
 }
 
 /// The classes in the order of their first targets, each with its condition.
-fn classes_of(alloc: Global, graph: &Graph<'_>) -> Result<Vec<Class>, AllocError> {
+fn classes_of(
+    alloc: Global,
+    graph: &Graph<'_>,
+    asked: &Asked<'_>,
+) -> Result<Vec<Class>, AllocError> {
     let mut sets = classes(alloc, &different_sets(alloc, graph)?)?;
     sets.sort_by_key(|set| first_of(*set))?;
-    let simple = Simple::new(alloc)?;
-    let facts = asked_facts(alloc, graph)?;
+    let finder = Finder::of(alloc, asked, asked_facts(alloc, graph)?)?;
     let mut found = Vec::new(alloc);
     for targets in sets {
-        let condition = condition_of(alloc, targets, &simple, &facts)?;
+        let condition = condition_of(alloc, targets, &finder)?;
         found.push(Class { targets, condition })?;
     }
     Ok(found)
 }
 
-/// A condition that holds at exactly these targets: one fact or a name, else of the facts that the graph asks for, else
-/// of all facts.
+/// The text of a condition that holds at exactly these targets.
 fn condition_of(
     alloc: Global,
     targets: TargetSet,
-    simple: &Simple,
-    facts: &[KnownFact],
+    finder: &Finder<'_>,
 ) -> Result<Option<String>, AllocError> {
-    let mut found = simple.condition(alloc, targets)?;
-    if found.is_none() {
-        found = covering(alloc, facts, targets)?;
-    }
-    if found.is_none() {
-        found = covering(alloc, simple.facts(), targets)?;
-    }
-    match found {
+    match finder.condition(alloc, targets)? {
         Some(found) => Ok(Some(format!(in alloc; "{found}")?)),
         None => Ok(None),
     }
@@ -103,7 +93,7 @@ pub fn classes_at(
     graph: &Graph<'_>,
     asked: &Asked<'_>,
 ) -> Result<Vec<Class>, AllocError> {
-    let mut classes = classes_of(alloc, graph)?;
+    let mut classes = classes_of(alloc, graph, asked)?;
     classes.retain(|class| !class.targets.intersection(asked.targets).is_empty());
     Ok(classes)
 }
@@ -142,10 +132,11 @@ fn push_line(
     asked: &Asked<'_>,
 ) -> Result<(), AllocError> {
     let targets = class.targets.intersection(asked.targets);
-    let count = shown_count(alloc, targets.len())?;
-    let names = joined_names(alloc, targets)?;
+    let count = shown_count(alloc, asked.count_of(targets))?;
+    let names = joined_names(alloc, targets, asked)?;
     let line = match &class.condition {
         Some(condition) => {
+            let condition = shown_text(alloc, condition.as_str())?;
             format!(in alloc; "class {number}: {count} where {condition}: {names}\n")?
         }
         None => format!(in alloc; "class {number}: {count}: {names}\n")?,
@@ -220,7 +211,7 @@ fn push_object(
         text,
         alloc,
         class.targets.intersection(asked.targets),
-        asked.targets,
+        asked,
     )?;
     push_field(text, ", ", "packages")?;
     push(text, "[")?;

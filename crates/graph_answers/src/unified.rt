@@ -150,6 +150,6 @@ fn push_object(
         push_text(text, alloc, name)?;
     }
     push(text, "]")?;
-    push_targets(text, alloc, built.targets, asked.targets)?;
+    push_targets(text, alloc, built.targets, asked)?;
     push(text, "}\n")
 }

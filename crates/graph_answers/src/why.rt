@@ -72,7 +72,7 @@ pub fn show_why(
         if asked.json {
             push_objects(&mut answer.output, alloc, graph, *i, &ways, asked)?;
         } else {
-            push_lines(&mut answer.output, alloc, graph, *i, &ways)?;
+            push_lines(&mut answer.output, alloc, graph, *i, &ways, asked)?;
         }
     }
     if is_known {
@@ -104,6 +104,7 @@ fn push_lines(
     graph: &Graph<'_>,
     index: usize,
     ways: &[Way],
+    asked: &Asked<'_>,
 ) -> Result<(), AllocError> {
     let Some(described) = graph.described(index) else {
         return Ok(());
@@ -114,8 +115,8 @@ fn push_lines(
         return push(text, line.as_str());
     }
     for way in ways {
-        let count = shown_count(alloc, way.targets.len())?;
-        let names = joined_names(alloc, way.targets)?;
+        let count = shown_count(alloc, asked.count_of(way.targets))?;
+        let names = joined_names(alloc, way.targets, asked)?;
         let line = format!(in alloc; "{package}: {count}: {names}\n")?;
         push(text, line.as_str())?;
         push_path(text, alloc, graph, index, way)?;
@@ -165,13 +166,13 @@ fn push_objects(
 ) -> Result<(), AllocError> {
     if ways.is_empty() {
         push_package(text, alloc, graph, index)?;
-        push_targets(text, alloc, TargetSet::none(), asked.targets)?;
+        push_targets(text, alloc, TargetSet::none(), asked)?;
         push_field(text, ", ", "path")?;
         return push(text, "null}\n");
     }
     for way in ways {
         push_package(text, alloc, graph, index)?;
-        push_targets(text, alloc, way.targets, asked.targets)?;
+        push_targets(text, alloc, way.targets, asked)?;
         push_field(text, ", ", "path")?;
         push(text, "[")?;
         let mut is_first = true;

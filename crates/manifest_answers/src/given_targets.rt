@@ -87,6 +87,11 @@ impl GivenTargets {
         }
     }
 
+    /// They, in the order of the file.
+    pub fn table(&self) -> &TargetTable {
+        &self.table
+    }
+
     /// How many they are.
     pub fn count(&self) -> usize {
         self.table.rows().len()

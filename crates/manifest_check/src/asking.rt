@@ -39,7 +39,7 @@ fn facts_file<R: Files + Input + AllocGlobal>(
 }
 
 /// The targets of the file of another rustc, or of standard input, where one is named.
-fn given_targets<R: Files + Input + AllocGlobal>(
+pub fn given_targets<R: Files + Input + AllocGlobal>(
     rt: &R,
     matches: &ArgMatches<'_>,
 ) -> Result<Option<GivenTargets>, Refusal> {

@@ -1,13 +1,15 @@
 //! `graph`: which packages are in a build at which targets.
 
+use crate::asking::given_targets;
 use crate::limits::{limit_of, text_at, text_of};
 use anyhow::Result;
 use cargo_platform::shown_text;
 use clap::ArgMatches;
 use graph_answers::asked::Words;
 use graph_answers::{Report, report_on};
-use key_answers::answer::{Answer, answered};
+use key_answers::answer::{Answer, Refusal, answered};
 use limited_texts::INPUT;
+use manifest_answers::given_targets::GivenTargets;
 use std::alloc::Global;
 use std::rt::Files;
 use std::{fs, io};
@@ -24,28 +26,55 @@ pub fn graph_answer<R: Files + Input + AllocGlobal>(
     rt: &R,
     matches: &ArgMatches<'_>,
 ) -> Result<Answer> {
-    let file = matches.get_str("metadata").unwrap_or(INPUT);
+    match allowed_of(rt, matches) {
+        Ok(None) => answer_of(rt, matches, None),
+        Ok(Some((list, text))) => answer_of(rt, matches, Some((list, text.as_str()))),
+        Err(refusal) => Ok(answered(rt.alloc(), Err(refusal))?),
+    }
+}
+
+/// The name and the text of the file of allowed licences, where one is named.
+fn allowed_of<'a, R: Files + AllocGlobal>(
+    rt: &R,
+    matches: &ArgMatches<'a>,
+) -> Result<Option<(&'a str, String)>, Refusal> {
     match matches.get_str("allow-file") {
-        Some(list) => match text_at(rt, list, limit_of(matches)) {
-            Ok(text) => answer_with(rt, matches, file, Some((list, text.as_str()))),
-            Err(refusal) => Ok(answered(rt.alloc(), Err(refusal))?),
-        },
-        None => answer_with(rt, matches, file, None),
+        Some(list) => Ok(Some((list, text_at(rt, list, limit_of(matches))?))),
+        None => Ok(None),
     }
 }
 
 /// Answers `graph`, with the name and the text of a file of allowed licences.
+fn answer_of<R: Files + Input + AllocGlobal>(
+    rt: &R,
+    matches: &ArgMatches<'_>,
+    allow_file: Option<(&str, &str)>,
+) -> Result<Answer> {
+    match given_targets(rt, matches) {
+        Ok(None) => answer_with(rt, matches, allow_file, None),
+        Ok(Some(given)) => answer_with(rt, matches, allow_file, Some(&given)),
+        Err(refusal) => Ok(answered(rt.alloc(), Err(refusal))?),
+    }
+}
+
+/// Answers `graph`, with a file of allowed licences, and with the targets of a file.
 fn answer_with<R: Files + Input + AllocGlobal>(
     rt: &R,
     matches: &ArgMatches<'_>,
-    file: &str,
     allow_file: Option<(&str, &str)>,
+    given: Option<&GivenTargets>,
 ) -> Result<Answer> {
+    let file = matches.get_str("metadata").unwrap_or(INPUT);
     let alloc = rt.alloc();
+    let facts_of = match given {
+        Some(given) => Some((given.file.as_str(), given.table())),
+        None => None,
+    };
     let words = Words {
         targets: matches.get_strs("target").unwrap_or(&[]),
         edges: matches.get_str("edges"),
         host: matches.get_str("host"),
+        facts_of,
         packages: matches.get_strs("package").unwrap_or(&[]),
         show: matches.get_str("show"),
         of: matches.get_str("of"),

@@ -54,6 +54,7 @@ complete -c manifest_check -n '__fish_seen_subcommand_from graph' -l metadata -r
 complete -c manifest_check -n '__fish_seen_subcommand_from graph' -l target -x -a '(manifest_check targets '\''cfg(all())'\'' 2>/dev/null | sed '\''$d'\'')' -d 'Tells of this target alone; all known ones without it'
 complete -c manifest_check -n '__fish_seen_subcommand_from graph' -l edges -x -d 'Follows these kinds, joined by commas: normal,build,dev'
 complete -c manifest_check -n '__fish_seen_subcommand_from graph' -l host -x -a '(manifest_check targets '\''cfg(all())'\'' 2>/dev/null | sed '\''$d'\'')' -d 'Asks what build scripts and procedural macros need of this target'
+complete -c manifest_check -n '__fish_seen_subcommand_from graph' -l facts-of -r -F -d 'Targets and facts of another rustc from this file, or - for standard input, which this writes: for t in $(rustc --print target-list); do echo $t; rustc --print cfg --target $t; echo; done > FILE'
 complete -c manifest_check -n '__fish_seen_subcommand_from graph' -l package -x -d 'Takes the members of this name as roots; all members without it'
 complete -c manifest_check -n '__fish_seen_subcommand_from graph' -l show -x -a 'packages edges targets why features unified' -d 'What is told; packages without it'
 complete -c manifest_check -n '__fish_seen_subcommand_from graph' -l resolver -x -a '1 2 3 edition' -d 'Resolves features as this resolver of Cargo, or as that of the root package'\''s edition'

@@ -1,0 +1,361 @@
+//! The targets of a file, in groups that stand at the places of the known targets.
+
+use crate::asked::{Words, unusable_words};
+use crate::refused::unusable;
+use cargo_metadata::Metadata;
+use cargo_metadata::graphs::Linked;
+use cargo_platform::{Platform, ReadError};
+use key_answers::answer::Refusal;
+use key_answers::printing::shown_name;
+use known_targets::{COUNT, KnownTarget, TargetSet};
+use std::alloc::{AllocError, Global};
+use target_tables::{TargetRow, TargetTable};
+
+/// The targets of a file, as they are asked for.
+#[derive(Drop)]
+pub struct AskedTable<'a> {
+    /// The file, as it is shown.
+    file: &'a str,
+    table: &'a TargetTable,
+    /// For each target whether it is asked for.
+    is_asked: Vec<bool>,
+    /// The place of the host, where one is named.
+    host: Option<usize>,
+}
+
+/// What is said of a name that no target of a file has.
+fn no_target(alloc: Global, file: &str, name: &str) -> Result<String, AllocError> {
+    let name = shown_name(alloc, name)?;
+    format!(in alloc; "no target of {file} is named {name}")
+}
+
+/// The place of the target with this name.
+fn place_of(alloc: Global, file: &str, table: &TargetTable, name: &str) -> Result<usize, Refusal> {
+    let rows = table.rows();
+    for i in 0..rows.len() {
+        if rows[i].name() == name {
+            return Ok(i);
+        }
+    }
+    let text = no_target(alloc, file, name)?;
+    Err(unusable_words(alloc, text.as_str()))
+}
+
+/// For each target whether it has one of these names. All are asked for where there are none.
+fn asked_of(
+    alloc: Global,
+    file: &str,
+    table: &TargetTable,
+    names: &[&str],
+) -> Result<Vec<bool>, Refusal> {
+    let mut is_asked = vec![in alloc; names.is_empty(); table.rows().len()]?;
+    for name in names {
+        let place = place_of(alloc, file, table, name)?;
+        if let Some(slot) = is_asked.get_mut(place) {
+            *slot = true;
+        }
+    }
+    Ok(is_asked)
+}
+
+/// The place of the host, where one is named.
+fn host_of(
+    alloc: Global,
+    file: &str,
+    table: &TargetTable,
+    name: Option<&str>,
+) -> Result<Option<usize>, Refusal> {
+    match name {
+        Some(name) => Ok(Some(place_of(alloc, file, table, name)?)),
+        None => Ok(None),
+    }
+}
+
+impl<'a> AskedTable<'a> {
+    /// The targets of a file, as the words ask for them, where they name one.
+    pub fn of(alloc: Global, words: &Words<'a>) -> Result<Option<AskedTable<'a>>, Refusal> {
+        let Some((file, table)) = words.facts_of else {
+            return Ok(None);
+        };
+        let is_asked = asked_of(alloc, file, table, words.targets)?;
+        let host = host_of(alloc, file, table, words.host)?;
+        Ok(Some(AskedTable {
+            file,
+            table,
+            is_asked,
+            host,
+        }))
+    }
+}
+
+// ---- conditions
+
+/// A condition of a document, and where it holds.
+#[derive(Drop)]
+struct Held<'a> {
+    text: &'a str,
+    /// For each target of the file whether it holds there.
+    at: Vec<bool>,
+    /// The places at which it holds.
+    set: TargetSet,
+}
+
+/// The texts of the conditions of a document, each once, in order.
+fn texts_of<'a>(alloc: Global, metadata: &Metadata<'a>) -> Result<Vec<&'a str>, AllocError> {
+    let mut texts = Vec::new(alloc);
+    for node in &metadata.nodes {
+        for dependency in &node.dependencies {
+            for row in &dependency.kinds {
+                if let Some(text) = row.condition {
+                    texts.push(text)?;
+                }
+            }
+        }
+    }
+    texts.sort()?;
+    texts.dedup();
+    Ok(texts)
+}
+
+/// For each target of a file whether a condition holds there.
+fn truths_of(
+    alloc: Global,
+    table: &TargetTable,
+    condition: &Platform,
+) -> Result<Vec<bool>, AllocError> {
+    let mut at = Vec::new(alloc);
+    for row in table.rows() {
+        at.push(row.matches(condition))?;
+    }
+    Ok(at)
+}
+
+/// For each target of a file whether the condition of this text holds there.
+fn held_at(alloc: Global, table: &TargetTable, text: &str) -> Result<Vec<bool>, AllocError> {
+    match Platform::from_str(alloc, text) {
+        Ok(condition) => truths_of(alloc, table, &condition),
+        Err(ReadError::Memory(refused)) => Err(refused),
+        // A graph has no such condition.
+        Err(ReadError::Parse(_)) => Ok(Vec::new(alloc)),
+    }
+}
+
+/// The conditions of a document, in the order of their texts.
+fn conditions_of<'a>(
+    alloc: Global,
+    table: &TargetTable,
+    metadata: &Metadata<'a>,
+) -> Result<Vec<Held<'a>>, AllocError> {
+    let mut conditions = Vec::new(alloc);
+    for text in texts_of(alloc, metadata)? {
+        let at = held_at(alloc, table, text)?;
+        let set = TargetSet::none();
+        conditions.push(Held { text, at, set })?;
+    }
+    Ok(conditions)
+}
+
+/// The targets at which the condition of this text holds: all without one.
+fn holds_at(conditions: &[Held<'_>], text: Option<&str>) -> TargetSet {
+    let Some(text) = text else {
+        return TargetSet::all();
+    };
+    match conditions.binary_search_by(|held| held.text.cmp(text)) {
+        Ok(at) => match conditions.get(at) {
+            Some(held) => held.set,
+            None => TargetSet::none(),
+        },
+        Err(_) => TargetSet::none(),
+    }
+}
+
+/// Puts the sets of the conditions to the dependencies of a graph.
+fn put_sets(linked: &mut Linked<'_>, metadata: &Metadata<'_>, conditions: &[Held<'_>]) {
+    for i in 0..metadata.nodes.len() {
+        let Some(unit) = linked.packages.get_mut(i) else {
+            continue;
+        };
+        let mut place: usize = 0;
+        for written in &metadata.nodes[i].dependencies {
+            for row in &written.kinds {
+                if let Some(dependency) = unit.dependencies.get_mut(place) {
+                    dependency.holds = holds_at(conditions, row.condition);
+                }
+                place = place.saturating_add(1);
+            }
+        }
+    }
+}
+
+// ---- groups
+
+/// Groups by their numbers, which are in the order of the groups' first members.
+#[derive(Drop)]
+struct Numbers {
+    /// For each member the number of its group.
+    of: Vec<usize>,
+    count: usize,
+}
+
+/// The groups, each parted into the members at which something is false and those at which it is true.
+fn parted(alloc: Global, numbers: &Numbers, at: &[bool]) -> Result<Numbers, AllocError> {
+    let mut parts: Vec<Option<usize>> = vec![in alloc; None; numbers.count.saturating_mul(2)]?;
+    let mut of = Vec::new(alloc);
+    let mut count: usize = 0;
+    for i in 0..numbers.of.len() {
+        let mut place = numbers.of[i].saturating_mul(2);
+        if is_at(at, i) {
+            place = place.saturating_add(1);
+        }
+        let Some(part) = parts.get_mut(place) else {
+            continue;
+        };
+        let number = part.unwrap_or(count);
+        if number == count {
+            *part = Some(count);
+            count = count.saturating_add(1);
+        }
+        of.push(number)?;
+    }
+    Ok(Numbers { of, count })
+}
+
+/// Whether something is true at a place.
+fn is_at(at: &[bool], place: usize) -> bool {
+    at.get(place).copied().unwrap_or(false)
+}
+
+/// The groups of targets that are all asked for, or none, and at which each condition has the same truth.
+fn numbers_of(
+    alloc: Global,
+    is_asked: &[bool],
+    conditions: &[Held<'_>],
+) -> Result<Numbers, AllocError> {
+    let of = vec![in alloc; 0; is_asked.len()]?;
+    let mut numbers = parted(alloc, &Numbers { of, count: 1 }, is_asked)?;
+    for condition in conditions {
+        numbers = parted(alloc, &numbers, &condition.at)?;
+    }
+    Ok(numbers)
+}
+
+/// What is said of too many groups.
+fn too_many(alloc: Global, file: &str, count: usize) -> Result<Refusal, AllocError> {
+    let reason = format!(in alloc;
+        "the conditions of the graph tell {count} groups of its targets apart, and {COUNT} are the most"
+    )?;
+    Ok(unusable(alloc, file, reason.as_str()))
+}
+
+/// For each target the place of its group.
+fn places_of(alloc: Global, file: &str, numbers: &Numbers) -> Result<Vec<KnownTarget>, Refusal> {
+    let all: Vec<KnownTarget> = TargetSet::all().iter().collect(alloc)?;
+    let mut places = Vec::new(alloc);
+    for number in &numbers.of {
+        match all.get(*number) {
+            Some(place) => places.push(*place).map_err(AllocError::from)?,
+            None => return Err(too_many(alloc, file, numbers.count)?),
+        }
+    }
+    Ok(places)
+}
+
+/// The places of the targets at which something is true.
+fn set_of(places: &[KnownTarget], at: &[bool]) -> TargetSet {
+    let mut set = TargetSet::none();
+    for i in 0..places.len() {
+        if is_at(at, i) {
+            set = set.union(TargetSet::only(places[i]));
+        }
+    }
+    set
+}
+
+/// The targets of a file in groups. The members of a group have one place in each set of targets: they are all asked
+/// for, or none, and each condition of the graph has the same truth at them.
+#[derive(Drop)]
+pub struct Groups<'a> {
+    asked: AskedTable<'a>,
+    /// For each target of the file the place of its group.
+    places: Vec<KnownTarget>,
+}
+
+/// The groups of the targets of a file by the conditions of a graph, whose sets become those of the file.
+pub fn grouped<'a>(
+    alloc: Global,
+    asked: AskedTable<'a>,
+    metadata: &Metadata<'_>,
+    linked: &mut Linked<'_>,
+) -> Result<Groups<'a>, Refusal> {
+    let mut conditions = conditions_of(alloc, asked.table, metadata)?;
+    let numbers = numbers_of(alloc, &asked.is_asked, &conditions)?;
+    let places = places_of(alloc, asked.file, &numbers)?;
+    for condition in &mut conditions {
+        condition.set = set_of(&places, &condition.at);
+    }
+    put_sets(linked, metadata, &conditions);
+    Ok(Groups { asked, places })
+}
+
+impl<'a> Groups<'a> {
+    /// The file, as it is shown.
+    pub fn file(&self) -> &'a str {
+        self.asked.file
+    }
+
+    /// The targets that are asked for.
+    pub fn targets(&self) -> TargetSet {
+        set_of(&self.places, &self.asked.is_asked)
+    }
+
+    /// The host, where one is named.
+    pub fn host(&self) -> Option<KnownTarget> {
+        self.places.get(self.asked.host?).copied()
+    }
+
+    /// The targets of the file, in its order.
+    pub fn rows(&self) -> &'a [TargetRow] {
+        self.asked.table.rows()
+    }
+
+    /// For each target of the file whether a condition holds there.
+    pub fn truths_of(&self, alloc: Global, condition: &Platform) -> Result<Vec<bool>, AllocError> {
+        truths_of(alloc, self.asked.table, condition)
+    }
+
+    /// For each target of the file whether it is in a set.
+    pub fn members(&self, alloc: Global, targets: TargetSet) -> Result<Vec<bool>, AllocError> {
+        let mut members = Vec::new(alloc);
+        for place in &self.places {
+            members.push(targets.contains(*place))?;
+        }
+        Ok(members)
+    }
+
+    /// How many targets of the file a set has.
+    pub fn count_of(&self, targets: TargetSet) -> usize {
+        let mut count: usize = 0;
+        for place in &self.places {
+            if targets.contains(*place) {
+                count = count.saturating_add(1);
+            }
+        }
+        count
+    }
+
+    /// The names of the targets of a set, in the order of the file.
+    pub fn names(&self, alloc: Global, targets: TargetSet) -> Result<Vec<&'a str>, AllocError> {
+        let rows = self.rows();
+        let mut names = Vec::new(alloc);
+        for i in 0..rows.len() {
+            let is_there = match self.places.get(i) {
+                Some(place) => targets.contains(*place),
+                None => false,
+            };
+            if is_there {
+                names.push(rows[i].name())?;
+            }
+        }
+        Ok(names)
+    }
+}
