@@ -26,9 +26,8 @@ pub static TARGETS: [TargetRow; 17] = [
 
 /// The rows of facts.
 #[rattlefmt::skip]
-pub static FACTS: [FactRow; 3] = [
+pub static FACTS: [FactRow; 2] = [
     ("target_env", "eabihf", (1, 63, 0), (1, 85, 0)),
-    ("target_env", "gnueabihf", (1, 63, 0), (1, 85, 0)),
     ("target_os", "cloudabi", (1, 49, 0), (1, 50, 0)),
 ];
 

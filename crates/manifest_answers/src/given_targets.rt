@@ -9,6 +9,9 @@ use partial_facts::decide_platform;
 use std::alloc::{AllocError, Global};
 use target_tables::{TableError, TargetRow, TargetTable, read_table};
 
+/// So many targets a file may have at most, since their names are looked up one after the other.
+const MOST: usize = 10_000;
+
 /// The targets of a file.
 #[derive(Drop)]
 pub struct GivenTargets {
@@ -70,19 +73,39 @@ fn refused_file(alloc: Global, file: &str, error: &TableError) -> Result<Refusal
     Ok(Refusal::Unusable(line))
 }
 
+/// How many targets the lines of a file have: each stands behind an empty line, or at the beginning.
+fn count_in(lines: &str) -> usize {
+    let mut count: usize = 0;
+    let mut is_behind_empty = true;
+    for line in lines.split('\n') {
+        if is_behind_empty && !line.is_empty() {
+            count = count.saturating_add(1);
+        }
+        is_behind_empty = line.is_empty();
+    }
+    count
+}
+
+/// What is said of a file that has none, or too many.
+fn refused_count(alloc: Global, file: &str, count: usize) -> Result<Refusal, AllocError> {
+    let line = if count == 0 {
+        format!(in alloc; "{file}: error: it has no targets\n")?
+    } else {
+        format!(in alloc; "{file}: error: it has {count} targets, and {MOST} are the most\n")?
+    };
+    Ok(Refusal::Unusable(line))
+}
+
 impl GivenTargets {
-    /// The targets that this text of a file has, at least one of them.
+    /// The targets that this text of a file has: one at least, and 10,000 at most.
     pub fn of(alloc: Global, file: String, text: &str) -> Result<GivenTargets, Refusal> {
         let lines = lines_of(alloc, text)?;
+        let count = count_in(lines.as_str());
+        if count == 0 || count > MOST {
+            return Err(refused_count(alloc, file.as_str(), count)?);
+        }
         match read_table(alloc, lines.as_str()) {
-            Ok(table) => {
-                if table.rows().is_empty() {
-                    let file = file.as_str();
-                    let line = format!(in alloc; "{file}: error: it has no targets\n")?;
-                    return Err(Refusal::Unusable(line));
-                }
-                Ok(GivenTargets { file, table })
-            }
+            Ok(table) => Ok(GivenTargets { file, table }),
             Err(error) => Err(refused_file(alloc, file.as_str(), &error)?),
         }
     }

@@ -39,15 +39,40 @@ impl OtherRustc {
     ) -> Result<(), AllocError> {
         let named = self.named(alloc, report)?;
         report.findings.retain(|it| stays(it, &named));
+        let mut added = Vec::new(alloc);
+        let hiding = hiding_of(alloc, report)?;
         for place in 0..report.keys.len() {
-            let key = report.keys[place].key;
-            match Platform::from_str(alloc, key) {
-                Ok(condition) => self.add(alloc, report, place, &condition, declared)?,
-                Err(ReadError::Parse(_)) => {}
-                Err(ReadError::Memory(refused)) => return Err(refused),
-            }
+            let hides = hiding.get(place).copied().unwrap_or(Hiding::NOTHING);
+            self.add_key(
+                alloc,
+                &mut added,
+                report.keys[place].key,
+                place,
+                hides,
+                declared,
+            )?;
         }
-        Ok(())
+        for it in added {
+            report.findings.push(it)?;
+        }
+        report.findings.sort_by_key(|it| (it.key, it.code))
+    }
+
+    /// Adds what is so of a key, which spells a condition or nothing.
+    fn add_key(
+        &self,
+        alloc: Global,
+        added: &mut Vec<Finding>,
+        key: &str,
+        place: usize,
+        hides: Hiding,
+        declared: &Declared<'_>,
+    ) -> Result<(), AllocError> {
+        match Platform::from_str(alloc, key) {
+            Ok(condition) => self.add(alloc, added, place, &condition, hides, declared),
+            Err(ReadError::Parse(_)) => Ok(()),
+            Err(ReadError::Memory(refused)) => Err(refused),
+        }
     }
 
     /// Of each key of a report, whether it is the name of a target.
@@ -59,45 +84,50 @@ impl OtherRustc {
         Ok(named)
     }
 
-    /// Adds what is so of the key at this place.
+    /// Adds what is so of the condition of the key at this place.
     fn add(
         &self,
         alloc: Global,
-        report: &mut Report<'_>,
+        added: &mut Vec<Finding>,
         place: usize,
         condition: &Platform,
+        hides: Hiding,
         declared: &Declared<'_>,
     ) -> Result<(), AllocError> {
+        let is_unknown = self.lacks(condition);
         if let Platform::Name(name) = condition {
-            if self.given.by_name(name.as_str()).is_none()
-                && KnownTarget::by_name(name.as_str()).is_some()
-            {
-                self.add_unknown(alloc, report, place, name.as_str())?;
+            if is_unknown {
+                added.push(self.unknown(alloc, place, name.as_str())?)?;
             }
         }
         let (none, each) = self.none_and_each(alloc, condition, declared)?;
         let file = self.given.file.as_str();
-        if none && !is_hidden(report, place, Code::Nowhere) {
+        if none && !hides.nowhere && !is_unknown {
             let told = format!(in alloc;
                 "no target of {file} has facts that make the condition true"
             )?;
-            put(report, place, Code::Nowhere, told, None)?;
+            added.push(finding(place, Code::Nowhere, told, None))?;
         }
-        if each && !is_hidden(report, place, Code::Everywhere) {
+        if each && !hides.everywhere {
             let told = format!(in alloc; "the condition holds at every target of {file}")?;
-            put(report, place, Code::Everywhere, told, None)?;
+            added.push(finding(place, Code::Everywhere, told, None))?;
         }
         Ok(())
     }
 
-    /// Adds that no target has the name of the key at this place.
-    fn add_unknown(
-        &self,
-        alloc: Global,
-        report: &mut Report<'_>,
-        place: usize,
-        name: &str,
-    ) -> Result<(), AllocError> {
+    /// Whether a condition is the name of a known target that none of its targets has.
+    fn lacks(&self, condition: &Platform) -> bool {
+        match condition {
+            Platform::Name(name) => {
+                self.given.by_name(name.as_str()).is_none()
+                    && KnownTarget::by_name(name.as_str()).is_some()
+            }
+            Platform::Cfg(_) => false,
+        }
+    }
+
+    /// That no target has the name of the key at this place.
+    fn unknown(&self, alloc: Global, place: usize, name: &str) -> Result<Finding, AllocError> {
         let file = self.given.file.as_str();
         let mut told = format!(in alloc; "no target of {file} has this name")?;
         let nearest = match self.given.nearest(alloc, name)? {
@@ -108,7 +138,7 @@ impl OtherRustc {
             }
             None => None,
         };
-        put(report, place, Code::UnknownTarget, told, nearest)
+        Ok(finding(place, Code::UnknownTarget, told, nearest))
     }
 
     /// Whether the condition holds at none and whether at each of the targets, whatever is open.
@@ -163,30 +193,39 @@ fn stays(finding: &Finding, named: &[bool]) -> bool {
     }
 }
 
-/// Whether a finding on the key hides one of this code.
-fn is_hidden(report: &Report<'_>, place: usize, code: Code) -> bool {
-    let hiders = code.row().hidden_by;
-    report
-        .findings
-        .iter()
-        .any(|it| it.key == Some(place) && hiders.contains(&it.code))
+/// Which codes the findings on a key hide.
+#[derive(Clone, Copy, Drop)]
+struct Hiding {
+    nowhere: bool,
+    everywhere: bool,
 }
 
-/// Adds a finding behind those on earlier keys, and those on the key whose codes come first.
-fn put(
-    report: &mut Report<'_>,
-    place: usize,
-    code: Code,
-    message: String,
-    suggestion: Option<String>,
-) -> Result<(), AllocError> {
-    let mut at: usize = 0;
+impl Hiding {
+    /// Those on a key without findings hide nothing.
+    const NOTHING: Hiding = Hiding {
+        nowhere: false,
+        everywhere: false,
+    };
+}
+
+/// For each key of a report which codes its findings hide.
+fn hiding_of(alloc: Global, report: &Report<'_>) -> Result<Vec<Hiding>, AllocError> {
+    let mut hiding = vec![in alloc; Hiding::NOTHING; report.keys.len()]?;
     for it in &report.findings {
-        if (it.key, it.code) < (Some(place), code) {
-            at += 1;
+        let Some(place) = it.key else {
+            continue;
+        };
+        if let Some(hides) = hiding.get_mut(place) {
+            hides.nowhere |= Code::Nowhere.row().hidden_by.contains(&it.code);
+            hides.everywhere |= Code::Everywhere.row().hidden_by.contains(&it.code);
         }
     }
-    let finding = Finding {
+    Ok(hiding)
+}
+
+/// A finding on the key at this place.
+fn finding(place: usize, code: Code, message: String, suggestion: Option<String>) -> Finding {
+    Finding {
         level: code.row().level,
         code,
         key: Some(place),
@@ -194,9 +233,5 @@ fn put(
         suggestion,
         span: None,
         snippet: None,
-    };
-    report
-        .findings
-        .insert(at, finding)
-        .map_err(AllocError::from)
+    }
 }
