@@ -13,7 +13,12 @@ use Rattle.cargo_platform.specs.Lines.{line_at}
 use Rattle.cargo_platform.specs.FactLines.{SpellFacts, SpellsNoFact}
 use Rattle.cargo_platform.specs.declared.error.ParseError.{ParseError}
 use Rattle.target_tables.specs.Rows.{Row, AreRows, AreEmpty, AreFilled, IsBlockEnd, HasNoRow, AreDistinct, name_at}
-use Rattle.target_tables.specs.Refusals.{IsRepeat, IsNoFact}
+use Rattle.target_tables.specs.Refusals.{IsRepeat, IsNoFact, IfLine}
+use Rattle.target_tables.specs.declared.error.TableError.{TableError}
+use Rattle.target_tables.specs.declared.error.TableError.TheVariants.{Line, Twice, Memory}
+use Rattle.std.proofs.Common.{Result, Ok, Err, Option, Some, None, true, false}
+use Rattle.std.specs.Prelude.{IfSome, IfNone, is_some}
+use Rattle.std.specs.Result.{IsErrAnd}
 use Rattle.target_tables.specs.Blocks.{IsBehindEmpty, IsBlock, IsNoFactBehind, AreRead}
 use Rattle.target_tables.proofs.Fronts.{all_append}
 use Rattle.target_tables.proofs.Places.{distinct_more}
@@ -30,7 +35,7 @@ all_at P [] k d a below = absurd (omega (arith, below))
 all_at P (x ∷ xs) zero d a below = a.0
 all_at P (x ∷ xs) (suc k) d a below = all_at P xs k d a.1 (omega (arith, below))
 
-as_many : (texts : List (List ℕ)) (facts : List CfgValue) → SpellFacts texts facts → length texts ≡ length facts
+pub as_many : (texts : List (List ℕ)) (facts : List CfgValue) → SpellFacts texts facts → length texts ≡ length facts
 as_many [] [] h = refl
 as_many [] (c ∷ cs) h = absurd h
 as_many (t ∷ texts) [] h = absurd h
@@ -57,10 +62,9 @@ behind_gap gap ys (row ∷ rows) e h = (
 )
 
 -- one row before others
-one_block : (name : List ℕ) (texts ys : List (List ℕ)) (facts : List CfgValue) (rows : List Row) → name ≢ []
-    → AreFilled texts → SpellFacts texts facts → IsBlockEnd ys → AreRows ys rows
-    → AreRows (name ∷ (texts ++ ys)) (record { name = name; facts = facts } ∷ rows)
-one_block name texts ys facts rows some filled spell end h = (
+one_block : (row : Row) (texts ys : List (List ℕ)) (rows : List Row) → row.name ≢ [] → AreFilled texts
+    → SpellFacts texts row.facts → IsBlockEnd ys → AreRows ys rows → AreRows (row.name ∷ (texts ++ ys)) (row ∷ rows)
+one_block row texts ys rows some filled spell end h = (
   ys,
   record {
     gap = [];
@@ -119,14 +123,13 @@ seam taken texts gap ys name =
     ap (λ z. taken ++ (name ∷ z)) (sym (append_assoc texts gap ys))
     ∙ sym (append_assoc taken (name ∷ (texts ++ gap)) ys)
 
-pub grown : (ls : List (List ℕ)) (rows : List Row) (passed : ℕ) (rest : List (List ℕ)) (name : List ℕ)
-    (behind : List (List ℕ)) (facts : List CfgValue) (after : List (List ℕ)) (empty : ℕ) (next : List (List ℕ)) (n : ℕ)
-    → AreRead ls rows passed rest → rest ≡ name ∷ behind → IsBlock behind facts after → IsBehindEmpty after empty next
-    → HasNoRow rows name → n ≡ passed + 1 + length facts + empty
-    → AreRead ls (rows ++ record { name = name; facts = facts } ∷ []) n next
-grown ls rows passed rest name behind facts after empty next n r is b g none count =
-    let row : Row = record { name = name; facts = facts } in
-    let some : name ≢ [] = named rest behind name r.next is in
+pub grown : (ls : List (List ℕ)) (rows : List Row) (passed : ℕ) (rest : List (List ℕ)) (row : Row)
+    (behind after : List (List ℕ)) (empty : ℕ) (next : List (List ℕ)) (n : ℕ) → AreRead ls rows passed rest
+    → rest ≡ row.name ∷ behind → IsBlock behind row.facts after → IsBehindEmpty after empty next
+    → HasNoRow rows row.name → n ≡ passed + 1 + length row.facts + empty → AreRead ls (rows ++ row ∷ []) n next
+grown ls rows passed rest row behind after empty next n r is b g none count =
+    let name = row.name in
+    let some : row.name ≢ [] = named rest behind row.name r.next is in
     let end : IsBlockEnd (g.gap ++ next) = subst (λ z. IsBlockEnd z) g.lines b.end in
     let left : rest ≡ name ∷ (b.texts ++ (g.gap ++ next)) =
     is ∙ ap (λ z. name ∷ z) (b.lines ∙ ap (λ z. b.texts ++ z) g.lines) in
@@ -138,7 +141,7 @@ grown ls rows passed rest name behind facts after empty next n r is b g none cou
             arith,
             length-append r.taken (name ∷ (b.texts ++ g.gap)),
             length-append b.texts g.gap,
-            as_many b.texts facts b.spell,
+            as_many b.texts row.facts b.spell,
             r.size,
             g.size,
             count,
@@ -149,7 +152,7 @@ grown ls rows passed rest name behind facts after empty next n r is b g none cou
           (subst (λ z. AreRows (r.taken ++ (name ∷ (b.texts ++ (g.gap ++ ys)))) z)
           (sym (append_assoc rows (row ∷ []) others))
           (r.more (name ∷ (b.texts ++ (g.gap ++ ys))) (row ∷ others) (λ empty. absurd (let e = sym is ∙ empty in cc))
-          (one_block name b.texts (g.gap ++ ys) facts others some b.filled b.spell
+          (one_block row b.texts (g.gap ++ ys) others some b.filled b.spell
           (still_ends g.gap next ys g.empty end g.behind at) (behind_gap g.gap ys others g.empty h))));
       next = g.behind;
       distinct = distinct_more rows row r.distinct none;
@@ -180,7 +183,7 @@ repeated ls rows passed rest name behind k n r is below same count =
       read =
           subst (λ z. AreRows z (rows ++ row ∷ [])) (sym front)
           (r.more (name ∷ []) (row ∷ []) (λ empty. absurd (let e = sym is ∙ empty in cc))
-          (one_block name [] [] [] [] some tt tt (inl refl) tt));
+          (one_block row [] [] [] some tt tt (inl refl) tt));
       distinct = r.distinct;
       again = (k, below, same);
       here = (λ e. some (sym here ∙ e), refl);
@@ -228,7 +231,7 @@ refused ls rows passed rest name behind before n e r is none count f =
       read =
           subst (λ z. AreRows z (rows ++ row ∷ [])) (sym front)
           (r.more (name ∷ (take m f.texts ++ [])) (row ∷ []) (λ empty. absurd (let e = sym is ∙ empty in cc))
-          (one_block name (take m f.texts) [] facts [] some (all_take (λ l. l ≢ []) m f.texts f.filled)
+          (one_block row (take m f.texts) [] [] some (all_take (λ l. l ≢ []) m f.texts f.filled)
           f.error.first.before.1 (inl refl) tt));
       distinct = distinct_more rows row r.distinct none;
       inside = (
@@ -239,3 +242,29 @@ refused ls rows passed rest name behind before n e r is none count f =
       orig = f.error.orig ∙ same;
       fault = subst (λ t. IsRefusedAt Values t (fault_in e) (span_in e)) same f.error.fault;
     }
+
+-- ---- what is passed on
+
+at_line : (A B : Type 0) (P Q : ℕ → ParseError → Type 0) (r : TableError)
+    → ((n : ℕ) (e : ParseError) → P n e → Q n e) → IfLine {A = A} (Err r) P → IfLine {A = B} (Err r) Q
+at_line A B P Q (Line n e) f h = f n e h
+at_line A B P Q (Twice n) f h = tt
+at_line A B P Q (Memory e) f h = tt
+
+-- what is said of the line of an error that is passed on
+pub passed_on : (A B : Type 0) (P Q : ℕ → ParseError → Type 0) (r : TableError) (answer : Result B TableError)
+    → IsErrAnd answer (λ x. x ≡ r) → ((n : ℕ) (e : ParseError) → P n e → Q n e) → IfLine {A = A} (Err r) P
+    → IfLine answer Q
+passed_on A B P Q r (Ok b) is f h = absurd is
+passed_on A B P Q r (Err e) is f h = subst (λ x. IfLine {A = B} (Err x) Q) (sym is) (at_line A B P Q r f h)
+
+-- ---- what is found
+
+pub found_at : (r : Option ℕ) (P Q : ℕ → Type 0) → is_some r ≡ true → IfSome r P → IfSome r Q
+    → (k : ℕ) × P k × Q k
+found_at None P Q e p q = absurd (cc)
+found_at (Some k) P Q e p q = (k, p, q)
+
+pub none_at : (r : Option ℕ) (P : Type 0) → is_some r ≡ false → IfNone r P → P
+none_at None P e p = p
+none_at (Some k) P e p = absurd (cc)

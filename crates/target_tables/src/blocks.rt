@@ -1,6 +1,6 @@
 //! The blocks of a text: lines that are not empty, up to an empty one.
 
-ghost use Rattle.std.specs.Prelude.{◌≡◌, ◌≢◌, ◌<◌, ◌≤◌, ◌+◌, ◌∷◌, [], ℕ, length, IfOk, string_bytes};
+ghost use Rattle.std.specs.Prelude.{◌≡◌, ◌≢◌, ◌<◌, ◌≤◌, ◌+◌, ◌∷◌, [], ℕ, length, IfOk, IsUtf8, string_bytes};
 ghost use Rattle.cargo_platform.specs.Lines.{lines_of, IsUnbroken};
 ghost use Rattle.target_tables.specs.Blocks.{IsBehindEmpty, IsFilledFront};
 
@@ -10,8 +10,8 @@ use std::alloc::{AllocError, Global};
 pub fn first_line(text: &str) -> (&str, &str)
     ensures lines { text.now ≢ [] → lines_of text.now ≡ result.0.now ∷ lines_of result.1.now }
     ensures unbroken { IsUnbroken result.0.now }
-    ensures shorter { text.now ≢ [] → length result.0.now + length result.1.now ≤ length text.now }
     ensures ended { text.now ≢ [] → length result.1.now < length text.now }
+    ensures utf8 { IsUtf8 result.1.now }
 {
     match text.split_once('\n') {
         Some((line, behind)) => (line, behind),
@@ -23,6 +23,7 @@ pub fn first_line(text: &str) -> (&str, &str)
 pub fn behind_empty(text: &str) -> (&str, usize)
     ensures lines { IsBehindEmpty (lines_of text.now) result.1 (lines_of result.0.now) }
     ensures length { result.1 + length result.0.now ≤ length text.now }
+    ensures utf8 { IsUtf8 result.0.now }
 {
     let size = text.len();
     let mut rest = text;
@@ -39,6 +40,7 @@ pub fn filled_front(alloc: Global, text: &str) -> Result<(String, &str), AllocEr
     ensures lines { IfOk result
         (λ r. IsFilledFront (lines_of text.now) (string_bytes r.0) (lines_of r.1.now)) }
     ensures length { IfOk result (λ r. length (lines_of (string_bytes r.0)) + length r.1.now ≤ length text.now) }
+    ensures utf8 { IfOk result (λ r. IsUtf8 r.1.now) }
 {
     let mut front = String::new(alloc);
     let mut rest = text;

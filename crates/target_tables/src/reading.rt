@@ -1,6 +1,6 @@
 //! A table, read from a text.
 
-ghost use Rattle.std.specs.Prelude.{◌≡◌, ◌≢◌, ◌<◌, ◌≤◌, ◌+◌, ℕ, ◌^◌, map, length, IfOk};
+ghost use Rattle.std.specs.Prelude.{◌≡◌, ◌≢◌, ◌<◌, ◌≤◌, ◌+◌, ℕ, ◌^◌, map, length, IfOk, IsUtf8};
 ghost use Rattle.cargo_platform.specs.Lines.{lines_of};
 ghost use Rattle.target_tables.specs.Rows.{row_of, rows_of, AreRows, AreDistinct};
 ghost use Rattle.target_tables.specs.Blocks.{IsBlock, IsNoFactOf, IsNoFactBehind};
@@ -43,6 +43,7 @@ fn read_row<'a>(
     ensures row { IfOk result (λ r. IsBlock (lines_of text.now) (row_of r.0).facts (lines_of r.1.now)) }
     ensures name { IfOk result (λ r. (row_of r.0).name ≡ name.now) }
     ensures length { IfOk result (λ r. length (row_of r.0).facts + length r.1.now ≤ length text.now) }
+    ensures utf8 { IfOk result (λ r. IsUtf8 r.1.now) }
     ensures refused { IfLine result (λ n e. IsNoFactBehind (lines_of text.now) before n e) }
     ensures not_twice { IfTwice result (λ n. ⊥) }
 {

@@ -4,7 +4,7 @@ ghost use Rattle.std.specs.Prelude.{◌≡◌, ◌≢◌, ◌<◌, ◌↔◌, �
 ghost use Rattle.std.specs.Prelude.{string_bytes};
 ghost use Rattle.std.specs.List.{slice_index_or, filter, range_with_len};
 ghost use Rattle.cargo_platform.specs.Trees.{value_of, condition_of};
-ghost use Rattle.cargo_platform.specs.Facts.{fact_set, IsTrueCondition};
+ghost use Rattle.cargo_platform.specs.Facts.{fact_set, truth_of_condition, IsTrueCondition};
 ghost use Rattle.target_tables.specs.Rows.{Row, row_of, rows_of, name_at, HasNoRow, IsRowNamed, holds_at};
 
 use cargo_platform::{Cfg, Platform};
@@ -35,7 +35,9 @@ impl TargetRow {
     /// Whether the condition holds for the target, by its name and its facts.
     pub fn matches(&self, platform: &Platform) -> bool
         // The answer is yes exactly if the condition holds at the target.
-        ensures { IsTrue result ↔ IsTrueCondition (row_of self.now).name (fact_set (row_of self.now).facts)
+        ensures truth { result ≡ truth_of_condition (row_of self.now).name (fact_set (row_of self.now).facts)
+            (condition_of platform.now) }
+        ensures applies { IsTrue result ↔ IsTrueCondition (row_of self.now).name (fact_set (row_of self.now).facts)
             (condition_of platform.now) }
     {
         platform.matches(self.name.as_str(), &self.facts)
@@ -62,10 +64,7 @@ impl TargetTable {
         ensures found { IfSome result (λ row. IsRowNamed (rows_of self.now) name.now (row_of row.now)) }
         ensures none { IfNone result (HasNoRow (rows_of self.now) name.now) }
     {
-        match place_of(&self.rows, name) {
-            Some(place) => Some(&self.rows[place]),
-            None => None,
-        }
+        row_named(&self.rows, name)
     }
 
     /// The places of the rows at which the condition holds, by their names and facts. It refuses only where memory is
@@ -77,6 +76,17 @@ impl TargetTable {
             (range_with_len 0 (length (rows_of self.now)))) }
     {
         places_where(alloc, &self.rows, platform)
+    }
+}
+
+/// The row with this name.
+fn row_named<'a>(rows: &'a [TargetRow], name: &str) -> Option<&'a TargetRow>
+    ensures found { IfSome result (λ row. IsRowNamed (map row_of rows.now) name.now (row_of row.now)) }
+    ensures none { IfNone result (HasNoRow (map row_of rows.now) name.now) }
+{
+    match place_of(rows, name) {
+        Some(place) => Some(&rows[place]),
+        None => None,
     }
 }
 
