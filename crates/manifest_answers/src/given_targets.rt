@@ -5,8 +5,10 @@ use key_answers::answer::Refusal;
 use key_answers::printing::{refused_fact, shown_name};
 use known_targets::having;
 use manifest_lints_findings::near;
+use manifests::Asked;
 use partial_facts::decide_platform;
 use std::alloc::{AllocError, Global};
+use std::collections::BTreeSet;
 use target_tables::{TableError, TargetRow, TargetTable, read_table};
 
 /// The targets of a file.
@@ -154,7 +156,7 @@ impl GivenTargets {
         let mut none = true;
         let mut each = true;
         for row in self.table.rows() {
-            let known = manifests::Asked {
+            let known = Asked {
                 facts: row.facts(),
                 added: &[],
                 open,
@@ -181,7 +183,7 @@ impl GivenTargets {
 
     /// The facts that no known target has, each once, as they are written.
     pub fn new_facts(&self, alloc: Global) -> Result<Vec<String>, AllocError> {
-        let mut seen = std::collections::BTreeSet::new(alloc);
+        let mut seen = BTreeSet::new(alloc);
         let mut texts = Vec::new(alloc);
         for row in self.table.rows() {
             for fact in row.facts() {

@@ -2,17 +2,17 @@
 use Rattle.std.proofs.Common.{◌≡◌, ◌≢◌, ◌∙◌, ℕ, zero, suc, ◌+◌, ◌-◌, ◌<◌, ◌≤◌, List, [], ◌∷◌, ◌++◌, refl, sym, ap, subst}
 use Rattle.std.proofs.Common.{length, get_or, take, arith, append_assoc, append-nil, inl, inr, length-append}
 use Rattle.std.proofs.Math.ListN.{get_or-append}
-use Rattle.std.proofs.Math.Seq.{take-append_seam, take-append-add, get_or-append_seam}
+use Rattle.std.proofs.Math.Seq.{take-append-add, get_or-append_seam}
 use Rattle.std.proofs.lemmas.List.{take-append-le, get_or-append-add}
 use Rattle.std.specs.List.{AllByRecursion}
 use Rattle.cargo_platform.specs.Trees.{CfgValue}
 use Rattle.cargo_platform.specs.Spelling.{Values}
 use Rattle.cargo_platform.specs.Faults.{IsRefusedAt}
-use Rattle.cargo_platform.specs.Errors.{orig_of, fault_in, span_in}
+use Rattle.cargo_platform.specs.Errors.{fault_in, span_in}
 use Rattle.cargo_platform.specs.Lines.{line_at}
 use Rattle.cargo_platform.specs.FactLines.{SpellFacts, SpellsNoFact}
 use Rattle.cargo_platform.specs.declared.error.ParseError.{ParseError}
-use Rattle.target_tables.specs.Rows.{Row, AreRows, AreEmpty, AreFilled, IsBlockEnd, HasNoRow, AreDistinct, name_at}
+use Rattle.target_tables.specs.Rows.{Row, AreRows, AreEmpty, AreFilled, IsBlockEnd, HasNoRow, name_at}
 use Rattle.target_tables.specs.Refusals.{IsRepeat, IsNoFact, IfLine}
 use Rattle.target_tables.specs.declared.error.TableError.{TableError}
 use Rattle.target_tables.specs.declared.error.TableError.TheVariants.{Line, Twice, Memory}
