@@ -1,6 +1,6 @@
 -- Where a text that a number and a point begin is split.
 use Rattle.std.proofs.Common.{◌≡◌, ℕ, Bool, ◌+◌, ◌<◌, ◌^◌, List, ◌∷◌, ◌++◌, length, get_or, ap, ◌∙◌, arith, eqb}
-use Rattle.std.proofs.Common.{false, decimal, take, drop, length-append, Option, None, Some, MatchOption, Bor, inl, inr}
+use Rattle.std.proofs.Common.{false, decimal, take, drop, length-append, Option, None, Some, MatchOption, IfNone, Bor, inl, inr}
 use Rattle.std.proofs.Common.{◌≢◌, sym, subst}
 use Rattle.former_names.specs.declared.releases.Release.{Release}
 use Rattle.former_names.specs.Releases.{IsSpelled, SpellsLast}
@@ -131,3 +131,13 @@ pub rest_unread : (t : List ℕ) (r : Option Parts) → IsSplitOnceResult 46 t r
 rest_unread t r h x is none v spelt =
     let back = (parts_are t (Some x) (subst (IsSplitOnceResult 46 t) is h) v.major spelt.1.0 spelt.0.0 spelt.1.1).1 in
     none v.minor v.patch spelt.0.1 spelt.0.2 (subst (λ z. SpellsLast z v.minor v.patch) (sym back) spelt.1.2)
+
+-- what holds anyway holds where there is no value
+pub if_none : {T : Type 0} (o : Option T) (P : Type 0) → P → IfNone o P
+if_none None P p = p
+if_none (Some x) P p = tt
+
+-- and what follows from that
+pub none_from : {T : Type 0} (o : Option T) (P Q : Type 0) → (P → Q) → IfNone o P → IfNone o Q
+none_from None P Q f p = f p
+none_from (Some x) P Q f p = tt

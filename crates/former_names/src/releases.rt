@@ -35,7 +35,6 @@ fn number(text: &str) -> Option<u64>
 }
 
 /// The second and the third number that a text spells. A third one that is not there is 0.
-#[tactic(auto, using(crate::proofs::Points::minor_unread, crate::proofs::Points::patch_unread, crate::proofs::Points::one_unread))]
 fn last_numbers(text: &str) -> Option<(u64, u64)>
     ensures read { IfSome result (λ n. SpellsLast text.now n.0 n.1) }
     ensures unread { IfNone result ((minor patch : ℕ) → minor < 2 ^ 64 → patch < 2 ^ 64
@@ -49,7 +48,6 @@ fn last_numbers(text: &str) -> Option<(u64, u64)>
 
 impl Release {
     /// The release that a text spells: two numbers with a point between them, or three. Of two the last one is 0.
-    #[tactic(auto, using(crate::proofs::Points::no_release, crate::proofs::Points::major_unread, crate::proofs::Points::rest_unread))]
     pub fn of(text: &str) -> Option<Release>
         ensures read { IfSome result (λ r. IsSpelled text.now r) }
         ensures unread { IfNone result ((r : Release) → IsSpelled text.now r → ⊥) }

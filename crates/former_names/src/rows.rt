@@ -64,7 +64,6 @@ fn release(numbers: Numbers) -> Release
 }
 
 /// What the row of a target with this name says.
-#[tactic(auto, using(crate::proofs::Found::is_target, crate::proofs::Found::no_target))]
 fn find_target(rows: &[TargetRow], name: &str) -> Option<Bounds>
     ensures found { IfSome result (λ b. HasTarget (targets_of rows.now) name.now b) }
     ensures none { IfNone result ((b : Bounds) → HasTarget (targets_of rows.now) name.now b → ⊥) }
@@ -82,7 +81,6 @@ fn find_target(rows: &[TargetRow], name: &str) -> Option<Bounds>
 }
 
 /// What the row of a fact with this key and value says.
-#[tactic(auto, using(crate::proofs::Found::is_fact, crate::proofs::Found::no_fact))]
 fn find_fact(rows: &[FactRow], key: &str, value: &str) -> Option<Bounds>
     ensures found { IfSome result (λ b. HasPair (facts_of rows.now) key.now value.now b) }
     ensures none { IfNone result ((b : Bounds) → HasPair (facts_of rows.now) key.now value.now b → ⊥) }
@@ -100,7 +98,6 @@ fn find_fact(rows: &[FactRow], key: &str, value: &str) -> Option<Bounds>
 }
 
 /// The name that a row has for this one.
-#[tactic(auto, using(crate::proofs::Found::is_renamed, crate::proofs::Found::not_renamed))]
 fn find_renamed(rows: &[RenamedRow], name: &str) -> Option<&'static str>
     ensures found { IfSome result (λ now. IsRenamed (renamed_of rows.now) name.now now.now) }
     ensures none { IfNone result ((now : List ℕ) → IsRenamed (renamed_of rows.now) name.now now → ⊥) }
@@ -122,6 +119,14 @@ pub fn former_target(name: &str) -> Option<Bounds>
     find_target(targets(), name)
 }
 
+/// Between which releases a key with this value went, where a target had it before.
+fn former_pair(key: &str, value: &str) -> Option<Bounds>
+    ensures found { IfSome result (λ b. HasPair fact_rows key.now value.now b) }
+    ensures none { IfNone result ((b : Bounds) → HasPair fact_rows key.now value.now b → ⊥) }
+{
+    find_fact(facts(), key, value)
+}
+
 /// Between which releases a fact went, where a target had it before. Its raw mark plays no part.
 pub fn former_fact(c: &Cfg) -> Option<Bounds>
     ensures found { IfSome result (λ b. HasFact (value_of c.now) b) }
@@ -129,7 +134,7 @@ pub fn former_fact(c: &Cfg) -> Option<Bounds>
 {
     match c {
         Cfg::Name(_) => None,
-        Cfg::KeyPair(key, value) => find_fact(facts(), key.as_str(), value.as_str()),
+        Cfg::KeyPair(key, value) => former_pair(key.as_str(), value.as_str()),
     }
 }
 

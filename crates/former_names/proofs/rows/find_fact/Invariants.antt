@@ -3,5 +3,5 @@ use Rattle.former_names.specs.Rows.{Numbers}
 use Rattle.former_names.proofs.rows.find_fact.Given as goal
 
 abbrev pub invariant-rows : goal.invariant-rows
-invariant-rows l = (row : Bor (List ℕ) × Bor (List ℕ) × Numbers × Numbers) (k : ℕ) → k < l.row-index
-    → get_or l.rows k row ≡ row → row.0.now ≡ l.key → row.1.now ≢ l.value
+invariant-rows l = (k : ℕ) → k < l.row-index → (d : Bor (List ℕ) × Bor (List ℕ) × Numbers × Numbers)
+    → (get_or l.rows k d).0.now ≡ l.key → (get_or l.rows k d).1.now ≢ l.value
