@@ -27,7 +27,7 @@ pub struct Words<'a> {
     /// The kinds of dependencies that are followed, joined by commas; nothing stands for all.
     pub edges: Option<&'a str>,
     pub host: Option<&'a str>,
-    /// The targets of another rustc, which are meant in place of the known ones, behind the name of their file, as it is
+    /// The targets of another rustc, which are meant in place of the known ones, behind the name of their file as it is
     /// shown.
     pub facts_of: Option<(&'a str, &'a TargetTable)>,
     /// Names of the workspace's members that are roots; none stands for all members.
