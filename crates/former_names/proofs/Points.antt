@@ -1,6 +1,7 @@
 -- Where a text that a number and a point begin is split.
 use Rattle.std.proofs.Common.{◌≡◌, ℕ, Bool, ◌+◌, ◌<◌, ◌^◌, List, ◌∷◌, ◌++◌, length, get_or, ap, ◌∙◌, arith, eqb}
-use Rattle.std.proofs.Common.{false, decimal, take, drop, length-append, Option, None, Some, MatchOption, IfNone, Bor, inl, inr}
+use Rattle.std.proofs.Common.{false, decimal, take, drop, length-append, Option, None}
+use Rattle.std.proofs.Common.{Some, MatchOption, IfNone, Bor, inl, inr}
 use Rattle.std.proofs.Common.{◌≢◌, sym, subst}
 use Rattle.former_names.specs.declared.releases.Release.{Release}
 use Rattle.former_names.specs.Releases.{IsSpelled, SpellsLast}

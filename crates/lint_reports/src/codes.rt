@@ -43,9 +43,9 @@ const OTHERS: [Explained; 6] = [
         weight: Weight::Note,
         short: "rustc knew a name or value until some release; a warning where no rustc of the project knows it",
         text: "The key is the name of a target, or asks for a value, that rustc knew until some release, so that Cargo \
-               selects the dependencies with older compilers alone. It is a warning where `rust-version`, or `rustc` in \
-               a table `manifest-check` of the metadata, is a release that does not know it, and is not told where \
-               that `rustc` knows it.\n\n\
+               selects the dependencies with older compilers alone. It is a warning where `rust-version`, or \
+               `rustc` in a table `manifest-check` of the metadata, is a release that does not know it, and is not \
+               told where that `rustc` knows it.\n\n\
                Example: [target.wasm32-wasi.dependencies]\nwhich rustc knew until 1.83.0.",
     },
     Explained {

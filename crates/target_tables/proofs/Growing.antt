@@ -1,5 +1,6 @@
 -- Lines that are read as rows.
-use Rattle.std.proofs.Common.{◌≡◌, ◌≢◌, ◌∙◌, ℕ, zero, suc, ◌+◌, ◌-◌, ◌<◌, ◌≤◌, List, [], ◌∷◌, ◌++◌, refl, sym, ap, subst}
+use Rattle.std.proofs.Common.{◌≡◌, ◌≢◌, ◌∙◌, ℕ, zero, suc, ◌+◌, ◌-◌, ◌<◌, ◌≤◌, List}
+use Rattle.std.proofs.Common.{[], ◌∷◌, ◌++◌, refl, sym, ap, subst}
 use Rattle.std.proofs.Common.{length, get_or, take, arith, append_assoc, append-nil, inl, inr, length-append}
 use Rattle.std.proofs.Math.ListN.{get_or-append}
 use Rattle.std.proofs.Math.Seq.{take-append-add, get_or-append_seam}
@@ -99,7 +100,8 @@ begun ls passed rest g = record {
 }
 
 -- the lines that are read
-read_so_far : (ls : List (List ℕ)) (rows : List Row) (passed : ℕ) (rest : List (List ℕ)) (r : AreRead ls rows passed rest)
+read_so_far : (ls : List (List ℕ)) (rows : List Row) (passed : ℕ) (rest : List (List ℕ))
+    (r : AreRead ls rows passed rest)
     → AreRows r.taken rows
 read_so_far ls rows passed rest r =
     subst (λ z. AreRows z rows) (append-nil r.taken)

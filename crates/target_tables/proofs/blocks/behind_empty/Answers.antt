@@ -1,4 +1,5 @@
-use Rattle.std.proofs.Common.{◌≡◌, ◌∙◌, ◌++◌, [], ◌∷◌, sym, ap, refl, length, append_assoc, length-append, arith, lit≤, lit<}
+use Rattle.std.proofs.Common.{◌≡◌, ◌∙◌, ◌++◌, [], ◌∷◌, sym, ap, refl}
+use Rattle.std.proofs.Common.{length, append_assoc, length-append, arith, lit≤, lit<}
 use Rattle.std.proofs.lemmas.Str.Pattern.{strip_prefix_char}
 use Rattle.cargo_platform.specs.Lines.{lines_of}
 use Rattle.cargo_platform.proofs.SomeCut.{ascii_sides}

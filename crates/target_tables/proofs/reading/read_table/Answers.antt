@@ -54,9 +54,11 @@ returns-in_err-row-clause-no_fact c =
     let value : c.deref.result.now ≡ c.blocks-2.rows.items = cc (c.deref.ensures.value) in
     let none =
     subst (λ (xs : List TargetRow). HasNoRow (map row_of xs) name) value
-    (none_at c.place_of.result (HasNoRow (map row_of c.deref.result.now) name) (sym c.is_some.ensures ∙ c.if-is_some.false)
+    (none_at c.place_of.result (HasNoRow (map row_of c.deref.result.now) name)
+    (sym c.is_some.ensures ∙ c.if-is_some.false)
     c.place_of.ensures.none) in
-    passed_on (TargetRow × Bor (List ℕ)) TargetTable (λ (n : ℕ) (e : ParseError). IsNoFactBehind behind (c.blocks-2.passed + 1) n e)
+    passed_on (TargetRow × Bor (List ℕ)) TargetTable
+    (λ (n : ℕ) (e : ParseError). IsNoFactBehind behind (c.blocks-2.passed + 1) n e)
     (λ (n : ℕ) (e : ParseError). IsNoFact ls n e) c.in_err-row.field-0.0 _ c.from_residual.ensures.1
     (λ n e h.
     refused ls rows c.blocks-2.passed (lines_of c.blocks-2.rest.now) name behind (c.blocks-2.passed + 1) n e
@@ -76,7 +78,8 @@ blocks-2-preserved c =
     let named = c.in_ok-row.ensures.name in
     let none =
     subst (λ (xs : List TargetRow). HasNoRow (map row_of xs) name) value
-    (none_at c.place_of.result (HasNoRow (map row_of c.deref.result.now) name) (sym c.is_some.ensures ∙ c.if-is_some.false)
+    (none_at c.place_of.result (HasNoRow (map row_of c.deref.result.now) name)
+    (sym c.is_some.ensures ∙ c.if-is_some.false)
     c.place_of.ensures.none) in
     let is = c.first_line.ensures.lines some ∙ ap (λ z. z ∷ behind) (sym named) in
     let items : map row_of c.push.new.self.items ≡ map row_of c.blocks-2.rows.items ++ row_of c.in_ok-row.row ∷ [] =

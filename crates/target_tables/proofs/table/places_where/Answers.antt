@@ -17,9 +17,11 @@ rows-preserved c =
     let items = λ (v : Vec ℕ Global). v.items in
     elim c.if-matches.branch [
       | then-matches+in_ok-push w ↦
-          one_place holds c.rows.i c.rows.places.items c.if-matches.places.items (is ∙ w.if-matches.true) c.rows.invariant
+          one_place holds c.rows.i c.rows.places.items c.if-matches.places.items (is ∙ w.if-matches.true)
+          c.rows.invariant
           (ap items w.places-is ∙ w.in_ok-push.ensures.items)
       | else-matches w ↦
-          no_place holds c.rows.i c.rows.places.items c.if-matches.places.items (is ∙ w.if-matches.false) c.rows.invariant
+          no_place holds c.rows.i c.rows.places.items c.if-matches.places.items (is ∙ w.if-matches.false)
+          c.rows.invariant
           (ap items w.places-is)
     ]
