@@ -17,6 +17,18 @@ pub struct Project<'a> {
     pub of_package: &'a Settings,
     /// The `rust-version` of the package.
     pub rust_version: Option<Release>,
+    /// Names of targets that are known besides.
+    pub targets: &'a [String],
+}
+
+/// Whether one of the texts is this one.
+fn has(texts: &[String], wanted: &str) -> bool {
+    for text in texts {
+        if text.as_str() == wanted {
+            return true;
+        }
+    }
+    false
 }
 
 impl<'a> Project<'a> {
@@ -30,7 +42,9 @@ impl<'a> Project<'a> {
 
     /// Whether it knows a target of this name by itself.
     fn knows_target(&self, name: &str) -> bool {
-        self.of_package.knows_target(name) || self.of_workspace.knows_target(name)
+        self.of_package.knows_target(name)
+            || self.of_workspace.knows_target(name)
+            || has(self.targets, name)
     }
 
     /// Why no rustc that builds it knows a name, to be put behind what is told of that.
@@ -188,16 +202,6 @@ fn formers_among<'a>(
 }
 
 impl Formers {
-    /// Whether a fact is among them, as rustc printed it.
-    fn has_fact(&self, printed: &str) -> bool {
-        for fact in &self.facts {
-            if fact.as_str() == printed {
-                return true;
-            }
-        }
-        false
-    }
-
     /// Adds a fact that a key asks for.
     fn add_fact(
         &mut self,
@@ -207,7 +211,7 @@ impl Formers {
         project: &Project<'_>,
     ) -> Result<(), AllocError> {
         let printed = fact.printed(alloc)?;
-        if !self.has_fact(printed.as_str()) {
+        if !has(&self.facts, printed.as_str()) {
             self.facts.push(printed)?;
         }
         if let Some(told) = fact.told(alloc, key, project)? {
@@ -268,22 +272,17 @@ impl Formers {
         }
     }
 
-    /// Nothing of them.
-    pub fn none(alloc: Global) -> Formers {
-        Formers {
-            told: Vec::new(alloc),
-            facts: Vec::new(alloc),
-            targets: Vec::new(alloc),
-        }
-    }
-
     /// What a manifest has of them, beside the facts that it declares and the targets that its project knows.
     pub fn of(
         alloc: Global,
         manifest: &Table,
         project: &Project<'_>,
     ) -> Result<Formers, AllocError> {
-        let mut formers = Formers::none(alloc);
+        let mut formers = Formers {
+            told: Vec::new(alloc),
+            facts: Vec::new(alloc),
+            targets: Vec::new(alloc),
+        };
         let declared = Declared::of(alloc, manifest)?;
         if let Targets::Keys(keys) = target_keys(alloc, manifest)? {
             for key in &keys {
@@ -295,11 +294,6 @@ impl Formers {
 
     /// Whether a key is the name of a target among them.
     pub fn has_target(&self, key: &str) -> bool {
-        for name in &self.targets {
-            if name.as_str() == key {
-                return true;
-            }
-        }
-        false
+        has(&self.targets, key)
     }
 }

@@ -2,7 +2,7 @@
 
 use crate::configurations::{as_manifest, reword};
 use crate::declaring::declare;
-use crate::other_rustc::{OtherRustc, declare_by, judge_by};
+use crate::other_rustc::{OtherRustc, declare_by, given_formers, judge_by};
 use crate::roots::{Root, inherit_lints, is_unneeded, rust_version};
 use cargo_platform::{shown_start, shown_text};
 use key_answers::answer::{Answer, Status};
@@ -313,17 +313,12 @@ fn tell_report(
     )
 }
 
-/// What a manifest has of names that rustc knew before, whose facts are declared then. Where the targets of another
-/// rustc count, it has nothing of them.
+/// What a manifest has of names that rustc knew before, whose facts are declared then.
 fn declare_formers(
     alloc: Global,
     manifest: &mut Table,
     project: &Project<'_>,
-    other: &Option<OtherRustc>,
 ) -> Result<Formers, AllocError> {
-    if other.is_some() {
-        return Ok(Formers::none(alloc));
-    }
     let formers = Formers::of(alloc, manifest, project)?;
     declare(alloc, manifest, &formers.facts)?;
     Ok(formers)
@@ -370,8 +365,9 @@ fn lint_configuration<R: Files + Input + AllocGlobal>(
         of_workspace: &root.settings,
         of_package: &settings,
         rust_version: None,
+        targets: given_formers(&telling.asked.other),
     };
-    let formers = declare_formers(alloc, &mut table, &project, &telling.asked.other)?;
+    let formers = declare_formers(alloc, &mut table, &project)?;
     manifest.document.table = table;
     root.hides_lints = false;
     let mut report = lint(alloc, &manifest.document, words)?;
@@ -413,8 +409,9 @@ fn lint_at<R: Files + Input + AllocGlobal>(
         of_workspace: &root.settings,
         of_package: &settings,
         rust_version: rust_version(root, table),
+        targets: given_formers(&telling.asked.other),
     };
-    let formers = declare_formers(alloc, table, &project, &telling.asked.other)?;
+    let formers = declare_formers(alloc, table, &project)?;
     let mut report = lint(alloc, &manifest.document, words)?;
     judge_by(
         alloc,

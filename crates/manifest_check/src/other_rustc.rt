@@ -3,6 +3,7 @@
 use crate::declaring::declare;
 use cargo_platform::{Platform, ReadError};
 use expression_folds::values_of;
+use former_names::former_target;
 use known_targets::KnownTarget;
 use manifest_answers::given_targets::GivenTargets;
 use manifest_documents::Declared;
@@ -21,13 +22,20 @@ pub struct OtherRustc {
     given: GivenTargets,
     /// The facts that no known target has, as they are written.
     facts: Vec<String>,
+    /// The names of targets that rustc knew before.
+    former: Vec<String>,
 }
 
 impl OtherRustc {
     /// The rustc that knows these targets.
     pub fn of(alloc: Global, given: GivenTargets) -> Result<OtherRustc, AllocError> {
         let facts = given.new_facts(alloc)?;
-        Ok(OtherRustc { given, facts })
+        let former = formers_among(alloc, &given)?;
+        Ok(OtherRustc {
+            given,
+            facts,
+            former,
+        })
     }
 
     /// Puts what is so at its targets in place of what a report tells of known ones.
@@ -155,6 +163,25 @@ impl OtherRustc {
             return Ok((false, false));
         }
         Ok(self.given.none_and_each(condition, &open))
+    }
+}
+
+/// The names of given targets that rustc knew before.
+fn formers_among(alloc: Global, given: &GivenTargets) -> Result<Vec<String>, AllocError> {
+    let mut names = Vec::new(alloc);
+    for row in given.table().rows() {
+        if former_target(row.name()).is_some() {
+            names.push(String::from_str(alloc, row.name())?)?;
+        }
+    }
+    Ok(names)
+}
+
+/// The names of targets that rustc knew before and another one has, where one is asked.
+pub fn given_formers(other: &Option<OtherRustc>) -> &[String] {
+    match other {
+        Some(other) => &other.former,
+        None => &[],
     }
 }
 
