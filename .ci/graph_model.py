@@ -1,0 +1,127 @@
+"""Graphs of packages whose answers are known, and a model that tells such answers by itself, target by target.
+
+The graphs stand in crates/manifest_check/graphs, as `cargo metadata` printed them with paths replaced. The model has a
+reader of conditions of its own, over the facts that rustc printed, and the relations that the page of the program
+states. It asks no program.
+"""
+import collections
+import gzip
+import hashlib
+import json
+import re
+
+from crates import ROOT
+from features import Build
+from targets import known_targets
+
+DATA = ROOT / "crates" / "manifest_check" / "graphs"
+
+
+def unpacked(name):
+    return gzip.decompress((DATA / name).read_bytes()).decode()
+
+
+def graphs():
+    """The documents by their names."""
+    found = json.loads(unpacked("small.json.gz"))
+    for name in ("just", "term"):
+        found[name] = json.loads(unpacked(f"{name}.json.gz"))
+    return found
+
+
+def sets_of(table):
+    return {name: set(lines) for name, lines in table.items()}
+
+
+# The facts of each target. Who asks of other targets changes what this holds.
+TARGETS = sets_of(known_targets())
+TOKENS = re.compile(r'\s*(?:((?:r#)?[A-Za-z_][A-Za-z0-9_]*)|"([^"]*)"|([(),=]))')
+
+
+def holds_at(text):
+    """The known targets at which a condition holds."""
+    if text is None:
+        return frozenset(TARGETS)
+    if not text.startswith("cfg("):
+        return frozenset(name for name in TARGETS if name == text)
+    tokens = [match.groups() for match in TOKENS.finditer(text[4:-1])]
+
+    def one(at):
+        name = tokens[at][0]
+        if at + 1 < len(tokens) and tokens[at + 1][2] == "=":
+            name, value = name.removeprefix("r#"), tokens[at + 2][1]
+            return at + 3, frozenset(t for t, facts in TARGETS.items() if f'{name}="{value}"' in facts)
+        if name in ("all", "any", "not") and at + 1 < len(tokens) and tokens[at + 1][2] == "(":
+            at, members = at + 2, []
+            while tokens[at][2] != ")":
+                at, member = one(at)
+                members.append(member)
+                at += tokens[at][2] == ","
+            everywhere = frozenset(TARGETS)
+            if name == "not":
+                return at + 1, everywhere - members[0]
+            if name == "all":
+                return at + 1, everywhere.intersection(*members)
+            return at + 1, frozenset().union(*members)
+        if name in ("true", "false"):
+            return at + 1, frozenset(TARGETS) if name == "true" else frozenset()
+        return at + 1, frozenset(t for t, facts in TARGETS.items() if name.removeprefix("r#") in facts)
+
+    at, found = one(0)
+    assert at == len(tokens), text
+    return found
+
+
+Edge = collections.namedtuple("Edge", "on name kind text holds")
+
+
+class Model:
+    """A document, and where its packages are: what the page states, target by target."""
+
+    def __init__(self, document):
+        self.packages = {it["id"]: it for it in document["packages"]}
+        self.members = document["workspace_members"]
+        self.edges = {
+            node["id"]: [
+                Edge(d["pkg"], d["name"], k["kind"] or "normal", k["target"], holds_at(k["target"]))
+                for d in node["deps"] for k in d["dep_kinds"]
+            ]
+            for node in document["resolve"]["nodes"]
+        }
+
+    def is_macro(self, package):
+        return any("proc-macro" in target["kind"] for target in self.packages[package]["targets"])
+
+    def steps(self, roots, kinds, host, target, place):
+        """The edges that are followed from a place, each with the place that it leads to."""
+        package, side = place
+        for edge in self.edges[package]:
+            if edge.kind not in kinds or (edge.kind == "dev" and package not in roots):
+                continue
+            of_host = host and (side == "host" or edge.kind == "build")
+            if (host if of_host else target) in edge.holds:
+                yield edge, (edge.on, "host" if host and (of_host or self.is_macro(edge.on)) else "target")
+
+    def distances(self, roots, kinds, host, target):
+        """How far each place is from a root at a target."""
+        far = {(root, "host" if host and self.is_macro(root) else "target"): 0 for root in roots}
+        waiting = collections.deque(far)
+        while waiting:
+            place = waiting.popleft()
+            for _, after in self.steps(roots, kinds, host, target, place):
+                if after not in far:
+                    far[after] = far[place] + 1
+                    waiting.append(after)
+        return far
+
+
+def digest(names):
+    return hashlib.sha256("".join(f"{name}\n" for name in sorted(names)).encode()).hexdigest()[:16]
+
+
+def built(document, roots, kinds, host, resolver, target, **asked):
+    """What Cargo's steps build at a target: of each package and side its features."""
+    build = Build(document, roots, kinds, host, resolver, target, holds_at, **asked)
+    return {(package, side): frozenset(
+        f for f in build.on[build.key(package, side)] if f in build.packages[package]["features"])
+        for package, side in build.used()}
