@@ -343,6 +343,18 @@ fn usable_at<R: Files + Input + AllocGlobal>(
     Ok(None)
 }
 
+/// What there is to tell of a manifest, by the targets of another rustc where one is asked.
+fn report_on<'m>(
+    alloc: Global,
+    manifest: &'m Manifest,
+    words: &Words,
+    other: &Option<OtherRustc>,
+) -> Result<Report<'m>, AllocError> {
+    let mut report = lint(alloc, &manifest.document, words)?;
+    judge_by(alloc, other, &manifest.document.table, &mut report)?;
+    Ok(report)
+}
+
 /// Tells what is found of the configuration at a path, by what its root says, or that it can't be used.
 fn lint_configuration<R: Files + Input + AllocGlobal>(
     rt: &R,
@@ -370,13 +382,7 @@ fn lint_configuration<R: Files + Input + AllocGlobal>(
     let formers = declare_formers(alloc, &mut table, &project)?;
     manifest.document.table = table;
     root.hides_lints = false;
-    let mut report = lint(alloc, &manifest.document, words)?;
-    judge_by(
-        alloc,
-        &telling.asked.other,
-        &manifest.document.table,
-        &mut report,
-    )?;
+    let mut report = report_on(alloc, &manifest, words, &telling.asked.other)?;
     reword(alloc, &mut report)?;
     telling.counts.add_configuration(report.keys.len());
     let found = Found {
@@ -412,13 +418,7 @@ fn lint_at<R: Files + Input + AllocGlobal>(
         targets: given_formers(&telling.asked.other),
     };
     let formers = declare_formers(alloc, table, &project)?;
-    let mut report = lint(alloc, &manifest.document, words)?;
-    judge_by(
-        alloc,
-        &telling.asked.other,
-        &manifest.document.table,
-        &mut report,
-    )?;
+    let report = report_on(alloc, &manifest, words, &telling.asked.other)?;
     let wrong = wrong_places(alloc, &manifest.document.table)?;
     telling.counts.add_manifest(report.keys.len());
     let found = Found {
