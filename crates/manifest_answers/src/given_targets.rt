@@ -175,7 +175,7 @@ impl GivenTargets {
 
     /// Whether the condition may hold at none, and whether it is certain to hold at each, whatever the facts of these
     /// names and keys are.
-    pub fn none_and_each(&self, condition: &Platform, open: &[&str]) -> (bool, bool) {
+    pub fn none_and_each<'x>(&'x self, condition: &Platform, open: &'x [&'x str]) -> (bool, bool) {
         let mut none = true;
         let mut each = true;
         for row in self.table.rows() {
