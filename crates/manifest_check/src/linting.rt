@@ -173,14 +173,13 @@ impl<'a> Telling<'a> {
     }
 }
 
-/// What is found of a manifest.
-#[derive(Clone, Copy, Drop)]
-struct Found<'a> {
-    report: &'a Report<'a>,
+/// What is found of a manifest beside its report.
+#[derive(Drop)]
+struct Beside {
     /// Names that rustc knew before.
-    formers: &'a Formers,
+    formers: Formers,
     /// What stands at wrong places.
-    wrong: &'a [WrongPlace],
+    wrong: Vec<WrongPlace>,
 }
 
 impl<'a> Telling<'a> {
@@ -191,9 +190,10 @@ impl<'a> Telling<'a> {
         root: &mut Root,
         settings: &Settings,
         manifest: &Manifest,
-        found: &Found<'_>,
+        report: &Report<'_>,
+        beside: &Beside,
     ) -> Result<(), AllocError> {
-        let told = told_in(alloc, root, manifest, found)?;
+        let told = told_in(alloc, root, manifest, report, beside)?;
         self.tell_of(alloc, root, settings, manifest, &told)
     }
 }
@@ -218,12 +218,12 @@ fn weighed_in<'a>(alloc: Global, found: &[Told<'a>]) -> Result<Vec<Weighed<'a>>,
 
 /// Whether a finding is left out: lints that can't be read hide what a manifest declares, and of a name that rustc knew
 /// before that is told.
-fn is_left_out(root: &Root, found: &Found<'_>, finding: &Finding) -> bool {
+fn is_left_out(root: &Root, report: &Report<'_>, formers: &Formers, finding: &Finding) -> bool {
     match finding.code {
         Code::Custom => root.hides_lints,
         Code::UnknownTarget => match finding.key {
-            Some(place) => match found.report.keys.get(place) {
-                Some(key) => found.formers.has_target(key.key),
+            Some(place) => match report.keys.get(place) {
+                Some(key) => formers.has_target(key.key),
                 None => false,
             },
             None => false,
@@ -237,21 +237,21 @@ fn told_in<'a>(
     alloc: Global,
     root: &Root,
     manifest: &'a Manifest,
-    found: &Found<'a>,
+    report: &'a Report<'a>,
+    beside: &'a Beside,
 ) -> Result<Vec<Told<'a>>, AllocError> {
     let mut told = Vec::new(alloc);
-    let report = found.report;
     for finding in &report.findings {
-        if is_left_out(root, found, finding) {
+        if is_left_out(root, report, &beside.formers, finding) {
             continue;
         }
         let weight = own_weight(finding.code, finding.level);
         told.push(told_of(place_of(manifest, report, finding), finding, weight))?;
     }
-    for it in formers_told(alloc, manifest, found.formers)? {
+    for it in formers_told(alloc, manifest, &beside.formers)? {
         told.push(it)?;
     }
-    for it in found.wrong {
+    for it in &beside.wrong {
         told.push(told_of_wrong(manifest, it))?;
     }
     Ok(told)
@@ -297,10 +297,11 @@ fn tell_report(
     telling: &mut Telling<'_>,
     settings: &Settings,
     manifest: &Manifest,
-    found: &Found<'_>,
+    report: &Report<'_>,
+    beside: &Beside,
 ) -> Result<(), AllocError> {
-    telling.tell_found(alloc, root, settings, manifest, found)?;
-    if telling.asked.is_verbose && found.report.keys.is_empty() {
+    telling.tell_found(alloc, root, settings, manifest, report, beside)?;
+    if telling.asked.is_verbose && report.keys.is_empty() {
         let path = manifest.path.as_str();
         let line = format!(in alloc; "{path}: no key of `target` to check\n")?;
         telling.answer.errors.push_str(line.as_str())?;
@@ -309,7 +310,7 @@ fn tell_report(
         &mut telling.answer.errors,
         alloc,
         manifest.path.as_str(),
-        found.report,
+        report,
     )
 }
 
@@ -385,12 +386,8 @@ fn lint_configuration<R: Files + Input + AllocGlobal>(
     let mut report = report_on(alloc, &manifest, words, &telling.asked.other)?;
     reword(alloc, &mut report)?;
     telling.counts.add_configuration(report.keys.len());
-    let found = Found {
-        report: &report,
-        formers: &formers,
-        wrong: &wrong,
-    };
-    tell_report(alloc, root, telling, &settings, &manifest, &found)
+    let beside = Beside { formers, wrong };
+    tell_report(alloc, root, telling, &settings, &manifest, &report, &beside)
 }
 
 /// Tells what is found of the manifest at a path, or that it can't be used.
@@ -421,12 +418,8 @@ fn lint_at<R: Files + Input + AllocGlobal>(
     let report = report_on(alloc, &manifest, words, &telling.asked.other)?;
     let wrong = wrong_places(alloc, &manifest.document.table)?;
     telling.counts.add_manifest(report.keys.len());
-    let found = Found {
-        report: &report,
-        formers: &formers,
-        wrong: &wrong,
-    };
-    tell_report(alloc, root, telling, &settings, &manifest, &found)
+    let beside = Beside { formers, wrong };
+    tell_report(alloc, root, telling, &settings, &manifest, &report, &beside)
 }
 
 /// Whether one of the paths leads to the file.
