@@ -21,6 +21,15 @@ def unpacked(name):
     return gzip.decompress((DATA / name).read_bytes()).decode()
 
 
+def stored(file):
+    """The rows of a file of answers: the question, a package, and at how many targets it is, with their sum."""
+    for line in unpacked(file).splitlines():
+        if not line.startswith("#"):
+            *question, package, count, targets = line.split("\t")
+            is_sum = targets == "all" or re.fullmatch("[0-9a-f]{16}", targets)
+            yield tuple(question), package, (int(count), targets if is_sum else digest(targets.split()))
+
+
 def graphs():
     """The documents by their names."""
     found = json.loads(unpacked("small.json.gz"))
