@@ -16,7 +16,7 @@ pub use counts::Counts;
 pub use fields::wrong_fields;
 pub use formats::{Format, Printed, Style, number_value, span_value};
 pub use formers::{Formers, Project};
-pub use places::{WrongPlace, wrong_places};
+pub use places::{WrongPlace, shown_table, wrong_places};
 pub use rules_told::{
     fault_message, told_of_fault, told_of_unneeded, told_of_wrong, unneeded_message,
 };

@@ -163,10 +163,21 @@ fn underscored_message(alloc: Global, other: &str, is_refused: bool) -> Result<S
     }
 }
 
+/// The table of this name as its header has it: at the top, or below a key of `target`.
+pub fn shown_table(alloc: Global, key: Option<&str>, name: &str) -> Result<String, AllocError> {
+    match key {
+        Some(key) => {
+            let key = shown_start(alloc, key)?;
+            format!(in alloc; "target.'{key}'.{name}")
+        }
+        None => String::from_str(alloc, name),
+    }
+}
+
 /// A table whose name has underscores, in whose place the other one stands.
 fn underscored(
     alloc: Global,
-    before: &str,
+    key: Option<&str>,
     name: &str,
     other: &str,
     is_refused: bool,
@@ -178,41 +189,28 @@ fn underscored(
         } else {
             Weight::Warning
         },
-        subject: format!(in alloc; "{before}{name}")?,
+        subject: shown_table(alloc, key, name)?,
         key: None,
         message: underscored_message(alloc, other, is_refused)?,
         suggestion: None,
     })
 }
 
-/// Adds the tables with underscores in their names, which Cargo refuses from the edition of 2024 on. `before` is what
-/// stands before their names in a header.
+/// Adds the tables with underscores in their names, which Cargo refuses from the edition of 2024 on: at the top, or
+/// below a key of `target`.
 fn add_underscored(
     alloc: Global,
     table: &Table,
-    before: &str,
+    key: Option<&str>,
     is_refused: bool,
     found: &mut Vec<WrongPlace>,
 ) -> Result<(), AllocError> {
     for (name, other) in UNDERSCORES {
         if table.get(name).is_some() {
-            found.push(underscored(alloc, before, name, other, is_refused)?)?;
+            found.push(underscored(alloc, key, name, other, is_refused)?)?;
         }
     }
     Ok(())
-}
-
-/// Adds the tables with underscores in their names at a key of `target`.
-fn add_underscored_at(
-    alloc: Global,
-    table: &Table,
-    key: &str,
-    is_refused: bool,
-    found: &mut Vec<WrongPlace>,
-) -> Result<(), AllocError> {
-    let key = shown_start(alloc, key)?;
-    let before = format!(in alloc; "target.'{key}'.")?;
-    add_underscored(alloc, table, before.as_str(), is_refused, found)
 }
 
 /// The tables of a manifest that are meant for targets and stand elsewhere, and those with an old name.
@@ -221,11 +219,11 @@ pub fn wrong_places(alloc: Global, manifest: &Table) -> Result<Vec<WrongPlace>, 
     add_at_top(alloc, manifest, &mut found)?;
     add_among_packages(alloc, manifest, &mut found)?;
     let is_refused = is_of_2024(manifest);
-    add_underscored(alloc, manifest, "", is_refused, &mut found)?;
+    add_underscored(alloc, manifest, None, is_refused, &mut found)?;
     if let Some(Value::Table(targets)) = manifest.get("target") {
         for (key, value) in targets.iter() {
             if let Some(table) = value.as_table() {
-                add_underscored_at(alloc, table, key.as_str(), is_refused, &mut found)?;
+                add_underscored(alloc, table, Some(key.as_str()), is_refused, &mut found)?;
             }
         }
     }

@@ -2,7 +2,7 @@
 
 use cargo_platform::shown_start;
 use lint_levels::Weight;
-use lint_reports::wrong_places;
+use lint_reports::{shown_table, wrong_places};
 use manifest_documents::{Kind, table_of};
 use std::alloc::{AllocError, Global};
 use toml::{Table, Value};
@@ -31,53 +31,43 @@ fn no_dependency(alloc: Global, table: &str, member: &str) -> Result<String, All
     format!(in alloc; "{table}.{member} is no version and no table")
 }
 
-/// What is said of the first thing that Cargo refuses in the table of dependencies of this name.
-fn refused_among(alloc: Global, name: &str, value: &Value) -> Result<Option<String>, AllocError> {
-    let Some(members) = value.as_table() else {
-        return Ok(Some(format!(in alloc; "{name} is no table")?));
-    };
-    match first_other(members) {
-        Some(member) => Ok(Some(no_dependency(alloc, name, member)?)),
-        None => Ok(None),
-    }
-}
-
-/// What is said of the first thing that Cargo refuses in the table of dependencies of this kind.
+/// What is said of the first thing that Cargo refuses in the table of dependencies of this kind, at the top or below a
+/// key of `target`.
 fn refused_of_kind(
     alloc: Global,
     table: &Table,
     kind: Kind,
-    before: &str,
+    key: Option<&str>,
 ) -> Result<Option<String>, AllocError> {
     let Some(value) = table_of(table, kind) else {
         return Ok(None);
     };
-    let name = kind.table_name();
-    let name = format!(in alloc; "{before}{name}")?;
-    refused_among(alloc, name.as_str(), value)
+    let Some(members) = value.as_table() else {
+        let name = shown_table(alloc, key, kind.table_name())?;
+        return Ok(Some(format!(in alloc; "{name} is no table")?));
+    };
+    match first_other(members) {
+        Some(member) => {
+            let name = shown_table(alloc, key, kind.table_name())?;
+            Ok(Some(no_dependency(alloc, name.as_str(), member)?))
+        }
+        None => Ok(None),
+    }
 }
 
-/// What is said of the first thing that Cargo refuses in tables of dependencies here. `before` is what stands before
-/// their names in a header.
-fn refused_in(alloc: Global, table: &Table, before: &str) -> Result<Option<String>, AllocError> {
+/// What is said of the first thing that Cargo refuses in tables of dependencies, at the top or below a key of `target`.
+fn refused_in(
+    alloc: Global,
+    table: &Table,
+    key: Option<&str>,
+) -> Result<Option<String>, AllocError> {
     for kind in KINDS {
-        let found = refused_of_kind(alloc, table, kind, before)?;
+        let found = refused_of_kind(alloc, table, kind, key)?;
         if found.is_some() {
             return Ok(found);
         }
     }
     Ok(None)
-}
-
-/// What is said of the first thing that Cargo refuses below this key of `target`.
-fn refused_below_key(
-    alloc: Global,
-    key: &str,
-    table: &Table,
-) -> Result<Option<String>, AllocError> {
-    let key = shown_start(alloc, key)?;
-    let before = format!(in alloc; "target.'{key}'.")?;
-    refused_in(alloc, table, before.as_str())
 }
 
 /// What is said of the first thing that Cargo refuses below a key of `target`.
@@ -87,7 +77,7 @@ fn refused_below(alloc: Global, manifest: &Table) -> Result<Option<String>, Allo
     };
     for (key, value) in targets.iter() {
         if let Some(table) = value.as_table() {
-            let found = refused_below_key(alloc, key.as_str(), table)?;
+            let found = refused_in(alloc, table, Some(key.as_str()))?;
             if found.is_some() {
                 return Ok(found);
             }
@@ -116,7 +106,7 @@ pub fn refused_by_cargo(alloc: Global, manifest: &Table) -> Result<Option<String
     if found.is_some() {
         return Ok(found);
     }
-    let found = refused_in(alloc, manifest, "")?;
+    let found = refused_in(alloc, manifest, None)?;
     if found.is_some() {
         return Ok(found);
     }

@@ -7,14 +7,22 @@ ghost use Rattle.manifest_answers.specs.Deep.{HasNoDeepKey};
 use crate::deep::first_deep;
 use key_answers::answer::{Answer, Status};
 use limited_texts::Unusable;
-use manifest_documents::reading::{Manifest, ReadError, read_manifest};
+use manifest_documents::reading::{Manifest, ReadError, read_manifest, read_without_lines};
 use std::alloc::{AllocError, Global};
 use std::rt::Files;
 
 /// A question about a manifest.
 pub trait Question {
-    /// The answer on a manifest, no key of which is nested too deep.
-    fn answer(&mut self, alloc: Global, manifest: &Manifest) -> Result<Answer, AllocError>
+    /// Whether the lines of keys are asked for.
+    fn asks_for_lines(&self) -> bool;
+
+    /// Adds the answer on a manifest, no key of which is nested too deep.
+    fn add_answer(
+        &mut self,
+        alloc: Global,
+        manifest: &Manifest,
+        whole: &mut Answer,
+    ) -> Result<(), AllocError>
         requires { HasNoDeepKey (target_of (table_view manifest.now.document.table)) };
 
     /// The answer on the manifest at this path, as it is shown, that can't be used. `line` says so, and why.
@@ -38,25 +46,25 @@ pub fn answer_each<R: Files + Input + AllocGlobal, Q: Question>(
     let alloc = rt.alloc();
     let mut whole = Answer::of(alloc, String::new(alloc), Status::Fine);
     for path in paths {
-        let answer = answer_on(rt, path, limit, question)?;
-        whole.append(answer)?;
+        add_answer_on(rt, path, limit, question, &mut whole)?;
     }
     Ok(whole)
 }
 
-/// The answer on a manifest that is read.
-fn answer_on_read<Q: Question>(
+/// Adds the answer on a manifest that is read.
+fn add_answer_on_read<Q: Question>(
     alloc: Global,
     manifest: &Manifest,
     question: &mut Q,
-) -> Result<Answer, AllocError> {
+    whole: &mut Answer,
+) -> Result<(), AllocError> {
     match first_deep(alloc, manifest)? {
         Some(deep) => {
             let line = deep.line(alloc)?;
             let reason = deep.reason.as_str();
-            question.refuse(alloc, manifest.path.as_str(), reason, line.as_str())
+            whole.append(question.refuse(alloc, manifest.path.as_str(), reason, line.as_str())?)
         }
-        None => question.answer(alloc, manifest),
+        None => question.add_answer(alloc, manifest, whole),
     }
 }
 
@@ -73,17 +81,25 @@ fn answer_on_unusable<Q: Question>(
     question.refuse(alloc, file.unwrap_or(path), reason, line.as_str())
 }
 
-/// The answer on the manifest that is named.
-fn answer_on<R: Files + Input + AllocGlobal, Q: Question>(
+/// Adds the answer on the manifest that is named.
+fn add_answer_on<R: Files + Input + AllocGlobal, Q: Question>(
     rt: &R,
     path: &str,
     limit: u64,
     question: &mut Q,
-) -> Result<Answer, AllocError> {
+    whole: &mut Answer,
+) -> Result<(), AllocError> {
     let alloc = rt.alloc();
-    match read_manifest(rt, path, limit) {
-        Ok(manifest) => answer_on_read(alloc, &manifest, question),
-        Err(ReadError::Unusable(unusable)) => answer_on_unusable(alloc, path, &unusable, question),
+    let read = if question.asks_for_lines() {
+        read_manifest(rt, path, limit)
+    } else {
+        read_without_lines(rt, path, limit)
+    };
+    match read {
+        Ok(manifest) => add_answer_on_read(alloc, &manifest, question, whole),
+        Err(ReadError::Unusable(unusable)) => {
+            whole.append(answer_on_unusable(alloc, path, &unusable, question)?)
+        }
         Err(ReadError::Memory(refused)) => Err(refused),
     }
 }

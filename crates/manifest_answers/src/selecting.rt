@@ -11,6 +11,7 @@ use cargo_platform::{ParseError, shown_start};
 use key_answers::answer::{Answer, Refusal, Status};
 use key_answers::printing::{push_json, put, put_text, refused_key, text_value};
 use known_targets::KnownTarget;
+use lint_reports::shown_table;
 use manifest_documents::reading::Manifest;
 use manifest_documents::{Dependency, Kind};
 use manifests::{Asked, Choice, Row, SelectError, choose, select};
@@ -36,53 +37,107 @@ fn residual(alloc: Global, choice: &Choice) -> Result<Option<String>, AllocError
     }
 }
 
-/// The table of a dependency, as it is shown.
-fn shown_table(alloc: Global, row: &Row<'_>) -> Result<String, AllocError> {
-    let table = row.dependency.kind.table_name();
-    match row.dependency.key {
-        Some(key) => {
-            let key = shown_start(alloc, key)?;
-            format!(in alloc; "target.'{key}'.{table}")
-        }
-        None => String::from_str(alloc, table),
+/// Of a text that is shown no more than its first characters are looked at, and one more.
+const LOOKED_AT: usize = 101;
+
+/// What is looked at of a text that is shown.
+fn looked_at(text: &str) -> &str {
+    if text.len() <= LOOKED_AT {
+        return text;
+    }
+    match text.char_indices().nth(LOOKED_AT) {
+        Some((end, _)) => text.get(0..end).unwrap_or(text),
+        None => text,
     }
 }
 
-/// The condition that is left to ask, as it is shown after the word for the choice.
-fn shown_residual(alloc: Global, choice: &Choice) -> Result<String, AllocError> {
-    match residual(alloc, choice)? {
-        Some(key) => {
-            let key = shown_start(alloc, key.as_str())?;
-            format!(in alloc; " where {key}")
-        }
-        None => Ok(String::new(alloc)),
+/// A table of dependencies, as it is shown.
+#[derive(Drop)]
+struct ShownTable<'a> {
+    kind: Kind,
+    /// What is looked at of its key.
+    key: Option<&'a str>,
+    shown: String,
+}
+
+impl<'a> ShownTable<'a> {
+    /// The one in which a dependency stands.
+    fn of(alloc: Global, dependency: &Dependency<'a>) -> Result<ShownTable<'a>, AllocError> {
+        let key = dependency.key.map(looked_at);
+        Ok(ShownTable {
+            kind: dependency.kind,
+            key,
+            shown: shown_table(alloc, key, dependency.kind.table_name())?,
+        })
+    }
+
+    /// Whether a dependency stands in a table that is shown so.
+    fn shows_that_of(&self, dependency: &Dependency<'_>) -> bool {
+        self.kind == dependency.kind && self.key == dependency.key.map(looked_at)
     }
 }
 
-/// A dependency with its table, as they are shown.
-fn shown_dependency(alloc: Global, row: &Row<'_>) -> Result<String, AllocError> {
-    let optional = if row.dependency.optional {
-        ", optional"
-    } else {
-        ""
-    };
-    let name = shown_start(alloc, row.dependency.name)?;
-    let table = shown_table(alloc, row)?;
-    format!(in alloc; "{name} ({table}{optional})")
+/// Whether a text is shown as it is, for it is short and of printable characters of ASCII.
+fn is_plain(text: &str) -> bool {
+    text.len() < LOOKED_AT && text.bytes().all(|byte| byte.is_ascii_graphic())
 }
 
-/// Appends the line of a dependency.
+/// Appends a name as it is shown.
+fn push_shown(text: &mut String, alloc: Global, name: &str) -> Result<(), AllocError> {
+    if is_plain(name) {
+        return text.push_str(name);
+    }
+    text.push_str(shown_start(alloc, name)?.as_str())
+}
+
+/// Appends the condition that is left to ask, as it is shown after the word for the choice.
+fn push_residual(text: &mut String, alloc: Global, choice: &Choice) -> Result<(), AllocError> {
+    if let Some(key) = residual(alloc, choice)? {
+        text.push_str(" where ")?;
+        text.push_str(shown_start(alloc, key.as_str())?.as_str())?;
+    }
+    Ok(())
+}
+
+/// Appends the line of a dependency in a table that is shown so.
 fn push_line(
     text: &mut String,
     alloc: Global,
     path: &str,
+    table: &str,
     row: &Row<'_>,
 ) -> Result<(), AllocError> {
-    let dependency = shown_dependency(alloc, row)?;
-    let word = choice_word(&row.choice);
-    let left = shown_residual(alloc, &row.choice)?;
-    let line = format!(in alloc; "{path}: {dependency}: {word}{left}\n")?;
-    text.push_str(line.as_str())
+    text.push_str(path)?;
+    text.push_str(": ")?;
+    push_shown(text, alloc, row.dependency.name)?;
+    text.push_str(" (")?;
+    text.push_str(table)?;
+    if row.dependency.optional {
+        text.push_str(", optional")?;
+    }
+    text.push_str("): ")?;
+    text.push_str(choice_word(&row.choice))?;
+    push_residual(text, alloc, &row.choice)?;
+    text.push_str("\n")
+}
+
+/// Appends the lines of dependencies. Most stand in the table of the one before.
+fn push_lines(
+    text: &mut String,
+    alloc: Global,
+    path: &str,
+    rows: &[Row<'_>],
+) -> Result<(), AllocError> {
+    let mut before = None;
+    for row in rows {
+        let table = match before {
+            Some(table) if table.shows_that_of(&row.dependency) => table,
+            _ => ShownTable::of(alloc, &row.dependency)?,
+        };
+        push_line(text, alloc, path, table.shown.as_str(), row)?;
+        before = Some(table);
+    }
+    Ok(())
 }
 
 /// Adds what stands in the manifest.
@@ -232,36 +287,38 @@ fn refused_for(
     asking.tell(alloc, &Fault::of(Some(path), reason), line.as_str())
 }
 
-/// What is printed of the rows, a line each; objects where these are asked.
-fn rows_text(
+/// Appends what is printed of the rows, a line each; objects where these are asked.
+fn push_rows(
+    text: &mut String,
     alloc: Global,
     manifest: &Manifest,
     asking: &Asking<'_>,
     rows: &[Row<'_>],
-) -> Result<String, AllocError> {
-    let mut text = String::new(alloc);
-    for row in rows {
-        if asking.json {
-            push_object(&mut text, alloc, manifest, asking.target, row)?;
-        } else {
-            push_line(&mut text, alloc, manifest.path.as_str(), row)?;
-        }
+) -> Result<(), AllocError> {
+    if !asking.json {
+        return push_lines(text, alloc, manifest.path.as_str(), rows);
     }
-    Ok(text)
+    for row in rows {
+        push_object(text, alloc, manifest, asking.target, row)?;
+    }
+    Ok(())
 }
 
-/// The answer on a manifest of which these rows are selected, unless Cargo refuses it beside its keys.
-fn selected(
+/// Adds the answer on a manifest of which these rows are selected, unless Cargo refuses it beside its keys.
+fn add_selected(
     alloc: Global,
     asking: &Asking<'_>,
     manifest: &Manifest,
     rows: &[Row<'_>],
-) -> Result<Answer, AllocError> {
-    if let Some(reason) = refused_by_cargo(alloc, &manifest.document.table)? {
-        return refused_for(alloc, asking, manifest.path.as_str(), reason.as_str());
+    whole: &mut Answer,
+) -> Result<(), AllocError> {
+    match refused_by_cargo(alloc, &manifest.document.table)? {
+        Some(reason) => {
+            let path = manifest.path.as_str();
+            whole.append(refused_for(alloc, asking, path, reason.as_str())?)
+        }
+        None => push_rows(&mut whole.output, alloc, manifest, asking, rows),
     }
-    let text = rows_text(alloc, manifest, asking, rows)?;
-    Ok(Answer::of(alloc, text, Status::Fine))
 }
 
 /// `select`: the target and the host that are asked, and how the answer is printed.
@@ -275,7 +332,16 @@ struct Selecting<'a> {
 }
 
 impl<'a> Question for Selecting<'a> {
-    fn answer(&mut self, alloc: Global, manifest: &Manifest) -> Result<Answer, AllocError> {
+    fn asks_for_lines(&self) -> bool {
+        self.asking.json
+    }
+
+    fn add_answer(
+        &mut self,
+        alloc: Global,
+        manifest: &Manifest,
+        whole: &mut Answer,
+    ) -> Result<(), AllocError> {
         let table = &manifest.document.table;
         self.opened.note(alloc, table)?;
         match select(
@@ -287,9 +353,9 @@ impl<'a> Question for Selecting<'a> {
         ) {
             Ok(mut rows) => {
                 self.host.decide(alloc, &mut rows)?;
-                selected(alloc, &self.asking, manifest, &rows)
+                add_selected(alloc, &self.asking, manifest, &rows, whole)
             }
-            Err(error) => refused(alloc, &self.asking, manifest, &error),
+            Err(error) => whole.append(refused(alloc, &self.asking, manifest, &error)?),
         }
     }
 

@@ -6,7 +6,7 @@ use limited_texts::{INPUT, Unusable, given_within};
 use std::alloc::{AllocError, Global};
 use std::fs;
 use std::rt::Files;
-use toml::table_from_str;
+use toml::{Table, table_from_str};
 
 /// A manifest that is read.
 #[derive(Drop)]
@@ -87,6 +87,32 @@ fn joined_lines(alloc: Global, error: &toml::de::Error) -> Result<String, AllocE
     shown_text(alloc, joined.as_str())
 }
 
+/// The path of the manifest that an argument names, as it is shown, and what stands there.
+fn read_text<R: Files + Input + AllocGlobal>(
+    rt: &R,
+    path: &str,
+    limit: u64,
+) -> Result<(String, String), ReadError> {
+    let alloc = rt.alloc();
+    let file = file_at(rt, path)?;
+    let shown = shown_text(alloc, file.as_str())?;
+    match given_within(rt, file.as_str(), limit) {
+        Ok(text) => Ok((shown, text)),
+        Err(error) => {
+            let unusable = Unusable::refused(alloc, shown, &error, limit)?;
+            Err(ReadError::Unusable(unusable))
+        }
+    }
+}
+
+/// The table that the text of a manifest at this path spells.
+fn table_of(alloc: Global, path: &str, text: &str) -> Result<Table, ReadError> {
+    match table_from_str(alloc, text) {
+        Ok(table) => Ok(table),
+        Err(error) => Err(no_toml(alloc, path, &error)),
+    }
+}
+
 /// Reads the manifest that an argument names. One of more bytes than the limit is not read to its end, and refused.
 pub fn read_manifest<R: Files + Input + AllocGlobal>(
     rt: &R,
@@ -94,21 +120,22 @@ pub fn read_manifest<R: Files + Input + AllocGlobal>(
     limit: u64,
 ) -> Result<Manifest, ReadError> {
     let alloc = rt.alloc();
-    let file = file_at(rt, path)?;
-    let shown = shown_text(alloc, file.as_str())?;
-    let text = match given_within(rt, file.as_str(), limit) {
-        Ok(text) => text,
-        Err(error) => {
-            let unusable = Unusable::refused(alloc, shown, &error, limit)?;
-            return Err(ReadError::Unusable(unusable));
-        }
-    };
+    let (path, text) = read_text(rt, path, limit)?;
     let text = without_mark(text.as_str());
-    match table_from_str(alloc, text) {
-        Ok(table) => Ok(Manifest {
-            path: shown,
-            document: Document::of(alloc, table, text)?,
-        }),
-        Err(error) => Err(no_toml(alloc, shown.as_str(), &error)),
-    }
+    let table = table_of(alloc, path.as_str(), text)?;
+    let document = Document::of(alloc, table, text)?;
+    Ok(Manifest { path, document })
+}
+
+/// The same, where nobody asks on which line a key stands: the text is read once, and no line is kept.
+pub fn read_without_lines<R: Files + Input + AllocGlobal>(
+    rt: &R,
+    path: &str,
+    limit: u64,
+) -> Result<Manifest, ReadError> {
+    let alloc = rt.alloc();
+    let (path, text) = read_text(rt, path, limit)?;
+    let table = table_of(alloc, path.as_str(), without_mark(text.as_str()))?;
+    let document = Document::of_table(alloc, table);
+    Ok(Manifest { path, document })
 }
