@@ -128,7 +128,7 @@ fn push_lines(
     path: &str,
     rows: &[Row<'_>],
 ) -> Result<(), AllocError> {
-    let mut before = None;
+    let mut before: Option<ShownTable<'_>> = None;
     for row in rows {
         let table = match before {
             Some(table) if table.shows_that_of(&row.dependency) => table,
