@@ -13,6 +13,7 @@ use key_limits::{deep_at, deep_text};
 use manifest_documents::reading::Manifest;
 use manifest_documents::{TargetKey, Targets, target_keys};
 use std::alloc::{AllocError, Global};
+use toml::Table;
 
 /// A key that is nested too deep, as it is told.
 #[derive(Drop)]
@@ -66,6 +67,14 @@ fn deep_key(
         place,
         reason: format!(in alloc; "target.'{key}': the key is {reason}")?,
     })
+}
+
+/// Whether a key of the manifest with this table is nested too deep.
+pub fn has_deep(alloc: Global, manifest: &Table) -> Result<bool, AllocError> {
+    match target_keys(alloc, manifest)? {
+        Targets::Keys(keys) => Ok(deep_of(&keys).is_some()),
+        Targets::NoTable | Targets::Absent => Ok(false),
+    }
 }
 
 /// The first key of a manifest, in the order of their bytes, that is nested too deep; or `None` where none is.

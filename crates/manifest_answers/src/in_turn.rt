@@ -4,10 +4,10 @@ ghost use Rattle.toml.specs.View.{table_view};
 ghost use Rattle.manifest_documents.specs.Tables.{target_of};
 ghost use Rattle.manifest_answers.specs.Deep.{HasNoDeepKey};
 
-use crate::deep::first_deep;
+use crate::deep::{first_deep, has_deep};
 use key_answers::answer::{Answer, Status};
 use limited_texts::Unusable;
-use manifest_documents::reading::{Manifest, ReadError, read_manifest, read_without_lines};
+use manifest_documents::reading::{Manifest, ManifestText, ReadError};
 use std::alloc::{AllocError, Global};
 use std::rt::Files;
 
@@ -81,6 +81,23 @@ fn answer_on_unusable<Q: Question>(
     question.refuse(alloc, file.unwrap_or(path), reason, line.as_str())
 }
 
+/// The manifest that is named, with the lines of its keys where they are asked for, or a key is too deep.
+fn manifest_at<R: Files + Input + AllocGlobal>(
+    rt: &R,
+    path: &str,
+    limit: u64,
+    with_lines: bool,
+) -> Result<Manifest, ReadError> {
+    let alloc = rt.alloc();
+    let text = ManifestText::read(rt, path, limit)?;
+    let table = text.table(alloc)?;
+    if with_lines || has_deep(alloc, &table)? {
+        let manifest = text.with_lines(alloc, table)?;
+        return Ok(manifest);
+    }
+    Ok(text.without_lines(alloc, table))
+}
+
 /// Adds the answer on the manifest that is named.
 fn add_answer_on<R: Files + Input + AllocGlobal, Q: Question>(
     rt: &R,
@@ -90,12 +107,7 @@ fn add_answer_on<R: Files + Input + AllocGlobal, Q: Question>(
     whole: &mut Answer,
 ) -> Result<(), AllocError> {
     let alloc = rt.alloc();
-    let read = if question.asks_for_lines() {
-        read_manifest(rt, path, limit)
-    } else {
-        read_without_lines(rt, path, limit)
-    };
-    match read {
+    match manifest_at(rt, path, limit, question.asks_for_lines()) {
         Ok(manifest) => add_answer_on_read(alloc, &manifest, question, whole),
         Err(ReadError::Unusable(unusable)) => {
             whole.append(answer_on_unusable(alloc, path, &unusable, question)?)

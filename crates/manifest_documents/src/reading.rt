@@ -44,11 +44,6 @@ fn file_at<R: Files + AllocGlobal>(rt: &R, path: &str) -> Result<String, AllocEr
     String::from_str(alloc, path)
 }
 
-/// The text without a mark of the byte order, as Cargo reads it.
-fn without_mark(text: &str) -> &str {
-    text.strip_prefix("\u{FEFF}").unwrap_or(text)
-}
-
 fn unusable_at(alloc: Global, path: &str, reason: &str) -> Result<Unusable, AllocError> {
     Ok(Unusable {
         file: Some(String::from_str(alloc, path)?),
@@ -87,55 +82,76 @@ fn joined_lines(alloc: Global, error: &toml::de::Error) -> Result<String, AllocE
     shown_text(alloc, joined.as_str())
 }
 
-/// The path of the manifest that an argument names, as it is shown, and what stands there.
-fn read_text<R: Files + Input + AllocGlobal>(
-    rt: &R,
-    path: &str,
-    limit: u64,
-) -> Result<(String, String), ReadError> {
-    let alloc = rt.alloc();
-    let file = file_at(rt, path)?;
-    let shown = shown_text(alloc, file.as_str())?;
-    match given_within(rt, file.as_str(), limit) {
-        Ok(text) => Ok((shown, text)),
-        Err(error) => {
-            let unusable = Unusable::refused(alloc, shown, &error, limit)?;
-            Err(ReadError::Unusable(unusable))
+/// The text of a manifest.
+#[derive(Drop)]
+pub struct ManifestText {
+    /// The path of the manifest, as it is shown.
+    path: String,
+    text: String,
+}
+
+impl ManifestText {
+    /// The text of the manifest that an argument names. One of more bytes than the limit is not read to its end, and
+    /// refused.
+    pub fn read<R: Files + Input + AllocGlobal>(
+        rt: &R,
+        path: &str,
+        limit: u64,
+    ) -> Result<ManifestText, ReadError> {
+        let alloc = rt.alloc();
+        let file = file_at(rt, path)?;
+        let path = shown_text(alloc, file.as_str())?;
+        match given_within(rt, file.as_str(), limit) {
+            Ok(text) => Ok(ManifestText { path, text }),
+            Err(error) => {
+                let unusable = Unusable::refused(alloc, path, &error, limit)?;
+                Err(ReadError::Unusable(unusable))
+            }
+        }
+    }
+
+    /// It without a mark of the byte order, as Cargo reads it.
+    fn without_mark(&self) -> &str {
+        let text = self.text.as_str();
+        text.strip_prefix("\u{FEFF}").unwrap_or(text)
+    }
+
+    /// The table that it spells.
+    pub fn table(&self, alloc: Global) -> Result<Table, ReadError> {
+        match table_from_str(alloc, self.without_mark()) {
+            Ok(table) => Ok(table),
+            Err(error) => Err(no_toml(alloc, self.path.as_str(), &error)),
+        }
+    }
+
+    /// The manifest with this table, and with the lines of its keys, for which the text is gone through once more.
+    pub fn with_lines(self, alloc: Global, table: Table) -> Result<Manifest, AllocError> {
+        let document = Document::of(alloc, table, self.without_mark())?;
+        Ok(Manifest {
+            path: self.path,
+            document,
+        })
+    }
+
+    /// The manifest with this table, and with no lines.
+    pub fn without_lines(self, alloc: Global, table: Table) -> Manifest {
+        Manifest {
+            path: self.path,
+            document: Document::of_table(alloc, table),
         }
     }
 }
 
-/// The table that the text of a manifest at this path spells.
-fn table_of(alloc: Global, path: &str, text: &str) -> Result<Table, ReadError> {
-    match table_from_str(alloc, text) {
-        Ok(table) => Ok(table),
-        Err(error) => Err(no_toml(alloc, path, &error)),
-    }
-}
-
-/// Reads the manifest that an argument names. One of more bytes than the limit is not read to its end, and refused.
+/// Reads the manifest that an argument names, with the lines of its keys. One of more bytes than the limit is not read
+/// to its end, and refused.
 pub fn read_manifest<R: Files + Input + AllocGlobal>(
     rt: &R,
     path: &str,
     limit: u64,
 ) -> Result<Manifest, ReadError> {
     let alloc = rt.alloc();
-    let (path, text) = read_text(rt, path, limit)?;
-    let text = without_mark(text.as_str());
-    let table = table_of(alloc, path.as_str(), text)?;
-    let document = Document::of(alloc, table, text)?;
-    Ok(Manifest { path, document })
-}
-
-/// The same, where nobody asks on which line a key stands: the text is read once, and no line is kept.
-pub fn read_without_lines<R: Files + Input + AllocGlobal>(
-    rt: &R,
-    path: &str,
-    limit: u64,
-) -> Result<Manifest, ReadError> {
-    let alloc = rt.alloc();
-    let (path, text) = read_text(rt, path, limit)?;
-    let table = table_of(alloc, path.as_str(), without_mark(text.as_str()))?;
-    let document = Document::of_table(alloc, table);
-    Ok(Manifest { path, document })
+    let text = ManifestText::read(rt, path, limit)?;
+    let table = text.table(alloc)?;
+    let manifest = text.with_lines(alloc, table)?;
+    Ok(manifest)
 }
