@@ -92,131 +92,141 @@ const OTHERS: [Explained; 6] = [
     },
 ];
 
-/// Where a finding of the code is told, in a line.
-fn short_of(code: Code) -> &'static str {
+/// What is said of a code on a key.
+#[derive(Clone, Copy, Drop)]
+struct Said {
+    /// Where it is told, in a line.
+    short: &'static str,
+    /// A paragraph, and an example.
+    text: &'static str,
+}
+
+const REFUSED: Said = Said {
+    short: "the key spells no condition",
+    text: "The key is neither the name of a target nor an expression `cfg(..)` that can be read, so Cargo refuses \
+           the whole manifest; in its own configuration it passes over the key. The two lines below the finding \
+           show where the fault lies.\n\n\
+           Example: [target.'cfg(all(unix windows))'.dependencies]\nhas no comma between the two names.",
+};
+
+const NO_TABLE: Said = Said {
+    short: "`target`, a key or something under it is no table",
+    text: "`target`, a key below it, or what stands under a key is no table where Cargo expects one. Cargo refuses \
+           the manifest, or leaves out what stands there.\n\n\
+           Example: [target]\n         'cfg(unix)' = \"1\"",
+};
+
+const READ_OTHERWISE: Said = Said {
+    short: "Cargo of today reads the key otherwise than it is spelled",
+    text: "Cargo of today drops the raw mark `r#`, or takes `true` and `false` for names, and so asks for something \
+           else than the key spells.\n\n\
+           Example: [target.'cfg(true = \"x\")'.dependencies]\nwhich newer rules take for a literal.",
+};
+
+const UNSUPPORTED: Said = Said {
+    short: "Cargo warns of a name or pair, which selects no dependencies",
+    text: "Cargo knows the fact, and never sets it where it selects dependencies: features, profiles and tests are \
+           chosen later. The dependency is never selected, or always where it stands under `not`.\n\n\
+           Example: [target.'cfg(feature = \"std\")'.dependencies]\nwhere an optional dependency of the feature is \
+           meant.",
+};
+
+const NEVER: Said = Said {
+    short: "no set of facts makes the condition true",
+    text: "The condition contradicts itself, so the dependencies are never selected. It is a note where the key has \
+           no names at all, as `cfg(false)`, since it may be meant.\n\n\
+           Example: [target.'cfg(all(unix, not(unix)))'.dependencies]",
+};
+
+const UNKNOWN_TARGET: Said = Said {
+    short: "no known target has the name",
+    text: "The key is the name of a target that the rustc of the table does not know. A file with a target of one's \
+           own may have it; else Cargo selects the dependencies nowhere, and says nothing.\n\n\
+           Example: [target.x86_64-apple-macos.dependencies]\nwhere `x86_64-apple-darwin` is meant.",
+};
+
+const UNKNOWN_FACT: Said = Said {
+    short: "a name or pair is taken for one of rustc's that no known target has",
+    text: "The condition asks for a name or value that looks like one of rustc's, and no known target has it. So it \
+           is false at all of them, and Cargo says nothing.\n\n\
+           Example: [target.'cfg(target_os = \"darwin\")'.dependencies]\nwhere `target_os = \"macos\"` is meant.",
+};
+
+const NOWHERE: Said = Said {
+    short: "the condition holds at no known target",
+    text: "Facts may make the condition true, and no target that rustc knows has them. A target of one's own may.\n\n\
+           Example: [target.'cfg(all(target_os = \"ios\", target_arch = \"x86\"))'.dependencies]",
+};
+
+const SAME: Said = Said {
+    short: "the same condition as that of an earlier key",
+    text: "Two keys spell the same condition, with other spaces, commas or raw marks. What stands under both \
+           is selected together, so one table can hold it.\n\n\
+           Example: [target.'cfg( unix )'.dependencies]\nafter [target.'cfg(unix)'.dependencies]",
+};
+
+const EQUIVALENT: Said = Said {
+    short: "as true as an earlier key over every set of facts",
+    text: "Two keys are true over the same sets of facts, though they are spelled in other words.\n\n\
+           Example: [target.'cfg(target_family = \"unix\")'.dependencies]\nafter [target.'cfg(unix)'.dependencies]",
+};
+
+const ALWAYS: Said = Said {
+    short: "every set of facts makes the condition true",
+    text: "The condition can't be false, so the table may as well be `dependencies` itself.\n\n\
+           Example: [target.'cfg(any(not(unix), unix))'.dependencies]",
+};
+
+const EVERYWHERE: Said = Said {
+    short: "the condition holds at every known target",
+    text: "Each target that rustc knows makes the condition true. A target of one's own may make it false.\n\n\
+           Example: [target.'cfg(any(target_endian = \"little\", target_endian = \"big\"))'.dependencies]",
+};
+
+const CUSTOM: Said = Said {
+    short: "only `--cfg` or an unstable feature sets a name or pair, and the manifest does not declare it",
+    text: "The condition asks for a name or pair that no known target has. Only `--cfg` in RUSTFLAGS sets it for \
+           dependencies: what a build script prints comes too late. Or rustc prints it only with unstable features, \
+           as `overflow_checks`. A name that the manifest declares in `lints.rust.unexpected_cfgs.check-cfg` is not \
+           told.\n\n\
+           Example: [target.'cfg(loom)'.dependencies]",
+};
+
+const NOT_CANONICAL: Said = Said {
+    short: "the canonical form is another text; not told unless it is asked for",
+    text: "The condition can be spelled in the one form that all tools print. This is told where \
+           `--warn not-canonical` or a rule of the metadata asks for it, and never beside a finding that changes \
+           the key.\n\n\
+           Example: [target.'cfg( unix )'.dependencies]\nwhose canonical form is `cfg(unix)`.",
+};
+
+/// What is said of the code.
+fn said_of(code: Code) -> Said {
     match code {
-        Code::Refused => "the key spells no condition",
-        Code::NoTable => "`target`, a key or something under it is no table",
-        Code::ReadOtherwise => "Cargo of today reads the key otherwise than it is spelled",
-        Code::Unsupported => "Cargo warns of a name or pair, which selects no dependencies",
-        Code::Never => "no set of facts makes the condition true",
-        Code::UnknownTarget => "no known target has the name",
-        Code::UnknownFact => "a name or pair is taken for one of rustc's that no known target has",
-        Code::Nowhere => "the condition holds at no known target",
-        Code::Same => "the same condition as that of an earlier key",
-        Code::Equivalent => "as true as an earlier key over every set of facts",
-        Code::Always => "every set of facts makes the condition true",
-        Code::Everywhere => "the condition holds at every known target",
-        Code::Custom =>
-            "only `--cfg` or an unstable feature sets a name or pair, and the manifest does not declare it",
-        Code::NotCanonical => "the canonical form is another text; not told unless it is asked for",
+        Code::Refused => REFUSED,
+        Code::NoTable => NO_TABLE,
+        Code::ReadOtherwise => READ_OTHERWISE,
+        Code::Unsupported => UNSUPPORTED,
+        Code::Never => NEVER,
+        Code::UnknownTarget => UNKNOWN_TARGET,
+        Code::UnknownFact => UNKNOWN_FACT,
+        Code::Nowhere => NOWHERE,
+        Code::Same => SAME,
+        Code::Equivalent => EQUIVALENT,
+        Code::Always => ALWAYS,
+        Code::Everywhere => EVERYWHERE,
+        Code::Custom => CUSTOM,
+        Code::NotCanonical => NOT_CANONICAL,
     }
 }
 
-/// What is said of errors.
-fn text_of_error(code: Code) -> &'static str {
-    match code {
-        Code::Refused => {
-            "The key is neither the name of a target nor an expression `cfg(..)` that can be read, so Cargo refuses \
-             the whole manifest; in its own configuration it passes over the key. The two lines below the finding \
-             show where the fault lies.\n\n\
-             Example: [target.'cfg(all(unix windows))'.dependencies]\nhas no comma between the two names."
-        }
-        _ => {
-            "`target`, a key below it, or what stands under a key is no table where Cargo expects one. Cargo refuses \
-             the manifest, or leaves out what stands there.\n\n\
-             Example: [target]\n         'cfg(unix)' = \"1\""
-        }
-    }
-}
-
-/// What is said of warnings on what Cargo and rustc know.
-fn text_of_names(code: Code) -> &'static str {
-    match code {
-        Code::ReadOtherwise => {
-            "Cargo of today drops the raw mark `r#`, or takes `true` and `false` for names, and so asks for something \
-             else than the key spells.\n\n\
-             Example: [target.'cfg(true = \"x\")'.dependencies]\nwhich newer rules take for a literal."
-        }
-        Code::Unsupported => {
-            "Cargo knows the fact, and never sets it where it selects dependencies: features, profiles and tests are \
-             chosen later. The dependency is never selected, or always where it stands under `not`.\n\n\
-             Example: [target.'cfg(feature = \"std\")'.dependencies]\nwhere an optional dependency of the feature is \
-             meant."
-        }
-        Code::UnknownTarget => {
-            "The key is the name of a target that the rustc of the table does not know. A file with a target of one's \
-             own may have it; else Cargo selects the dependencies nowhere, and says nothing.\n\n\
-             Example: [target.x86_64-apple-macos.dependencies]\nwhere `x86_64-apple-darwin` is meant."
-        }
-        Code::UnknownFact => {
-            "The condition asks for a name or value that looks like one of rustc's, and no known target has it. So it \
-             is false at all of them, and Cargo says nothing.\n\n\
-             Example: [target.'cfg(target_os = \"darwin\")'.dependencies]\nwhere `target_os = \"macos\"` is meant."
-        }
-        _ => {
-            "The condition asks for a name or pair that no known target has. Only `--cfg` in RUSTFLAGS sets it for \
-             dependencies: what a build script prints comes too late. Or rustc prints it only with unstable features, \
-             as `overflow_checks`. A name that the manifest declares in `lints.rust.unexpected_cfgs.check-cfg` is not \
-             told.\n\n\
-             Example: [target.'cfg(loom)'.dependencies]"
-        }
-    }
-}
-
-/// What is said of findings on what a condition comes to.
-fn text_of_truth(code: Code) -> &'static str {
-    match code {
-        Code::Never => {
-            "The condition contradicts itself, so the dependencies are never selected. It is a note where the key has \
-             no names at all, as `cfg(false)`, since it may be meant.\n\n\
-             Example: [target.'cfg(all(unix, not(unix)))'.dependencies]"
-        }
-        Code::Nowhere => {
-            "Facts may make the condition true, and no target that rustc knows has them. A target of one's own may.\n\n\
-             Example: [target.'cfg(all(target_os = \"ios\", target_arch = \"x86\"))'.dependencies]"
-        }
-        Code::Same => {
-            "Two keys spell the same condition, with other spaces, commas or raw marks. What stands under both \
-             is selected together, so one table can hold it.\n\n\
-             Example: [target.'cfg( unix )'.dependencies]\nafter [target.'cfg(unix)'.dependencies]"
-        }
-        Code::Equivalent => {
-            "Two keys are true over the same sets of facts, though they are spelled in other words.\n\n\
-             Example: [target.'cfg(target_family = \"unix\")'.dependencies]\nafter [target.'cfg(unix)'.dependencies]"
-        }
-        Code::Always => {
-            "The condition can't be false, so the table may as well be `dependencies` itself.\n\n\
-             Example: [target.'cfg(any(not(unix), unix))'.dependencies]"
-        }
-        Code::Everywhere => {
-            "Each target that rustc knows makes the condition true. A target of one's own may make it false.\n\n\
-             Example: [target.'cfg(any(target_endian = \"little\", target_endian = \"big\"))'.dependencies]"
-        }
-        _ => {
-            "The condition can be spelled in the one form that all tools print. This is told where \
-             `--warn not-canonical` or a rule of the metadata asks for it, and never beside a finding that changes \
-             the key.\n\n\
-             Example: [target.'cfg( unix )'.dependencies]\nwhose canonical form is `cfg(unix)`."
-        }
-    }
-}
-
-/// What is said of a code.
+/// What is said of a code, with the word for it and its weight.
 pub fn explanation_of(code: Code) -> Explained {
-    let text = match code {
-        Code::Refused | Code::NoTable => text_of_error(code),
-        Code::ReadOtherwise
-        | Code::Unsupported
-        | Code::UnknownTarget
-        | Code::UnknownFact
-        | Code::Custom => text_of_names(code),
-        _ => text_of_truth(code),
-    };
+    let Said { short, text } = said_of(code);
     Explained {
         word: code.word(),
         weight: own_weight(code, code.row().level),
-        short: short_of(code),
+        short,
         text,
     }
 }
