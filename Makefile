@@ -1,8 +1,8 @@
 # make run    runs `platform_check` on its sample input, from source if it is not built; PROVED=yes proves and builds it
 # make lint MANIFEST=path  tells what is wrong or odd about the keys of `target` in a manifest, in the same way
 # make build  proves and builds both programs, and says where they are
-# make install PREFIX=..  puts both programs into PREFIX/bin, manifest_check as cargo-manifest-check too, and its man page
-#             and completions into PREFIX/share; where a C compiler is, it does what `make install-c` does too
+# make install PREFIX=..  puts both programs into PREFIX/bin, manifest_check as cargo-manifest-check too, and its man
+#             page and completions into PREFIX/share; where a C compiler is, it does what `make install-c` does too
 # make c-library  proves and builds the library for C, and says where it is
 # make install-c PREFIX=..  puts the library for C, its header, a file for pkg-config and the Python package in place
 # make wheel  builds a wheel of the Python package, with the shared library in it, into out/wheel

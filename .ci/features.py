@@ -1,7 +1,8 @@
 """What a build of Cargo uses at one target: its feature resolver, step by step, and then its dependencies.
 
-It goes by the steps of `core/resolver/features.rs` and `ops/tree/graph.rs` of Cargo 1.95.0, for one target at a time, on
-what `cargo metadata` printed. `manifest_check graph --resolver` answers for all targets at once; this tells it is right.
+It goes by the steps of `core/resolver/features.rs` and `ops/tree/graph.rs` of Cargo 1.95.0, for one target at a time,
+on what `cargo metadata` printed. `manifest_check graph --resolver` answers for all targets at once; this tells it is
+right.
 """
 import collections
 
@@ -20,7 +21,8 @@ def library_name(package):
 class Build:
     """What is built for a target on a host. `holds_at` tells the targets of a condition."""
 
-    def __init__(self, document, roots, kinds, host, resolver, target, holds_at, features=(), default=True, all_on=False):
+    def __init__(self, document, roots, kinds, host, resolver, target, holds_at, features=(), default=True,
+                 all_on=False):  # fmt: skip
         self.packages = {it["id"]: it for it in document["packages"]}
         self.roots, self.kinds, self.host, self.target = roots, kinds, host, target
         self.is_new = resolver != 1

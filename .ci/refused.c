@@ -1,10 +1,10 @@
 // Stands before the C library's `malloc`, and runs a program once for each of its allocations, with that one refused.
 //
-// A first run has nothing refused, and tells how many allocations there are. All runs are forked before `main`, and each
-// begins at the start of standard input, which is a file. Then standard output has an outcome for each way in which the
-// runs with a refused allocation ended, the first run's outcome before them. An outcome is a line of six numbers, with
-// what was printed behind it: how many runs ended so, at which allocation first, the status, the blocks that were not
-// released, and how many bytes stand on standard output and on standard error.
+// A first run has nothing refused, and tells how many allocations there are. All runs are forked before `main`, and
+// each begins at the start of standard input, which is a file. Then standard output has an outcome for each way in
+// which the runs with a refused allocation ended, the first run's outcome before them. An outcome is a line of six
+// numbers, with what was printed behind it: how many runs ended so, at which allocation first, the status, the blocks
+// that were not released, and how many bytes stand on standard output and on standard error.
 //
 // `REFUSED_CONTROL` plants a fault, which has to be told: with `given` nothing is refused, and with `forgotten` a block
 // is not released. They are known by their first letters.

@@ -16,7 +16,11 @@ pub struct Release {
 }
 
 /// The number that a text is the decimal of. It has no sign, and no zero before other digits.
-#[tactic(auto, using(crate::proofs::Numbers::is_read, crate::proofs::Numbers::is_unread, crate::proofs::Numbers::not_empty, crate::proofs::Numbers::no_sign, crate::proofs::Numbers::no_zeros))]
+#[rattlefmt::skip]
+#[tactic(auto, using(
+    crate::proofs::Numbers::is_read, crate::proofs::Numbers::is_unread, crate::proofs::Numbers::not_empty,
+    crate::proofs::Numbers::no_sign, crate::proofs::Numbers::no_zeros,
+))]
 fn number(text: &str) -> Option<u64>
     ensures read { IfSome result (λ n. text.now ≡ decimal n) }
     ensures unread { IfNone result ((n : ℕ) → n < 2 ^ 64 → text.now ≢ decimal n) }

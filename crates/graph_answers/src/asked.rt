@@ -222,6 +222,7 @@ impl<'a> Asked<'a> {
             html: words.html,
         })
     }
+
     /// The same, asked of the targets of a file.
     pub fn in_groups(self, groups: &'a Groups<'a>) -> Asked<'a> {
         let mut asked = self;
