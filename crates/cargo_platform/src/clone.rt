@@ -1,11 +1,11 @@
 //! Copies of names, pairs, expressions and platforms, with their raw marks.
 
-ghost use Rattle.std.specs.Prelude.{◌≡◌, ◌≤◌, ◌+◌, ◌*◌, ◌++◌, map, IfOk, IfSome, OnOk, MatchOption, MatchResult};
+ghost use Rattle.std.specs.Prelude.{◌≡◌, ◌≤◌, ◌+◌, ◌*◌, ◌++◌, map, IfOk, IfSome, OnOk, MatchOption};
 ghost use Rattle.cargo_platform.specs.Trees.{Tree, name_of, value_of, tree_of, condition_of};
 ghost use Rattle.cargo_platform.specs.ExpressionSizes.{node_count, node_counts};
 ghost use Rattle.cargo_platform.specs.Walk.{list_tree};
 ghost use Rattle.cargo_platform.specs.Inside.Parsing.{is_all};
-ghost use Rattle.cargo_platform.specs.Inside.Copying.{around, whole, left_in, work};
+ghost use Rattle.cargo_platform.specs.Inside.Copying.{around, whole, left_in, work, MatchNext, ForExpression};
 
 use crate::Platform;
 use crate::cfg::{Cfg, CfgExpr, Ident};
@@ -63,10 +63,17 @@ fn copy_tree(alloc: Global, e: &CfgExpr) -> Result<CfgExpr, AllocError>
     'parts: loop {
         let copy = copy_first(alloc, part, &mut groups)?;
         match put_into_groups(alloc, copy, &mut groups)? {
-            Ok(next) => part = next,
-            Err(whole) => return Ok(whole),
+            Next::Expression(next) => part = next,
+            Next::Copy(whole) => return Ok(whole),
         }
     }
+}
+
+/// What is next: an expression that is to be copied, or a copy that is made.
+#[derive(Drop)]
+enum Next<'a> {
+    Expression(&'a CfgExpr),
+    Copy(CfgExpr),
 }
 
 /// A group that is being copied.
@@ -144,8 +151,8 @@ fn copy_first<'a>(
             CfgExpr::False => return Ok(CfgExpr::False),
         };
         match opened {
-            Ok(next) => part = next,
-            Err(list) => return Ok(list),
+            Next::Expression(next) => part = next,
+            Next::Copy(list) => return Ok(list),
         }
     }
 }
@@ -157,24 +164,24 @@ fn put_into_groups<'a>(
     alloc: Global,
     copied: CfgExpr,
     groups: &mut CopiedGroups<'a>,
-) -> Result<Result<&'a CfgExpr, CfgExpr>, AllocError>
+) -> Result<Next<'a>, AllocError>
     ensures whole { IfOk result
-        (λ r. MatchResult r
-        (λ next. whole groups.new (tree_of next.now) ≡ whole groups.old (tree_of copied))
+        (λ r. MatchNext r
+        (λ next. whole groups.new (tree_of next) ≡ whole groups.old (tree_of copied))
         (λ copy. tree_of copy ≡ whole groups.old (tree_of copied))) }
     ensures work { IfOk result
-        (λ r. IfOk r (λ next. work groups.new + 2 * node_count next.now ≤ work groups.old)) }
+        (λ r. ForExpression r (λ next. work groups.new + 2 * node_count next ≤ work groups.old)) }
 {
     let mut copy = copied;
     'groups: loop {
         copy = match groups.pop() {
-            None => return Ok(Err(copy)),
+            None => return Ok(Next::Copy(copy)),
             Some(CopiedGroup::Not) => negation(alloc, copy)?,
             Some(CopiedGroup::List(word, mut copies, left)) => {
                 push_member(&mut copies, copy)?;
                 match copy_members(alloc, word, copies, left, groups)? {
-                    Ok(next) => return Ok(Ok(next)),
-                    Err(list) => list,
+                    Next::Expression(next) => return Ok(Next::Expression(next)),
+                    Next::Copy(list) => list,
                 }
             }
         };
@@ -190,24 +197,24 @@ fn copy_members<'a>(
     mut copies: Vec<CfgExpr>,
     members: &'a [CfgExpr],
     groups: &mut CopiedGroups<'a>,
-) -> Result<Result<&'a CfgExpr, CfgExpr>, AllocError>
+) -> Result<Next<'a>, AllocError>
     ensures whole { IfOk result
-        (λ r. MatchResult r
-        (λ next. whole groups.new (tree_of next.now)
+        (λ r. MatchNext r
+        (λ next. whole groups.new (tree_of next)
         ≡ whole groups.old (list_tree (is_all word) (map tree_of copies.items ++ map tree_of members.now)))
         (λ list. whole groups.new (tree_of list)
         ≡ whole groups.old (list_tree (is_all word) (map tree_of copies.items ++ map tree_of members.now)))) }
     ensures work { IfOk result
-        (λ r. MatchResult r
-        (λ next. work groups.new + 2 * node_count next.now ≤ work groups.old + 2 * node_counts members.now + 1)
+        (λ r. MatchNext r
+        (λ next. work groups.new + 2 * node_count next ≤ work groups.old + 2 * node_counts members.now + 1)
         (λ _. work groups.new ≡ work groups.old)) }
 {
     match copy_values(alloc, members, &mut copies)?.split_first() {
         Some((next, left)) => {
             groups.push(CopiedGroup::List(word, copies, left))?;
-            Ok(Ok(next))
+            Ok(Next::Expression(next))
         }
-        None => Ok(Err(close_list(word, copies))),
+        None => Ok(Next::Copy(close_list(word, copies))),
     }
 }
 

@@ -1,7 +1,8 @@
 //! What a fold makes of each form, and the loop that goes over an expression.
 
-ghost use Rattle.std.specs.Prelude.{◌≡◌, ◌≤◌, ◌+◌, ◌*◌, [], ◌∷◌, ◌++◌, Bool, List, map, IfOk, MatchResult};
+ghost use Rattle.std.specs.Prelude.{◌≡◌, ◌≤◌, ◌+◌, ◌*◌, [], ◌∷◌, ◌++◌, Bool, List, map, IfOk};
 ghost use Rattle.std.specs.Bool.{MatchBool};
+ghost use Rattle.std.specs.ControlFlow.{MatchControlFlow};
 ghost use Rattle.cargo_platform.specs.Trees.{Tree, Not, Value, True, False, value_of, tree_of};
 ghost use Rattle.cargo_platform.specs.ExpressionSizes.{node_count, node_counts};
 ghost use Rattle.cargo_platform.specs.Walk.{list_tree};
@@ -10,6 +11,7 @@ ghost use Rattle.expression_folds.specs.Folding.{stack, Within, Stands, work, le
 use crate::open_groups::{OpenGroup, OpenGroups, OpenList};
 use cargo_platform::{Cfg, CfgExpr};
 use std::alloc::{AllocError, Global};
+use std::ops::ControlFlow;
 
 /// What is made of an expression, by what is made of the parts inside it.
 pub trait Fold {
@@ -48,9 +50,9 @@ pub trait Fold {
         neutral: bool,
         so_far: Self::Members,
         part: Self::Part,
-    ) -> Result<Result<Self::Members, Self::Part>, AllocError>
+    ) -> Result<ControlFlow<Self::Part, Self::Members>, AllocError>
         ensures { IfOk result (λ r. (es : List Tree) (e : Tree) → gathers self.now neutral es so_far
-            → makes self.now e part → MatchResult r
+            → makes self.now e part → MatchControlFlow r
             (λ more. gathers self.now neutral (es ++ e ∷ []) more)
             (λ whole. (others : List Tree) → makes self.now (list_tree neutral (es ++ e ∷ others)) whole)) };
 
@@ -132,8 +134,8 @@ fn close<'a, F: Fold>(
                 members,
             } = list;
             match f.add(neutral, so_far, part)? {
-                Ok(so_far) => go_on(neutral, so_far, members, f, groups),
-                Err(whole) => Ok(Next::Part(whole)),
+                ControlFlow::Continue(so_far) => go_on(neutral, so_far, members, f, groups),
+                ControlFlow::Break(whole) => Ok(Next::Part(whole)),
             }
         }
     }

@@ -1,6 +1,6 @@
 //! What goals come to. Which names hold is odd or even in number, in whatever order they are told.
 
-use crate::{Goal, Outcome, find_way};
+use crate::{Choice, Goal, Outcome, find_way};
 use cargo_platform::{Cfg, CfgExpr, ReadError};
 use partial_facts::OneValued;
 use std::alloc::{AllocError, Global};
@@ -110,6 +110,39 @@ fn values(alloc: Global, texts: &[&str]) -> Result<Vec<Cfg>, AllocError> {
     Ok(found)
 }
 
+/// What is found of goals within so many nodes, where `unix` is known to be a fact.
+fn found_among(
+    alloc: Global,
+    goals: &[Goal<'_>],
+    pairs: &[Cfg],
+    most_nodes: usize,
+) -> Result<Outcome, AllocError> {
+    let mut asked = Vec::new(alloc);
+    for c in pairs {
+        asked.push(c)?;
+    }
+    let told = values(alloc, &["unix"])?;
+    let known = OneValued {
+        facts: &told,
+        complete: &["unix"],
+        single: &["target_os"],
+    };
+    find_way(alloc, goals, &asked, &known, &["target_os"], most_nodes)
+}
+
+/// The facts that a way chooses, and `unix`.
+fn chosen_facts(alloc: Global, pairs: &[Cfg], choices: &[Choice]) -> Result<Vec<Cfg>, AllocError> {
+    let mut facts = values(alloc, &["unix"])?;
+    for choice in choices {
+        if let Some(c) = pairs.get(choice.number) {
+            if choice.holds {
+                facts.push(c.clone(alloc)?)?;
+            }
+        }
+    }
+    Ok(facts)
+}
+
 /// What comes of a row. A way is one where the expressions have their truths over its facts.
 fn outcome_of(alloc: Global, row: &Row) -> Result<&'static str, AllocError> {
     let first = expression(alloc, row.first)?;
@@ -124,38 +157,13 @@ fn outcome_of(alloc: Global, row: &Row) -> Result<&'static str, AllocError> {
             wanted: row.wanted,
         },
     ];
-    let listed = values(alloc, &PAIRS)?;
-    let mut pairs = Vec::new(alloc);
-    for c in &listed {
-        pairs.push(c)?;
-    }
-    let told = values(alloc, &["unix"])?;
-    let known = OneValued {
-        facts: &told,
-        complete: &["unix"],
-        single: &["target_os"],
-    };
-    let found = find_way(
-        alloc,
-        &goals,
-        &pairs,
-        &known,
-        &["target_os"],
-        row.most_nodes,
-    )?;
-    let choices = match found {
+    let pairs = values(alloc, &PAIRS)?;
+    let choices = match found_among(alloc, &goals, &pairs, row.most_nodes)? {
         Outcome::Way(choices) => choices,
         Outcome::Nothing => return Ok("nothing"),
         Outcome::TooLarge => return Ok("too large"),
     };
-    let mut facts = values(alloc, &["unix"])?;
-    for choice in &choices {
-        if let Some(c) = listed.get(choice.number) {
-            if choice.holds {
-                facts.push(c.clone(alloc)?)?;
-            }
-        }
-    }
+    let facts = chosen_facts(alloc, &pairs, &choices)?;
     if first.matches(&facts) && other.matches(&facts) == row.wanted {
         Ok("a way")
     } else {

@@ -174,6 +174,13 @@ fn unused<'a>(exceptions: &[Exception<'a>], subjects: &[Subject<'_>]) -> Option<
     None
 }
 
+/// What is said of an exception that is no package's.
+fn no_package(alloc: Global, exception: Exception<'_>) -> Result<String, AllocError> {
+    let name = shown_name(alloc, exception.name)?;
+    let version = shown_name(alloc, exception.version)?;
+    format!(in alloc; "--except: no package is {name}@{version}")
+}
+
 /// The answer to `--allow`: the status is that of findings where there is something to tell.
 pub fn show_licences(
     alloc: Global,
@@ -184,9 +191,7 @@ pub fn show_licences(
 ) -> Result<Answer, AllocError> {
     let subjects = subjects_of(alloc, graph, asked)?;
     if let Some(exception) = unused(&by.exceptions, &subjects) {
-        let name = shown_name(alloc, exception.name)?;
-        let version = shown_name(alloc, exception.version)?;
-        let reason = format!(in alloc; "--except: no package is {name}@{version}")?;
+        let reason = no_package(alloc, exception)?;
         return answered(alloc, Err(unusable(alloc, file, reason.as_str())));
     }
     let told = audit(alloc, &subjects, &by.exceptions, &by.allowed)?;
@@ -196,35 +201,46 @@ pub fn show_licences(
             continue;
         };
         answer.raise(Status::Found);
-        if asked.json {
-            push_object(
-                &mut answer.output,
-                alloc,
-                graph,
-                *index,
-                &one.finding,
-                asked,
-            )?;
-        } else {
-            push_lines(
-                &mut answer.output,
-                alloc,
-                graph,
-                *index,
-                &one.finding,
-                asked,
-            )?;
-        }
+        push_told(
+            &mut answer.output,
+            alloc,
+            graph,
+            *index,
+            &one.finding,
+            asked,
+        )?;
     }
     if !asked.json {
-        let count = told.len();
-        let all = subjects.iter().filter(|subject| subject.is_present).count();
-        let line = format!(in alloc;
-            "{count} of {all} packages have a licence that is not allowed\n"
-        )?;
+        let line = shown_counts(alloc, told.len(), &subjects)?;
         push(&mut answer.errors, line.as_str())?;
     }
     Ok(answer)
+}
+
+/// How many packages are told, and how many there are.
+fn shown_counts(
+    alloc: Global,
+    count: usize,
+    subjects: &[Subject<'_>],
+) -> Result<String, AllocError> {
+    let all = subjects.iter().filter(|subject| subject.is_present).count();
+    format!(in alloc; "{count} of {all} packages have a licence that is not allowed\n")
+}
+
+/// Appends what is told of a package: its object, or lines.
+fn push_told(
+    text: &mut String,
+    alloc: Global,
+    graph: &Graph<'_>,
+    index: usize,
+    finding: &Finding,
+    asked: &Asked<'_>,
+) -> Result<(), AllocError> {
+    if asked.json {
+        push_object(text, alloc, graph, index, finding, asked)
+    } else {
+        push_lines(text, alloc, graph, index, finding, asked)
+    }
 }
 
 /// What is found, in words.

@@ -6,7 +6,6 @@ use crate::json::{push_comma, push_field, push_optional, push_targets, push_text
 use crate::lines::{push, shown_package, shown_targets};
 use crate::reasons::{Reasons, push_reasons, shown_reasons};
 use key_answers::answer::{Answer, Status};
-use known_targets::TargetSet;
 use package_graphs::Kind;
 use std::alloc::{AllocError, Global};
 
@@ -91,46 +90,43 @@ pub fn show_packages(
     graph: &Graph<'_>,
     asked: &Asked<'_>,
 ) -> Result<Answer, AllocError> {
-    let reached = kinds_reached(alloc, graph, asked)?;
     let reasons = Reasons::of(alloc, graph)?;
     let mut answer = Answer::of(alloc, String::new(alloc), Status::Fine);
-    let mut count: usize = 0;
-    for i in &graph.order {
-        let targets = graph.at(*i, asked);
-        if !targets.is_empty() {
-            count = count.saturating_add(1);
-        }
-        if asked.json {
-            if let Some(reached) = reached.get(*i) {
-                push_object(
-                    &mut answer.output,
-                    alloc,
-                    graph,
-                    *i,
-                    targets,
-                    *reached,
-                    asked,
-                    &reasons,
-                )?;
-            }
-        } else {
-            push_line(
-                &mut answer.output,
-                alloc,
-                graph,
-                *i,
-                targets,
-                asked,
-                &reasons,
-            )?;
-        }
-    }
-    if !asked.json {
+    if asked.json {
+        push_objects(&mut answer.output, alloc, graph, asked, &reasons)?;
+    } else {
+        push_lines(&mut answer.output, alloc, graph, asked, &reasons)?;
+        let count = count_present(graph, asked);
         let all = graph.order.len();
         let line = format!(in alloc; "{count} of {all} packages\n")?;
         push(&mut answer.errors, line.as_str())?;
     }
     Ok(answer)
+}
+
+/// How many packages are there at a target that is asked for.
+fn count_present(graph: &Graph<'_>, asked: &Asked<'_>) -> usize {
+    let mut count: usize = 0;
+    for i in &graph.order {
+        if !graph.at(*i, asked).is_empty() {
+            count = count.saturating_add(1);
+        }
+    }
+    count
+}
+
+/// Appends the lines of all packages.
+fn push_lines(
+    text: &mut String,
+    alloc: Global,
+    graph: &Graph<'_>,
+    asked: &Asked<'_>,
+    reasons: &Option<Reasons>,
+) -> Result<(), AllocError> {
+    for i in &graph.order {
+        push_line(text, alloc, graph, *i, asked, reasons)?;
+    }
+    Ok(())
 }
 
 /// Appends the line of a package.
@@ -139,7 +135,6 @@ fn push_line(
     alloc: Global,
     graph: &Graph<'_>,
     index: usize,
-    targets: TargetSet,
     asked: &Asked<'_>,
     reasons: &Option<Reasons>,
 ) -> Result<(), AllocError> {
@@ -147,7 +142,7 @@ fn push_line(
         return Ok(());
     };
     let package = shown_package(alloc, described)?;
-    let targets = shown_targets(alloc, targets, asked)?;
+    let targets = shown_targets(alloc, graph.at(index, asked), asked)?;
     let reasons = shown_reasons(alloc, reasons, index, asked)?;
     let line = format!(in alloc; "{package}: {targets}{reasons}\n")?;
     push(text, line.as_str())
@@ -172,13 +167,29 @@ pub fn push_package(
     push_text(text, alloc, described.id)
 }
 
+/// Appends the objects of all packages.
+fn push_objects(
+    text: &mut String,
+    alloc: Global,
+    graph: &Graph<'_>,
+    asked: &Asked<'_>,
+    reasons: &Option<Reasons>,
+) -> Result<(), AllocError> {
+    let reached = kinds_reached(alloc, graph, asked)?;
+    for i in &graph.order {
+        if let Some(reached) = reached.get(*i) {
+            push_object(text, alloc, graph, *i, *reached, asked, reasons)?;
+        }
+    }
+    Ok(())
+}
+
 /// Appends the object of a package, on a line of its own.
 fn push_object(
     text: &mut String,
     alloc: Global,
     graph: &Graph<'_>,
     index: usize,
-    targets: TargetSet,
     reached: Reached,
     asked: &Asked<'_>,
     reasons: &Option<Reasons>,
@@ -189,7 +200,7 @@ fn push_object(
     push_package(text, alloc, graph, index)?;
     push_field(text, ", ", "license")?;
     push_optional(text, alloc, described.license)?;
-    push_targets(text, alloc, targets, asked)?;
+    push_targets(text, alloc, graph.at(index, asked), asked)?;
     push_field(text, ", ", "kinds")?;
     reached.push(text)?;
     push_reasons(text, alloc, reasons, index, asked)?;

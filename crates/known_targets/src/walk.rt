@@ -14,6 +14,7 @@ use crate::target_set::TargetSet;
 use cargo_platform::{Cfg, CfgExpr};
 use expression_folds::{Fold, fold_expression};
 use std::alloc::{AllocError, Global};
+use std::ops::ControlFlow;
 
 /// The targets at which an expression is true, where each fact of an open name or key is taken so that the whole
 /// becomes `unknown`.
@@ -85,8 +86,8 @@ impl<'a> Fold for AtTargets<'a> {
         neutral: bool,
         so_far: Bounds,
         part: Bounds,
-    ) -> Result<Result<Bounds, Bounds>, AllocError> {
-        Ok(Ok(Bounds {
+    ) -> Result<ControlFlow<Bounds, Bounds>, AllocError> {
+        Ok(ControlFlow::Continue(Bounds {
             certain: joined(neutral, so_far.certain, part.certain),
             possible: joined(neutral, so_far.possible, part.possible),
         }))

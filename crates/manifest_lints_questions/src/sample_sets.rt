@@ -22,6 +22,7 @@ use known_targets::{KnownTarget, TargetSet, having, names};
 use partial_facts::ONE_VALUED;
 use partial_facts::names::is_among;
 use std::alloc::{AllocError, Global};
+use std::ops::ControlFlow;
 
 /// Each fifth known target stands in a set of facts that is tried.
 const STRIDE: usize = 5;
@@ -176,8 +177,13 @@ impl<'a> Fold for OverSamples<'a> {
         everywhere(neutral)
     }
 
-    fn add(&self, neutral: bool, so_far: u64, part: u64) -> Result<Result<u64, u64>, AllocError> {
-        Ok(Ok(joined(neutral, so_far, part)))
+    fn add(
+        &self,
+        neutral: bool,
+        so_far: u64,
+        part: u64,
+    ) -> Result<ControlFlow<u64, u64>, AllocError> {
+        Ok(ControlFlow::Continue(joined(neutral, so_far, part)))
     }
 
     fn group(&self, _neutral: bool, members: u64) -> u64 {

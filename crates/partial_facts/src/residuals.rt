@@ -15,6 +15,7 @@ use crate::knowledge::Knowledge;
 use cargo_platform::{Cfg, CfgExpr};
 use expression_folds::{Fold, fold_expression};
 use std::alloc::{AllocError, Global};
+use std::ops::ControlFlow;
 
 /// What is left of the expression to ask: over each possible set of facts it is as true as `e`, and it holds no name or
 /// pair that is known.
@@ -86,14 +87,14 @@ impl<'a, K: Knowledge> Fold for WhatIsLeft<'a, K> {
         neutral: bool,
         so_far: Vec<CfgExpr>,
         part: CfgExpr,
-    ) -> Result<Result<Vec<CfgExpr>, CfgExpr>, AllocError> {
+    ) -> Result<ControlFlow<CfgExpr, Vec<CfgExpr>>, AllocError> {
         match literal_truth(&part) {
-            None => Ok(Ok(with_member(so_far, part)?)),
+            None => Ok(ControlFlow::Continue(with_member(so_far, part)?)),
             Some(truth) => {
                 if truth == neutral {
-                    Ok(Ok(so_far))
+                    Ok(ControlFlow::Continue(so_far))
                 } else {
-                    Ok(Err(part))
+                    Ok(ControlFlow::Break(part))
                 }
             }
         }

@@ -1,5 +1,8 @@
--- What a copy is a part of: the groups that are being copied around it.
+-- What a copy is a part of: the groups that are being copied around it. And what is next, by cases.
 use Rattle.std.specs.Prelude.{ℕ, ◌+◌, ◌*◌, List, [], ◌∷◌, ◌++◌, map, reverse, sum}
+use Rattle.cargo_platform.specs.declared.cfg.CfgExpr.{CfgExpr}
+use Rattle.cargo_platform.specs.declared.clone.Next.{Next}
+use Rattle.cargo_platform.specs.declared.clone.Next.TheVariants as next
 use Rattle.cargo_platform.specs.declared.clone.CopiedGroup.{CopiedGroup}
 use Rattle.cargo_platform.specs.declared.clone.CopiedGroup.TheVariants as group
 use Rattle.cargo_platform.specs.declared.clone.CopiedGroups.{CopiedGroups}
@@ -28,3 +31,13 @@ left_in (group.List word copies left) = 2 * node_counts left.now + 1
 
 abbrev pub work : CopiedGroups → ℕ
 work c = sum (map left_in c.groups.items)
+
+-- P of an expression that is to be copied, and Q of a copy
+abbrev pub MatchNext : Next → (CfgExpr → Type 0) → (CfgExpr → Type 0) → Type 0
+MatchNext (next.Expression e) P Q = P e.now
+MatchNext (next.Copy copy) P Q = Q copy
+
+-- P of the expression, if one is to be copied
+abbrev pub ForExpression : Next → (CfgExpr → Type 0) → Type 0
+ForExpression (next.Expression e) P = P e.now
+ForExpression (next.Copy copy) P = Unit {0}
