@@ -1,21 +1,22 @@
 -- Conditions that are as true share a class.
-use Prim.Native.Nat.{zero, suc}
-use Rattle.std.proofs.Common.{◌≡◌, ◌∙◌, refl, sym, ap, subst, ℕ, ◌+◌, ◌*◌, ◌/◌, ◌%◌, ◌^◌, ◌<◌, true, false}
+use Rattle.std.proofs.Common.{◌≡◌, ◌∙◌, refl, sym, ap, subst, ℕ, ◌+◌, ◌*◌, ◌/◌, ◌%◌, ◌^◌, ◌<◌, ◌≤◌, true, false}
 use Rattle.std.proofs.Common.{◌&&◌, ◌↔◌, inl, inr, arith, List, [], ◌∷◌, ◌++◌, map, length, get_or}
 use Rattle.std.proofs.Common.{cond, length-append, Option, Some, None, Bool, ◌||◌, not, true≢false}
 use Rattle.std.specs.Prelude.{codes, is_some, Contains, IsTrue, Vec, nat_eq, bytes_eq, Result, Ok, Err, IfOk, OnOk}
 use Rattle.std.specs.declared.alloc.Global.{Global}
-use Rattle.std.specs.Ordering.{is_eq, nat_cmp}
+use Rattle.std.specs.declared.cmp.Ordering.{Ordering}
+use Rattle.std.specs.declared.cmp.Ordering.TheVariants.{Less, Equal, Greater}
+use Rattle.std.specs.Ordering.{is_eq, nat_cmp, ordering_then}
 use Rattle.std.specs.Cmp.{Equal-is, both_ways, eq_by_cmp_equiv}
-use Rattle.std.specs.Cmp.Lexicographic.{slice_cmp, nat_list_cmp_total}
+use Rattle.std.specs.Cmp.Lexicographic.{slice_cmp}
 use Rattle.std.specs.FinSet.{contains, from_list, contains-from_list}
 use Rattle.std.specs.BTreeMap as ordered
 use Rattle.std.specs.Int.{bit_at}
-use Rattle.std.proofs.lemmas.Bool.{cases_eq, cases_lt}
+use Rattle.std.proofs.lemmas.Bool.{cases_lt}
 use Rattle.std.proofs.lemmas.List.{ext_get_or, get_or-map, length-map, get_or_append_left, append-nil}
 use Rattle.std.proofs.Math.Seq.{get_or-append_seam}
 use Rattle.std.proofs.lemmas.List.Elements.{Contains-append_left, Contains-append_right, Contains-push}
-use Rattle.std.proofs.lemmas.Map.Lookups.{exact_bytes}
+use Rattle.std.proofs.lemmas.Map.Lookups.{exact_bytes, exact_unsigned}
 use Rattle.std.proofs.lemmas.Slice.Eq.{bytes_eq-Decides}
 use Rattle.std.proofs.lemmas.Map.Views.{list_any-from_Contains}
 use Rattle.cargo_platform.specs.Trees.{CfgValue, Tree, Not, All, Any, Value, True, False, Trees, none, tree}
@@ -30,18 +31,23 @@ use Rattle.known_targets.specs.Bits.{has}
 use Rattle.known_targets.specs.Sets.{is_member}
 use Rattle.known_targets.specs.Table.{target_name, target_facts}
 use Rattle.known_targets.specs.declared.target_set.TargetSet.{TargetSet}
-use Rattle.known_targets.specs.declared.table.TheConstants.{COUNT}
+use Rattle.known_targets.specs.declared.table.TheConstants.{COUNT, WORDS}
 use Rattle.exact_answers.specs.Families.{IsSetWithFamily}
 use Rattle.exact_answers.specs.declared.known.Known.{Known}
 use Rattle.manifest_lints_questions.specs.Samples.{AreTruths, is_set, truth_by, all_by, any_by, one_valued}
 use Rattle.manifest_lints_questions.specs.Samples.{holds, holds_with, holds_beside, is_only}
 use Rattle.manifest_lints_questions.specs.Rustcs.{IsRustcs, AllowsRustcs}
 use Rattle.manifest_lints_questions.specs.Earlier.{Member, IsMemberAt, AreEquivalent, NoneIsEquivalent, places_in}
-use Rattle.manifest_lints_questions.specs.Earlier.{places_of, part_of, is_unlike, TellsUnlike}
+use Rattle.manifest_lints_questions.specs.Earlier.{class_cmp, places_of, part_of, is_unlike, TellsUnlike}
 use Rattle.manifest_lints_questions.specs.Classes.{IsClassOf, ClassMap, PutsIn, PutsMember}
 use Rattle.manifest_lints_questions.specs.Numbers.{IsNumberOf, is_unknown_value, unknown_values, same_pair, has_pair}
 use Rattle.manifest_lints_questions.specs.Numbers.{truths_with, apart, apart_of, summed}
 use Rattle.manifest_lints_questions.specs.Classes.{IsClassed, AreClassed, AreUnlike, TellsNoneEquivalent}
+use Rattle.manifest_lints_questions.specs.declared.earlier.Class.{Class}
+use Rattle.manifest_lints_questions.specs.declared.earlier.Part.{Part}
+use Rattle.manifest_lints_questions.specs.declared.earlier.Part.TheVariants as parts
+use Rattle.manifest_lints_questions.specs.contracts.earlier.ClassOrd.TheImpl.Laws as class_laws
+use Rattle.manifest_lints_questions.specs.contracts.earlier.PartOrd.TheImpl as part_ord
 use Rattle.manifest_lints_questions.specs.declared.earlier.Earlier.{Earlier}
 use Rattle.manifest_lints_questions.specs.declared.earlier.Keys.{Keys}
 use Rattle.manifest_lints_questions.specs.declared.sample_sets.TheConstants.{STRIDE}
@@ -326,49 +332,43 @@ module _ (k : Known) (e d : Tree) (allows : AllowsRustcs k)
 
 -- ---- classes
 
-bit_of : (class : List ℕ) (j l : ℕ) → l < 64 → has class (64 * j + l) ≡ is_set (get_or class j 0) l
+bit_of : (words : List ℕ) (j l : ℕ) → l < 64 → has words (64 * j + l) ≡ is_set (get_or words j 0) l
 unfolding has
-bit_of class j l below =
+bit_of words j l below =
     let word : (64 * j + l) / 64 ≡ j = omega arith in
     let bit : (64 * j + l) % 64 ≡ l = omega arith in
-    λ i. nat_eq (bit_at (get_or class (word i) 0) (bit i)) 1
+    λ i. nat_eq (bit_at (get_or words (word i) 0) (bit i)) 1
 
 module _ (k : Known) (e d : Tree) (allows : AllowsRustcs k) (alike : AreEquivalent k (Expression e) (Expression d))
-    (x y : List ℕ) (first : IsClassOf e x) (second : IsClassOf d y) where
-  at_target : (t : ℕ) → t < COUNT → has x t ≡ has y t
-  at_target t below =
-      first.at_targets t below ∙ truths_alike k e d (target_facts t) allows (targets_are t below) alike
-      ∙ sym (second.at_targets t below)
+    (x y : Class) (first : IsClassOf e x) (second : IsClassOf d y) where
+  at_place : (t : ℕ) → has x.targets t ≡ has y.targets t
+  at_place t = elim (cases_lt t COUNT) [
+    | inl below ↦
+        first.at_targets t below ∙ truths_alike k e d (target_facts t) allows (targets_are t below) alike
+        ∙ sym (second.at_targets t below)
+    | inr past ↦ first.behind t past ∙ sym (second.behind t past)
+  ]
 
-  target_word : (j : ℕ) → j < 5 → get_or x j 0 ≡ get_or y j 0
-  target_word j within =
-      same_word (get_or x j 0) (get_or y j 0) (first.small j) (second.small j)
-      (λ l low. let t : 64 * j + l < COUNT = omega arith in
-      sym (bit_of x j l low) ∙ at_target (64 * j + l) t ∙ bit_of y j l low)
+  target_word : (j : ℕ) → get_or x.targets j 0 ≡ get_or y.targets j 0
+  target_word j =
+      same_word (get_or x.targets j 0) (get_or y.targets j 0) (first.small j) (second.small j)
+      (λ l low. sym (bit_of x.targets j l low) ∙ at_place (64 * j + l) ∙ bit_of y.targets j l low)
 
-  sample_word : get_or x 5 0 ≡ get_or y 5 0
+  same_targets : x.targets ≡ y.targets
+  same_targets = ext_get_or 0 x.targets y.targets (first.long ∙ sym second.long) (λ j within. target_word j)
+
+  sample_word : x.truths ≡ y.truths
   sample_word =
-      same_word (get_or x 5 0) (get_or y 5 0) (first.small 5) (second.small 5)
+      same_word x.truths y.truths first.small_truths second.small_truths
       (λ l low. first.over_samples l low
       ∙ same_truths k e d allows alike (holds_beside None l) (keeps_none l low) ∙ sym (second.over_samples l low))
 
-  words : (j : ℕ) → j < 8 → get_or x j 0 ≡ get_or y j 0
-  words j within = elim (cases_lt j 5) [
-    | inl low ↦ target_word j low
-    | inr high ↦ elim (cases_eq j 5) [
-      | inl is ↦ ap (λ n. get_or x n 0) is ∙ sample_word ∙ sym (ap (λ n. get_or y n 0) is)
-      | inr past ↦ elim (cases_eq j 6) [
-        | inl is ↦ ap (λ n. get_or x n 0) is ∙ first.whole ∙ sym second.whole ∙ sym (ap (λ n. get_or y n 0) is)
-        | inr other ↦
-            let is : j ≡ 7 = omega arith in
-            ap (λ n. get_or x n 0) is ∙ first.no_number ∙ sym second.no_number ∙ sym (ap (λ n. get_or y n 0) is)
-      ]
-    ]
-  ]
-
   pub same_class : x ≡ y
-  same_class =
-      ext_get_or 0 x y (first.long ∙ sym second.long) (λ j within. words j (subst (λ n. j < n) first.long within))
+  same_class = λ i. record {
+    targets = same_targets i;
+    truths = sample_word i;
+    part = (first.whole ∙ sym second.whole) i;
+  }
 
 -- ---- what is compared
 
@@ -379,8 +379,9 @@ module _ (k : Known) (keys : Keys) (c : Condition) (allows : AllowsRustcs k) (cl
       none_is i n within m (subst (IsMemberAt keys m) (sym is) at) alike
 
   -- where both have a number, the member stands in the part of this number
-  among_part : (e d : Tree) (class : List ℕ) (number its : Option ℕ) (n : ℕ)
-      → AreEquivalent k (Expression d) (Expression e) → IsNumberOf e number → IsNumberOf d its → AreUnlike k keys c class number → Contains (places_of keys class) n
+  among_part : (e d : Tree) (class : Class) (number its : Option ℕ) (n : ℕ)
+      → AreEquivalent k (Expression d) (Expression e) → IsNumberOf e number → IsNumberOf d its
+      → AreUnlike k keys c class number → Contains (places_of keys class) n
       → Contains (places_of keys (part_of class its)) n → (m : Member) → IsMemberAt keys m n
       → AreEquivalent k (condition_of m.1.now) c → ⊥
   among_part e d class None its n both first second unlike in_class in_part m at alike =
@@ -392,7 +393,7 @@ module _ (k : Known) (keys : Keys) (c : Condition) (allows : AllowsRustcs k) (cl
       found_among n (places_of keys (part_of class (Some number))) unlike.0
       (subst (λ (x : ℕ). Contains (places_of keys (part_of class (Some x))) n) same in_part) m at alike
 
-  pub none_missed : (e : Tree) (class : List ℕ) (number : Option ℕ) → IsClassOf e class → IsNumberOf e number
+  pub none_missed : (e : Tree) (class : Class) (number : Option ℕ) → IsClassOf e class → IsNumberOf e number
       → AreUnlike k keys c class number → c ≡ Expression e → (m : Member) (n : ℕ)
       → IsMemberAt keys m n → AreEquivalent k (condition_of m.1.now) c → ⊥
   none_missed e class number is_class is_number unlike is_tree m n at alike =
@@ -402,31 +403,63 @@ module _ (k : Known) (keys : Keys) (c : Condition) (allows : AllowsRustcs k) (cl
       (subst (λ (x : Condition). AreEquivalent k (condition_of m.1.now) x) is_tree alike) in
       let same : its.class ≡ class = same_class k its.tree e allows both its.class class its.is_class is_class in
       among_part e its.tree class number its.number n both is_number its.is_number unlike
-      (subst (λ (x : List ℕ). Contains (places_of keys x) n) same its.in_class)
-      (subst (λ (x : List ℕ). Contains (places_of keys (part_of x its.number)) n) same its.in_part) m at alike
+      (subst (λ (x : Class). Contains (places_of keys x) n) same its.in_class)
+      (subst (λ (x : Class). Contains (places_of keys (part_of x its.number)) n) same its.in_part) m at alike
+
+-- ---- the order of classes
+
+abbrev part_cmp : Part → Part → Ordering
+part_cmp = (part_ord.ghosts).cmp
+
+both_equal : (o p : Ordering) → ordering_then o p ≡ Equal → (o ≡ Equal) × (p ≡ Equal)
+both_equal Less p h = cc
+both_equal Equal p h = (refl, h)
+both_equal Greater p h = cc
+
+exact_parts : (a b : Part) → part_cmp a b ≡ Equal → a ≡ b
+exact_parts parts.All parts.All h = refl
+exact_parts parts.All (parts.Numbered n) h = cc
+exact_parts parts.All parts.NotNumbered h = cc
+exact_parts (parts.Numbered m) parts.All h = cc
+exact_parts (parts.Numbered m) (parts.Numbered n) h = ap parts.Numbered (exact_unsigned m n h)
+exact_parts (parts.Numbered m) parts.NotNumbered h = cc
+exact_parts parts.NotNumbered parts.All h = cc
+exact_parts parts.NotNumbered (parts.Numbered n) h = cc
+exact_parts parts.NotNumbered parts.NotNumbered h = refl
+
+-- classes that are equal in it are the same
+exact_classes : (a b : Class) → class_cmp a b ≡ Equal → a ≡ b
+exact_classes a b h =
+    let first = both_equal (slice_cmp nat_cmp a.targets b.targets) _ h in
+    let others = both_equal (nat_cmp a.truths b.truths) _ first.1 in
+    λ i. record {
+      targets = exact_bytes a.targets b.targets first.0 i;
+      truths = exact_unsigned a.truths b.truths others.0 i;
+      part = exact_parts a.part b.part others.1 i;
+    }
 
 -- ---- one more member
 
-pub puts : (old new : ClassMap) (class : List ℕ) (n : ℕ) (before : Option (Vec ℕ Global)) (v : Vec ℕ Global)
-    → ordered.get (slice_cmp nat_cmp) old class ≡ before → v.items ≡ places_in before ++ n ∷ []
-    → ((q : List ℕ) → ordered.get (slice_cmp nat_cmp) new q
-    ≡ cond (is_eq (slice_cmp nat_cmp class q)) (Some v) (ordered.get (slice_cmp nat_cmp) old q))
+pub puts : (old new : ClassMap) (class : Class) (n : ℕ) (before : Option (Vec ℕ Global)) (v : Vec ℕ Global)
+    → ordered.get class_cmp old class ≡ before → v.items ≡ places_in before ++ n ∷ []
+    → ((q : Class) → ordered.get class_cmp new q
+    ≡ cond (is_eq (class_cmp class q)) (Some v) (ordered.get class_cmp old q))
     → PutsIn old new class n
 puts old new class n before v was items updates q =
-    let is = is_eq (slice_cmp nat_cmp class q) in
-    let there = ordered.get (slice_cmp nat_cmp) old q in
-    elim is as (λ b. is ≡ b → places_in (ordered.get (slice_cmp nat_cmp) new q)
+    let is = is_eq (class_cmp class q) in
+    let there = ordered.get class_cmp old q in
+    elim is as (λ b. is ≡ b → places_in (ordered.get class_cmp new q)
     ≡ places_in there ++ cond b (n ∷ []) []) [
       | true ↦ λ h.
-          let same : class ≡ q = exact_bytes class q ((Equal-is (slice_cmp nat_cmp class q)).0 h) in
+          let same : class ≡ q = exact_classes class q ((Equal-is (class_cmp class q)).0 h) in
           ap places_in (updates q ∙ ap (λ b. cond b (Some v) there) h) ∙ items
           ∙ ap (λ (o : Option (Vec ℕ Global)). places_in o ++ n ∷ [])
-          (sym was ∙ ap (ordered.get (slice_cmp nat_cmp) old) same)
+          (sym was ∙ ap (ordered.get class_cmp old) same)
       | false ↦ λ h.
           ap places_in (updates q ∙ ap (λ b. cond b (Some v) there) h) ∙ sym (append-nil (places_in there))
     ] refl
 
-module _ (old new : Keys) (m : Member) (class : List ℕ) (number : Option ℕ) (e : Tree)
+module _ (old new : Keys) (m : Member) (class : Class) (number : Option ℕ) (e : Tree)
     (puts_it : PutsMember old new m class number) (tree : condition_of m.1.now ≡ Expression e)
     (is_class : IsClassOf e class) (is_number : IsNumberOf e number)
     (before : AreClassed old) where
@@ -478,64 +511,32 @@ module _ (old new : Keys) (m : Member) (class : List ℕ) (number : Option ℕ) 
 
 -- ---- classes of expressions
 
-first_words : (ws rest : List ℕ) (j : ℕ) → j < 5
-    → get_or (get_or ws 0 0 ∷ get_or ws 1 0 ∷ get_or ws 2 0 ∷ get_or ws 3 0 ∷ get_or ws 4 0 ∷ rest) j 0 ≡ get_or ws j 0
-first_words ws rest zero low = refl
-first_words ws rest (suc zero) low = refl
-first_words ws rest (suc (suc zero)) low = refl
-first_words ws rest (suc (suc (suc zero))) low = refl
-first_words ws rest (suc (suc (suc (suc zero)))) low = refl
-first_words ws rest (suc (suc (suc (suc (suc j))))) low = absurd (omega arith)
-
-pub all_small : (a b c d e t : ℕ) → a < 2 ^ 64 → b < 2 ^ 64 → c < 2 ^ 64 → d < 2 ^ 64 → e < 2 ^ 64 → t < 2 ^ 64
-    → (i : ℕ) → get_or (a ∷ b ∷ c ∷ d ∷ e ∷ t ∷ 0 ∷ 0 ∷ []) i 0 < 2 ^ 64
-all_small a b c d e t ha hb hc hd he ht zero = ha
-all_small a b c d e t ha hb hc hd he ht (suc zero) = hb
-all_small a b c d e t ha hb hc hd he ht (suc (suc zero)) = hc
-all_small a b c d e t ha hb hc hd he ht (suc (suc (suc zero))) = hd
-all_small a b c d e t ha hb hc hd he ht (suc (suc (suc (suc zero)))) = he
-all_small a b c d e t ha hb hc hd he ht (suc (suc (suc (suc (suc zero))))) = ht
-all_small a b c d e t ha hb hc hd he ht (suc (suc (suc (suc (suc (suc zero)))))) = omega arith
-all_small a b c d e t ha hb hc hd he ht (suc (suc (suc (suc (suc (suc (suc zero))))))) = omega arith
-all_small a b c d e t ha hb hc hd he ht (suc (suc (suc (suc (suc (suc (suc (suc i)))))))) = omega arith
-
 module _ (ws : List ℕ) (t : ℕ) (set : TargetSet) (e : Tree) (c : Condition)
-    (same : (k : ℕ) → has ws k ≡ is_member set k)
+    (long : length ws ≡ WORDS) (small : (i : ℕ) → get_or ws i 0 < 2 ^ 64) (small_truths : t < 2 ^ 64)
+    (same : (k : ℕ) → k < COUNT → has ws k ≡ is_member set k) (behind : (k : ℕ) → COUNT ≤ k → has ws k ≡ false)
     (holds_at : (k : ℕ) → k < COUNT
     → IsTrue (is_member set k) ↔ IsTrueCondition (target_name k) (target_facts k) c)
-    (tree : c ≡ Expression e) (truths : AreTruths (holds_beside None) e t)
-    (small : (i : ℕ)
-    → get_or (get_or ws 0 0 ∷ get_or ws 1 0 ∷ get_or ws 2 0 ∷ get_or ws 3 0 ∷ get_or ws 4 0 ∷ t ∷ 0 ∷ 0 ∷ []) i 0
-    < 2 ^ 64) where
-  abbrev its_words : List ℕ
-  its_words = get_or ws 0 0 ∷ get_or ws 1 0 ∷ get_or ws 2 0 ∷ get_or ws 3 0 ∷ get_or ws 4 0 ∷ t ∷ 0 ∷ 0 ∷ []
-
-  has_its : (k : ℕ) → k < COUNT → has its_words k ≡ has ws k
-  unfolding has
-  has_its k within =
-      let word : k / 64 < 5 = omega arith in
-      ap (λ w. nat_eq (bit_at w (k % 64)) 1) (first_words ws (t ∷ 0 ∷ 0 ∷ []) (k / 64) word)
-
-  at_targets : (k : ℕ) → k < COUNT → has its_words k ≡ truth (target_facts k) e
+    (tree : c ≡ Expression e) (truths : AreTruths (holds_beside None) e t) where
+  at_targets : (k : ℕ) → k < COUNT → has ws k ≡ truth (target_facts k) e
   at_targets k within =
       let is = subst (λ (x : Condition). IsTrue (is_member set k) ↔ IsTrueCondition (target_name k) (target_facts k) x)
       tree (holds_at k within) in
-      has_its k within ∙ same k ∙ both_ways (is_member set k) (truth (target_facts k) e) is.0 is.1
+      same k within ∙ both_ways (is_member set k) (truth (target_facts k) e) is.0 is.1
 
-  pub class_is : IsClassOf e
-      (get_or ws 0 0 ∷ get_or ws 1 0 ∷ get_or ws 2 0 ∷ get_or ws 3 0 ∷ get_or ws 4 0 ∷ t ∷ 0 ∷ 0 ∷ [])
+  pub class_is : IsClassOf e (record { targets = ws; truths = t; part = parts.All })
   class_is = record {
-    long = refl;
+    long = long;
     small = small;
     at_targets = at_targets;
+    behind = behind;
+    small_truths = small_truths;
     over_samples = truths;
     whole = refl;
-    no_number = refl;
   }
 
 -- ---- what is told of a class and its part
 
-pub among_some : {E : Type 0} (k : Known) (keys : Keys) (c : Condition) (class : List ℕ) (number : Option ℕ) (n : ℕ)
+pub among_some : {E : Type 0} (k : Known) (keys : Keys) (c : Condition) (class : Class) (number : Option ℕ) (n : ℕ)
     (r : Result Earlier E) → number ≡ Some n → IfOk r (TellsUnlike k keys c (part_of class number))
     → IfOk r (TellsUnlike k keys c (part_of class None))
     → IfOk r (λ a. IsTrue (is_unlike a) → AreUnlike k keys c class number)
@@ -544,7 +545,7 @@ among_some k keys c class number n (Ok a) is first second = λ so.
     (subst (λ (o : Option ℕ). NoneIsEquivalent k keys c (places_of keys (part_of class o))) is (first so), second so)
 among_some k keys c class number n (Err e) is first second = tt
 
-pub among_none : {E : Type 0} (k : Known) (keys : Keys) (c : Condition) (class : List ℕ) (number : Option ℕ)
+pub among_none : {E : Type 0} (k : Known) (keys : Keys) (c : Condition) (class : Class) (number : Option ℕ)
     (r : Result Earlier E) → number ≡ None → IfOk r (TellsUnlike k keys c class)
     → IfOk r (λ a. IsTrue (is_unlike a) → AreUnlike k keys c class number)
 among_none k keys c class number (Ok a) is told = λ so. subst (AreUnlike k keys c class) (sym is) (told so)
@@ -552,24 +553,24 @@ among_none k keys c class number (Err e) is told = tt
 
 -- ---- members that are put
 
-in_its_own : (old new : ClassMap) (class : List ℕ) (n : ℕ) → PutsIn old new class n
-    → Contains (places_in (ordered.get (slice_cmp nat_cmp) new class)) n
+in_its_own : (old new : ClassMap) (class : Class) (n : ℕ) → PutsIn old new class n
+    → Contains (places_in (ordered.get class_cmp new class)) n
 in_its_own old new class n put =
-    let before = places_in (ordered.get (slice_cmp nat_cmp) old class) in
+    let before = places_in (ordered.get class_cmp old class) in
     subst (λ ns. Contains ns n)
     (sym (put class
-    ∙ ap (λ b. before ++ cond b (n ∷ []) []) ((eq_by_cmp_equiv nat_list_cmp_total).refl class)))
+    ∙ ap (λ b. before ++ cond b (n ∷ []) []) ((eq_by_cmp_equiv class_laws.total-law).refl class)))
     (Contains-push before n)
 
-still_in : (old new : ClassMap) (class q : List ℕ) (n j : ℕ) → PutsIn old new class n
-    → Contains (places_in (ordered.get (slice_cmp nat_cmp) old q)) j
-    → Contains (places_in (ordered.get (slice_cmp nat_cmp) new q)) j
+still_in : (old new : ClassMap) (class q : Class) (n j : ℕ) → PutsIn old new class n
+    → Contains (places_in (ordered.get class_cmp old q)) j
+    → Contains (places_in (ordered.get class_cmp new q)) j
 still_in old new class q n j put there =
     subst (λ ns. Contains ns j) (sym (put q))
-    (Contains-append_left (places_in (ordered.get (slice_cmp nat_cmp) old q))
-    (cond (is_eq (slice_cmp nat_cmp class q)) (n ∷ []) []) j there)
+    (Contains-append_left (places_in (ordered.get class_cmp old q))
+    (cond (is_eq (class_cmp class q)) (n ∷ []) []) j there)
 
-pub puts_member : {A E : Type 0} (r : Result A E) (old new : Keys) (mid : ClassMap) (m : Member) (class : List ℕ)
+pub puts_member : {A E : Type 0} (r : Result A E) (old new : Keys) (mid : ClassMap) (m : Member) (class : Class)
     (number : Option ℕ) (n : ℕ) → new.members.items ≡ old.members.items ++ m ∷ [] → n ≡ length old.members.items
     → PutsIn old.classes mid class n → OnOk r (PutsIn mid new.classes (part_of class number) n)
     → OnOk r (PutsMember old new m class number)
@@ -602,10 +603,10 @@ same_classed old new members classes before m n at =
       number = its.number;
       is_class = its.is_class;
       is_number = its.is_number;
-      in_class = subst (λ (x : ClassMap). Contains (places_in (ordered.get (slice_cmp nat_cmp) x its.class)) n)
+      in_class = subst (λ (x : ClassMap). Contains (places_in (ordered.get class_cmp x its.class)) n)
           (sym classes) its.in_class;
       in_part = subst (λ (x : ClassMap).
-          Contains (places_in (ordered.get (slice_cmp nat_cmp) x (part_of its.class its.number))) n)
+          Contains (places_in (ordered.get class_cmp x (part_of its.class its.number))) n)
           (sym classes) its.in_part;
     }
 

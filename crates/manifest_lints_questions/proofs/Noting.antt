@@ -6,8 +6,6 @@ use Rattle.std.proofs.Common.{Result, Ok, Err, IfOk, IsTrue}
 use Rattle.std.specs.Prelude.{IfSome, OnOk, String, Vec, string_bytes}
 use Rattle.std.specs.declared.alloc.Global.{Global}
 use Rattle.std.specs.BTreeMap as ordered
-use Rattle.std.specs.Ordering.{nat_cmp}
-use Rattle.std.specs.Cmp.Lexicographic.{slice_cmp}
 use Rattle.std.proofs.lemmas.List.{take_all, take_more}
 use Rattle.std.proofs.lemmas.List.Elements.{All-nil, All-push}
 use Rattle.std.specs.Ordering.{is_eq}
@@ -25,12 +23,13 @@ use Rattle.exact_answers.specs.Asking.{NeedsMore}
 use Rattle.exact_answers.specs.Targets.{asked_trees, MayHaveName, IsExample}
 use Rattle.exact_answers.specs.declared.platforms.PossibleTarget.{PossibleTarget}
 use Rattle.exact_answers.specs.declared.known.Known.{Known}
+use Rattle.manifest_lints_questions.specs.declared.earlier.Class.{Class}
 use Rattle.manifest_lints_questions.specs.declared.earlier.Keys.{Keys}
 use Rattle.manifest_lints_questions.specs.declared.earlier.Earlier.{Earlier}
 use Rattle.manifest_lints_questions.specs.declared.earlier.TheConstants.{MOST}
 use Rattle.manifest_lints_questions.specs.Earlier.{AreEquivalent, HasEquivalentMember, MayBeUndecided}
 use Rattle.manifest_lints_questions.specs.Earlier.{equivalent_place, is_undecided, Member, IsMemberAt}
-use Rattle.manifest_lints_questions.specs.Earlier.{NoneIsEquivalent, places_in, places_of, noted, NotesBy}
+use Rattle.manifest_lints_questions.specs.Earlier.{NoneIsEquivalent, class_cmp, places_in, places_of, noted, NotesBy}
 use Rattle.manifest_lints_questions.specs.Earlier.{is_unlike, IsExpression, PutsUnlike}
 
 -- a map in which one key is set
@@ -119,9 +118,9 @@ one_compared k keys c ns i d within before now =
     (All-push (λ n. (m : Member) → IsMemberAt keys m n → AreEquivalent k (condition_of m.1.now) c → ⊥)
     (take i ns) (get_or ns i d) before now)
 
-pub all_compared : (k : Known) (keys : Keys) (c : Condition) (ns class : List ℕ) (i : ℕ)
+pub all_compared : (k : Known) (keys : Keys) (c : Condition) (ns : List ℕ) (class : Class) (i : ℕ)
     (o : Option (Vec ℕ Global)) → length ns ≤ i → NoneIsEquivalent k keys c (take i ns) → ns ≡ places_in o
-    → o ≡ ordered.get (slice_cmp nat_cmp) keys.classes class → NoneIsEquivalent k keys c (places_of keys class)
+    → o ≡ ordered.get class_cmp keys.classes class → NoneIsEquivalent k keys c (places_of keys class)
 all_compared k keys c ns class i o past before are is =
     subst (NoneIsEquivalent k keys c) (take_all i ns past ∙ are ∙ ap places_in is) before
 

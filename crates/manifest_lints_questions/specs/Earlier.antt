@@ -1,12 +1,10 @@
 -- How a condition stands to earlier ones: which is the same, raw marks aside, and which are as true.
 use Rattle.std.specs.Prelude.{◌≡◌, ◌⊎◌, ◌↔◌, ◌<◌, ℕ, Bool, true, false, IsTrue, List, [], ◌∷◌, ◌++◌, length, get_or}
-use Rattle.std.specs.Prelude.{set}
 use Rattle.std.specs.Prelude.{Option, Some, None, IfSome, Vec}
 use Rattle.std.specs.declared.alloc.Global.{Global}
 use Rattle.std.specs.List.{Any, All}
 use Rattle.std.specs.Borrow.{Bor}
-use Rattle.std.specs.Ordering.{nat_cmp}
-use Rattle.std.specs.Cmp.Lexicographic.{slice_cmp}
+use Rattle.std.specs.declared.cmp.Ordering.{Ordering}
 use Rattle.std.specs.BTreeMap as ordered
 use Rattle.cargo_platform.specs.declared.Platform.{Platform}
 use Rattle.cargo_platform.specs.Trees.{Condition, Tree, Expression, condition_of}
@@ -18,7 +16,10 @@ use Rattle.exact_answers.specs.Targets.{ForEach, asked_trees}
 use Rattle.manifest_lints_questions.specs.declared.earlier.Earlier.{Earlier}
 use Rattle.manifest_lints_questions.specs.declared.earlier.Earlier.TheVariants as earlier
 use Rattle.manifest_lints_questions.specs.declared.earlier.Keys.{Keys}
-use Rattle.manifest_lints_questions.specs.declared.earlier.TheConstants.{MOST, NUMBERED, NOT_NUMBERED}
+use Rattle.manifest_lints_questions.specs.declared.earlier.Class.{Class}
+use Rattle.manifest_lints_questions.specs.declared.earlier.Part.TheVariants as parts
+use Rattle.manifest_lints_questions.specs.contracts.earlier.ClassOrd.TheImpl as class_ord
+use Rattle.manifest_lints_questions.specs.declared.earlier.TheConstants.{MOST}
 
 abbrev pub is_same : Earlier → Bool
 is_same (earlier.Same first) = true
@@ -117,17 +118,21 @@ abbrev pub places_in : Option (Vec ℕ Global) → List ℕ
 places_in None = []
 places_in (Some places) = places.items
 
+-- the order of classes, which tells each from the others
+abbrev pub class_cmp : Class → Class → Ordering
+class_cmp = (class_ord.ghosts).cmp
+
 -- the places of the members of a class
-abbrev pub places_of : Keys → List ℕ → List ℕ
-places_of keys class = places_in (ordered.get (slice_cmp nat_cmp) keys.classes class)
+abbrev pub places_of : Keys → Class → List ℕ
+places_of keys class = places_in (ordered.get class_cmp keys.classes class)
 
 -- the part of a class whose conditions share a number, or have none
-abbrev pub part_of : List ℕ → Option ℕ → List ℕ
-part_of class (Some number) = set (set class 6 NUMBERED) 7 number
-part_of class None = set class 6 NOT_NUMBERED
+abbrev pub part_of : Class → Option ℕ → Class
+part_of class (Some number) = record class { part = parts.Numbered number }
+part_of class None = record class { part = parts.NotNumbered }
 
 -- where a key is told to be unlike those of a class, none of them is as true
-abbrev pub TellsUnlike : Known → Keys → Condition → List ℕ → Earlier → Type 0
+abbrev pub TellsUnlike : Known → Keys → Condition → Class → Earlier → Type 0
 TellsUnlike k keys c class r = IsTrue (is_unlike r) → NoneIsEquivalent k keys c (places_of keys class)
 
 -- to these none is added, or one

@@ -1,6 +1,6 @@
 //! How a key stands to those before it: the same condition, or one that is as true.
 
-ghost use Rattle.std.specs.Prelude.{◌≡◌, ◌<◌, ◌^◌, ◌∷◌, ℕ, get_or, None, [], IfOk, OnOk, IsTrue};
+ghost use Rattle.std.specs.Prelude.{◌≡◌, None, [], IfOk, OnOk, IsTrue};
 ghost use Rattle.std.specs.Borrow.{Bor};
 ghost use Rattle.cargo_platform.specs.declared.Platform.{Platform as Shown};
 ghost use Rattle.cargo_platform.specs.Trees.{Expression, tree_of, condition_of};
@@ -15,7 +15,7 @@ ghost use Rattle.manifest_lints_questions.specs.Classes.{TellsNoneEquivalent};
 use crate::sample_sets::{beyond_targets, truths};
 use cargo_platform::{CfgExpr, Platform};
 use exact_answers::{Known, MustSelect, equivalent_platform};
-use known_targets::matching;
+use known_targets::{WORDS, matching};
 use std::alloc::{AllocError, Global};
 use std::collections::BTreeMap;
 
@@ -65,18 +65,26 @@ impl Earlier {
     }
 }
 
-/// What equivalent conditions share: their truths at the known targets and over the sets of facts that are tried, and
-/// of which part of these conditions a class is.
-type Class = [u64; 8];
+/// What equivalent conditions share, and of which part of these conditions a class is.
+#[derive(Clone, Copy, Debug, PartialEq, Eq, PartialOrd, Ord, Drop)]
+struct Class {
+    // The known targets at which they hold.
+    targets: [u64; WORDS],
+    // Their truths over the sets of facts that are tried.
+    truths: u64,
+    part: Part,
+}
 
-/// All conditions that share these truths.
-const ALL: u64 = 0;
-
-/// Those of them that share a number too, which stands behind.
-const NUMBERED: u64 = 1;
-
-/// Those of them whose number is not known.
-const NOT_NUMBERED: u64 = 2;
+/// A part of the conditions that share their truths.
+#[derive(Clone, Copy, Debug, PartialEq, Eq, PartialOrd, Ord, Drop)]
+enum Part {
+    /// All of them.
+    All,
+    /// Those that share this number too.
+    Numbered(u64),
+    /// Those whose number is not known.
+    NotNumbered,
+}
 
 /// Keys in their order, each with what its class has.
 #[derive(Drop)]
@@ -285,15 +293,11 @@ impl<'a> Keys<'a> {
 fn part_of(class: Class, number: Option<u64>) -> Class
     ensures { result ≡ part_of class number }
 {
-    let mut part = class;
-    match number {
-        Some(number) => {
-            part[6] = NUMBERED;
-            part[7] = number;
-        }
-        None => part[6] = NOT_NUMBERED,
-    }
-    part
+    let part = match number {
+        Some(number) => Part::Numbered(number),
+        None => Part::NotNumbered,
+    };
+    Class { part, ..class }
 }
 
 /// Puts a place among those of a class.
@@ -321,15 +325,9 @@ fn class_of(alloc: Global, platform: &Platform, e: &CfgExpr) -> Result<Class, Al
 {
     let targets = matching(alloc, platform)?.words();
     let truths = truths(alloc, e)?;
-    Ok(class_from(
-        targets[0], targets[1], targets[2], targets[3], targets[4], truths,
-    ))
-}
-
-/// The class of these words: five of known targets, and one of truths.
-fn class_from(first: u64, second: u64, third: u64, fourth: u64, fifth: u64, truths: u64) -> Class
-    ensures words { result ≡ first ∷ second ∷ third ∷ fourth ∷ fifth ∷ truths ∷ 0 ∷ 0 ∷ [] }
-    ensures small { (i : ℕ) → get_or result i 0 < 2 ^ 64 }
-{
-    [first, second, third, fourth, fifth, truths, ALL, 0]
+    Ok(Class {
+        targets,
+        truths,
+        part: Part::All,
+    })
 }

@@ -7,7 +7,8 @@ use Rattle.manifest_lints_questions.proofs.Words.{none_set}
 use Rattle.manifest_lints_questions.proofs.sample_sets.sampled.Goals as goal
 
 pub returns : goal.returns
-returns c = λ l below. c.places.invariant.before l (omega arith) ∙ c.words-words.ensures (l * STRIDE)
+returns c = λ l below.
+    c.places.invariant.before l (omega arith) ∙ c.words-words.ensures.members (l * STRIDE) (omega arith)
 
 pub places-init : goal.places-init
 places-init c = record { before = λ j low. absurd (omega arith); after = λ j high. none_set j }

@@ -1,5 +1,6 @@
-use Rattle.std.proofs.Common.{rules, ◌≡◌, List, ℕ, length, subst}
+use Rattle.std.proofs.Common.{rules, ◌≡◌, length, subst}
 use Rattle.std.specs.Prelude.{OnOk}
+use Rattle.manifest_lints_questions.specs.declared.earlier.Class.{Class}
 use Rattle.manifest_lints_questions.specs.declared.earlier.Keys.{Keys}
 use Rattle.manifest_lints_questions.specs.Classes.{PutsIn}
 use Rattle.manifest_lints_questions.proofs.Classes.{puts_member}
@@ -12,5 +13,5 @@ returns-clause-puts c =
     let last : c.len-place.result ≡ length old.members.items = search rules in
     puts_member c.put-2.result old new c.put.new.classes (c.args.index, c.args.platform) c.args.class c.args.number
     c.len-place.result c.in_ok-push.ensures.items last c.in_ok-put.ensures
-    (subst (λ (class : List ℕ). OnOk c.put-2.result
+    (subst (λ (class : Class). OnOk c.put-2.result
     (PutsIn c.put.new.classes c.put-2.new.classes class c.len-place.result)) c.part_of.ensures c.put-2.ensures)
