@@ -128,14 +128,15 @@ fn push_lines(
     path: &str,
     rows: &[Row<'_>],
 ) -> Result<(), AllocError> {
-    let mut before: Option<ShownTable<'_>> = None;
+    let Some(first) = rows.first() else {
+        return Ok(());
+    };
+    let mut table = ShownTable::of(alloc, &first.dependency)?;
     for row in rows {
-        let table = match before {
-            Some(table) if table.shows_that_of(&row.dependency) => table,
-            _ => ShownTable::of(alloc, &row.dependency)?,
-        };
+        if !table.shows_that_of(&row.dependency) {
+            table = ShownTable::of(alloc, &row.dependency)?;
+        }
         push_line(text, alloc, path, table.shown.as_str(), row)?;
-        before = Some(table);
     }
     Ok(())
 }
