@@ -11,8 +11,8 @@ use Rattle.package_graphs.specs.Kinds.{is_followed}
 use Rattle.package_graphs.specs.Packages.{is_of_host, side}
 use Rattle.package_graphs.specs.declared.packages.Side.{Side}
 use Rattle.package_graphs.specs.declared.packages.Side.TheVariants.{Target, Host}
-use Rattle.target_rules.specs.Deriving.{given, follows}
-use Rattle.target_rules.proofs.Following.{held_through}
+use Rattle.cargo_features.specs.Deriving.{given, follows}
+use Rattle.cargo_features.proofs.Following.{held_through}
 use Rattle.cargo_features.specs.Asking.{asking, AsksMore, AskMore}
 use Rattle.cargo_features.specs.Ways.{condition, way, is_macro, feature_side, is_counted, begins_on}
 use Rattle.cargo_features.specs.Steps.{one, both, when, at_each, to_feature, gate, is_first_side, root_steps}

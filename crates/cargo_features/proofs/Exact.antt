@@ -8,10 +8,10 @@ use Rattle.known_targets.specs.Sets.{is_member}
 use Rattle.known_targets.specs.declared.target_set.TargetSet.{TargetSet}
 use Rattle.known_targets.specs.declared.table.TheConstants.{COUNT}
 use Rattle.package_graphs.specs.Graphs.{is_in}
-use Rattle.target_rules.specs.Deriving.{Follows, given, follows}
-use Rattle.target_rules.specs.Derivations.{Applies, IsDerived}
-use Rattle.target_rules.proofs.Following.{held_through}
-use Rattle.target_rules.specs.declared.rules.Rule.{Rule}
+use Rattle.cargo_features.specs.Deriving.{Follows, given, follows}
+use Rattle.cargo_features.specs.Derivations.{Applies, IsDerived}
+use Rattle.cargo_features.proofs.Following.{held_through}
+use Rattle.cargo_features.specs.declared.rules.Rule.{Rule}
 use Rattle.cargo_features.specs.Claims.{holds_at}
 use Rattle.cargo_features.specs.Steps.{all_steps}
 use Rattle.cargo_features.specs.Holding.{is_known, LeadsTo, Holds}

@@ -13,8 +13,8 @@ use Rattle.package_graphs.specs.declared.packages.Kind.TheVariants as kinds
 use Rattle.package_graphs.specs.declared.packages.Kinds.{Kinds}
 use Rattle.package_graphs.specs.declared.packages.Side.{Side}
 use Rattle.package_graphs.specs.declared.packages.Side.TheVariants.{Target, Host}
-use Rattle.target_rules.specs.Deriving.{given, follows}
-use Rattle.target_rules.proofs.Following.{held_through}
+use Rattle.cargo_features.specs.Deriving.{given, follows}
+use Rattle.cargo_features.proofs.Following.{held_through}
 use Rattle.cargo_features.specs.Claims.{holds_at}
 use Rattle.cargo_features.specs.Ways.{way, is_counted, counts_kind, begins_on}
 use Rattle.cargo_features.specs.Steps.{one, both, when, at_each, to_feature, gate, is_first_side, root_steps}

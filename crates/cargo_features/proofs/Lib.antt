@@ -1,3 +1,6 @@
+pub mod Listing
+pub mod Following
+pub mod Working
 pub mod Each
 pub mod Numbering
 pub mod Exact

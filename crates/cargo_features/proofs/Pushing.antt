@@ -3,7 +3,7 @@ use Rattle.std.proofs.Common.{◌≡◌, ◌<◌, ℕ, ◌+◌, List, [], ◌∷
 use Rattle.std.proofs.lemmas.Bool.{cases_lt}
 use Rattle.std.proofs.lemmas.List.{length_push, get_or_push, get_or_append_left}
 use Rattle.known_targets.specs.declared.known.KnownTarget.{KnownTarget}
-use Rattle.target_rules.specs.declared.rules.Rule.{Rule}
+use Rattle.cargo_features.specs.declared.rules.Rule.{Rule}
 use Rattle.cargo_features.specs.Inside.Numbered.{IsNumbered, AreNumbered}
 use Rattle.cargo_features.specs.declared.claims.Step.{Step}
 use Rattle.cargo_features.specs.declared.packages.Package.{Package}

@@ -2,7 +2,7 @@
 use Rattle.std.specs.Prelude.{◌≡◌, ◌⊎◌, ℕ, Bool, true, IsTrue, List, [], map, length, nat_lt, Contains}
 use Rattle.std.specs.List.{slice_index_or}
 use Rattle.package_graphs.specs.declared.packages.Side.TheVariants.{Target, Host}
-use Rattle.target_rules.specs.Deriving.{Follows}
+use Rattle.cargo_features.specs.Deriving.{Follows}
 use Rattle.cargo_features.specs.Claims.{holds_at}
 use Rattle.cargo_features.specs.Steps.{all_steps}
 use Rattle.cargo_features.specs.declared.build.Build.{Build}

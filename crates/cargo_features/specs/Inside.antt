@@ -1,2 +1,4 @@
+pub mod Listing
+pub mod Working
 pub mod Numbered
 pub mod Exact

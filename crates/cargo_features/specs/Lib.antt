@@ -1,3 +1,5 @@
+pub mod Deriving
+pub mod Derivations
 pub mod Claims
 pub mod Ways
 pub mod Steps

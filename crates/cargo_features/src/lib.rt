@@ -4,13 +4,20 @@
 
 mod build;
 mod claims;
+mod derivation;
 pub mod laws;
 mod numbers;
 mod packages;
+mod premises;
 mod resolved;
+pub mod rule_laws;
+mod rules;
 mod steps;
+mod work;
 
 pub use build::Build;
 pub use claims::{Claim, Condition};
+pub use derivation::{Counted, derived, derived_counted};
 pub use packages::{Dependency, Member, Package};
 pub use resolved::{Resolved, resolve, used_packages};
+pub use rules::Rule;

@@ -14,12 +14,13 @@ ghost use Rattle.cargo_features.specs.declared.claims.Step.{Step};
 
 use crate::build::Build;
 use crate::claims::{Claim, Place, Step};
+use crate::derivation::derived;
 use crate::numbers::Numbers;
 use crate::packages::Package;
+use crate::rules::Rule;
 use known_targets::TargetSet;
 use package_graphs::Side;
 use std::alloc::{AllocError, Global};
-use target_rules::{Rule, derived};
 
 /// The targets at which each claim holds, by its number.
 #[derive(Drop)]

@@ -1,3 +1,4 @@
+pub mod Tables
 pub mod Pairs
 pub mod Members
 pub mod Steps

@@ -13,7 +13,7 @@ use Rattle.std.specs.Prelude.{bytes_eq}
 use Rattle.std.proofs.lemmas.Slice.Eq.{bytes_eq-Decides}
 use Rattle.partial_facts.specs.Partly.{is_named}
 use Rattle.goal_diagrams.specs.Goals.{HasOneOpenValue, IsAsTold, StandsAt}
-use Rattle.decision_diagrams.specs.Diagrams.{joint}
+use Rattle.goal_diagrams.specs.Diagrams.{joint}
 use Rattle.goal_diagrams.specs.Goals.{pairs_of, holds_in}
 use Rattle.goal_diagrams.specs.Inside.Making.{AreTwoValues}
 use Rattle.goal_diagrams.specs.Inside.Making.{AreApart}

@@ -9,16 +9,16 @@ use Rattle.cargo_platform.specs.Trees.{tree_of}
 use Rattle.cargo_platform.specs.Facts.{Pair, FactSet}
 use Rattle.std.specs.FinSet.{contains}
 use Rattle.goal_diagrams.specs.declared.making.Goal.{Goal}
-use Rattle.decision_diagrams.specs.declared.table.Table.{Table}
+use Rattle.goal_diagrams.specs.declared.table.Table.{Table}
 use Rattle.goal_diagrams.specs.Goals.{goals_met, true_as_wanted, IsAsTold}
-use Rattle.decision_diagrams.specs.Diagrams.{joint, value, nodes_of, places, Grows, IsMade}
+use Rattle.goal_diagrams.specs.Diagrams.{joint, value, nodes_of, places, Grows, IsMade}
 use Rattle.goal_diagrams.specs.Goals.{holds_in}
 use Rattle.goal_diagrams.specs.Inside.Making.{says}
 use Rattle.goal_diagrams.specs.Goals.{pairs_of}
 use Rattle.goal_diagrams.specs.Inside.Making.{each_wanted, some_wanted}
 use Rattle.goal_diagrams.specs.Inside.Making.{AreApart}
 use Rattle.goal_diagrams.proofs.Pairs.{none_beside, holds_or_not, told_is}
-use Rattle.decision_diagrams.proofs.Tables.{value-true, value-false, value-literal}
+use Rattle.goal_diagrams.proofs.Tables.{value-true, value-false, value-literal}
 use Rattle.goal_diagrams.proofs.Members.{wanted_in, and_on, or_on, and_done, or_done}
 
 -- ---- one place joined to another one

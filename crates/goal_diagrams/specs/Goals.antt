@@ -7,7 +7,7 @@ use Rattle.cargo_platform.specs.declared.cfg.Cfg.{Cfg}
 use Rattle.cargo_platform.specs.Trees.{tree_of, value_of}
 use Rattle.cargo_platform.specs.Facts.{Pair, FactSet, pair_of, truth}
 use Rattle.partial_facts.specs.OneValued.{is_single}
-use Rattle.decision_diagrams.specs.Diagrams.{Agrees}
+use Rattle.goal_diagrams.specs.Diagrams.{Agrees}
 use Rattle.goal_diagrams.specs.declared.making.Goal.{Goal}
 use Rattle.goal_diagrams.specs.declared.answers.Outcome.{Outcome}
 use Rattle.goal_diagrams.specs.declared.answers.Outcome.TheVariants as outcome

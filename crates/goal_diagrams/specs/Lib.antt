@@ -1,2 +1,3 @@
+pub mod Diagrams
 pub mod Goals
 pub mod Inside

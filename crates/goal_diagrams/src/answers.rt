@@ -5,13 +5,13 @@ ghost use Rattle.std.specs.Borrow.{Bor};
 ghost use Rattle.cargo_platform.specs.declared.cfg.Cfg.{Cfg};
 ghost use Rattle.cargo_platform.specs.Facts.{FactSet};
 ghost use Rattle.partial_facts.specs.Partly.{names_of};
-ghost use Rattle.decision_diagrams.specs.Diagrams.{nodes_of, places, AreEarlier, IsTable, IsMade};
+ghost use Rattle.goal_diagrams.specs.Diagrams.{nodes_of, places, AreEarlier, IsTable, IsMade};
 ghost use Rattle.goal_diagrams.specs.Goals.{goals_met, HasOneOpenValue, pairs_of, SaysOutcome, IsAsTold};
 ghost use Rattle.goal_diagrams.specs.Inside.Making.{says};
 
 use crate::making::{Asked, Goal, goals_made, single_values};
+use crate::table::{Choice, Stop, Table};
 use cargo_platform::Cfg;
-use decision_diagrams::{Choice, Stop, Table};
 use partial_facts::Knowledge;
 use std::alloc::{AllocError, Global};
 

@@ -4,9 +4,8 @@
 
 mod answers;
 mod making;
-#[cfg(test)]
-mod tests;
+mod table;
 
 pub use answers::{Outcome, find_way};
-pub use decision_diagrams::Choice;
 pub use making::{Goal, as_wanted, number_of};
+pub use table::Choice;

@@ -7,14 +7,14 @@ ghost use Rattle.std.specs.FinSet.{contains};
 ghost use Rattle.cargo_platform.specs.Trees.{tree_of, value_of};
 ghost use Rattle.cargo_platform.specs.Facts.{FactSet, pair_of, pair_cmp, truth};
 ghost use Rattle.partial_facts.specs.Partly.{names_of};
-ghost use Rattle.decision_diagrams.specs.Diagrams.{value, nodes_of, places, IsTable, IsMade};
+ghost use Rattle.goal_diagrams.specs.Diagrams.{value, nodes_of, places, IsTable, IsMade};
 ghost use Rattle.goal_diagrams.specs.Goals.{true_as_wanted, goals_met, HasOneOpenValue, pairs_of, holds_in};
 ghost use Rattle.goal_diagrams.specs.Goals.{IsAsTold, StandsAt};
 ghost use Rattle.goal_diagrams.specs.Inside.Making.{says, AreTwoValues, AreApart};
 ghost use Rattle.goal_diagrams.specs.Inside.Making.{each_wanted, some_wanted, group_wanted};
 
+use crate::table::{FALSE, Stop, TRUE, Table, literal};
 use cargo_platform::{Cfg, CfgExpr, Ident};
-use decision_diagrams::{FALSE, Stop, TRUE, Table, literal};
 use partial_facts::Knowledge;
 use partial_facts::names::is_named;
 

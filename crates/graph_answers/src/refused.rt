@@ -8,9 +8,9 @@ use crate::lines::{push, shown};
 use cargo_metadata::graphs::{InDependency, Refusal as Unlinked};
 use cargo_metadata::{InResolve, Metadata, Refusal};
 use cargo_platform::ParseError;
+use input_limits::{deep_at, deep_text};
 use key_answers::answer::Refusal as NoAnswer;
 use key_answers::printing::refused_key;
-use key_limits::{deep_at, deep_text};
 use serde_json::Value;
 use std::alloc::{AllocError, Global};
 

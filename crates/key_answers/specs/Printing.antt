@@ -1,7 +1,7 @@
 -- How facts and statuses are printed.
 use Rattle.std.specs.Prelude.{ℕ, List, ◌++◌, codes}
 use Rattle.cargo_platform.specs.Trees.{CfgValue, Alone, KeyPair}
-use Rattle.key_limits.specs.Limits.{deep_text}
+use Rattle.input_limits.specs.Limits.{deep_text}
 use Rattle.key_answers.specs.declared.answer.Status.{Status}
 use Rattle.key_answers.specs.declared.answer.Status.TheVariants as status
 

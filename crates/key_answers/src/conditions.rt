@@ -3,12 +3,12 @@
 ghost use Rattle.std.specs.Prelude.{IfOk};
 ghost use Rattle.cargo_platform.specs.Trees.{condition_of};
 ghost use Rattle.cargo_platform.specs.Platforms.{IsConditionText};
-ghost use Rattle.key_limits.specs.Limits.{IsShallow};
+ghost use Rattle.input_limits.specs.Limits.{IsShallow};
 
 use crate::answer::Refusal;
 use crate::printing::{deep_key, refused_key};
 use cargo_platform::Platform;
-use key_limits::KeyError;
+use input_limits::KeyError;
 use std::alloc::Global;
 
 /// The condition that a key spells, which is not nested too deep.
@@ -16,7 +16,7 @@ pub fn read_key(alloc: Global, key: &str) -> Result<Platform, Refusal>
     ensures condition { IfOk result (λ p. IsConditionText key.now (condition_of p)) }
     ensures shallow { IfOk result (λ _. IsShallow key.now) }
 {
-    match key_limits::read_key(alloc, key) {
+    match input_limits::read_key(alloc, key) {
         Ok(platform) => Ok(platform),
         Err(KeyError::Deep(at)) => Err(Refusal::Unusable(deep_key(alloc, at)?)),
         Err(KeyError::Parse(error)) => Err(Refusal::Unusable(refused_key(alloc, key, &error)?)),

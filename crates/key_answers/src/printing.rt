@@ -6,7 +6,7 @@ ghost use Rattle.key_answers.specs.Printing.{fact_line, deep_key};
 
 use cargo_platform::{Cfg, ParseError, shown_start};
 use exact_answers::PossibleTarget;
-use key_limits::deep_text;
+use input_limits::deep_text;
 use serde_json::{Map, Value};
 use std::alloc::{AllocError, Global};
 

@@ -2,8 +2,8 @@
 
 use crate::codes::UNREAD_FIELD;
 use crate::places::{WrongPlace, add_at_top};
+use crate::rules::Weight;
 use cargo_platform::shown_start;
-use lint_levels::Weight;
 use manifest_lints_findings::near;
 use std::alloc::{AllocError, Global};
 use toml::{Table, Value};

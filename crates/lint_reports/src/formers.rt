@@ -2,10 +2,11 @@
 
 use crate::codes::FORMER;
 use crate::places::WrongPlace;
+use crate::rules::Weight;
+use crate::settings::Settings;
 use cargo_platform::{Cfg, Platform, ReadError};
 use expression_folds::values_of;
 use former_names::{Bounds, Release, Verdict, former_fact, former_target, name_now};
-use lint_levels::{Settings, Weight};
 use manifest_documents::{Declared, Targets, target_keys};
 use std::alloc::{AllocError, Global};
 use toml::Table;

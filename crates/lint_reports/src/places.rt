@@ -1,9 +1,9 @@
 //! Tables that are meant for targets, and that Cargo reads otherwise or not at all.
 
 use crate::codes::{MISPLACED, UNDERSCORED};
+use crate::rules::Weight;
 use cargo_platform::shown_start;
 use known_targets::KnownTarget;
-use lint_levels::Weight;
 use std::alloc::{AllocError, Global};
 use toml::{Table, Value};
 

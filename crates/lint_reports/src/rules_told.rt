@@ -2,9 +2,10 @@
 
 use crate::codes::{SETTINGS, UNNEEDED_ALLOW};
 use crate::places::WrongPlace;
+use crate::rules::{Rule, Subject, Weight};
+use crate::settings::{Fault, TOOL};
 use crate::told::{Place, Told, place_of_key};
 use cargo_platform::shown_start;
-use lint_levels::{Fault, Rule, Subject, TOOL, Weight};
 use manifest_documents::reading::Manifest;
 use std::alloc::{AllocError, Global};
 

@@ -2,9 +2,9 @@
 
 use crate::codes::{Explained, all_explained};
 use crate::escapes::uri_of;
+use crate::rules::Weight;
 use crate::told::{Told, sentence_of, weight_word};
 use key_answers::printing::{put, put_text};
-use lint_levels::Weight;
 use serde_json::{Map, Value, json};
 use std::alloc::{AllocError, Global};
 

@@ -1,8 +1,8 @@
 //! What is told of a manifest: where, how much it weighs, and the text.
 
+use crate::rules::Weight;
 use cargo_platform::shown_start;
 use key_answers::answer::Status;
-use lint_levels::Weight;
 use manifest_documents::TargetKey;
 use manifest_documents::reading::Manifest;
 use manifest_lints_findings::{Code, Finding, Level, Report};

@@ -3,7 +3,7 @@ use Rattle.std.proofs.Common.{◌≡◌, ◌∙◌, sym, ap, subst, ℕ, ◌+◌
 use Rattle.std.specs.List.{All}
 use Rattle.std.proofs.lemmas.List.{take_all, take_more, map-append}
 use Rattle.std.proofs.lemmas.List.Elements.{All-push}
-use Rattle.key_limits.specs.Limits.{IsShallow}
+use Rattle.input_limits.specs.Limits.{IsShallow}
 use Rattle.manifest_documents.specs.Entries.{entry_of}
 use Rattle.manifest_documents.specs.declared.tables.TargetKey.{TargetKey}
 use Rattle.manifest_answers.specs.Deep.{IsShallowEntry}

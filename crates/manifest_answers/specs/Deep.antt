@@ -1,7 +1,7 @@
 -- Manifests without a key that is nested too deep.
 use Rattle.std.specs.Prelude.{List, Option, Some, None}
 use Rattle.std.specs.List.{All}
-use Rattle.key_limits.specs.Limits.{IsShallow}
+use Rattle.input_limits.specs.Limits.{IsShallow}
 use Rattle.manifest_documents.specs.Entries.{Entry}
 
 abbrev pub IsShallowEntry : Entry → Type 0

@@ -1,8 +1,7 @@
 //! What Cargo refuses of the tables of dependencies of a manifest, beside keys.
 
 use cargo_platform::shown_start;
-use lint_levels::Weight;
-use lint_reports::{shown_table, wrong_places};
+use lint_reports::{Weight, shown_table, wrong_places};
 use manifest_documents::{Kind, table_of};
 use std::alloc::{AllocError, Global};
 use toml::{Table, Value};

@@ -1,9 +1,9 @@
 //! What can't be used, as `select` tells it: on lines, or as one object a line.
 
 use cargo_platform::ParseError;
+use input_limits::Unusable;
 use key_answers::answer::{Answer, Status};
 use key_answers::printing::{push_json, put, put_text, text_value};
-use limited_texts::Unusable;
 use lint_reports::{number_value, span_value};
 use serde_json::{Map, Value};
 use std::alloc::{AllocError, Global};

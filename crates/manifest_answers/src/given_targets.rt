@@ -1,6 +1,7 @@
 //! The targets of another rustc, as a file has them, in place of the known ones.
 
 use cargo_platform::{Cfg, Platform};
+use input_limits::without_mark;
 use key_answers::answer::Refusal;
 use key_answers::printing::{refused_fact, shown_name};
 use known_targets::having;
@@ -41,11 +42,6 @@ pub fn line_that_says(line: &str) -> Option<&str> {
     } else {
         Some(line)
     }
-}
-
-/// The text without a mark of the byte order.
-pub fn without_mark(text: &str) -> &str {
-    text.strip_prefix("\u{FEFF}").unwrap_or(text)
 }
 
 /// A file without what editors add: a mark of the byte order, carriage returns at the ends of lines, and what blank

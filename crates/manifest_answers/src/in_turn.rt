@@ -5,8 +5,8 @@ ghost use Rattle.manifest_documents.specs.Tables.{target_of};
 ghost use Rattle.manifest_answers.specs.Deep.{HasNoDeepKey};
 
 use crate::deep::{first_deep, has_deep};
+use input_limits::Unusable;
 use key_answers::answer::{Answer, Status};
-use limited_texts::Unusable;
 use manifest_documents::reading::{Manifest, ManifestText, ReadError};
 use std::alloc::{AllocError, Global};
 use std::rt::Files;

@@ -3,7 +3,7 @@
 use anyhow::{Result, bail};
 use cargo_platform::shown_text;
 use clap::ArgMatches;
-use lint_levels::{Rule, Setting, Subject};
+use lint_reports::{Rule, Setting, Subject};
 use std::alloc::Global;
 
 /// The options by which a command line has rules.

@@ -2,8 +2,8 @@
 
 use cargo_platform::shown_text;
 use clap::ArgMatches;
+use input_limits::{LIMIT, Unusable, file_within, given_within};
 use key_answers::answer::Refusal;
-use limited_texts::{LIMIT, Unusable, file_within, given_within};
 use std::alloc::Global;
 use std::io;
 use std::rt::Files;

@@ -6,11 +6,10 @@ use crate::other_rustc::{OtherRustc, declare_by, given_formers, judge_by};
 use crate::roots::{Root, inherit_lints, is_unneeded, rust_version};
 use cargo_platform::{shown_start, shown_text};
 use key_answers::answer::{Answer, Status};
-use lint_levels::{Rule, Settings, Weighed, Weight, settings_at, weight_by_each};
 use lint_reports::{
-    Counts, Formers, Printed, Project, Style, Told, WrongPlace, fault_message, own_weight,
-    place_of, status_of, told_of, told_of_fault, told_of_unneeded, told_of_wrong, unneeded_message,
-    wrong_fields, wrong_places,
+    Counts, Formers, Printed, Project, Rule, Settings, Style, Told, Weighed, Weight, WrongPlace,
+    fault_message, own_weight, place_of, settings_at, status_of, told_of, told_of_fault,
+    told_of_unneeded, told_of_wrong, unneeded_message, weight_by_each, wrong_fields, wrong_places,
 };
 use manifest_answers::deep::first_deep;
 use manifest_documents::reading::{Manifest, ReadError, read_manifest};

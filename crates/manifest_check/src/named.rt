@@ -2,7 +2,7 @@
 
 use crate::limits::limit_of;
 use clap::ArgMatches;
-use limited_texts::Unusable;
+use input_limits::Unusable;
 use std::alloc::{AllocError, Global};
 use std::rt::{Env, Files};
 use workspaces::{Asked, Found, find};

@@ -2,8 +2,8 @@
 
 use crate::tables::put;
 use former_names::Release;
-use limited_texts::INPUT;
-use lint_levels::{Rule, Setting, Settings, Weighed, release_of, settings_at};
+use input_limits::INPUT;
+use lint_reports::{Rule, Setting, Settings, Weighed, release_of, settings_at};
 use std::alloc::{AllocError, Global};
 use std::rt::{Env, Files};
 use toml::{Table, Value};

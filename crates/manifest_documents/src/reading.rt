@@ -2,7 +2,7 @@
 
 use crate::document::Document;
 use cargo_platform::shown_text;
-use limited_texts::{INPUT, Unusable, given_within};
+use input_limits::{INPUT, Unusable, given_within, without_mark};
 use std::alloc::{AllocError, Global};
 use std::fs;
 use std::rt::Files;
@@ -110,15 +110,14 @@ impl ManifestText {
         }
     }
 
-    /// It without a mark of the byte order, as Cargo reads it.
-    fn without_mark(&self) -> &str {
-        let text = self.text.as_str();
-        text.strip_prefix("\u{FEFF}").unwrap_or(text)
+    /// It, as Cargo reads it.
+    fn text(&self) -> &str {
+        without_mark(self.text.as_str())
     }
 
     /// The table that it spells.
     pub fn table(&self, alloc: Global) -> Result<Table, ReadError> {
-        match table_from_str(alloc, self.without_mark()) {
+        match table_from_str(alloc, self.text()) {
             Ok(table) => Ok(table),
             Err(error) => Err(no_toml(alloc, self.path.as_str(), &error)),
         }
@@ -126,7 +125,7 @@ impl ManifestText {
 
     /// The manifest with this table, and with the lines of its keys, for which the text is gone through once more.
     pub fn with_lines(self, alloc: Global, table: Table) -> Result<Manifest, AllocError> {
-        let document = Document::of(alloc, table, self.without_mark())?;
+        let document = Document::of(alloc, table, self.text())?;
         Ok(Manifest {
             path: self.path,
             document,

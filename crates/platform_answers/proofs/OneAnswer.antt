@@ -14,7 +14,7 @@ use Rattle.platform_answers.specs.Answering.{IsAnswerToShallow, refused_line, de
 use Rattle.platform_answers.specs.Laws.{HasOneAnswer}
 use Rattle.platform_answers.proofs.Facts.{no_refused_line}
 use Rattle.platform_answers.proofs.SomeAnswer.{first_text}
-use Rattle.key_limits.proofs.OneDepth.{not_both, one_place}
+use Rattle.input_limits.proofs.OneDepth.{not_both, one_place}
 
 -- ---- one fault of a line
 

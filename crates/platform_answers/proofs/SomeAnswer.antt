@@ -22,7 +22,7 @@ use Rattle.platform_answers.specs.Lines.{line, lines_of, line_at, fact_lines}
 use Rattle.platform_answers.specs.Answering.{SpellFacts, SpellsNoFact, IsQuery, IsAnswerToLines, IsAnswerToShallow}
 use Rattle.platform_answers.specs.Answering.{is_match, match_outcome, query_text, refused_line, deep_line}
 use Rattle.cargo_platform.specs.Lines.{ended, AreLines}
-use Rattle.key_limits.proofs.OneDepth.{some_depth_of_key}
+use Rattle.input_limits.proofs.OneDepth.{some_depth_of_key}
 use Rattle.platform_answers.specs.Laws.{HasAnswer}
 use Rattle.platform_answers.proofs.Facts.{fact_line, first_fact, no_line_before, not_before}
 use Rattle.cargo_platform.proofs.TextLines.{lines_are}

@@ -11,7 +11,7 @@ use Rattle.cargo_platform.specs.Facts.{fact_set, truth}
 use Rattle.cargo_platform.specs.Print.{print_condition, print_error}
 use Rattle.cargo_platform.specs.Warnings.{attribute_warnings, keyword_warnings}
 use Rattle.cargo_platform.specs.Errors.{orig_of, fault_in}
-use Rattle.key_limits.specs.Limits.{IsShallow, IsDeepAt, deep_text}
+use Rattle.input_limits.specs.Limits.{IsShallow, IsDeepAt, deep_text}
 use Rattle.platform_answers.specs.declared.Outcome.{Outcome}
 use Rattle.platform_answers.specs.declared.Outcome.TheVariants.{Match, NoMatch, Refused}
 use Rattle.platform_answers.specs.declared.answering.Refusal.{Refusal}

@@ -17,7 +17,7 @@ ghost use Rattle.platform_answers.specs.Answering.{refused_line, deep_line};
 use crate::Outcome;
 use crate::reading::{Gathered, MOST_BYTES};
 use cargo_platform::{Cfg, FactIndex, FactsError, ParseError, Platform, ReadError, read_facts};
-use key_limits::{deep_at, deep_text};
+use input_limits::{deep_at, deep_text};
 use std::alloc::{AllocError, Global};
 
 /// What is to be written, and how the run ends then.

@@ -6,13 +6,14 @@ use crate::manifests::{
     MANIFEST, folder_of, from_above, inside, is_file, is_folder, manifest_inside, package_name,
     table_at, table_in, table_with_word, text_in, texts_in, unless_refused,
 };
+use crate::patterns::{Fault, Pattern, PatternError, names_of, plain_components};
+use crate::rules::Rules;
 use cargo_platform::shown_text;
-use limited_texts::{INPUT, Unusable};
+use input_limits::{INPUT, Unusable};
 use std::alloc::{AllocError, Global};
 use std::env;
 use std::rt::{Env, Files};
 use toml::Table;
-use workspace_members::{Fault, Pattern, PatternError, Rules, names_of, plain_components};
 
 /// What the words of a command line say of manifests.
 #[derive(Drop)]

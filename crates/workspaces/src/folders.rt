@@ -1,11 +1,13 @@
 //! The folders below a root that a glob may take.
 
+use crate::components::{Component, Name};
 use crate::manifests::{inside, is_folder, unless_refused};
+use crate::patterns::{Pattern, is_glob, plain_components};
+use crate::pieces::Piece;
 use std::alloc::{AllocError, Global};
 use std::fs::{self, DirEntry};
 use std::io;
 use std::rt::Files;
-use workspace_members::{Component, Name, Pattern, Piece, is_glob, plain_components};
 
 /// What stands behind `**` at the end of a glob: it takes at least one folder.
 const ANY: &str = "*";

@@ -1,6 +1,6 @@
 //! Manifests as texts and tables, and paths beside each other.
 
-use limited_texts::file_within;
+use input_limits::file_within;
 use std::alloc::{AllocError, Global};
 use std::io::ErrorKind;
 use std::rt::Files;

@@ -5,7 +5,7 @@ use Rattle.known_targets.specs.Sets.{is_member}
 use Rattle.known_targets.specs.declared.table.TheConstants.{COUNT}
 use Rattle.known_targets.specs.declared.known.KnownTarget.{KnownTarget}
 use Rattle.package_graphs.specs.Packages.{node_of}
-use Rattle.target_rules.specs.declared.rules.Rule.{Rule}
+use Rattle.cargo_features.specs.declared.rules.Rule.{Rule}
 use Rattle.cargo_features.specs.Claims.{holds_at}
 use Rattle.cargo_features.specs.Holding.{feature_count, is_known}
 use Rattle.cargo_features.specs.declared.claims.Claim.{Claim}

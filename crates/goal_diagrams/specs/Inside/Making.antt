@@ -6,8 +6,8 @@ use Rattle.cargo_platform.specs.Trees.{Tree}
 use Rattle.cargo_platform.specs.Facts.{Pair, FactSet, truth}
 use Rattle.cargo_platform.specs.declared.cfg.Cfg.{Cfg}
 use Rattle.partial_facts.specs.OneValued.{is_single}
-use Rattle.decision_diagrams.specs.Diagrams.{value, nodes_of}
-use Rattle.decision_diagrams.specs.declared.table.Table.{Table}
+use Rattle.goal_diagrams.specs.Diagrams.{value, nodes_of}
+use Rattle.goal_diagrams.specs.declared.table.Table.{Table}
 use Rattle.goal_diagrams.specs.Goals.{true_as_wanted, pairs_of, holds_in}
 
 -- what a place says of a set of facts

@@ -1,7 +1,7 @@
 use Rattle.std.proofs.Common.{◌≡◌, ◌<◌, ℕ, ◌+◌, ◌∷◌, ◌++◌, [], List, take, get_or, length, append_assoc, sym, ◌∙◌, ap}
 use Rattle.std.proofs.Common.{subst}
 use Rattle.std.proofs.lemmas.List.{take_more, get_or_default}
-use Rattle.target_rules.specs.declared.rules.Rule.{Rule}
+use Rattle.cargo_features.specs.declared.rules.Rule.{Rule}
 use Rattle.cargo_features.specs.Inside.Numbered.{IsNumbered, AreNumbered}
 use Rattle.cargo_features.specs.declared.claims.Step.{Step}
 use Rattle.cargo_features.proofs.Pushing.{numbered_push}

@@ -5,7 +5,7 @@ use Rattle.known_targets.specs.declared.table.TheConstants.{COUNT}
 use Rattle.known_targets.specs.declared.target_set.TargetSet.{TargetSet}
 use Rattle.package_graphs.specs.Graphs.{is_in}
 use Rattle.package_graphs.proofs.SetLists.{is_in_none, is_in_same, is_in_other}
-use Rattle.target_rules.specs.declared.rules.Rule.{Rule}
+use Rattle.cargo_features.specs.declared.rules.Rule.{Rule}
 use Rattle.cargo_features.specs.Steps.{all_steps}
 use Rattle.cargo_features.specs.Inside.Numbered.{count_of, number, AreNumbered}
 use Rattle.cargo_features.proofs.Numbering.{number_fits}

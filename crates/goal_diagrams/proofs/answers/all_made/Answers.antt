@@ -1,7 +1,7 @@
 use Rattle.std.proofs.Common.{◌∙◌, ap, ◌&&◌}
 use Rattle.std.proofs.lemmas.Result.{IfOk-weaker}
 use Rattle.goal_diagrams.specs.Goals.{goals_met}
-use Rattle.decision_diagrams.proofs.Tables.{made-twice}
+use Rattle.goal_diagrams.proofs.Tables.{made-twice}
 use Rattle.goal_diagrams.proofs.answers.all_made.Goals as goal
 
 pub returns-clause-made : goal.returns-clause-made

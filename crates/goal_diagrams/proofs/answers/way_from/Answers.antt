@@ -1,6 +1,6 @@
 use Rattle.std.proofs.Common.{◌∙◌, ap}
-use Rattle.decision_diagrams.specs.Diagrams.{nodes_of}
-use Rattle.decision_diagrams.proofs.Tables.{value-false}
+use Rattle.goal_diagrams.specs.Diagrams.{nodes_of}
+use Rattle.goal_diagrams.proofs.Tables.{value-false}
 use Rattle.goal_diagrams.specs.Goals.{pairs_of, holds_in}
 use Rattle.goal_diagrams.specs.Inside.Making.{says}
 use Rattle.goal_diagrams.proofs.answers.way_from.Goals as goal

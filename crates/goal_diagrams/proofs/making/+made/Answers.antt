@@ -2,7 +2,7 @@ use Rattle.std.proofs.Common.{◌≡◌, ◌∙◌, refl, sym, ap, ◌&&◌, not
 use Rattle.std.proofs.lemmas.Result.{IfOk-weaker}
 use Rattle.cargo_platform.specs.Trees.{tree_of}
 use Rattle.goal_diagrams.specs.Inside.Making.{says, group_wanted}
-use Rattle.decision_diagrams.proofs.Tables.{none-made, made-twice}
+use Rattle.goal_diagrams.proofs.Tables.{none-made, made-twice}
 use Rattle.goal_diagrams.proofs.Members.{of_not, of_all, of_any, of_value, of_true, of_false}
 use Rattle.goal_diagrams.proofs.Steps.{and-step, or-step, literal-step, each_on, some_on, each_end, some_end}
 use Rattle.goal_diagrams.proofs.Steps.{none_yet}

@@ -2,7 +2,7 @@ use Rattle.std.proofs.Common.{◌≡◌, ◌+◌, ◌*◌, ◌&&◌, ◌||◌, l
 use Rattle.cargo_platform.specs.Trees.{tree_of}
 use Rattle.cargo_platform.specs.Facts.{FactSet}
 use Rattle.goal_diagrams.specs.Goals.{IsAsTold}
-use Rattle.decision_diagrams.specs.Diagrams.{IsMade}
+use Rattle.goal_diagrams.specs.Diagrams.{IsMade}
 use Rattle.goal_diagrams.specs.Inside.Making.{says, each_wanted, some_wanted}
 use Rattle.goal_diagrams.proofs.making.+made.Given as goal
 

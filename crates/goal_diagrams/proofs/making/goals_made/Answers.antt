@@ -1,6 +1,6 @@
 use Rattle.std.proofs.Common.{◌≡◌, ◌∙◌, refl, sym, ap, ◌+◌, ◌∷◌, drop, arith, length-drop}
 use Rattle.std.proofs.lemmas.List.{drop_more}
-use Rattle.decision_diagrams.proofs.Tables.{none-made, made-twice}
+use Rattle.goal_diagrams.proofs.Tables.{none-made, made-twice}
 use Rattle.goal_diagrams.proofs.Steps.{goals_on, goals_end}
 use Rattle.goal_diagrams.proofs.making.goals_made.Goals as goal
 

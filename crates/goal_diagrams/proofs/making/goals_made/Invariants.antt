@@ -1,6 +1,6 @@
 use Rattle.std.proofs.Common.{◌≡◌, ◌&&◌, drop}
 use Rattle.cargo_platform.specs.Facts.{FactSet}
-use Rattle.decision_diagrams.specs.Diagrams.{IsMade}
+use Rattle.goal_diagrams.specs.Diagrams.{IsMade}
 use Rattle.goal_diagrams.specs.Goals.{goals_met, IsAsTold}
 use Rattle.goal_diagrams.specs.Inside.Making.{says}
 use Rattle.goal_diagrams.proofs.making.goals_made.Given as goal

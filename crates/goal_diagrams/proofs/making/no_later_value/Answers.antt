@@ -1,7 +1,7 @@
 use Rattle.std.proofs.Common.{◌∙◌, arith}
-use Rattle.decision_diagrams.specs.Diagrams.{nodes_of}
+use Rattle.goal_diagrams.specs.Diagrams.{nodes_of}
 use Rattle.goal_diagrams.specs.Goals.{pairs_of, holds_in}
-use Rattle.decision_diagrams.proofs.Tables.{none-made, made-twice, value-true}
+use Rattle.goal_diagrams.proofs.Tables.{none-made, made-twice, value-true}
 use Rattle.goal_diagrams.proofs.making.no_later_value.Goals as goal
 
 pub others-init : goal.others-init

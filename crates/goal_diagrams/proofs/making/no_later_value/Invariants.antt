@@ -2,7 +2,7 @@ use Rattle.std.proofs.Common.{◌≡◌, ◌<◌, ◌≤◌, true, length}
 use Rattle.cargo_platform.specs.Facts.{FactSet}
 use Rattle.partial_facts.specs.Partly.{names_of}
 use Rattle.goal_diagrams.specs.Goals.{HasOneOpenValue, pairs_of, holds_in}
-use Rattle.decision_diagrams.specs.Diagrams.{IsMade}
+use Rattle.goal_diagrams.specs.Diagrams.{IsMade}
 use Rattle.goal_diagrams.specs.Inside.Making.{says}
 use Rattle.goal_diagrams.proofs.making.no_later_value.Given as goal
 

@@ -1,7 +1,7 @@
 use Rattle.std.proofs.Common.{arith}
 use Rattle.std.proofs.lemmas.Result.{IfOk-weaker}
 use Rattle.goal_diagrams.specs.Goals.{pairs_of, holds_in}
-use Rattle.decision_diagrams.proofs.Tables.{made-twice}
+use Rattle.goal_diagrams.proofs.Tables.{made-twice}
 use Rattle.goal_diagrams.proofs.Steps.{one-step}
 use Rattle.goal_diagrams.proofs.making.one_value.Goals as goal
 

@@ -1,7 +1,7 @@
 use Rattle.std.proofs.Common.{◌∙◌, true, arith}
-use Rattle.decision_diagrams.specs.Diagrams.{nodes_of}
+use Rattle.goal_diagrams.specs.Diagrams.{nodes_of}
 use Rattle.goal_diagrams.specs.Goals.{pairs_of, holds_in}
-use Rattle.decision_diagrams.proofs.Tables.{none-made, made-twice, value-true}
+use Rattle.goal_diagrams.proofs.Tables.{none-made, made-twice, value-true}
 use Rattle.goal_diagrams.proofs.Steps.{and-step}
 use Rattle.goal_diagrams.proofs.making.single_values.Goals as goal
 

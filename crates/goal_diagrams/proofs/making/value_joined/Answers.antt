@@ -1,6 +1,6 @@
 use Rattle.std.proofs.Common.{arith}
 use Rattle.std.proofs.lemmas.Result.{IfOk-weaker}
-use Rattle.decision_diagrams.proofs.Tables.{made-twice}
+use Rattle.goal_diagrams.proofs.Tables.{made-twice}
 use Rattle.goal_diagrams.proofs.Steps.{and-step}
 use Rattle.goal_diagrams.proofs.making.value_joined.Goals as goal
 

@@ -3,9 +3,9 @@ use Rattle.std.proofs.lemmas.Result.{IfOk-weaker}
 use Rattle.cargo_platform.specs.Trees.{value_of}
 use Rattle.cargo_platform.specs.Facts.{pair_of}
 use Rattle.goal_diagrams.specs.Goals.{true_as_wanted}
-use Rattle.decision_diagrams.specs.Diagrams.{nodes_of, places}
+use Rattle.goal_diagrams.specs.Diagrams.{nodes_of, places}
 use Rattle.goal_diagrams.specs.Goals.{pairs_of, holds_in}
-use Rattle.decision_diagrams.proofs.Tables.{none-made, literal-inside}
+use Rattle.goal_diagrams.proofs.Tables.{none-made, literal-inside}
 use Rattle.goal_diagrams.proofs.Pairs.{holds_at}
 use Rattle.goal_diagrams.proofs.Steps.{told-step}
 use Rattle.goal_diagrams.proofs.making.value_made.Goals as goal

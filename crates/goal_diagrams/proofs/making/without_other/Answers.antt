@@ -1,7 +1,7 @@
 use Rattle.std.proofs.Common.{◌≡◌, true, refl, arith}
 use Rattle.std.proofs.lemmas.Result.{IfOk-weaker}
 use Rattle.goal_diagrams.specs.Goals.{pairs_of, holds_in}
-use Rattle.decision_diagrams.proofs.Tables.{none-made, made-twice}
+use Rattle.goal_diagrams.proofs.Tables.{none-made, made-twice}
 use Rattle.goal_diagrams.proofs.Steps.{apart-step}
 use Rattle.goal_diagrams.proofs.making.without_other.Goals as goal
 

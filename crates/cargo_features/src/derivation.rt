@@ -1,0 +1,84 @@
+//! The targets at which each fact follows.
+
+ghost use Rattle.std.specs.Prelude.{◌≡◌, ◌<◌, ◌≤◌, ◌↔◌, ℕ, IsTrue, IfOk, vec_len, slice_index, All, Contains};
+ghost use Rattle.known_targets.specs.declared.table.TheConstants.{COUNT};
+ghost use Rattle.package_graphs.specs.Graphs.{is_in};
+ghost use Rattle.cargo_features.specs.Derivations.{IsDerived};
+
+use crate::premises::Premises;
+use crate::rules::Rule;
+use crate::work::apply;
+use known_targets::TargetSet;
+use std::alloc::{AllocError, Global};
+use std::collections::VecDeque;
+
+/// For each fact the targets at which it follows: it is given there, or a rule that holds there leads to it from facts
+/// that follow there.
+///
+/// There are as many facts as sets are given. It refuses only where memory is refused. A rule that names a number past
+/// these leads to no fact.
+pub fn derived(
+    alloc: Global,
+    given: Vec<TargetSet>,
+    rules: &[Rule],
+) -> Result<Vec<TargetSet>, AllocError>
+    // There is a set for each fact.
+    ensures count { IfOk result (λ sets. vec_len sets ≡ vec_len given) }
+    // A target is in a fact's set exactly if a finite tree of rules leads there from what is given.
+    ensures exact { IfOk result (λ sets. (n k : ℕ) → n < vec_len given → k < COUNT
+        → IsTrue (is_in sets.items n k) ↔ IsDerived given.items rules.now k n) }
+{
+    let Counted { sets, .. } = derived_counted(alloc, given, rules)?;
+    Ok(sets)
+}
+
+/// The targets at which each fact follows, and how often its rules were applied.
+#[derive(Drop)]
+pub struct Counted {
+    pub sets: Vec<TargetSet>,
+    pub rounds: Vec<usize>,
+}
+
+/// What `derived` answers, and for each fact how often the rules in which it is a premise were applied: at most once
+/// for each known target.
+pub fn derived_counted(
+    alloc: Global,
+    given: Vec<TargetSet>,
+    rules: &[Rule],
+) -> Result<Counted, AllocError>
+    // There is a set for each fact.
+    ensures count { IfOk result (λ c. vec_len c.sets ≡ vec_len given) }
+    // A target is in a fact's set exactly if a finite tree of rules leads there from what is given.
+    ensures exact { IfOk result (λ c. (n k : ℕ) → n < vec_len given → k < COUNT
+        → IsTrue (is_in c.sets.items n k) ↔ IsDerived given.items rules.now k n) }
+    // The rules of each fact are applied at most once for each known target.
+    ensures rounds { IfOk result (λ c. (n : ℕ) → slice_index c.rounds.items n ≤ COUNT) }
+{
+    let count = given.len();
+    let premises = Premises::of(alloc, count, rules)?;
+    let mut sets = given;
+    let mut done = vec![in alloc; TargetSet::none(); count]?;
+    let mut rounds = vec![in alloc; 0; count]?;
+    let mut waiting = all_facts(alloc, count)?;
+    'facts: while let Some(fact) = waiting.pop_front() {
+        if done[fact].equals(sets[fact]) {
+            continue;
+        }
+        done[fact] = sets[fact];
+        rounds[fact] += 1;
+        apply(rules, premises.at(fact), &done, &mut sets, &mut waiting)?;
+    }
+    Ok(Counted { sets, rounds })
+}
+
+/// So many facts, each of which waits.
+fn all_facts(alloc: Global, count: usize) -> Result<VecDeque<usize>, AllocError>
+    ensures known { IfOk result (λ facts. All (λ n. n < count) facts.items) }
+    ensures all { IfOk result (λ facts. (n : ℕ) → n < count → Contains facts.items n) }
+{
+    let mut facts = VecDeque::new(alloc);
+    'facts: for fact in 0..count {
+        facts.push_back(fact)?;
+    }
+    Ok(facts)
+}

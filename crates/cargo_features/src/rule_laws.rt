@@ -1,0 +1,29 @@
+//! Laws over the definitions. The functions do nothing: each contract is a law.
+
+ghost use Rattle.std.specs.Prelude.{ℕ, Bool, IsTrue, ◌↔◌, length};
+ghost use Rattle.package_graphs.specs.Graphs.{is_in};
+ghost use Rattle.cargo_features.specs.Derivations.{Sets, Rules, IsDerived, Applies, ArePartOf, HaveAll};
+
+/// The targets of the facts are the least sets that have what is given and that each rule leads on from: these are
+/// such, and are parts of any other such sets.
+pub fn derivation_is_least()
+    ensures given { (given : Sets) (rules : Rules) (k n : ℕ) → IsTrue (is_in given n k) → IsDerived given rules k n }
+    ensures rules { (given : Sets) (rules : Rules) (k a b n : ℕ) → IsDerived given rules k a
+        → IsDerived given rules k b → Applies (length given) rules k a b n → IsDerived given rules k n }
+    ensures least { (given : Sets) (rules : Rules) (at : ℕ → ℕ → Bool)
+        → ((n k : ℕ) → IsTrue (is_in given n k) → IsTrue (at n k))
+        → ((a b n k : ℕ) → IsTrue (at a k) → IsTrue (at b k) → Applies (length given) rules k a b n → IsTrue (at n k))
+        → (n k : ℕ) → IsDerived given rules k n → IsTrue (at n k) }
+{}
+
+/// With more rules, or more that is given, no fact loses a target.
+pub fn more_keeps_targets()
+    ensures { (given more : Sets) (rules others : Rules) (k n : ℕ) → HaveAll given more → ArePartOf rules others
+        → IsDerived given rules k n → IsDerived more others k n }
+{}
+
+/// The order of the rules does not count, nor how often one stands there.
+pub fn order_does_not_count()
+    ensures { (given : Sets) (rules others : Rules) (k n : ℕ) → ArePartOf rules others → ArePartOf others rules
+        → IsDerived given rules k n ↔ IsDerived given others k n }
+{}

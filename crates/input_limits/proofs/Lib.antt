@@ -1,0 +1,2 @@
+pub mod OneDepth
+pub mod Taking

@@ -1,0 +1,123 @@
+//! Texts that are read to a limit, so that what never ends is refused.
+
+ghost use Rattle.std.specs.Prelude.{◌≡◌, ◌≤◌, IfOk, IfErr, IfSome, Some, string_len, string_bytes};
+ghost use Rattle.std.specs.IoError.{error_kind};
+ghost use Rattle.input_limits.specs.Refusals.{IsWhyNoText, IsReason};
+
+use std::alloc::{AllocError, Global};
+use std::fs::File;
+use std::io::{self, ErrorKind, Read};
+use std::rt::Files;
+
+/// How many bytes of an input are read at most, where nothing else is said: 64 MiB.
+pub const LIMIT: u64 = 67_108_864;
+
+/// What stands for standard input.
+pub const INPUT: &str = "-";
+
+/// An input that can't be used, and why, both as they are shown.
+#[derive(Drop)]
+pub struct Unusable {
+    /// The file; none where no file is at fault.
+    pub file: Option<String>,
+    pub reason: String,
+}
+
+impl Unusable {
+    /// A file, named as it is shown, that was read to this limit and refused.
+    pub fn refused(
+        alloc: Global,
+        file: String,
+        error: &io::Error,
+        limit: u64,
+    ) -> Result<Unusable, AllocError>
+        ensures file { IfOk result (λ unusable. unusable.file ≡ Some file) }
+        ensures reason { IfOk result
+            (λ unusable. IsReason (error_kind error.now) limit (string_bytes unusable.reason)) }
+    {
+        Ok(Unusable {
+            file: Some(file),
+            reason: reason_of(alloc, error, limit)?,
+        })
+    }
+
+    /// What is said of it, on a line.
+    pub fn line(&self, alloc: Global) -> Result<String, AllocError> {
+        let reason = self.reason.as_str();
+        match &self.file {
+            Some(file) => {
+                let file = file.as_str();
+                format!(in alloc; "{file}: error: {reason}\n")
+            }
+            None => format!(in alloc; "error: {reason}\n"),
+        }
+    }
+}
+
+/// The text that these bytes are, all of them. It refuses more of them than the limit, and fewer that are no UTF-8.
+fn text_of(bytes: Vec<u8>, limit: u64) -> io::Result<String>
+    ensures text { IfOk result (λ text. string_bytes text ≡ bytes.items) }
+    ensures within { IfOk result (λ text. string_len text ≤ limit) }
+    ensures refused { IfErr result (λ e. IsWhyNoText bytes.items limit (error_kind e)) }
+{
+    if bytes.len() as u64 > limit {
+        return Err(io::Error::from(ErrorKind::FileTooLarge));
+    }
+    match String::from_utf8(bytes) {
+        Ok(text) => Ok(text),
+        Err(_) => Err(io::Error::from(ErrorKind::InvalidData)),
+    }
+}
+
+/// The text of a reader, the whole of it. It refuses one of more bytes than the limit, what is no UTF-8, and what can't
+/// be read.
+pub fn text_within<R: Read + Drop>(alloc: Global, reader: R, limit: u64) -> io::Result<String>
+    ensures within { IfOk result (λ text. string_len text ≤ limit) }
+    ensures whole { IfOk result (λ text. IfSome (R.remaining reader) (λ left. string_bytes text ≡ left)) }
+{
+    let limit = limit.min(u64::MAX - 1);
+    let mut bytes = Vec::new(alloc);
+    let mut start = reader.take(limit + 1);
+    let _count = start.read_to_end(&mut bytes)?;
+    text_of(bytes, limit)
+}
+
+/// The text of the file at a path, as `text_within` reads it.
+pub fn file_within<R: Files + AllocGlobal>(rt: &R, path: &str, limit: u64) -> io::Result<String>
+    ensures { IfOk result (λ text. string_len text ≤ limit) }
+{
+    text_within(rt.alloc(), File::open(rt, path)?, limit)
+}
+
+/// The text of the file at a path, or of standard input where the path is `-`, as `text_within` reads it.
+pub fn given_within<R: Files + Input + AllocGlobal>(
+    rt: &R,
+    path: &str,
+    limit: u64,
+) -> io::Result<String>
+    ensures { IfOk result (λ text. string_len text ≤ limit) }
+{
+    if path == INPUT {
+        text_within(rt.alloc(), rt.reader(), limit)
+    } else {
+        file_within(rt, path, limit)
+    }
+}
+
+/// The text without a mark of the byte order, which some editors write before it.
+pub fn without_mark(text: &str) -> &str {
+    text.strip_prefix("\u{FEFF}").unwrap_or(text)
+}
+
+/// What is said of a text that was read to this limit and refused.
+pub fn reason_of(alloc: Global, error: &io::Error, limit: u64) -> Result<String, AllocError>
+    ensures { IfOk result (λ text. IsReason (error_kind error.now) limit (string_bytes text)) }
+{
+    match error.kind() {
+        ErrorKind::FileTooLarge => {
+            format!(in alloc; "it has more than {limit} bytes, which is the limit")
+        }
+        ErrorKind::InvalidData => String::from_str(alloc, "it is not valid UTF-8"),
+        _ => format!(in alloc; "{error}"),
+    }
+}

@@ -1,3 +1,0 @@
-pub mod Deriving
-pub mod Derivations
-pub mod Inside

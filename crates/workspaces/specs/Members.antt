@@ -1,0 +1,28 @@
+-- Which folders are members of a workspace.
+use Rattle.std.specs.Prelude.{ℕ, List, Contains}
+use Rattle.std.specs.declared.vec.Vec.{Vec}
+use Rattle.std.specs.declared.alloc.Global.{Global}
+use Rattle.workspaces.specs.Stretches.{IsTaken}
+use Rattle.workspaces.specs.Globs.{is_folders, IsNamedBy}
+use Rattle.workspaces.specs.declared.patterns.Pattern.{Pattern}
+use Rattle.workspaces.specs.declared.rules.Rules.{Rules}
+
+-- the names from the root of the workspace to a folder
+abbrev pub Path : Type 0
+Path = List (Vec ℕ Global)
+
+-- the path is stretches, one for each component of the pattern
+abbrev pub IsTakenBy : Pattern → Path → Type 0
+IsTakenBy pattern path =
+    IsTaken is_folders (λ component name. IsNamedBy component name.items) pattern.components.items path
+
+abbrev pub IsTakenBySome : List Pattern → Path → Type 0
+IsTakenBySome patterns path = (p : Pattern) × Contains patterns p × IsTakenBy p path
+
+-- it is in or below an excluded folder, and in and below none that `members` names as it stands
+abbrev pub IsExcluded : Rules → Path → Type 0
+IsExcluded rules path = IsTakenBySome rules.excluded.items path × (IsTakenBySome rules.named.items path → ⊥)
+
+-- a pattern of `members` takes it, and it is not excluded
+abbrev pub IsMember : Rules → Path → Type 0
+IsMember rules path = IsTakenBySome rules.members.items path × (IsExcluded rules path → ⊥)

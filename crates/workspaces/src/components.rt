@@ -1,0 +1,105 @@
+//! The components of a glob, between its slashes, and what they take.
+
+ghost use Rattle.std.specs.Prelude.{◌≡◌, ◌↔◌, IsTrue, IfOk};
+ghost use Rattle.workspaces.specs.Globs.{is_any, IsOne, is_folders, IsNamedBy, IsWithin, IsInWhere};
+
+use crate::pieces::{Piece, are_taken};
+use std::alloc::{AllocError, Global};
+
+/// The characters from one to another, both among them.
+#[derive(Clone, Copy, Drop)]
+pub struct CharacterRange {
+    pub first: char,
+    pub last: char,
+}
+
+/// A kind of characters: those of the ranges, or all but those.
+#[derive(Drop)]
+pub struct Characters {
+    pub ranges: Vec<CharacterRange>,
+    pub are_excluded: bool,
+}
+
+impl Characters {
+    /// Whether it has the character.
+    pub fn have(&self, c: char) -> bool
+        ensures { IsTrue result ↔ IsInWhere self.now.are_excluded self.now.ranges.items c }
+    {
+        let is_within = is_within(&self.ranges, c);
+        if self.are_excluded {
+            !is_within
+        } else {
+            is_within
+        }
+    }
+}
+
+/// Whether some range has the character.
+fn is_within(ranges: &[CharacterRange], c: char) -> bool
+    ensures { IsTrue result ↔ IsWithin ranges.now c }
+{
+    ranges
+        .iter()
+        .any(|range| range.first <= c && c <= range.last)
+}
+
+/// A part of a component.
+#[derive(Drop)]
+pub enum Part {
+    /// `*`: any characters, none too.
+    Any,
+    /// One character of a kind.
+    One(Characters),
+}
+
+impl Piece<char> for Part {
+    ghost is_many = { is_any };
+
+    ghost takes = { IsOne };
+
+    fn is_many(&self) -> bool {
+        match self {
+            Part::Any => true,
+            Part::One(_) => false,
+        }
+    }
+
+    fn takes(&self, _alloc: Global, item: &char) -> Result<bool, AllocError> {
+        match self {
+            Part::Any => Ok(false),
+            Part::One(characters) => Ok(characters.have(*item)),
+        }
+    }
+}
+
+/// The name of a folder, as its characters.
+pub type Name = Vec<char>;
+
+/// A component of a glob.
+#[derive(Drop)]
+pub enum Component {
+    /// `**`: any number of folders, none too.
+    Folders,
+    /// A folder with a name of these parts.
+    Named(Vec<Part>),
+}
+
+impl Piece<Vec<char>> for Component {
+    ghost is_many = { is_folders };
+
+    ghost takes = { λ component name. IsNamedBy component name.items };
+
+    fn is_many(&self) -> bool {
+        match self {
+            Component::Folders => true,
+            Component::Named(_) => false,
+        }
+    }
+
+    fn takes(&self, alloc: Global, item: &Vec<char>) -> Result<bool, AllocError> {
+        match self {
+            Component::Folders => Ok(false),
+            Component::Named(parts) => are_taken(alloc, parts, item),
+        }
+    }
+}

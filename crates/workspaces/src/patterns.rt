@@ -1,0 +1,228 @@
+//! Globs over the paths of folders, and how they are read.
+
+ghost use Rattle.std.specs.Prelude.{◌↔◌, IsTrue, IfOk};
+ghost use Rattle.workspaces.specs.Members.{IsTakenBy, IsTakenBySome};
+
+use crate::components::{CharacterRange, Characters, Component, Name, Part};
+use crate::pieces::are_taken;
+use std::alloc::{AllocError, Global};
+
+/// A glob over the path of a folder, from the root of its workspace on.
+#[derive(Drop)]
+pub struct Pattern {
+    pub components: Vec<Component>,
+}
+
+/// Why a text is no glob.
+#[derive(Clone, Copy, Debug, PartialEq, Eq, Drop)]
+pub enum Fault {
+    /// Two or more `*` stand beside each other, and `**` is no whole component.
+    Stars,
+    /// A `[` without its `]`.
+    Bracket,
+}
+
+/// Why a text gives no pattern.
+#[derive(Drop)]
+pub enum PatternError {
+    Fault(Fault),
+    Memory(AllocError),
+}
+
+impl From<AllocError> for PatternError {
+    fn from(refused: AllocError) -> PatternError {
+        PatternError::Memory(refused)
+    }
+}
+
+/// Whether a component of a glob has a character that stands for others.
+pub fn is_glob(text: &str) -> bool {
+    text.contains('*') || text.contains('?') || text.contains('[')
+}
+
+/// The components of a path without those that lead nowhere: `.`, and `..` with the one before it.
+pub fn plain_components<'a>(alloc: Global, path: &'a str) -> Result<Vec<&'a str>, AllocError> {
+    let mut components: Vec<&'a str> = Vec::new(alloc);
+    for component in path.split('/') {
+        if component.is_empty() || component == "." {
+            continue;
+        }
+        let goes_back = match components.last() {
+            Some(last) => component == ".." && *last != ".." && *last != "**",
+            None => false,
+        };
+        if goes_back {
+            let _left = components.pop();
+        } else {
+            components.push(component)?;
+        }
+    }
+    Ok(components)
+}
+
+/// The path of a folder, by its names.
+pub fn names_of(alloc: Global, path: &str) -> Result<Vec<Name>, AllocError> {
+    let mut names = Vec::new(alloc);
+    for component in &plain_components(alloc, path)? {
+        names.push(component.chars().collect(alloc)?)?;
+    }
+    Ok(names)
+}
+
+/// The part that takes this character alone.
+fn one(alloc: Global, c: char) -> Result<Part, AllocError> {
+    let mut ranges = Vec::new(alloc);
+    ranges.push(CharacterRange { first: c, last: c })?;
+    Ok(Part::One(Characters {
+        ranges,
+        are_excluded: false,
+    }))
+}
+
+/// The component that takes a name alone.
+fn named(alloc: Global, name: &str) -> Result<Component, AllocError> {
+    let mut parts = Vec::new(alloc);
+    for c in name.chars() {
+        parts.push(one(alloc, c)?)?;
+    }
+    Ok(Component::Named(parts))
+}
+
+/// The ranges between brackets: `a-z`, or a character.
+fn ranges_of(alloc: Global, text: &[char]) -> Result<Vec<CharacterRange>, AllocError> {
+    let mut ranges = Vec::new(alloc);
+    let mut next: usize = 0;
+    for (at, first) in text.iter().enumerate() {
+        if at < next {
+            continue;
+        }
+        let end = at.saturating_add(2);
+        let last = match (text.get(at.saturating_add(1)), text.get(end)) {
+            (Some('-'), Some(last)) => Some(*last),
+            _ => None,
+        };
+        if last.is_some() {
+            next = end.saturating_add(1);
+        }
+        let last = last.unwrap_or(*first);
+        ranges.push(CharacterRange {
+            first: *first,
+            last,
+        })?;
+    }
+    Ok(ranges)
+}
+
+/// A kind of characters, and how many characters of the glob spell it.
+#[derive(Drop)]
+struct Bracketed {
+    characters: Characters,
+    length: usize,
+}
+
+/// What begins with the bracket at the beginning. A `]` right behind the bracket, or behind `[!`, stands for itself.
+fn read_bracket(alloc: Global, text: &[char]) -> Result<Bracketed, PatternError> {
+    let are_excluded = text.get(1) == Some(&'!');
+    let begin: usize = if are_excluded { 2 } else { 1 };
+    for (at, c) in text.iter().enumerate() {
+        if *c == ']' && at > begin {
+            let between = text.get(begin..at).unwrap_or(&[]);
+            return Ok(Bracketed {
+                characters: Characters {
+                    ranges: ranges_of(alloc, between)?,
+                    are_excluded,
+                },
+                length: at.saturating_add(1),
+            });
+        }
+    }
+    Err(PatternError::Fault(Fault::Bracket))
+}
+
+/// The component that a text spells.
+fn component_of(alloc: Global, text: &str) -> Result<Component, PatternError> {
+    if text == "**" {
+        return Ok(Component::Folders);
+    }
+    if text.contains("**") {
+        return Err(PatternError::Fault(Fault::Stars));
+    }
+    let text: Vec<char> = text.chars().collect(alloc)?;
+    let mut parts = Vec::new(alloc);
+    let mut next: usize = 0;
+    for (at, c) in text.iter().enumerate() {
+        if at < next {
+            continue;
+        }
+        let part = match *c {
+            '*' => Part::Any,
+            '?' => Part::One(Characters {
+                ranges: Vec::new(alloc),
+                are_excluded: true,
+            }),
+            '[' => {
+                let found = read_bracket(alloc, text.get(at..).unwrap_or(&[]))?;
+                next = at.saturating_add(found.length);
+                Part::One(found.characters)
+            }
+            c => one(alloc, c)?,
+        };
+        parts.push(part).map_err(AllocError::from)?;
+    }
+    Ok(Component::Named(parts))
+}
+
+impl Pattern {
+    /// Reads a glob: `*` stands for any characters of a name, `?` for one, `[a-z]` and `[!a-z]` for one of some or of
+    /// others, and `**` as a whole component for any number of folders, at the end for at least one. It refuses a text
+    /// that is no glob.
+    pub fn from_str(alloc: Global, text: &str) -> Result<Pattern, PatternError> {
+        let mut components = Vec::new(alloc);
+        for component in &plain_components(alloc, text)? {
+            components
+                .push(component_of(alloc, component)?)
+                .map_err(AllocError::from)?;
+        }
+        if let Some(Component::Folders) = components.last() {
+            let mut parts = Vec::new(alloc);
+            parts.push(Part::Any).map_err(AllocError::from)?;
+            components
+                .push(Component::Named(parts))
+                .map_err(AllocError::from)?;
+        }
+        Ok(Pattern { components })
+    }
+
+    /// The pattern of a folder, each character of whose path stands for itself, and of what lies below it.
+    pub fn below(alloc: Global, path: &str) -> Result<Pattern, AllocError> {
+        let mut components = Vec::new(alloc);
+        for component in &plain_components(alloc, path)? {
+            components.push(named(alloc, component)?)?;
+        }
+        components.push(Component::Folders)?;
+        Ok(Pattern { components })
+    }
+
+    /// Whether it takes the path. It refuses only where memory is refused.
+    pub fn takes(&self, alloc: Global, path: &[Vec<char>]) -> Result<bool, AllocError>
+        ensures { IfOk result (λ b. IsTrue b ↔ IsTakenBy self.now path.now) }
+    {
+        are_taken(alloc, &self.components, path)
+    }
+}
+
+/// Whether one of the patterns takes the path. It refuses only where memory is refused.
+pub fn some_takes(
+    alloc: Global,
+    patterns: &[Pattern],
+    path: &[Vec<char>],
+) -> Result<bool, AllocError>
+    ensures { IfOk result (λ b. IsTrue b ↔ IsTakenBySome patterns.now path.now) }
+{
+    for pattern in patterns {
+        if pattern.takes(alloc, path)? {
+            return Ok(true);
+        }
+    }
+    Ok(false)
+}

@@ -1,0 +1,45 @@
+//! What a manifest says of the members of its workspace.
+
+ghost use Rattle.std.specs.Prelude.{◌↔◌, IsTrue, IfOk};
+ghost use Rattle.workspaces.specs.Members.{IsExcluded, IsMember};
+
+use crate::patterns::{Pattern, some_takes};
+use std::alloc::{AllocError, Global};
+
+/// What a manifest says of the members of its workspace.
+#[derive(Drop)]
+pub struct Rules {
+    /// The globs of `members`.
+    pub members: Vec<Pattern>,
+    /// For each path of `exclude`, what is in or below it.
+    pub excluded: Vec<Pattern>,
+    /// For each text of `members` as it stands, what is in or below it: `exclude` does not count there.
+    pub named: Vec<Pattern>,
+}
+
+/// Whether the first holds and the second does not.
+fn holds_without(first: bool, second: bool) -> bool
+    ensures { IsTrue result ↔ IsTrue first × (IsTrue second → ⊥) }
+{
+    first && !second
+}
+
+impl Rules {
+    /// Whether the folder is excluded. It refuses only where memory is refused.
+    pub fn exclude(&self, alloc: Global, path: &[Vec<char>]) -> Result<bool, AllocError>
+        ensures { IfOk result (λ b. IsTrue b ↔ IsExcluded self.now path.now) }
+    {
+        let is_below = some_takes(alloc, &self.excluded, path)?;
+        let is_named = some_takes(alloc, &self.named, path)?;
+        Ok(holds_without(is_below, is_named))
+    }
+
+    /// Whether the folder is a member by the globs. It refuses only where memory is refused.
+    pub fn have(&self, alloc: Global, path: &[Vec<char>]) -> Result<bool, AllocError>
+        ensures { IfOk result (λ b. IsTrue b ↔ IsMember self.now path.now) }
+    {
+        let is_taken = some_takes(alloc, &self.members, path)?;
+        let is_excluded = self.exclude(alloc, path)?;
+        Ok(holds_without(is_taken, is_excluded))
+    }
+}
