@@ -14,7 +14,7 @@ from crates import ROOT
 
 CRATES = ROOT / "crates"
 
-# The names of the mutants that `make test` tries.
+# The names of the edits that `make test` tries.
 OF_THE_GATE = ROOT / ".ci" / "mutants-of-the-gate"
 
 
@@ -48,7 +48,7 @@ def all_edits():
 
 
 def names_of_the_gate():
-    """The names of the mutants that `make test` tries, a line each."""
+    """The names of the edits that `make test` tries, a line each."""
     return [line for line in text_of(OF_THE_GATE).splitlines() if line and not line.startswith("#")]
 
 
