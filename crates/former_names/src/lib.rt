@@ -12,5 +12,5 @@ mod table;
 mod verdicts;
 
 pub use releases::Release;
-pub use rows::{Bounds, former_fact, former_target, name_now};
+pub use rows::{Bounds, former_fact, former_target, has_former_value, name_now};
 pub use verdicts::Verdict;

@@ -138,6 +138,18 @@ pub fn former_fact(c: &Cfg) -> Option<Bounds>
     }
 }
 
+/// Whether a text has the value of a fact that a target had before, at any place. A condition whose text has none asks
+/// for no such fact.
+pub fn has_former_value(text: &str) -> bool {
+    for row in facts() {
+        let (_, value, _, _) = row;
+        if text.contains(*value) {
+            return true;
+        }
+    }
+    false
+}
+
 /// The name of a target that stands for a former one now, where the release notes tell one.
 pub fn name_now(name: &str) -> Option<&'static str>
     ensures found { IfSome result (λ now. IsRenamed renamed_rows name.now now.now) }

@@ -6,7 +6,9 @@ use crate::rules::Weight;
 use crate::settings::Settings;
 use cargo_platform::{Cfg, Platform, ReadError};
 use expression_folds::values_of;
-use former_names::{Bounds, Release, Verdict, former_fact, former_target, name_now};
+use former_names::{
+    Bounds, Release, Verdict, former_fact, former_target, has_former_value, name_now,
+};
 use manifest_documents::{Declared, Targets, target_keys};
 use std::alloc::{AllocError, Global};
 use toml::Table;
@@ -202,6 +204,11 @@ fn formers_among<'a>(
     Ok(facts)
 }
 
+/// Whether a key may have a name that rustc knew before. It is not read for that: most have none.
+fn may_have(key: &str) -> bool {
+    former_target(key).is_some() || has_former_value(key)
+}
+
 impl Formers {
     /// Adds a fact that a key asks for.
     fn add_fact(
@@ -284,11 +291,16 @@ impl Formers {
             facts: Vec::new(alloc),
             targets: Vec::new(alloc),
         };
+        let Targets::Keys(mut keys) = target_keys(alloc, manifest)? else {
+            return Ok(formers);
+        };
+        keys.retain(|key| may_have(key.key));
+        if keys.is_empty() {
+            return Ok(formers);
+        }
         let declared = Declared::of(alloc, manifest)?;
-        if let Targets::Keys(keys) = target_keys(alloc, manifest)? {
-            for key in &keys {
-                formers.add_key(alloc, key.key, &declared, project)?;
-            }
+        for key in &keys {
+            formers.add_key(alloc, key.key, &declared, project)?;
         }
         Ok(formers)
     }
