@@ -1,7 +1,7 @@
 //! Exact answers, each beside what trying all sets of facts gives.
 
-use crate::facts;
-use crate::trying::Question;
+use crate::all_sets::Question;
+use crate::row_facts;
 use cargo_platform::{Cfg, CfgExpr, Platform};
 use exact_answers::{
     CanHold, CanSelect, Known, MustHold, MustSelect, ONE_VALUED, PossibleTarget, always,
@@ -56,7 +56,7 @@ fn set_under<'a>(alloc: Global, fields: &mut Fields<'a>) -> Result<Held<'a>, Fau
     let Some(mut set) = fields.set(name) else {
         return Err(Fault::Row("nothing is set under this name"));
     };
-    let facts = facts::values(alloc, &mut set)?;
+    let facts = row_facts::values(alloc, &mut set)?;
     let complete = set.list(alloc)?;
     let single = keys(alloc, &set.list(alloc)?)?;
     let assumed = assumed(alloc, set.word())?;

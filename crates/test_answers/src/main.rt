@@ -1,12 +1,12 @@
 //! Runs rows on what is decided of targets that are known in part, on exact answers and on known targets.
 #![tactic(auto)]
 
+mod all_sets;
 mod calls;
 mod exact;
-mod facts;
 mod partial;
+mod row_facts;
 mod targets;
-mod trying;
 
 use std::alloc::Global;
 use std::process::ExitCode;

@@ -1,7 +1,7 @@
 //! What is decided of a target that is known in part, and what is left to ask.
 
-use crate::facts;
-use crate::trying::{over_completions, without};
+use crate::all_sets::{over_completions, without};
+use crate::row_facts;
 use cargo_platform::{Cfg, CfgExpr, Listed, Platform};
 use partial_facts::{
     Complete, Knowledge, ONE_VALUED, OneValued, Partial, decide, decide_platform, residual,
@@ -33,7 +33,7 @@ struct Held<'a> {
 
 impl<'a> Held<'a> {
     fn read(alloc: Global, fields: &mut Fields<'a>) -> Result<Held<'a>, Fault> {
-        let facts = facts::values(alloc, fields)?;
+        let facts = row_facts::values(alloc, fields)?;
         let complete = fields.list(alloc)?;
         Ok(Held { facts, complete })
     }
@@ -140,7 +140,7 @@ fn key_left(
 fn tried(alloc: Global, fields: &mut Fields<'_>) -> Result<String, Fault> {
     let e = spelled(alloc, &fields.text(alloc)?)?;
     let mut held = Held::read(alloc, fields)?;
-    let unknown = facts::values(alloc, fields)?;
+    let unknown = row_facts::values(alloc, fields)?;
     held.facts = without(alloc, &held.facts, &unknown)?;
     Ok(word(alloc, beside_trying(alloc, &e, &held.known(), &unknown)?)?)
 }

@@ -1,6 +1,6 @@
 //! The targets that rustc knows, each also by itself.
 
-use crate::facts;
+use crate::row_facts;
 use cargo_platform::{Cfg, CfgExpr, FactIndex, Facts, Platform};
 use known_targets::classes::classes;
 use known_targets::{
