@@ -35,6 +35,7 @@ pub use error::{ParseError, ParseErrorKind, ReadError};
 pub use fact_lines::{FactsError, read_facts};
 pub use json::JsonError;
 pub use parentheses::{nesting, nesting_beyond};
+pub use platforms::inside_cfg;
 pub use snippet::{shown_start, shown_text};
 pub use tokens::{Looks, Spanned, Token, TokenFault, TokenFaultKind, Tokenizer};
 

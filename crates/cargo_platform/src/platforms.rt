@@ -124,8 +124,10 @@ impl CfgExpr {
     }
 }
 
-/// The text between `cfg(` and `)`, where the text begins and ends with these.
-pub(crate) fn inside_cfg(text: &str) -> Option<&str>
+/// The text between `cfg(` and `)`, where a text begins and ends with these. It may spell no expression. Spaces before
+/// and behind count.
+pub fn inside_cfg(text: &str) -> Option<&str>
+    // The text between `cfg(` and `)`, or nothing where a text does not begin and end so.
     ensures { MatchOption result (IsBare text.now) (λ inner. IsCfgOf text.now inner.now) }
 {
     text.strip_prefix("cfg(")?.strip_suffix(")")

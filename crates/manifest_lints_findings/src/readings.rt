@@ -5,9 +5,8 @@ ghost use Rattle.manifest_documents.specs.Entries.{entry_of};
 ghost use Rattle.manifest_lints_findings.specs.Spells.{IsSpelledAs, IsRead, entry_read};
 
 use crate::wording::TOLD;
-use cargo_platform::{Cfg, CfgExpr, ParseError, Platform, ReadError, Token, Tokenizer};
+use cargo_platform::{Cfg, CfgExpr, ParseError, Platform, ReadError, Token, Tokenizer, inside_cfg};
 use manifest_documents::TargetKey;
-use manifest_lints_standings::key_spans::inner;
 use manifest_lints_standings::rustc_names::pair;
 use std::alloc::{AllocError, Global};
 use std::collections::BTreeSet;
@@ -154,7 +153,7 @@ impl<'a> Marking<'a> {
 
 /// What Cargo makes of a key that is refused here: it takes unmarked `true` and `false` as the keys of pairs.
 fn read_by_cargo(alloc: Global, key: &str) -> Result<Option<Marked>, AllocError> {
-    let Some(text) = inner(key) else {
+    let Some(text) = inside_cfg(key) else {
         return Ok(None);
     };
     let mut marking = Marking {

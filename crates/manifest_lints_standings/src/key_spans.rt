@@ -1,6 +1,6 @@
 //! Where the names and pairs of a key stand in its text.
 
-use cargo_platform::{Token, Tokenizer};
+use cargo_platform::{Token, Tokenizer, inside_cfg};
 use std::alloc::{AllocError, Global};
 
 /// What an expression stands behind in a key.
@@ -11,11 +11,6 @@ const OPENED: &str = "cfg(";
 pub struct Span {
     pub start: usize,
     pub end: usize,
-}
-
-/// The text between `cfg(` and `)`.
-pub fn inner(key: &str) -> Option<&str> {
-    key.strip_prefix(OPENED)?.strip_suffix(")")
 }
 
 /// The part of the key from one byte of its expression to another.
@@ -29,7 +24,7 @@ fn in_key(start: usize, end: usize) -> Span {
 /// Where the names and pairs of a key that spells an expression stand, from left to right.
 pub fn spans_of(alloc: Global, key: &str) -> Result<Vec<Span>, AllocError> {
     let mut spans = Vec::new(alloc);
-    let text = inner(key).unwrap_or("");
+    let text = inside_cfg(key).unwrap_or("");
     // The name, or the key of a pair, that was read last, and its value where that was read too.
     let mut begun: Option<Span> = None;
     let mut tokens = Tokenizer::new(text);
