@@ -1,7 +1,7 @@
 //! Two lines that show where a text is refused.
 
 ghost use Rattle.std.specs.Prelude.{◌≡◌, ◌≤◌, ◌+◌, IfOk, length, string_bytes, Some, map};
-ghost use Rattle.std.specs.Prelude.{encode_utf8_all};
+ghost use Rattle.std.specs.Prelude.{encode_utf8_all, nat_lt};
 ghost use Rattle.std.specs.Str.{chars};
 ghost use Rattle.unicode.specs.GeneralCategory.{general_category};
 ghost use Rattle.cargo_platform.specs.Errors.{fault_in, fault_meant, orig_of, span_in};
@@ -58,7 +58,9 @@ pub fn shown_start(alloc: Global, text: &str) -> Result<String, AllocError>
     // The text with U+FFFD for what is hidden, cut after 100 characters.
     ensures { IfOk result (λ s. string_bytes s ≡ shown_line (chars text.now) 0 0) }
 {
-    shown_line(alloc, text, 0, 0)
+    let part: String = text.chars().take(WIDTH).map(shown).collect(alloc)?;
+    let right = dots(is_long(text));
+    format!(in alloc; "{part}{right}")
 }
 
 /// The two lines of a text, or nothing where the span does not lie in it.
@@ -105,6 +107,13 @@ fn count(text: &str) -> usize
     ensures { result ≡ length (chars text.now) }
 {
     text.chars().count()
+}
+
+/// Whether a text has more characters than are shown at once. No more of them are counted.
+fn is_long(text: &str) -> bool
+    ensures { result ≡ nat_lt 100 (length (chars text.now)) }
+{
+    WIDTH < text.chars().take(WIDTH + 1).count()
 }
 
 /// The number of the first character that is shown.
@@ -185,10 +194,10 @@ fn shown_kind(alloc: Global, kind: &ParseErrorKind) -> Result<ParseErrorKind, Al
         },
         ParseErrorKind::IncompleteExpr(expected) => ParseErrorKind::IncompleteExpr(expected),
         ParseErrorKind::UnterminatedExpression(rest) => {
-            ParseErrorKind::UnterminatedExpression(shown_line(alloc, rest, 0, 0)?)
+            ParseErrorKind::UnterminatedExpression(shown_start(alloc, rest)?)
         }
         ParseErrorKind::InvalidTarget(message) => {
-            ParseErrorKind::InvalidTarget(shown_line(alloc, message, 0, 0)?)
+            ParseErrorKind::InvalidTarget(shown_start(alloc, message)?)
         }
     })
 }
