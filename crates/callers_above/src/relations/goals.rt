@@ -1,6 +1,7 @@
 //! What goals of `goal_diagrams` come to. Which names hold is odd or even in number, in whatever order they are told.
 
-use cargo_platform::{Cfg, CfgExpr, ReadError};
+use crate::support::expression;
+use cargo_platform::{Cfg, ReadError};
 use goal_diagrams::{Choice, Goal, Outcome, find_way};
 use partial_facts::OneValued;
 use std::alloc::{AllocError, Global};
@@ -88,15 +89,6 @@ const ROWS: [Row; 8] = [
 /// The pairs that nodes ask for.
 const PAIRS: [&str; 5] = ["a", "b", "c", "target_os = \"one\"", "target_os = \"two\""];
 
-/// The expression that a text spells.
-fn expression(alloc: Global, text: &str) -> Result<CfgExpr, AllocError> {
-    match CfgExpr::from_str(alloc, text) {
-        Ok(e) => Ok(e),
-        Err(ReadError::Memory(refused)) => Err(refused),
-        Err(ReadError::Parse(_fault)) => Ok(CfgExpr::False),
-    }
-}
-
 /// The names and pairs that texts spell.
 fn values(alloc: Global, texts: &[&str]) -> Result<Vec<Cfg>, AllocError> {
     let mut found = Vec::new(alloc);
@@ -144,9 +136,9 @@ fn chosen_facts(alloc: Global, pairs: &[Cfg], choices: &[Choice]) -> Result<Vec<
 }
 
 /// What comes of a row. A way is one where the expressions have their truths over its facts.
-fn outcome_of(alloc: Global, row: &Row) -> Result<&'static str, AllocError> {
-    let first = expression(alloc, row.first)?;
-    let other = expression(alloc, row.other)?;
+fn outcome_of(rt: &impl Abort, alloc: Global, row: &Row) -> Result<&'static str, AllocError> {
+    let first = expression(rt, alloc, row.first);
+    let other = expression(rt, alloc, row.other);
     let goals = [
         Goal {
             e: &first,
@@ -179,7 +171,7 @@ fn assert_outcome(rt: &impl Abort, outcome: &str, row: &Row) {
 #[test]
 fn goals_come_to_what_is_told(rt: HostRuntime) -> Result<(), Fail> {
     for row in &ROWS {
-        let outcome = outcome_of(rt.alloc(), row)?;
+        let outcome = outcome_of(&rt, rt.alloc(), row)?;
         assert_outcome(&rt, outcome, row);
     }
     Ok(())
