@@ -20,6 +20,8 @@ pub mod FurtherSpans
 -- ---- trees
 -- Asking: whether an expression or its negation is asked for, and how asks are counted
 pub mod Asking
+-- Folding: the groups around an expression that is folded, what they make the whole, and what is left to do
+pub mod Folding
 -- Copying: what a copy is a part of
 pub mod Copying
 -- Printing: how an expression is written, and the parentheses that end it

@@ -1,7 +1,7 @@
 //! Two lines that show where a text is refused.
 
 ghost use Rattle.std.specs.Prelude.{◌≡◌, ◌≤◌, ◌+◌, IfOk, length, string_bytes, Some, map};
-ghost use Rattle.std.specs.Prelude.{encode_utf8_all, nat_lt};
+ghost use Rattle.std.specs.Prelude.{encode_utf8_all, min};
 ghost use Rattle.std.specs.Str.{chars};
 ghost use Rattle.unicode.specs.GeneralCategory.{general_category};
 ghost use Rattle.cargo_platform.specs.Errors.{fault_in, fault_meant, orig_of, span_in};
@@ -58,9 +58,7 @@ pub fn shown_start(alloc: Global, text: &str) -> Result<String, AllocError>
     // The text with U+FFFD for what is hidden, cut after 100 characters.
     ensures { IfOk result (λ s. string_bytes s ≡ shown_line (chars text.now) 0 0) }
 {
-    let part: String = text.chars().take(WIDTH).map(shown).collect(alloc)?;
-    let right = dots(is_long(text));
-    format!(in alloc; "{part}{right}")
+    shown_line(alloc, text, size_for(text, 0), 0, 0)
 }
 
 /// The two lines of a text, or nothing where the span does not lie in it.
@@ -92,8 +90,8 @@ fn lines(
 ) -> Result<String, AllocError>
     ensures { IfOk result (λ s. string_bytes s ≡ lines_by text.now before inside (fault_meant kind.now)) }
 {
-    let line = shown_line(alloc, text, before, inside)?;
-    let size = count(text);
+    let size = size_for(text, before);
+    let line = shown_line(alloc, text, size, before, inside)?;
     let first = first_shown(size, before);
     let margin = margin(0 < first);
     let spaces = " ".repeat(alloc, before.saturating_sub(first))?;
@@ -109,11 +107,14 @@ fn count(text: &str) -> usize
     text.chars().count()
 }
 
-/// Whether a text has more characters than are shown at once. No more of them are counted.
-fn is_long(text: &str) -> bool
-    ensures { result ≡ nat_lt 100 (length (chars text.now)) }
+/// How many characters the text has, counted up to 101 behind the start of a span: more of them change no cut.
+fn size_for(text: &str, before: usize) -> usize
+    ensures { result ≡ min (before + 101) (length (chars text.now)) }
 {
-    WIDTH < text.chars().take(WIDTH + 1).count()
+    match before.checked_add(WIDTH + 1) {
+        Some(most) => text.chars().take(most).count(),
+        None => count(text),
+    }
 }
 
 /// The number of the first character that is shown.
@@ -162,11 +163,18 @@ fn margin(is_cut: bool) -> &'static str
     if is_cut { "  " } else { "" }
 }
 
-/// The text as it is shown, with so many characters before the span and so many in it.
-fn shown_line(alloc: Global, text: &str, before: usize, inside: usize) -> Result<String, AllocError>
+/// The text as it is shown, with so many characters before the span and so many in it. Its size may be that of a part,
+/// if this is as large as the cut needs.
+fn shown_line(
+    alloc: Global,
+    text: &str,
+    size: usize,
+    before: usize,
+    inside: usize,
+) -> Result<String, AllocError>
+    requires { size ≡ min (before + 101) (length (chars text.now)) }
     ensures { IfOk result (λ s. string_bytes s ≡ shown_line (chars text.now) before inside) }
 {
-    let size = count(text);
     let first = first_shown(size, before);
     let end = end_shown(size, before, inside);
     let length = end.saturating_sub(first);

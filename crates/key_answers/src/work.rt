@@ -1,7 +1,6 @@
 //! How much work a question on two keys may take.
 
-use cargo_platform::Platform;
-use expression_folds::values_of;
+use cargo_platform::{Platform, values_of};
 use std::alloc::{AllocError, Global};
 
 /// How many splits are made at least, of any budget but 0. They take no time that anyone feels.

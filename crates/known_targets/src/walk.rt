@@ -11,8 +11,7 @@ ghost use Rattle.known_targets.specs.Groups.{both, IsTrueAt, AreBounds};
 use crate::rows::{Key, targets_with};
 use crate::table::COUNT;
 use crate::target_set::TargetSet;
-use cargo_platform::{Cfg, CfgExpr};
-use expression_folds::{Fold, fold_expression};
+use cargo_platform::{Cfg, CfgExpr, Fold, fold_expression};
 use std::alloc::{AllocError, Global};
 use std::ops::ControlFlow;
 

@@ -4,8 +4,7 @@ use crate::codes::FORMER;
 use crate::places::WrongPlace;
 use crate::rules::Weight;
 use crate::settings::Settings;
-use cargo_platform::{Cfg, Platform, ReadError};
-use expression_folds::values_of;
+use cargo_platform::{Cfg, Platform, ReadError, values_of};
 use former_names::{
     Bounds, Release, Verdict, former_fact, former_target, has_former_value, name_now,
 };

@@ -1,7 +1,6 @@
 //! Which names that a command line leaves open are asked for by keys.
 
-use cargo_platform::{Platform, ReadError};
-use expression_folds::values_of;
+use cargo_platform::{Platform, ReadError, values_of};
 use key_answers::printing::shown_name;
 use manifest_documents::{Targets, target_keys};
 use manifest_lints_findings::near;

@@ -1,8 +1,7 @@
 //! What another rustc makes of findings: its targets and facts count in place of those that are known.
 
 use crate::declaring::declare;
-use cargo_platform::{Platform, ReadError};
-use expression_folds::values_of;
+use cargo_platform::{Platform, ReadError, values_of};
 use former_names::former_target;
 use known_targets::KnownTarget;
 use manifest_answers::given_targets::GivenTargets;

@@ -5,7 +5,7 @@ mod found;
 pub mod laws;
 mod linting;
 
-pub use expression_folds::values_of;
+pub use cargo_platform::values_of;
 pub use linting::lint;
 pub use manifest_documents::document::Document;
 pub use manifest_lints_findings::{

@@ -13,8 +13,7 @@ use crate::chosen::is_marked_literal;
 use crate::codes::Code;
 use crate::no_tables::no_tables;
 use crate::readings::{ReadKey, Spelled};
-use cargo_platform::Platform;
-use expression_folds::walk;
+use cargo_platform::{Platform, values_with_levels};
 use manifest_documents::Declared;
 use manifest_lints_standings::asked_facts::{AskedFact, asked_facts, has_sort};
 use manifest_lints_standings::key_spans::spans_of;
@@ -123,7 +122,7 @@ fn known_condition<'a>(
         → is_empty_list no_tables.items ≡ not (is_no_table (entry_read read.now).1)
         → IfOk result (λ k. IsKnown (declarations_of declared.now) read.now k) }
 {
-    let met = walk(alloc, condition)?;
+    let met = values_with_levels(alloc, condition)?;
     let spans = spans_of(alloc, read.text)?;
     Ok(KnownKey {
         read,

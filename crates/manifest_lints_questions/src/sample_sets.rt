@@ -16,8 +16,7 @@ ghost use Rattle.manifest_lints_questions.specs.Numbers.{is_unknown_value, same_
 ghost use Rattle.manifest_lints_questions.specs.Numbers.{pair_at, truths_with, apart, apart_of, summed, IsNumberOf};
 ghost use Rattle.manifest_lints_questions.specs.Samples.{is_set, is_only, mixed, spread, mixed_truths};
 
-use cargo_platform::{Cfg, CfgExpr, FactIndex, Platform};
-use expression_folds::{Fold, fold_expression, values_of};
+use cargo_platform::{Cfg, CfgExpr, FactIndex, Fold, Platform, fold_expression, values_of};
 use known_targets::{KnownTarget, TargetSet, having, names};
 use partial_facts::ONE_VALUED;
 use partial_facts::names::is_among;

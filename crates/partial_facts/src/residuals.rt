@@ -12,8 +12,7 @@ ghost use Rattle.partial_facts.specs.Residual.{literal_truth, IsLiteralOrOpen, I
 ghost use Rattle.partial_facts.specs.Inside.Groups.{grouped};
 
 use crate::knowledge::Knowledge;
-use cargo_platform::{Cfg, CfgExpr};
-use expression_folds::{Fold, fold_expression};
+use cargo_platform::{Cfg, CfgExpr, Fold, fold_expression};
 use std::alloc::{AllocError, Global};
 use std::ops::ControlFlow;
 

@@ -9,9 +9,9 @@ use Rattle.cargo_platform.proofs.snippet.lines.Goals as goal
 pub returns : goal.returns
 returns c =
     let cs = chars c.args.text.now in
-    let behind = same_carets cs c.args.before c.args.inside c.count-size.result c.first_shown-first.result
+    let behind = same_carets cs c.args.before c.args.inside c.size_for-size.result c.first_shown-first.result
     c.saturating_sub.result c.caret_count.result _ _ _ (codes " " ++ print_fault (fault_meant c.in_ok-kind.kind))
-    c.count-size.ensures c.first_shown-first.ensures c.saturating_sub.ensures c.caret_count.ensures
+    c.size_for-size.ensures c.first_shown-first.ensures c.saturating_sub.ensures c.caret_count.ensures
     c.margin-margin.ensures c.in_ok-spaces.ensures.bytes c.in_ok-carets.ensures.bytes in
     let line = shown_line cs c.args.before c.args.inside in
     let marks = carets (length cs) c.args.before c.args.inside in

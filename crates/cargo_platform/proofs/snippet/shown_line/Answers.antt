@@ -21,7 +21,7 @@ returns c =
     (YieldsList-from_map _ shown (YieldsList-at c.map.ensures.source some) c.map.ensures.closure
     (λ x r q k. search (rules, tests))) in
     IfOk-weaker c.format.result _ _
-    (λ s is. is ∙ same_part (chars text) c.args.before c.args.inside c.count-size.result c.first_shown-first.result
-    c.end_shown-end.result c.saturating_sub-length.result _ _ _ c.count-size.ensures c.first_shown-first.ensures
+    (λ s is. is ∙ same_part (chars text) c.args.before c.args.inside c.args.size c.first_shown-first.result
+    c.end_shown-end.result c.saturating_sub-length.result _ _ _ c.requires c.first_shown-first.ensures
     c.end_shown-end.ensures c.saturating_sub-length.ensures c.dots-left.ensures c.dots-right.ensures part)
     c.format.ensures.ok

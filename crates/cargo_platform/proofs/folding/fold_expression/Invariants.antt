@@ -1,7 +1,7 @@
 use Rattle.std.proofs.Common.{◌+◌}
 use Rattle.cargo_platform.specs.Trees.{tree_of}
-use Rattle.expression_folds.specs.Folding.{stack, Stands, work, left_of}
-use Rattle.expression_folds.proofs.folding.fold_expression.Given as goal
+use Rattle.cargo_platform.specs.Inside.Folding.{stack, Stands, work, left_of}
+use Rattle.cargo_platform.proofs.folding.fold_expression.Given as goal
 
 -- what is next, in the groups around it, makes the whole
 abbrev pub invariant-steps : goal.invariant-steps

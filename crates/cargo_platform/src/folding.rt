@@ -6,10 +6,12 @@ ghost use Rattle.std.specs.ControlFlow.{MatchControlFlow};
 ghost use Rattle.cargo_platform.specs.Trees.{Tree, Not, Value, True, False, value_of, tree_of};
 ghost use Rattle.cargo_platform.specs.ExpressionSizes.{node_count, node_counts};
 ghost use Rattle.cargo_platform.specs.Walk.{list_tree};
-ghost use Rattle.expression_folds.specs.Folding.{stack, Within, Stands, work, left_in, left_of};
+ghost use Rattle.cargo_platform.specs.Inside.Folding.{stack, Within, Stands, work, left_in, left_of};
 
-use crate::open_groups::{OpenGroup, OpenGroups, OpenList};
-use cargo_platform::{Cfg, CfgExpr};
+mod groups;
+
+use crate::cfg::{Cfg, CfgExpr};
+use groups::{EnteredGroup, EnteredGroups, EnteredList};
 use std::alloc::{AllocError, Global};
 use std::ops::ControlFlow;
 
@@ -74,7 +76,7 @@ pub enum Next<'a, P> {
 pub fn fold_expression<F: Fold>(alloc: Global, e: &CfgExpr, f: &F) -> Result<F::Part, AllocError>
     ensures { IfOk result (λ part. F.makes f.now (tree_of e.now) part) }
 {
-    let mut groups = OpenGroups::new(alloc);
+    let mut groups = EnteredGroups::new(alloc);
     let mut next = Next::Expression(e);
     'steps: loop {
         next = match next {
@@ -91,7 +93,7 @@ pub fn fold_expression<F: Fold>(alloc: Global, e: &CfgExpr, f: &F) -> Result<F::
 fn enter<'a, F: Fold>(
     e: &'a CfgExpr,
     f: &F,
-    groups: &mut OpenGroups<'a, F::Members>,
+    groups: &mut EnteredGroups<'a, F::Members>,
 ) -> Result<Next<'a, F::Part>, AllocError>
     ensures stands { IfOk result (λ next. (whole : Tree)
         → Within (F.gathers f.now) (stack groups.old) (tree_of e.now) whole
@@ -101,7 +103,7 @@ fn enter<'a, F: Fold>(
 {
     match e {
         CfgExpr::Not(inner) => {
-            groups.push(OpenGroup::Not)?;
+            groups.push(EnteredGroup::Not)?;
             Ok(Next::Expression(inner))
         }
         CfgExpr::All(members) => go_on(true, f.no_members(true), members, f, groups),
@@ -114,10 +116,10 @@ fn enter<'a, F: Fold>(
 
 /// Adds what was made of a part to the group around it.
 fn close<'a, F: Fold>(
-    group: OpenGroup<'a, F::Members>,
+    group: EnteredGroup<'a, F::Members>,
     part: F::Part,
     f: &F,
-    groups: &mut OpenGroups<'a, F::Members>,
+    groups: &mut EnteredGroups<'a, F::Members>,
 ) -> Result<Next<'a, F::Part>, AllocError>
     ensures stands { IfOk result (λ next. (e whole : Tree) → F.makes f.now e part
         → Within (F.gathers f.now) (group.entry ∷ stack groups.old) e whole
@@ -126,9 +128,9 @@ fn close<'a, F: Fold>(
         work (stack groups.new) + left_of next ≤ work (stack groups.old) + left_in group.entry) }
 {
     match group {
-        OpenGroup::Not => Ok(Next::Part(f.negation(part)?)),
-        OpenGroup::List(list) => {
-            let OpenList {
+        EnteredGroup::Not => Ok(Next::Part(f.negation(part)?)),
+        EnteredGroup::List(list) => {
+            let EnteredList {
                 neutral,
                 so_far,
                 members,
@@ -147,7 +149,7 @@ fn go_on<'a, F: Fold>(
     so_far: F::Members,
     members: &'a [CfgExpr],
     f: &F,
-    groups: &mut OpenGroups<'a, F::Members>,
+    groups: &mut EnteredGroups<'a, F::Members>,
 ) -> Result<Next<'a, F::Part>, AllocError>
     ensures stands { IfOk result (λ next. (es : List Tree) (whole : Tree) → F.gathers f.now neutral es so_far
         → Within (F.gathers f.now) (stack groups.old) (list_tree neutral (es ++ map tree_of members.now)) whole
@@ -157,7 +159,7 @@ fn go_on<'a, F: Fold>(
 {
     match members.split_first() {
         Some((first, members)) => {
-            groups.push(OpenGroup::List(OpenList {
+            groups.push(EnteredGroup::List(EnteredList {
                 neutral,
                 so_far,
                 members,

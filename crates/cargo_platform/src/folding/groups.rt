@@ -1,14 +1,14 @@
 //! The groups around an expression, while it is gone over.
 
 ghost use Rattle.std.specs.Prelude.{◌≡◌, [], ◌∷◌, OnOk, MatchOption};
-ghost use Rattle.expression_folds.specs.Folding.{stack};
+ghost use Rattle.cargo_platform.specs.Inside.Folding.{stack};
 
-use cargo_platform::CfgExpr;
+use crate::cfg::CfgExpr;
 use std::alloc::{AllocError, Global};
 
 /// An `all` or `any` whose members are gone over.
 #[derive(Drop)]
-pub struct OpenList<'a, M> {
+pub struct EnteredList<'a, M> {
     /// The truth after which the group goes on: `all` after members that are true, and `any` after false ones.
     pub neutral: bool,
     /// What is made of the members before the one at hand.
@@ -19,29 +19,29 @@ pub struct OpenList<'a, M> {
 
 /// A group around the expression at hand.
 #[derive(Drop)]
-pub enum OpenGroup<'a, M> {
+pub enum EnteredGroup<'a, M> {
     Not,
-    List(OpenList<'a, M>),
+    List(EnteredList<'a, M>),
 }
 
 /// The groups around the expression at hand, the innermost last.
 #[derive(Drop)]
-pub struct OpenGroups<'a, M> {
-    groups: Vec<OpenGroup<'a, M>>,
+pub struct EnteredGroups<'a, M> {
+    groups: Vec<EnteredGroup<'a, M>>,
 }
 
-impl<'a, M: Drop> OpenGroups<'a, M> {
+impl<'a, M: Drop> EnteredGroups<'a, M> {
     /// No groups.
-    pub fn new(alloc: Global) -> OpenGroups<'a, M>
+    pub fn new(alloc: Global) -> EnteredGroups<'a, M>
         ensures { stack result ≡ [] }
     {
-        OpenGroups {
+        EnteredGroups {
             groups: Vec::new(alloc),
         }
     }
 
     /// Opens a group inside the others. Where memory is refused, it is dropped.
-    pub fn push(&mut self, group: OpenGroup<'a, M>) -> Result<(), AllocError>
+    pub fn push(&mut self, group: EnteredGroup<'a, M>) -> Result<(), AllocError>
         ensures { OnOk result (stack self.new ≡ group.entry ∷ stack self.old) }
     {
         self.groups.push(group)?;
@@ -49,7 +49,7 @@ impl<'a, M: Drop> OpenGroups<'a, M> {
     }
 
     /// Takes the innermost group.
-    pub fn pop(&mut self) -> Option<OpenGroup<'a, M>>
+    pub fn pop(&mut self) -> Option<EnteredGroup<'a, M>>
         ensures { MatchOption result (stack self.old ≡ []) (λ group. stack self.old ≡ group ∷ stack self.new) }
     {
         self.groups.pop()

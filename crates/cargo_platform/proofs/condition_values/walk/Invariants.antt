@@ -3,7 +3,7 @@ use Rattle.cargo_platform.specs.Trees.{value_of, tree_of}
 use Rattle.cargo_platform.specs.Warnings.{values}
 use Rattle.cargo_platform.specs.ExpressionSizes.{node_counts}
 use Rattle.cargo_platform.proofs.WarningWalks.{values_of}
-use Rattle.expression_folds.proofs.condition_values.walk_in.Given as goal
+use Rattle.cargo_platform.proofs.condition_values.walk.Given as goal
 
 -- those that were found, and those that are still to come
 abbrev pub invariant-members : goal.invariant-members

@@ -2,8 +2,8 @@ use Rattle.std.proofs.Common.{◌≡◌, ◌∙◌, ap, sym, subst, [], ◌∷�
 use Rattle.std.proofs.lemmas.Result.{IfOk-weaker}
 use Rattle.cargo_platform.specs.Trees.{tree_of}
 use Rattle.cargo_platform.specs.Walk.{list_tree}
-use Rattle.expression_folds.specs.Folding.{stack, Within}
-use Rattle.expression_folds.proofs.folding.close.Goals as goal
+use Rattle.cargo_platform.specs.Inside.Folding.{stack, Within}
+use Rattle.cargo_platform.proofs.folding.close.Goals as goal
 
 pub returns-in-Continue-clause-stands : goal.returns-in-Continue-clause-stands
 returns-in-Continue-clause-stands g c =

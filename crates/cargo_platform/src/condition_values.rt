@@ -6,13 +6,14 @@ ghost use Rattle.cargo_platform.specs.Warnings.{values, members_values, conditio
 ghost use Rattle.cargo_platform.specs.ExpressionSizes.{node_count, node_counts};
 ghost use Rattle.cargo_platform.specs.Inside.Printing.{is_group};
 
-use cargo_platform::{Cfg, CfgExpr, Platform};
+use crate::Platform;
+use crate::cfg::{Cfg, CfgExpr};
 use std::alloc::{AllocError, Global};
 use std::slice;
 
 /// What one walk of a condition meets.
 #[derive(Drop)]
-pub struct Walked<'a> {
+pub struct ValuesWithLevels<'a> {
     /// The names and pairs, from left to right.
     pub values: Vec<&'a Cfg>,
     /// How many members, each with others after it in its group, stand in one another at most.
@@ -20,16 +21,19 @@ pub struct Walked<'a> {
 }
 
 /// The names and pairs of a condition, from left to right, and how deep it is. The name of a target has none.
-pub fn walk<'a>(alloc: Global, platform: &'a Platform) -> Result<Walked<'a>, AllocError>
+pub fn values_with_levels<'a>(
+    alloc: Global,
+    platform: &'a Platform,
+) -> Result<ValuesWithLevels<'a>, AllocError>
     ensures { IfOk result (λ met. map (λ c. value_of c.now) met.values.items
         ≡ condition_values (condition_of platform.now)) }
 {
     match platform {
-        Platform::Name(_) => Ok(Walked {
+        Platform::Name(_) => Ok(ValuesWithLevels {
             values: Vec::new(alloc),
             levels: 0,
         }),
-        Platform::Cfg(e) => walk_in(alloc, e),
+        Platform::Cfg(e) => walk(alloc, e),
     }
 }
 
@@ -38,7 +42,7 @@ pub fn values_of<'a>(alloc: Global, platform: &'a Platform) -> Result<Vec<&'a Cf
     ensures { IfOk result (λ found. map (λ c. value_of c.now) found.items
         ≡ condition_values (condition_of platform.now)) }
 {
-    let met = walk(alloc, platform)?;
+    let met = values_with_levels(alloc, platform)?;
     Ok(met.values)
 }
 
@@ -65,7 +69,7 @@ fn with_left(levels: usize, left: &[CfgExpr]) -> usize {
 }
 
 /// The names and pairs of an expression, from left to right, and how deep it is.
-fn walk_in<'a>(alloc: Global, e: &'a CfgExpr) -> Result<Walked<'a>, AllocError>
+fn walk<'a>(alloc: Global, e: &'a CfgExpr) -> Result<ValuesWithLevels<'a>, AllocError>
     ensures { IfOk result (λ met. map (λ c. value_of c.now) met.values.items ≡ values (tree_of e.now)) }
 {
     let mut found = Vec::new(alloc);
@@ -77,7 +81,7 @@ fn walk_in<'a>(alloc: Global, e: &'a CfgExpr) -> Result<Walked<'a>, AllocError>
     'members: loop {
         let Some((first, others)) = members.split_first() else {
             let Some((left, before)) = around.pop() else {
-                return Ok(Walked {
+                return Ok(ValuesWithLevels {
                     values: found,
                     levels,
                 });

@@ -3,40 +3,40 @@ use Rattle.std.specs.Prelude.{◌≡◌, ℕ, ◌+◌, ◌*◌, Bool, List, [], 
 use Rattle.cargo_platform.specs.Trees.{Tree, Not, tree_of}
 use Rattle.cargo_platform.specs.ExpressionSizes.{node_count, node_counts}
 use Rattle.cargo_platform.specs.Walk.{list_tree}
-use Rattle.expression_folds.specs.declared.folding.Next.{Next}
-use Rattle.expression_folds.specs.declared.folding.Next.TheVariants as next
-use Rattle.expression_folds.specs.declared.open_groups.OpenGroup.{OpenGroup}
-use Rattle.expression_folds.specs.declared.open_groups.OpenGroup.TheVariants as groups
-use Rattle.expression_folds.specs.declared.open_groups.OpenGroups.{OpenGroups}
+use Rattle.cargo_platform.specs.declared.folding.Next.{Next}
+use Rattle.cargo_platform.specs.declared.folding.Next.TheVariants as next
+use Rattle.cargo_platform.specs.declared.folding.groups.EnteredGroup.{EnteredGroup}
+use Rattle.cargo_platform.specs.declared.folding.groups.EnteredGroup.TheVariants as groups
+use Rattle.cargo_platform.specs.declared.folding.groups.EnteredGroups.{EnteredGroups}
 
 -- the innermost group first
-abbrev pub stack : {M : Type 0} → OpenGroups M → List (OpenGroup M)
+abbrev pub stack : {M : Type 0} → EnteredGroups M → List (EnteredGroup M)
 stack c = reverse c.groups.items
 
 -- the expression that a group makes with the part at hand
-abbrev pub Around : {M : Type 0} → (Bool → List Tree → M → Type 0) → OpenGroup M → Tree → Tree → Type 0
+abbrev pub Around : {M : Type 0} → (Bool → List Tree → M → Type 0) → EnteredGroup M → Tree → Tree → Type 0
 Around gathers groups.Not e around = around ≡ Not e
 Around gathers (groups.List l) e around =
     (es : List Tree) × gathers l.neutral es l.so_far
     × (around ≡ list_tree l.neutral (es ++ e ∷ map tree_of l.members.now))
 
 -- the whole that all groups make with it
-abbrev pub Within : {M : Type 0} → (Bool → List Tree → M → Type 0) → List (OpenGroup M) → Tree → Tree → Type 0
+abbrev pub Within : {M : Type 0} → (Bool → List Tree → M → Type 0) → List (EnteredGroup M) → Tree → Tree → Type 0
 Within gathers [] e whole = whole ≡ e
 Within gathers (g ∷ gs) e whole = (around : Tree) × Around gathers g e around × Within gathers gs around whole
 
 -- what is next stands in the groups, which make the whole
-abbrev pub Stands : {M P : Type 0} → (Tree → P → Type 0) → (Bool → List Tree → M → Type 0) → List (OpenGroup M)
+abbrev pub Stands : {M P : Type 0} → (Tree → P → Type 0) → (Bool → List Tree → M → Type 0) → List (EnteredGroup M)
     → Next P → Tree → Type 0
 Stands makes gathers gs (next.Expression e) whole = Within gathers gs (tree_of e.now) whole
 Stands makes gathers gs (next.Part part) whole = (e : Tree) × makes e part × Within gathers gs e whole
 
 -- what falls with each step
-abbrev pub left_in : {M : Type 0} → OpenGroup M → ℕ
+abbrev pub left_in : {M : Type 0} → EnteredGroup M → ℕ
 left_in groups.Not = 1
 left_in (groups.List l) = 2 * node_counts l.members.now + 1
 
-abbrev pub work : {M : Type 0} → List (OpenGroup M) → ℕ
+abbrev pub work : {M : Type 0} → List (EnteredGroup M) → ℕ
 work [] = 0
 work (g ∷ gs) = left_in g + work gs
 
