@@ -13,12 +13,12 @@ use Rattle.cargo_platform.specs.Trees.{Not, All, Any, Value, True, False, tree_o
 use Rattle.cargo_platform.specs.Facts.{Pair, FactSet, pair_of, truth}
 use Rattle.std.specs.FinSet.{contains}
 use Rattle.cargo_platform.specs.ExpressionSizes.{node_count, node_counts}
-use Rattle.goal_diagrams.specs.declared.making.Goal.{Goal}
-use Rattle.goal_diagrams.specs.Goals.{true_as_wanted, StandsAt}
+use Rattle.exact_answers.specs.declared.goal_diagrams.making.Goal.{Goal}
+use Rattle.exact_answers.specs.Goals.{true_as_wanted, StandsAt}
 use Rattle.exact_answers.specs.declared.outlook.Operation.{Operation}
 use Rattle.exact_answers.specs.declared.outlook.Operation.TheVariants as operation
 use Rattle.exact_answers.specs.Asking.{asks, some_asks}
-use Rattle.exact_answers.specs.Inside.Goals.{goal_trees}
+use Rattle.exact_answers.specs.Inside.Searches.{goal_trees}
 use Rattle.exact_answers.specs.Inside.Ahead.{meets, done, worked_out, goals_size, HasNumber, AsksAmong}
 use Rattle.exact_answers.proofs.Telling.{or_cases, or_true}
 use Rattle.exact_answers.proofs.Ahead.{last_first, wanted_not, wanted_true, wanted_false, wanted_of}

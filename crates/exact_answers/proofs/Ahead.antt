@@ -15,8 +15,8 @@ use Rattle.cargo_platform.specs.Trees.{All as all_of, Any, tree_of, trees_of, va
 use Rattle.cargo_platform.specs.Facts.{FactSet, pair_of, truth}
 use Rattle.cargo_platform.specs.ExpressionSizes.{node_count}
 use Rattle.cargo_platform.specs.declared.cfg.CfgExpr.{CfgExpr}
-use Rattle.goal_diagrams.specs.declared.making.Goal.{Goal}
-use Rattle.goal_diagrams.specs.Goals.{true_as_wanted, goals_met, IsAsTold}
+use Rattle.exact_answers.specs.declared.goal_diagrams.making.Goal.{Goal}
+use Rattle.exact_answers.specs.Goals.{true_as_wanted, goals_met, IsAsTold}
 use Rattle.exact_answers.specs.declared.outlook.Words.{Words}
 use Rattle.exact_answers.specs.declared.outlook.Outlook.{Outlook}
 use Rattle.exact_answers.specs.declared.outlook.Finding.{Finding}
@@ -24,7 +24,7 @@ use Rattle.exact_answers.specs.declared.outlook.Seen.TheVariants as seen
 use Rattle.exact_answers.specs.declared.outlook.Operation.{Operation}
 use Rattle.exact_answers.specs.declared.search.Step.TheVariants as step
 use Rattle.exact_answers.specs.Inside.Paths.{Base, Turn, as_told, set_on, told_on}
-use Rattle.exact_answers.specs.Inside.Goals.{AreMissed, SaysStepOn}
+use Rattle.exact_answers.specs.Inside.Searches.{AreMissed, SaysStepOn}
 use Rattle.exact_answers.specs.Inside.Ahead.{both, gathered, meets, goals_size, worked_out, IsOutlook, Fits, Covers}
 use Rattle.exact_answers.specs.Inside.Ahead.{IsOpenAt, IsSeen, Says, patterns, IsSo, AllSo, AreChosen}
 use Rattle.exact_answers.proofs.Telling.{is_false, told_sound}

@@ -5,16 +5,16 @@ use Rattle.std.specs.FinSet.{contains}
 use Rattle.cargo_platform.specs.Trees.{CfgValue, Tree, Trees, none, tree, tree_of, value_of}
 use Rattle.cargo_platform.specs.Facts.{FactSet, pair_of, fact_set, truth}
 use Rattle.cargo_platform.specs.declared.cfg.CfgExpr.{CfgExpr}
-use Rattle.goal_diagrams.specs.Goals.{true_as_wanted, goals_met}
+use Rattle.exact_answers.specs.Goals.{true_as_wanted, goals_met}
 use Rattle.exact_answers.specs.declared.known.Known.{Known}
-use Rattle.goal_diagrams.specs.declared.making.Goal.{Goal}
+use Rattle.exact_answers.specs.declared.goal_diagrams.making.Goal.{Goal}
 use Rattle.exact_answers.specs.declared.search.Found.{Found}
 use Rattle.exact_answers.specs.declared.search.Found.TheVariants as found
 use Rattle.exact_answers.specs.Possible.{IsAllowed}
 use Rattle.exact_answers.specs.Asking.{asks, NeedsMore}
 use Rattle.exact_answers.specs.Inside.Paths.{IsOver, base_of}
-use Rattle.exact_answers.specs.Inside.Goals.{goal_trees, SaysFound, Searched, NeedsMoreOn}
-use Rattle.exact_answers.specs.Inside.Goals.{MayBeFound}
+use Rattle.exact_answers.specs.Inside.Searches.{goal_trees, SaysFound, Searched, NeedsMoreOn}
+use Rattle.exact_answers.specs.Inside.Searches.{MayBeFound}
 use Rattle.exact_answers.specs.Answers.{IsFactOfExample, AreExample}
 
 allowed : (k : Known) (s : FactSet) → IsOver (base_of k) s → truth s (tree_of k.assumed.now) ≡ true → IsAllowed k s

@@ -12,7 +12,7 @@ use Rattle.cargo_platform.proofs.FactSets.{pairs_total}
 use Rattle.exact_answers.specs.Asking.{is_pair, some_asks}
 use Rattle.exact_answers.specs.Answers.{IsUnmarked}
 use Rattle.exact_answers.specs.Inside.Paths.{Turn, Base, takes, facts_on}
-use Rattle.exact_answers.specs.Inside.Goals.{AreAsked, MayBeFound}
+use Rattle.exact_answers.specs.Inside.Searches.{AreAsked, MayBeFound}
 use Rattle.exact_answers.proofs.Telling.{or_cases, or_true, same, among, any_on}
 
 taken_asked : (es : Trees) (ds : List Turn) (p : Pair) → AreAsked es ds → takes (is_pair p) ds ≡ true

@@ -6,10 +6,10 @@ use Rattle.std.specs.FinSet.{contains}
 use Rattle.cargo_platform.specs.Trees.{CfgValue, Trees}
 use Rattle.cargo_platform.specs.Facts.{Pair, FactSet, pair_of, fact_set}
 use Rattle.partial_facts.specs.Partly.{names_of, told_by}
-use Rattle.goal_diagrams.specs.declared.making.Goal.{Goal}
-use Rattle.goal_diagrams.specs.declared.answers.Outcome.{Outcome}
-use Rattle.goal_diagrams.specs.declared.answers.Outcome.TheVariants as outcome
-use Rattle.goal_diagrams.specs.Goals.{goals_met, HasOneOpenValue, SaysOutcome, IsAsTold}
+use Rattle.exact_answers.specs.declared.goal_diagrams.making.Goal.{Goal}
+use Rattle.exact_answers.specs.declared.goal_diagrams.answers.Outcome.{Outcome}
+use Rattle.exact_answers.specs.declared.goal_diagrams.answers.Outcome.TheVariants as outcome
+use Rattle.exact_answers.specs.Goals.{goals_met, HasOneOpenValue, SaysOutcome, IsAsTold}
 use Rattle.exact_answers.specs.declared.diagram.End.{End}
 use Rattle.exact_answers.specs.declared.diagram.End.TheVariants as end
 use Rattle.exact_answers.specs.declared.known.Known.{Known}
@@ -20,8 +20,8 @@ use Rattle.exact_answers.specs.Answers.{IsUnmarked}
 use Rattle.exact_answers.specs.Asking.{some_asks}
 use Rattle.exact_answers.specs.Inside.Paths.{IsOver, base_of, turns, told_on, told_by_path, facts_on, set_on}
 use Rattle.exact_answers.specs.Inside.Paths.{as_told, WereOpen}
-use Rattle.exact_answers.specs.Inside.Goals.{goals_known, goal_trees, AreAsked, AreMet, AreMissed, MayBeFound}
-use Rattle.exact_answers.specs.Inside.Goals.{SaysStep, IsPathOf, SaysEnd}
+use Rattle.exact_answers.specs.Inside.Searches.{goals_known, goal_trees, AreAsked, AreMet, AreMissed, MayBeFound}
+use Rattle.exact_answers.specs.Inside.Searches.{SaysStep, IsPathOf, SaysEnd}
 use Rattle.exact_answers.proofs.Asked.{may_be_found}
 use Rattle.exact_answers.proofs.Searching.{goals_decided, found_facts}
 use Rattle.exact_answers.proofs.Telling.{told_sound}

@@ -1,3 +1,7 @@
+pub mod Tables
+pub mod Pairs
+pub mod Members
+pub mod Steps
 pub mod Telling
 pub mod OnPath
 pub mod OpenMembers

@@ -6,7 +6,7 @@ use Rattle.std.proofs.lemmas.List.{map-append, length-map, drop_more}
 use Rattle.cargo_platform.specs.declared.cfg.Cfg.{Cfg}
 use Rattle.cargo_platform.specs.Trees.{value_of}
 use Rattle.cargo_platform.specs.Facts.{Pair, pair_of}
-use Rattle.goal_diagrams.specs.Goals.{StandsAt, pairs_of}
+use Rattle.exact_answers.specs.Goals.{StandsAt, pairs_of}
 use Rattle.exact_answers.specs.declared.outlook.Words.{Words}
 use Rattle.exact_answers.specs.Inside.Paths.{Base, Turn, told_on}
 use Rattle.exact_answers.specs.Inside.Ahead.{table_pairs, AreAmong, IsOpenAt, AreTold}

@@ -4,13 +4,13 @@ use Rattle.std.specs.Prelude.{IsTrue}
 use Rattle.std.specs.FinSet.{contains, from_list}
 use Rattle.cargo_platform.specs.Trees.{CfgValue, tree_of, value_of}
 use Rattle.cargo_platform.specs.Facts.{pair_of, pair_cmp, fact_set, truth}
-use Rattle.goal_diagrams.specs.Goals.{true_as_wanted, goals_met}
-use Rattle.goal_diagrams.specs.declared.making.Goal.{Goal}
+use Rattle.exact_answers.specs.Goals.{true_as_wanted, goals_met}
+use Rattle.exact_answers.specs.declared.goal_diagrams.making.Goal.{Goal}
 use Rattle.exact_answers.specs.declared.search.Found.{Found}
 use Rattle.exact_answers.specs.declared.search.Found.TheVariants as found
 use Rattle.exact_answers.specs.Asking.{asks, some_asks}
 use Rattle.exact_answers.specs.Inside.Paths.{Base, IsOver}
-use Rattle.exact_answers.specs.Inside.Goals.{Searched, MayBeFound, IsMetBy, goal_trees}
+use Rattle.exact_answers.specs.Inside.Searches.{Searched, MayBeFound, IsMetBy, goal_trees}
 
 and_false : (a : Bool) → (a && false) ≡ false
 and_false true = refl

@@ -14,7 +14,7 @@ use Rattle.exact_answers.specs.Possible.{is_value, has_value}
 use Rattle.exact_answers.specs.Inside.Paths.{Turn, Base, takes, refuses, facts_on, set_on}
 use Rattle.exact_answers.specs.Inside.Paths.{rules_out, is_refuted, told_on, WereOpen, turned, base_of}
 use Rattle.exact_answers.specs.Asking.{is_pair, asks, some_asks, one_if, open_count, HasAll, NeedsMore}
-use Rattle.exact_answers.specs.Inside.Goals.{open_on, AreAsked, NeedsMoreOn}
+use Rattle.exact_answers.specs.Inside.Searches.{open_on, AreAsked, NeedsMoreOn}
 use Rattle.exact_answers.specs.declared.known.Known.{Known}
 use Rattle.exact_answers.proofs.Telling.{or_cases, same, itself, any_on, on_path, or_true}
 

@@ -13,7 +13,7 @@ use Rattle.exact_answers.specs.Asking.{asks, some_asks, NeedsMore}
 use Rattle.exact_answers.specs.Answers.{IsFactOfExample, OverEach}
 use Rattle.exact_answers.specs.Targets.{IsOtherName, MayHaveName, IsExample, asked_tree, asked_trees}
 use Rattle.exact_answers.specs.Targets.{SaysCanSelect, SaysMustSelect}
-use Rattle.exact_answers.specs.Inside.Goals.{SaysFound}
+use Rattle.exact_answers.specs.Inside.Searches.{SaysFound}
 use Rattle.exact_answers.specs.Inside.Targets.{tree_under, is_name_of, Wanted, wants, conditions, MetUnder}
 use Rattle.exact_answers.specs.Inside.Targets.{MissedUnder, SaysFoundUnder, with_name, or_undecided, as_can, as_must}
 use Rattle.exact_answers.specs.Inside.Targets.{SaysTarget}

@@ -10,8 +10,8 @@ use Rattle.std.proofs.lemmas.Slice.Eq.{bytes_eq-Decides}
 use Rattle.cargo_platform.specs.Facts.{Pair, FactSet, pair_cmp}
 use Rattle.cargo_platform.proofs.FactSets.{pairs_total}
 use Rattle.partial_facts.specs.Partly.{is_named, told_by}
-use Rattle.goal_diagrams.specs.Goals.{IsAsTold}
-pub use Rattle.goal_diagrams.proofs.Pairs.{same}
+use Rattle.exact_answers.specs.Goals.{IsAsTold}
+pub use Rattle.exact_answers.proofs.Pairs.{same}
 use Rattle.exact_answers.specs.Possible.{is_single}
 use Rattle.exact_answers.specs.Asking.{is_pair}
 use Rattle.exact_answers.specs.Possible.{is_value, has_value}

@@ -10,7 +10,7 @@ use Rattle.partial_facts.proofs.Neutral.{neutral_first, neutral_second, settled_
 use Rattle.std.specs.Borrow.{Bor}
 use Rattle.cargo_platform.specs.declared.cfg.Cfg.{Cfg}
 use Rattle.exact_answers.specs.Asking.{asks, some_asks}
-use Rattle.exact_answers.specs.Inside.Goals.{as_wanted}
+use Rattle.exact_answers.specs.Inside.Searches.{as_wanted}
 use Rattle.exact_answers.specs.Inside.Opening.{SaysVerdict, HangsOn}
 use Rattle.exact_answers.specs.declared.opening.Verdict.{Verdict}
 use Rattle.exact_answers.specs.declared.opening.Verdict.TheVariants as verdict

@@ -1,3 +1,5 @@
+pub mod Diagrams
+pub mod Goals
 pub mod Possible
 pub mod Families
 pub mod Asking

@@ -4,14 +4,14 @@ ghost use Rattle.std.specs.Prelude.{◌≡◌, true, false, not, IfOk};
 ghost use Rattle.cargo_platform.specs.Trees.{tree_of, tree, none};
 ghost use Rattle.cargo_platform.specs.Facts.{truth};
 ghost use Rattle.exact_answers.specs.Answers.{SaysCan, SaysMust};
-ghost use Rattle.exact_answers.specs.Inside.Goals.{SaysFound};
+ghost use Rattle.exact_answers.specs.Inside.Searches.{SaysFound};
 
 use crate::assuming::search_assuming;
+use crate::goal_diagrams::Goal;
 use crate::known::Known;
 use crate::path::Path;
 use crate::search::{Found, search};
 use cargo_platform::{Cfg, CfgExpr};
-use goal_diagrams::Goal;
 use std::alloc::{AllocError, Global};
 
 /// Whether something can hold.

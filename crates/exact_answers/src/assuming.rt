@@ -3,15 +3,15 @@
 ghost use Rattle.std.specs.Prelude.{◌≡◌, ℕ, map, IfOk, IfSome};
 ghost use Rattle.cargo_platform.specs.Trees.{tree_of, value_of};
 ghost use Rattle.cargo_platform.specs.Facts.{fact_set, truth};
-ghost use Rattle.goal_diagrams.specs.Goals.{true_as_wanted};
+ghost use Rattle.exact_answers.specs.Goals.{true_as_wanted};
 ghost use Rattle.exact_answers.specs.Inside.Paths.{base_of};
-ghost use Rattle.exact_answers.specs.Inside.Goals.{Searched, IsMetBy};
+ghost use Rattle.exact_answers.specs.Inside.Searches.{Searched, IsMetBy};
 
+use crate::goal_diagrams::{Goal, as_wanted};
 use crate::known::Known;
 use crate::path::Path;
 use crate::search::{Found, search};
 use cargo_platform::{Cfg, CfgExpr};
-use goal_diagrams::{Goal, as_wanted};
 use std::alloc::{AllocError, Global};
 
 /// How many splits are made while what is assumed is passed over. Most questions of real manifests take fewer.

@@ -1,18 +1,18 @@
 //! The end of a search by a decision diagram.
 
 ghost use Rattle.std.specs.Prelude.{◌≡◌, [], IfOk, OnOk, IfSome};
-ghost use Rattle.goal_diagrams.specs.Goals.{pairs_of};
+ghost use Rattle.exact_answers.specs.Goals.{pairs_of};
 ghost use Rattle.cargo_platform.specs.Trees.{Trees};
 ghost use Rattle.exact_answers.specs.Asking.{some_asks};
 ghost use Rattle.exact_answers.specs.Inside.Paths.{base_of};
-ghost use Rattle.exact_answers.specs.Inside.Goals.{goal_trees, AreMissed, IsPathOf, SaysEnd};
+ghost use Rattle.exact_answers.specs.Inside.Searches.{goal_trees, AreMissed, IsPathOf, SaysEnd};
 ghost use Rattle.exact_answers.specs.Inside.Ahead.{AreAmong};
 
+use crate::goal_diagrams::{Choice, Goal, Outcome, find_way};
 use crate::known::Known;
 use crate::path::Path;
 use crate::search::{Step, next_step};
 use cargo_platform::Cfg;
-use goal_diagrams::{Choice, Goal, Outcome, find_way};
 use std::alloc::{AllocError, Global};
 
 /// What a diagram tells of goals.

@@ -10,6 +10,7 @@
 mod answers;
 mod assuming;
 mod diagram;
+pub mod goal_diagrams;
 mod known;
 mod opening;
 mod outlook;

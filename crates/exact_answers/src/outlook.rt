@@ -11,18 +11,18 @@ ghost use Rattle.std.specs.FinSet.{contains};
 ghost use Rattle.cargo_platform.specs.Trees.{tree_of, trees_of, value_of};
 ghost use Rattle.cargo_platform.specs.Facts.{Pair, FactSet, pair_of, truth};
 ghost use Rattle.cargo_platform.specs.ExpressionSizes.{node_count, node_counts};
-ghost use Rattle.goal_diagrams.specs.Goals.{true_as_wanted, StandsAt, pairs_of, IsAsTold};
+ghost use Rattle.exact_answers.specs.Goals.{true_as_wanted, StandsAt, pairs_of, IsAsTold};
 ghost use Rattle.exact_answers.specs.Asking.{some_asks};
 ghost use Rattle.exact_answers.specs.Inside.Paths.{Base, Turn, told_by_path, told_on, base_of, turns};
-ghost use Rattle.exact_answers.specs.Inside.Goals.{SaysStepOn};
+ghost use Rattle.exact_answers.specs.Inside.Searches.{SaysStepOn};
 ghost use Rattle.exact_answers.specs.Inside.Ahead.{both, gathered, meets, done, worked_out, outcome, goals_size};
 ghost use Rattle.exact_answers.specs.Inside.Ahead.{table_pairs, AreAmong, HasNumber, AsksAmong};
 ghost use Rattle.exact_answers.specs.Inside.Ahead.{IsOutlook, Fits, IsOpenAt, IsSeen, Says, Covers, AreTold, IsNext};
 
+use crate::goal_diagrams::{Goal, number_of};
 use crate::path::Path;
 use crate::search::Step;
 use cargo_platform::{Cfg, CfgExpr};
-use goal_diagrams::{Goal, number_of};
 use partial_facts::Knowledge;
 use std::alloc::{AllocError, Global};
 

@@ -6,7 +6,7 @@ ghost use Rattle.std.specs.Bool.{MatchBool};
 ghost use Rattle.std.specs.List.{All};
 ghost use Rattle.cargo_platform.specs.Trees.{Trees, name_of, value_of};
 ghost use Rattle.cargo_platform.specs.Facts.{pair_of};
-ghost use Rattle.goal_diagrams.specs.Goals.{IsAsTold};
+ghost use Rattle.exact_answers.specs.Goals.{IsAsTold};
 ghost use Rattle.exact_answers.specs.Answers.{IsUnmarked};
 ghost use Rattle.exact_answers.specs.Asking.{is_pair, some_asks};
 ghost use Rattle.exact_answers.specs.Possible.{is_value, has_value};
@@ -14,7 +14,7 @@ ghost use Rattle.exact_answers.specs.Inside.Paths.{takes, refuses, facts_on, rul
 ghost use Rattle.exact_answers.specs.Inside.Paths.{base_of, turn_of, turns, turned, taken, set_on, is_refuted};
 ghost use Rattle.exact_answers.specs.Inside.Paths.{unmarked};
 ghost use Rattle.exact_answers.specs.Inside.Paths.{WereOpen};
-ghost use Rattle.exact_answers.specs.Inside.Goals.{AreAsked};
+ghost use Rattle.exact_answers.specs.Inside.Searches.{AreAsked};
 ghost use Rattle.std.specs.FinSet.{contains};
 
 use crate::known::Known;

@@ -5,7 +5,9 @@ ghost use Rattle.cargo_platform.specs.Trees.{value_of, condition_of};
 ghost use Rattle.cargo_platform.specs.Facts.{fact_set, IsTrueCondition};
 
 use crate::given_targets::{FactsFrom, GivenTargets, line_that_says};
-use cargo_platform::{Cfg, FactIndex, FactsError, Platform, ReadError, read_facts, shown_start, values_of};
+use cargo_platform::{
+    Cfg, FactIndex, FactsError, Platform, ReadError, read_facts, shown_start, values_of,
+};
 use input_limits::without_mark;
 use key_answers::answer::{Answer, Refusal, Status};
 use key_answers::conditions::read_key;

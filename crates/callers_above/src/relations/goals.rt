@@ -2,7 +2,7 @@
 
 use crate::support::expression;
 use cargo_platform::{Cfg, ReadError};
-use goal_diagrams::{Choice, Goal, Outcome, find_way};
+use exact_answers::goal_diagrams::{Choice, Goal, Outcome, find_way};
 use partial_facts::OneValued;
 use std::alloc::{AllocError, Global};
 use std::process::Abort;

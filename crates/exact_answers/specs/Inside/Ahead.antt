@@ -7,11 +7,11 @@ use Rattle.std.specs.FinSet.{contains}
 use Rattle.cargo_platform.specs.Trees.{tree_of, value_of}
 use Rattle.cargo_platform.specs.Facts.{Pair, FactSet, pair_of, truth}
 use Rattle.cargo_platform.specs.ExpressionSizes.{node_count}
-use Rattle.goal_diagrams.specs.Goals.{true_as_wanted, goals_met, pairs_of, StandsAt}
+use Rattle.exact_answers.specs.Goals.{true_as_wanted, goals_met, pairs_of, StandsAt}
 use Rattle.exact_answers.specs.Asking.{asks, some_asks}
 use Rattle.exact_answers.specs.Inside.Paths.{Turn, Base, told_on}
-use Rattle.exact_answers.specs.Inside.Goals.{goal_trees}
-use Rattle.goal_diagrams.specs.declared.making.Goal.{Goal}
+use Rattle.exact_answers.specs.Inside.Searches.{goal_trees}
+use Rattle.exact_answers.specs.declared.goal_diagrams.making.Goal.{Goal}
 use Rattle.exact_answers.specs.declared.outlook.Words.{Words}
 use Rattle.exact_answers.specs.declared.outlook.Finding.{Finding}
 use Rattle.exact_answers.specs.declared.outlook.Seen.{Seen}

@@ -4,7 +4,7 @@ use Rattle.cargo_platform.specs.Trees.{Tree, value_of}
 use Rattle.cargo_platform.specs.Facts.{Pair, pair_of}
 use Rattle.partial_facts.specs.Kleene.{kleene}
 use Rattle.exact_answers.specs.Asking.{asks}
-use Rattle.exact_answers.specs.Inside.Goals.{as_wanted}
+use Rattle.exact_answers.specs.Inside.Searches.{as_wanted}
 use Rattle.exact_answers.specs.declared.opening.Verdict.{Verdict}
 use Rattle.exact_answers.specs.declared.opening.Verdict.TheVariants as verdict
 

@@ -6,7 +6,7 @@ use Rattle.std.specs.FinSet.{contains, from_list}
 use Rattle.cargo_platform.specs.Trees.{CfgValue, Alone, KeyPair, value_of}
 use Rattle.cargo_platform.specs.Facts.{Pair, FactSet, pair_of}
 use Rattle.partial_facts.specs.Partly.{told_by, IsPartlyKnown}
-use Rattle.goal_diagrams.specs.Goals.{IsAsTold}
+use Rattle.exact_answers.specs.Goals.{IsAsTold}
 use Rattle.exact_answers.specs.Possible.{HasOneValue, is_ruled_out}
 use Rattle.exact_answers.specs.Asking.{is_pair}
 use Rattle.exact_answers.specs.declared.known.Known.{Known}

@@ -8,7 +8,7 @@ use Rattle.cargo_platform.specs.Facts.{FactSet, truth}
 use Rattle.exact_answers.specs.Asking.{NeedsMore}
 use Rattle.exact_answers.specs.Answers.{OverEach}
 use Rattle.exact_answers.specs.Targets.{IsExample, asked_trees}
-use Rattle.exact_answers.specs.Inside.Goals.{SaysFound}
+use Rattle.exact_answers.specs.Inside.Searches.{SaysFound}
 use Rattle.exact_answers.specs.declared.known.Known.{Known}
 use Rattle.exact_answers.specs.declared.search.Found.{Found}
 use Rattle.exact_answers.specs.declared.search.Found.TheVariants as found

@@ -1,6 +1,6 @@
 use Rattle.std.proofs.Common.{ℕ, subst, IfSome}
 use Rattle.exact_answers.specs.Inside.Paths.{base_of}
-use Rattle.exact_answers.specs.Inside.Goals.{Searched}
+use Rattle.exact_answers.specs.Inside.Searches.{Searched}
 use Rattle.exact_answers.proofs.assuming.search_assuming.Goals as goal
 
 pub returns-in-Some : goal.returns-in-Some

@@ -1,5 +1,5 @@
 use Rattle.std.proofs.lemmas.Result.{IfOk-weaker}
-use Rattle.goal_diagrams.specs.Goals.{pairs_of}
+use Rattle.exact_answers.specs.Goals.{pairs_of}
 use Rattle.exact_answers.proofs.Ending.{missed}
 use Rattle.exact_answers.proofs.diagram.outcome_within.Goals as goal
 

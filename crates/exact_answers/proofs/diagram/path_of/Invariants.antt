@@ -1,7 +1,7 @@
 use Rattle.cargo_platform.specs.Trees.{Trees}
-use Rattle.goal_diagrams.specs.Goals.{pairs_of}
+use Rattle.exact_answers.specs.Goals.{pairs_of}
 use Rattle.exact_answers.specs.Asking.{some_asks}
-use Rattle.exact_answers.specs.Inside.Goals.{IsPathOf}
+use Rattle.exact_answers.specs.Inside.Searches.{IsPathOf}
 use Rattle.exact_answers.specs.Inside.Ahead.{AreAmong}
 use Rattle.exact_answers.proofs.diagram.path_of.Given as goal
 

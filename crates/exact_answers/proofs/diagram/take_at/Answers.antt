@@ -1,4 +1,4 @@
-use Rattle.goal_diagrams.proofs.Pairs.{pair_at}
+use Rattle.exact_answers.proofs.Pairs.{pair_at}
 use Rattle.exact_answers.proofs.Ending.{both_on_ok, taken_path}
 use Rattle.exact_answers.proofs.diagram.take_at.Goals as goal
 

@@ -1,4 +1,4 @@
-use Rattle.exact_answers.specs.Inside.Goals.{goal_trees}
+use Rattle.exact_answers.specs.Inside.Searches.{goal_trees}
 use Rattle.exact_answers.proofs.Ending.{met_on}
 use Rattle.exact_answers.proofs.diagram.tried.Goals as goal
 

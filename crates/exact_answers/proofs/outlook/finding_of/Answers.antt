@@ -3,7 +3,7 @@ use Rattle.std.specs.FinSet.{contains}
 use Rattle.std.proofs.lemmas.List.Elements.{All-get_or}
 use Rattle.cargo_platform.specs.Trees.{value_of}
 use Rattle.cargo_platform.specs.Facts.{pair_of}
-use Rattle.goal_diagrams.specs.Goals.{true_as_wanted}
+use Rattle.exact_answers.specs.Goals.{true_as_wanted}
 use Rattle.exact_answers.specs.declared.outlook.Finding.{Finding}
 use Rattle.exact_answers.specs.Inside.Ahead.{Fits, Says}
 use Rattle.exact_answers.proofs.Numbers.{words_at, one_pair, open_there}

@@ -1,6 +1,6 @@
 use Rattle.std.proofs.Common.{◌≡◌, ◌++◌, drop}
 use Rattle.cargo_platform.specs.Facts.{FactSet}
-use Rattle.goal_diagrams.specs.Goals.{pairs_of, IsAsTold}
+use Rattle.exact_answers.specs.Goals.{pairs_of, IsAsTold}
 use Rattle.exact_answers.specs.Inside.Paths.{told_by_path, base_of, turns}
 use Rattle.exact_answers.specs.Inside.Ahead.{AreChosen, AreTold, table_pairs}
 use Rattle.exact_answers.proofs.outlook.words_of.Given as goal

@@ -2,9 +2,9 @@ use Rattle.std.proofs.Common.{◌≡◌, ◌∙◌, refl, sym, ap, map, reverse,
 use Rattle.std.proofs.lemmas.List.{reverse-reverse}
 use Rattle.std.proofs.lemmas.List.Elements.{All-nil}
 use Rattle.std.proofs.lemmas.List.Sorted.{All-permutation}
-use Rattle.goal_diagrams.specs.Goals.{pairs_of}
+use Rattle.exact_answers.specs.Goals.{pairs_of}
 use Rattle.exact_answers.specs.Asking.{some_asks}
-use Rattle.exact_answers.specs.Inside.Goals.{goal_trees}
+use Rattle.exact_answers.specs.Inside.Searches.{goal_trees}
 use Rattle.exact_answers.specs.Inside.Ahead.{meets, worked_out, outcome, HasNumber}
 use Rattle.exact_answers.proofs.Numbers.{none_among}
 use Rattle.exact_answers.specs.declared.outlook.Operation.TheVariants as operation

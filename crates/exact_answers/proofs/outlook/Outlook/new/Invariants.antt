@@ -1,9 +1,9 @@
 use Rattle.std.proofs.Common.{◌≡◌, [], ◌∷◌, reverse}
 use Rattle.std.specs.List.{All}
 use Rattle.cargo_platform.specs.Facts.{FactSet}
-use Rattle.goal_diagrams.specs.Goals.{goals_met, pairs_of}
+use Rattle.exact_answers.specs.Goals.{goals_met, pairs_of}
 use Rattle.exact_answers.specs.Asking.{some_asks}
-use Rattle.exact_answers.specs.Inside.Goals.{goal_trees}
+use Rattle.exact_answers.specs.Inside.Searches.{goal_trees}
 use Rattle.exact_answers.specs.Inside.Ahead.{outcome, goals_size, HasNumber, AreAmong, AsksAmong}
 use Rattle.exact_answers.proofs.outlook.Outlook.new.Given as goal
 

@@ -1,7 +1,7 @@
 use Rattle.std.proofs.Common.{◌∙◌, sym, subst, ap}
 use Rattle.cargo_platform.specs.Trees.{value_of}
 use Rattle.cargo_platform.specs.Facts.{pair_of}
-use Rattle.goal_diagrams.specs.Goals.{StandsAt, pairs_of}
+use Rattle.exact_answers.specs.Goals.{StandsAt, pairs_of}
 use Rattle.exact_answers.specs.Inside.Paths.{base_of, turns}
 use Rattle.exact_answers.specs.Inside.Ahead.{IsOpenAt, AreTold, table_pairs}
 use Rattle.exact_answers.proofs.Ahead.{none_met, decided, open_at, found_by}

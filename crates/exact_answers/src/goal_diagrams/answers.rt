@@ -1,0 +1,93 @@
+//! Whether goals can be met.
+
+ghost use Rattle.std.specs.Prelude.{◌≡◌, ◌<◌, List, IfOk};
+ghost use Rattle.std.specs.Borrow.{Bor};
+ghost use Rattle.cargo_platform.specs.declared.cfg.Cfg.{Cfg};
+ghost use Rattle.cargo_platform.specs.Facts.{FactSet};
+ghost use Rattle.partial_facts.specs.Partly.{names_of};
+ghost use Rattle.exact_answers.specs.Diagrams.{nodes_of, places, AreEarlier, IsTable, IsMade};
+ghost use Rattle.exact_answers.specs.Goals.{goals_met, HasOneOpenValue, pairs_of, SaysOutcome, IsAsTold};
+ghost use Rattle.exact_answers.specs.Inside.Making.{says};
+
+use crate::goal_diagrams::making::{Asked, Goal, goals_made, single_values};
+use crate::goal_diagrams::table::{Choice, Stop, Table};
+use cargo_platform::Cfg;
+use partial_facts::Knowledge;
+use std::alloc::{AllocError, Global};
+
+/// What is found of goals.
+#[derive(Drop)]
+pub enum Outcome {
+    /// Each goal is met over each possible set of facts that agrees with these choices, by the numbers of pairs.
+    Way(Vec<Choice>),
+    /// Over no possible set of facts is each goal met.
+    Nothing,
+    /// The diagram would be too large, the goals are nested too deep, or a pair of theirs that is open is none of those
+    /// that were given.
+    TooLarge,
+}
+
+/// What becomes of it where no diagram is made.
+fn unmade(stop: Stop) -> Result<Outcome, AllocError>
+    ensures { IfOk result (λ r. r ≡ Outcome.TooLarge) }
+{
+    match stop {
+        Stop::TooLarge => Ok(Outcome::TooLarge),
+        Stop::Memory(refused) => Err(refused),
+    }
+}
+
+/// Where each goal is met, and no key in `single` has two values.
+fn all_made<K: Knowledge>(
+    asked: &Asked<'_, '_, K>,
+    table: &mut Table,
+    goals: &[Goal<'_>],
+    single: &[&str],
+) -> Result<usize, Stop>
+    requires { IsTable (nodes_of table.old) table.old.joined.items }
+    ensures made { IfOk result (IsMade table.old table.new) }
+    ensures means { IfOk result (λ place. (s : FactSet) → IsAsTold (K.told asked.now.known.now) s
+        → HasOneOpenValue (K.told asked.now.known.now) (names_of single.now) s
+        → says s asked.now.pairs.now table.new place ≡ goals_met s goals.now) }
+{
+    let among = single_values(asked, table, single)?;
+    goals_made(asked, table, among, goals)
+}
+
+/// The choices on a way to what is true, from this place.
+fn way_from(alloc: Global, table: &Table, place: usize) -> Result<Outcome, AllocError>
+    requires table { AreEarlier (nodes_of table.now) }
+    requires place { place < places (nodes_of table.now) }
+    ensures { IfOk result (λ r. (s : FactSet) (cs : List (Bor Cfg))
+        → SaysOutcome r s (pairs_of cs) (says s cs table.now place)) }
+{
+    if place == 0 {
+        return Ok(Outcome::Nothing);
+    }
+    let way = table.way(alloc, place)?;
+    Ok(Outcome::Way(way))
+}
+
+/// Whether each goal can be met, by a diagram whose nodes ask for these pairs, in this order. A set of facts is
+/// possible where `known` allows it, and no key in `single` has two values in it that are open by `known`.
+pub fn find_way<K: Knowledge>(
+    alloc: Global,
+    goals: &[Goal<'_>],
+    pairs: &[&Cfg],
+    known: &K,
+    single: &[&str],
+    most_nodes: usize,
+) -> Result<Outcome, AllocError>
+    // Of choices, each goal is met over each possible set of facts that agrees with them. Of `Nothing`, over no
+    // possible set is each goal met.
+    ensures { IfOk result (λ r. (s : FactSet) → K.allows known.now s
+        → HasOneOpenValue (K.told known.now) (names_of single.now) s
+        → SaysOutcome r s (pairs_of pairs.now) (goals_met s goals.now)) }
+{
+    let mut table = Table::new(alloc, most_nodes)?;
+    let asked = Asked { known, pairs };
+    match all_made(&asked, &mut table, goals, single) {
+        Ok(place) => way_from(alloc, &table, place),
+        Err(stop) => unmade(stop),
+    }
+}

@@ -1,0 +1,433 @@
+//! The diagram of expressions.
+
+ghost use Rattle.std.specs.Prelude.{◌≡◌, ◌<◌, ℕ, Bool, ◌&&◌, not, true, Some, None, map, IfOk, IfSome, length};
+ghost use Rattle.std.specs.Prelude.{string_bytes, bytes_eq};
+ghost use Rattle.std.specs.Ordering.{eq_by_cmp};
+ghost use Rattle.std.specs.FinSet.{contains};
+ghost use Rattle.cargo_platform.specs.Trees.{tree_of, value_of};
+ghost use Rattle.cargo_platform.specs.Facts.{FactSet, pair_of, pair_cmp, truth};
+ghost use Rattle.partial_facts.specs.Partly.{names_of};
+ghost use Rattle.exact_answers.specs.Diagrams.{value, nodes_of, places, IsTable, IsMade};
+ghost use Rattle.exact_answers.specs.Goals.{true_as_wanted, goals_met, HasOneOpenValue, pairs_of, holds_in};
+ghost use Rattle.exact_answers.specs.Goals.{IsAsTold, StandsAt};
+ghost use Rattle.exact_answers.specs.Inside.Making.{says, AreTwoValues, AreApart};
+ghost use Rattle.exact_answers.specs.Inside.Making.{each_wanted, some_wanted, group_wanted};
+
+use crate::goal_diagrams::table::{FALSE, Stop, TRUE, Table, literal};
+use cargo_platform::{Cfg, CfgExpr, Ident};
+use partial_facts::Knowledge;
+use partial_facts::names::is_named;
+
+/// An expression and the truth that is wanted of it.
+#[derive(Clone, Copy)]
+pub struct Goal<'a> {
+    pub e: &'a CfgExpr,
+    pub wanted: bool,
+}
+
+/// How many groups may stand in one another: each takes some stack.
+const MOST_LEVELS: usize = 500;
+
+/// What is asked: what is known, and the pairs in the order in which nodes ask for them.
+#[derive(Drop)]
+pub struct Asked<'a, 'b, K> {
+    pub known: &'b K,
+    pub pairs: &'b [&'a Cfg],
+}
+
+/// Whether both are the same pair.
+fn is_same(c: &Cfg, other: &Cfg) -> bool
+    ensures { result ≡ eq_by_cmp pair_cmp (pair_of (value_of c.now)) (pair_of (value_of other.now)) }
+{
+    c == other
+}
+
+/// The number of the pair.
+pub fn number_of(pairs: &[&Cfg], c: &Cfg) -> Option<usize>
+    ensures { IfSome result (λ n. StandsAt (pairs_of pairs.now) n (pair_of (value_of c.now))) }
+{
+    let mut number = 0;
+    'pairs: while number < pairs.len() {
+        if is_same(c, pairs[number]) {
+            return Some(number);
+        }
+        number += 1;
+    }
+    None
+}
+
+/// The pair with this number.
+pub fn pair_at<'a>(pairs: &[&'a Cfg], number: usize) -> &'a Cfg
+    requires { number < length pairs.now }
+    ensures { StandsAt (pairs_of pairs.now) number (pair_of (value_of result.now)) }
+{
+    pairs[number]
+}
+
+/// The truth, or its negation where the other truth is wanted.
+pub fn as_wanted(truth: bool, wanted: bool) -> bool
+    ensures { result ≡ true_as_wanted wanted truth }
+{
+    if wanted { truth } else { !truth }
+}
+
+/// Whether both texts are the same.
+fn is_text(text: &str, other: &str) -> bool
+    ensures { result ≡ bytes_eq text.now other.now }
+{
+    text == other
+}
+
+/// Whether these are two values of one key, which is among these.
+fn are_values(
+    key: &Ident,
+    value: &str,
+    other_key: &Ident,
+    other_value: &str,
+    single: &[&str],
+) -> bool
+    ensures { result ≡ true → AreTwoValues (names_of single.now)
+        (record { name = string_bytes key.now.name; value = Some value.now })
+        (record { name = string_bytes other_key.now.name; value = Some other_value.now }) }
+{
+    let is_single = is_named(key, single);
+    let one_key = is_text(key.as_str(), other_key.as_str());
+    let one_value = is_text(value, other_value);
+    if is_single {
+        if one_key { !one_value } else { false }
+    } else {
+        false
+    }
+}
+
+/// Whether both are values of one key among these, and different.
+fn are_two_values(c: &Cfg, other: &Cfg, single: &[&str]) -> bool
+    ensures { result ≡ true
+        → AreTwoValues (names_of single.now) (pair_of (value_of c.now)) (pair_of (value_of other.now)) }
+{
+    match c {
+        Cfg::Name(_) => false,
+        Cfg::KeyPair(key, value) => match other {
+            Cfg::Name(_) => false,
+            Cfg::KeyPair(other_key, other_value) => are_values(
+                key,
+                value.as_str(),
+                other_key,
+                other_value.as_str(),
+                single,
+            ),
+        },
+    }
+}
+
+/// Where a name or a pair has the truth that is wanted.
+fn value_made<K: Knowledge>(
+    asked: &Asked<'_, '_, K>,
+    table: &mut Table,
+    c: &Cfg,
+    wanted: bool,
+) -> Result<usize, Stop>
+    requires { IsTable (nodes_of table.old) table.old.joined.items }
+    ensures made { IfOk result (IsMade table.old table.new) }
+    ensures means { IfOk result (λ place. (s : FactSet) → IsAsTold (K.told asked.now.known.now) s
+        → says s asked.now.pairs.now table.new place
+        ≡ true_as_wanted wanted (contains s (pair_of (value_of c.now)))) }
+{
+    match asked.known.tells(c) {
+        Some(truth) => Ok(literal(as_wanted(truth, wanted))),
+        None => match number_of(asked.pairs, c) {
+            Some(number) => table.pair(number, wanted),
+            None => Err(Stop::TooLarge),
+        },
+    }
+}
+
+/// Where a name or a pair has the truth that is wanted, among the sets that a place leaves.
+fn value_joined<K: Knowledge>(
+    asked: &Asked<'_, '_, K>,
+    table: &mut Table,
+    among: usize,
+    c: &Cfg,
+    wanted: bool,
+) -> Result<usize, Stop>
+    requires table { IsTable (nodes_of table.old) table.old.joined.items }
+    requires among { among < places (nodes_of table.old) }
+    ensures made { IfOk result (IsMade table.old table.new) }
+    ensures means { IfOk result (λ place. (s : FactSet) → IsAsTold (K.told asked.now.known.now) s
+        → says s asked.now.pairs.now table.new place
+        ≡ (says s asked.now.pairs.now table.old among
+        && true_as_wanted wanted (contains s (pair_of (value_of c.now))))) }
+{
+    let place = value_made(asked, table, c, wanted)?;
+    table.join(true, among, place)
+}
+
+/// Where an expression has the truth that is wanted, among the sets that a place leaves.
+#[cycle(made)]
+fn made<K: Knowledge>(
+    asked: &Asked<'_, '_, K>,
+    table: &mut Table,
+    among: usize,
+    e: &CfgExpr,
+    wanted: bool,
+    levels: usize,
+) -> Result<usize, Stop>
+    requires table { IsTable (nodes_of table.old) table.old.joined.items }
+    requires among { among < places (nodes_of table.old) }
+    ensures made { IfOk result (IsMade table.old table.new) }
+    ensures means { IfOk result (λ place. (s : FactSet) → IsAsTold (K.told asked.now.known.now) s
+        → says s asked.now.pairs.now table.new place
+        ≡ (says s asked.now.pairs.now table.old among
+        && true_as_wanted wanted (truth s (tree_of e.now)))) }
+{
+    if levels == 0 {
+        return Err(Stop::TooLarge);
+    }
+    match e {
+        CfgExpr::Not(inner) => made(asked, table, among, inner, !wanted, levels - 1),
+        CfgExpr::All(members) => {
+            group_made(asked, table, among, members, wanted, wanted, levels - 1)
+        }
+        CfgExpr::Any(members) => {
+            group_made(asked, table, among, members, !wanted, wanted, levels - 1)
+        }
+        CfgExpr::Value(c) => value_joined(asked, table, among, c, wanted),
+        CfgExpr::True => table.join(true, among, literal(wanted)),
+        CfgExpr::False => table.join(true, among, literal(!wanted)),
+    }
+}
+
+/// Where each member has the truth that is wanted, or else where one of them has it.
+#[cycle(made)]
+fn group_made<K: Knowledge>(
+    asked: &Asked<'_, '_, K>,
+    table: &mut Table,
+    among: usize,
+    members: &[CfgExpr],
+    each: bool,
+    wanted: bool,
+    levels: usize,
+) -> Result<usize, Stop>
+    requires table { IsTable (nodes_of table.old) table.old.joined.items }
+    requires among { among < places (nodes_of table.old) }
+    ensures made { IfOk result (IsMade table.old table.new) }
+    ensures means { IfOk result (λ place. (s : FactSet) → IsAsTold (K.told asked.now.known.now) s
+        → says s asked.now.pairs.now table.new place
+        ≡ (says s asked.now.pairs.now table.old among
+        && group_wanted each wanted s (map tree_of members.now))) }
+{
+    if each {
+        each_made(asked, table, among, members, wanted, levels)
+    } else {
+        let place = some_made(asked, table, members, wanted, levels)?;
+        table.join(true, among, place)
+    }
+}
+
+/// Where each member has the truth that is wanted.
+#[cycle(made)]
+fn each_made<K: Knowledge>(
+    asked: &Asked<'_, '_, K>,
+    table: &mut Table,
+    among: usize,
+    members: &[CfgExpr],
+    wanted: bool,
+    levels: usize,
+) -> Result<usize, Stop>
+    requires table { IsTable (nodes_of table.old) table.old.joined.items }
+    requires among { among < places (nodes_of table.old) }
+    ensures made { IfOk result (IsMade table.old table.new) }
+    ensures means { IfOk result (λ place. (s : FactSet) → IsAsTold (K.told asked.now.known.now) s
+        → says s asked.now.pairs.now table.new place
+        ≡ (says s asked.now.pairs.now table.old among
+        && each_wanted wanted s (map tree_of members.now))) }
+{
+    let mut place = among;
+    let mut left = members;
+    'members: while let Some((e, others)) = left.split_first() {
+        let next = made(asked, table, place, e, wanted, levels)?;
+        place = next;
+        left = others;
+    }
+    Ok(place)
+}
+
+/// Where some member has the truth that is wanted.
+#[cycle(made)]
+fn some_made<K: Knowledge>(
+    asked: &Asked<'_, '_, K>,
+    table: &mut Table,
+    members: &[CfgExpr],
+    wanted: bool,
+    levels: usize,
+) -> Result<usize, Stop>
+    requires { IsTable (nodes_of table.old) table.old.joined.items }
+    ensures made { IfOk result (IsMade table.old table.new) }
+    ensures means { IfOk result (λ place. (s : FactSet) → IsAsTold (K.told asked.now.known.now) s
+        → says s asked.now.pairs.now table.new place
+        ≡ some_wanted wanted s (map tree_of members.now)) }
+{
+    let mut place = FALSE;
+    let mut left = members;
+    'members: while let Some((e, others)) = left.split_first() {
+        let next = made(asked, table, TRUE, e, wanted, levels)?;
+        let both = table.join(false, place, next)?;
+        place = both;
+        left = others;
+    }
+    Ok(place)
+}
+
+/// Where each goal is met, among the sets that a place leaves.
+pub fn goals_made<K: Knowledge>(
+    asked: &Asked<'_, '_, K>,
+    table: &mut Table,
+    among: usize,
+    goals: &[Goal<'_>],
+) -> Result<usize, Stop>
+    requires table { IsTable (nodes_of table.old) table.old.joined.items }
+    requires among { among < places (nodes_of table.old) }
+    ensures made { IfOk result (IsMade table.old table.new) }
+    ensures means { IfOk result (λ place. (s : FactSet) → IsAsTold (K.told asked.now.known.now) s
+        → says s asked.now.pairs.now table.new place
+        ≡ (says s asked.now.pairs.now table.old among
+        && goals_met s goals.now)) }
+{
+    let mut place = among;
+    for goal in goals {
+        let next = made(asked, table, place, goal.e, goal.wanted, MOST_LEVELS)?;
+        place = next;
+    }
+    Ok(place)
+}
+
+/// Whether nothing is told of the pair.
+fn is_open<K: Knowledge>(asked: &Asked<'_, '_, K>, c: &Cfg) -> bool
+    ensures { result ≡ true → K.told asked.now.known.now (pair_of (value_of c.now)) ≡ None }
+{
+    match asked.known.tells(c) {
+        Some(_) => false,
+        None => true,
+    }
+}
+
+/// Whether the pairs with these numbers are both open, and two values of a key with one value.
+fn are_apart<K: Knowledge>(
+    asked: &Asked<'_, '_, K>,
+    single: &[&str],
+    one: usize,
+    other: usize,
+) -> bool
+    requires one { one < length asked.now.pairs.now }
+    requires other { other < length asked.now.pairs.now }
+    ensures { result ≡ true → (s : FactSet)
+        → HasOneOpenValue (K.told asked.now.known.now) (names_of single.now) s
+        → AreApart (holds_in s (pairs_of asked.now.pairs.now)) one other }
+{
+    let first = pair_at(asked.pairs, one);
+    let second = pair_at(asked.pairs, other);
+    let two = are_two_values(first, second, single);
+    if two {
+        let first_open = is_open(asked, first);
+        let second_open = is_open(asked, second);
+        if first_open { second_open } else { false }
+    } else {
+        false
+    }
+}
+
+/// Among the sets that a place leaves, those without the other pair, where both are two values of a key with one value.
+fn without_other<K: Knowledge>(
+    asked: &Asked<'_, '_, K>,
+    table: &mut Table,
+    among: usize,
+    single: &[&str],
+    number: usize,
+    other: usize,
+) -> Result<usize, Stop>
+    requires table { IsTable (nodes_of table.old) table.old.joined.items }
+    requires among { among < places (nodes_of table.old) }
+    requires number { number < length asked.now.pairs.now }
+    requires other { other < length asked.now.pairs.now }
+    ensures made { IfOk result (IsMade table.old table.new) }
+    ensures means { IfOk result (λ place. (s : FactSet)
+        → HasOneOpenValue (K.told asked.now.known.now) (names_of single.now) s
+        → holds_in s (pairs_of asked.now.pairs.now) number ≡ true
+        → says s asked.now.pairs.now table.new place
+        ≡ says s asked.now.pairs.now table.old among) }
+{
+    if are_apart(asked, single, number, other) {
+        let place = table.pair(other, false)?;
+        table.join(true, among, place)
+    } else {
+        Ok(among)
+    }
+}
+
+/// Where no later value of the key of this pair is a fact, if that key has one value. The last ones come first: so each
+/// takes one node.
+fn no_later_value<K: Knowledge>(
+    asked: &Asked<'_, '_, K>,
+    table: &mut Table,
+    single: &[&str],
+    number: usize,
+) -> Result<usize, Stop>
+    requires table { IsTable (nodes_of table.old) table.old.joined.items }
+    requires number { number < length asked.now.pairs.now }
+    ensures made { IfOk result (IsMade table.old table.new) }
+    ensures means { IfOk result (λ place. (s : FactSet)
+        → HasOneOpenValue (K.told asked.now.known.now) (names_of single.now) s
+        → holds_in s (pairs_of asked.now.pairs.now) number ≡ true
+        → says s asked.now.pairs.now table.new place ≡ true) }
+{
+    let mut place = TRUE;
+    let mut other = asked.pairs.len();
+    'others: while other - 1 > number {
+        other -= 1;
+        let next = without_other(asked, table, place, single, number, other)?;
+        place = next;
+    }
+    Ok(place)
+}
+
+/// Where the pair with this number is none, or no later value of its key is a fact.
+fn one_value<K: Knowledge>(
+    asked: &Asked<'_, '_, K>,
+    table: &mut Table,
+    single: &[&str],
+    number: usize,
+) -> Result<usize, Stop>
+    requires table { IsTable (nodes_of table.old) table.old.joined.items }
+    requires number { number < length asked.now.pairs.now }
+    ensures made { IfOk result (IsMade table.old table.new) }
+    ensures means { IfOk result (λ place. (s : FactSet)
+        → HasOneOpenValue (K.told asked.now.known.now) (names_of single.now) s
+        → says s asked.now.pairs.now table.new place ≡ true) }
+{
+    let others = no_later_value(asked, table, single, number)?;
+    let without = table.pair(number, false)?;
+    table.join(false, others, without)
+}
+
+/// Where no key among these has two values that are open.
+pub fn single_values<K: Knowledge>(
+    asked: &Asked<'_, '_, K>,
+    table: &mut Table,
+    single: &[&str],
+) -> Result<usize, Stop>
+    requires { IsTable (nodes_of table.old) table.old.joined.items }
+    ensures made { IfOk result (IsMade table.old table.new) }
+    ensures means { IfOk result (λ place. (s : FactSet)
+        → HasOneOpenValue (K.told asked.now.known.now) (names_of single.now) s
+        → says s asked.now.pairs.now table.new place ≡ true) }
+{
+    let mut place = TRUE;
+    let mut number = asked.pairs.len();
+    'numbers: while number > 0 {
+        number -= 1;
+        let next = one_value(asked, table, single, number)?;
+        let both = table.join(true, place, next)?;
+        place = both;
+    }
+    Ok(place)
+}

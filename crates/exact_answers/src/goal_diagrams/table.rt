@@ -1,0 +1,438 @@
+//! The table of nodes.
+
+ghost use Rattle.std.specs.Prelude.{◌≡◌, ◌<◌, ◌≤◌, ℕ, Bool, true, not, [], IfOk, IfSome, IsSome, if◌then◌else◌};
+ghost use Rattle.std.specs.List.{All};
+ghost use Rattle.exact_answers.specs.Diagrams.{joint, pick, value, nodes_of, places, AreEarlier, IsJoin};
+ghost use Rattle.exact_answers.specs.Diagrams.{IsJoinOf, IsTable, IsMade, IsNodeAt, IsNode, AreHalves, Agrees};
+
+use std::alloc::{AllocError, Global};
+
+/// Why no diagram is made.
+#[derive(Drop)]
+pub enum Stop {
+    /// It would be too large.
+    TooLarge,
+    Memory(AllocError),
+}
+
+impl From<AllocError> for Stop {
+    fn from(refused: AllocError) -> Stop {
+        Stop::Memory(refused)
+    }
+}
+
+/// A node asks for the pair with this number, and goes on at one place without the fact, and at another with it.
+#[derive(Clone, Copy)]
+pub struct Node {
+    pub number: usize,
+    pub without: usize,
+    pub with: usize,
+    /// Where a node stands that shares the hint, or 0.
+    pub next: usize,
+}
+
+/// What two places were joined to.
+#[derive(Clone, Copy)]
+pub struct Joined {
+    pub each: bool,
+    pub one: usize,
+    pub other: usize,
+    pub place: usize,
+}
+
+/// A pair by its number, and whether it is taken to hold.
+#[derive(Clone, Copy)]
+pub struct Choice {
+    pub number: usize,
+    pub holds: bool,
+}
+
+/// Two places, by a pair that one of them asks for first.
+#[derive(Clone, Copy)]
+pub struct Halves {
+    pub number: usize,
+    pub one_without: usize,
+    pub other_without: usize,
+    pub one_with: usize,
+    pub other_with: usize,
+}
+
+/// The place of what is false over each set of facts.
+pub const FALSE: usize = 0;
+
+/// The place of what is true over each set of facts.
+pub const TRUE: usize = 1;
+
+/// The nodes: the first one stands at place 2, and places below are the two literals. Each node goes on at places
+/// before its own.
+#[derive(Drop)]
+pub struct Table {
+    pub nodes: Vec<Node>,
+    /// By a hint, the last node with that hint, or 0.
+    pub lasts: Vec<usize>,
+    /// By a hint, the last places that were joined with that hint.
+    pub joined: Vec<Joined>,
+    pub most_nodes: usize,
+}
+
+/// The place of a literal.
+pub fn literal(truth: bool) -> usize
+    ensures { result ≡ (if truth then 1 else 0) }
+{
+    if truth { TRUE } else { FALSE }
+}
+
+fn zeros(alloc: Global, count: usize) -> Result<Vec<usize>, AllocError> {
+    let mut all = Vec::with_capacity(alloc, count)?;
+    for _ in 0..count {
+        all.push(0)?;
+    }
+    Ok(all)
+}
+
+fn nothing_joined(alloc: Global, count: usize) -> Result<Vec<Joined>, AllocError>
+    ensures { IfOk result (λ all. All (IsJoin []) all.items) }
+{
+    let mut all = Vec::with_capacity(alloc, count)?;
+    'entries: for _ in 0..count {
+        all.push(Joined {
+            each: true,
+            one: FALSE,
+            other: FALSE,
+            place: FALSE,
+        })?;
+    }
+    Ok(all)
+}
+
+/// A number below the count that differs for most of what is told apart.
+fn hint(first: usize, second: usize, third: usize, count: usize) -> usize {
+    let mixed = first
+        .wrapping_mul(0x9E37_79B9_7F4A_7C15)
+        .wrapping_add(second)
+        .wrapping_mul(0xC2B2_AE3D_27D4_EB4F)
+        .wrapping_add(third)
+        .wrapping_mul(0x1656_67B1_9E37_79F9);
+    (mixed >> 20).checked_rem(count).unwrap_or(0)
+}
+
+/// Whether the node asks for the pair with this number, and goes on at these places.
+fn is_same(node: Node, number: usize, without: usize, with: usize) -> bool
+    ensures { result ≡ true → (node.number ≡ number) × (node.without ≡ without) × (node.with ≡ with) }
+{
+    node.number == number && node.without == without && node.with == with
+}
+
+/// Where a node goes on, by whether its pair is taken to hold.
+fn chosen(node: Node, holds: bool) -> usize
+    ensures { result ≡ (if holds then node.with else node.without) }
+{
+    if holds { node.with } else { node.without }
+}
+
+/// Whether these places were joined.
+fn is_join(joined: Joined, each: bool, one: usize, other: usize) -> bool
+    ensures { result ≡ true → (joined.each ≡ each) × (joined.one ≡ one) × (joined.other ≡ other) }
+{
+    joined.each == each && joined.one == one && joined.other == other
+}
+
+impl Table {
+    /// No nodes yet, and room for so many.
+    pub fn new(alloc: Global, most_nodes: usize) -> Result<Table, AllocError>
+        ensures { IfOk result (λ table. IsTable (nodes_of table) table.joined.items) }
+    {
+        let nodes = Vec::new(alloc);
+        let lasts = zeros(alloc, most_nodes)?;
+        let joined = nothing_joined(alloc, most_nodes)?;
+        Ok(Table {
+            nodes,
+            lasts,
+            joined,
+            most_nodes,
+        })
+    }
+
+    /// The node at a place. Literals have none.
+    fn at(&self, place: usize) -> Option<Node>
+        requires { AreEarlier (nodes_of self.now) }
+        ensures node { IfSome result (IsNodeAt (nodes_of self.now) place) }
+        ensures some { 2 ≤ place → place < places (nodes_of self.now) → IsSome result }
+    {
+        if place < 2 {
+            None
+        } else {
+            self.nodes.get(place - 2).copied()
+        }
+    }
+
+    /// The place of a node among those that share its hint, from the last one on.
+    fn found(&self, last: usize, number: usize, without: usize, with: usize) -> Option<usize>
+        requires { AreEarlier (nodes_of self.now) }
+        ensures { IfSome result (IsNode (nodes_of self.now) number without with) }
+    {
+        let mut place = last;
+        'places: while let Some(node) = self.at(place) {
+            if is_same(node, number, without, with) {
+                return Some(place);
+            }
+            if node.next >= place {
+                return None;
+            }
+            place = node.next;
+        }
+        None
+    }
+
+    /// Adds a node.
+    fn push(&mut self, node: Node) -> Result<usize, AllocError>
+        requires table { IsTable (nodes_of self.old) self.old.joined.items }
+        requires without { node.without < places (nodes_of self.old) }
+        requires with { node.with < places (nodes_of self.old) }
+        requires differ { node.without ≡ node.with → ⊥ }
+        ensures made { IfOk result (IsMade self.old self.new) }
+        ensures means { IfOk result (λ place. (holds : ℕ → Bool) → value holds (nodes_of self.new) place
+            ≡ pick (holds node.number) (value holds (nodes_of self.old) node.with)
+            (value holds (nodes_of self.old) node.without)) }
+    {
+        let place = self.nodes.len() + 2;
+        self.nodes.push(node)?;
+        Ok(place)
+    }
+
+    /// The place of a node that asks for a pair, where that tells anything; it stands there once.
+    pub fn node(&mut self, number: usize, without: usize, with: usize) -> Result<usize, Stop>
+        requires table { IsTable (nodes_of self.old) self.old.joined.items }
+        requires without { without < places (nodes_of self.old) }
+        requires with { with < places (nodes_of self.old) }
+        ensures made { IfOk result (IsMade self.old self.new) }
+        ensures means { IfOk result (λ place. (holds : ℕ → Bool) → value holds (nodes_of self.new) place
+            ≡ pick (holds number) (value holds (nodes_of self.old) with)
+            (value holds (nodes_of self.old) without)) }
+    {
+        if without == with {
+            return Ok(with);
+        }
+        let at = hint(number, without, with, self.lasts.len());
+        let last = self.last(at);
+        if let Some(place) = self.found(last, number, without, with) {
+            return Ok(place);
+        }
+        let next = last;
+        self.new_node(
+            at,
+            Node {
+                number,
+                without,
+                with,
+                next,
+            },
+        )
+    }
+
+    /// Adds a node that is the last one with this hint.
+    fn new_node(&mut self, at: usize, node: Node) -> Result<usize, Stop>
+        requires table { IsTable (nodes_of self.old) self.old.joined.items }
+        requires without { node.without < places (nodes_of self.old) }
+        requires with { node.with < places (nodes_of self.old) }
+        requires differ { node.without ≡ node.with → ⊥ }
+        ensures made { IfOk result (IsMade self.old self.new) }
+        ensures means { IfOk result (λ place. (holds : ℕ → Bool) → value holds (nodes_of self.new) place
+            ≡ pick (holds node.number) (value holds (nodes_of self.old) node.with)
+            (value holds (nodes_of self.old) node.without)) }
+    {
+        if self.nodes.len() >= self.most_nodes {
+            return Err(Stop::TooLarge);
+        }
+        let place = self.push(node)?;
+        self.place_last(at, place);
+        Ok(place)
+    }
+
+    /// The last node with this hint, or 0.
+    fn last(&self, at: usize) -> usize {
+        if at < self.lasts.len() {
+            self.lasts[at]
+        } else {
+            0
+        }
+    }
+
+    /// Says where the last node with this hint stands.
+    fn place_last(&mut self, at: usize, place: usize)
+        ensures nodes { nodes_of self.new ≡ nodes_of self.old }
+        ensures joined { self.new.joined ≡ self.old.joined }
+    {
+        if at < self.lasts.len() {
+            self.lasts[at] = place;
+        }
+    }
+
+    /// Both places by the pair that comes first.
+    fn halves(&self, one: usize, other: usize) -> Result<Halves, Stop>
+        requires { AreEarlier (nodes_of self.now) }
+        ensures { IfOk result (AreHalves (nodes_of self.now) one other) }
+    {
+        match self.at(one) {
+            Some(first) => match self.at(other) {
+                Some(second) => Ok(self.halves_of(one, first, other, second)),
+                None => Err(Stop::TooLarge),
+            },
+            None => Err(Stop::TooLarge),
+        }
+    }
+
+    /// Both places, where these nodes stand, by the pair that comes first.
+    fn halves_of(&self, one: usize, first: Node, other: usize, second: Node) -> Halves
+        requires first { IsNodeAt (nodes_of self.now) one first }
+        requires second { IsNodeAt (nodes_of self.now) other second }
+        ensures { AreHalves (nodes_of self.now) one other result }
+    {
+        let left = first.number;
+        let right = second.number;
+        if left < right {
+            Halves {
+                number: left,
+                one_without: first.without,
+                other_without: other,
+                one_with: first.with,
+                other_with: other,
+            }
+        } else if right < left {
+            Halves {
+                number: right,
+                one_without: one,
+                other_without: second.without,
+                one_with: one,
+                other_with: second.with,
+            }
+        } else {
+            Halves {
+                number: left,
+                one_without: first.without,
+                other_without: second.without,
+                one_with: first.with,
+                other_with: second.with,
+            }
+        }
+    }
+
+    /// What these places were joined to.
+    fn recalled(&self, at: usize, each: bool, one: usize, other: usize) -> Option<usize>
+        requires { All (IsJoin (nodes_of self.now)) self.now.joined.items }
+        ensures { IfSome result (IsJoinOf (nodes_of self.now) each one other) }
+    {
+        if at < self.joined.len() {
+            let joined = self.joined[at];
+            if is_join(joined, each, one, other) {
+                return Some(joined.place);
+            }
+        }
+        None
+    }
+
+    /// Remembers what two places were joined to.
+    fn remember(&mut self, at: usize, joined: Joined)
+        requires table { IsTable (nodes_of self.old) self.old.joined.items }
+        requires joined { IsJoin (nodes_of self.old) joined }
+        ensures nodes { nodes_of self.new ≡ nodes_of self.old }
+        ensures table { IsTable (nodes_of self.new) self.new.joined.items }
+    {
+        if at < self.joined.len() {
+            self.joined[at] = joined;
+        }
+    }
+
+    /// What these places are joined to, where that is one of them or a literal.
+    fn joined_at_once(&self, each: bool, one: usize, other: usize) -> Option<usize>
+        ensures { IfSome result (IsJoinOf (nodes_of self.now) each one other) }
+    {
+        let neutral = literal(each);
+        let opposite = literal(!each);
+        if one == other {
+            Some(one)
+        } else if other == neutral {
+            Some(one)
+        } else if one == neutral {
+            Some(other)
+        } else if one < 2 {
+            Some(opposite)
+        } else if other < 2 {
+            Some(opposite)
+        } else {
+            None
+        }
+    }
+
+    /// What these places are joined to, where that is known.
+    fn known_join(&self, at: usize, each: bool, one: usize, other: usize) -> Option<usize>
+        requires { All (IsJoin (nodes_of self.now)) self.now.joined.items }
+        ensures { IfSome result (IsJoinOf (nodes_of self.now) each one other) }
+    {
+        match self.joined_at_once(each, one, other) {
+            Some(place) => Some(place),
+            None => self.recalled(at, each, one, other),
+        }
+    }
+
+    /// The place of what is true where both are, or else where one of them is.
+    pub fn join(&mut self, each: bool, one: usize, other: usize) -> Result<usize, Stop>
+        requires table { IsTable (nodes_of self.old) self.old.joined.items }
+        requires one { one < places (nodes_of self.old) }
+        requires other { other < places (nodes_of self.old) }
+        ensures made { IfOk result (IsMade self.old self.new) }
+        ensures means { IfOk result (λ place. (holds : ℕ → Bool) → value holds (nodes_of self.new) place
+            ≡ joint each (value holds (nodes_of self.old) one) (value holds (nodes_of self.old) other)) }
+    {
+        let at = hint(usize::from(each), one, other, self.joined.len());
+        if let Some(place) = self.known_join(at, each, one, other) {
+            return Ok(place);
+        }
+        let halves = self.halves(one, other)?;
+        let without = self.join(each, halves.one_without, halves.other_without)?;
+        let with = self.join(each, halves.one_with, halves.other_with)?;
+        let place = self.node(halves.number, without, with)?;
+        self.remember(
+            at,
+            Joined {
+                each,
+                one,
+                other,
+                place,
+            },
+        );
+        Ok(place)
+    }
+
+    /// The place of what is true where the pair with this number holds, or where it does not.
+    pub fn pair(&mut self, number: usize, wanted: bool) -> Result<usize, Stop>
+        requires { IsTable (nodes_of self.old) self.old.joined.items }
+        ensures made { IfOk result (IsMade self.old self.new) }
+        ensures means { IfOk result (λ place. (holds : ℕ → Bool) → value holds (nodes_of self.new) place
+            ≡ (if wanted then holds number else not (holds number))) }
+    {
+        let without = literal(!wanted);
+        let with = literal(wanted);
+        self.node(number, without, with)
+    }
+
+    /// Choices that make true what a place says. Only what is false over each set of facts has none.
+    pub fn way(&self, alloc: Global, place: usize) -> Result<Vec<Choice>, AllocError>
+        requires table { AreEarlier (nodes_of self.now) }
+        requires place { place < places (nodes_of self.now) }
+        requires not_false { place ≡ 0 → ⊥ }
+        ensures { IfOk result (λ choices. (holds : ℕ → Bool) → Agrees holds choices.items
+            → value holds (nodes_of self.now) place ≡ true) }
+    {
+        let mut choices = Vec::new(alloc);
+        let mut at = place;
+        'nodes: while let Some(node) = self.at(at) {
+            let holds = node.without == FALSE;
+            let number = node.number;
+            choices.push(Choice { number, holds })?;
+            let next = chosen(node, holds);
+            at = next;
+        }
+        Ok(choices)
+    }
+}

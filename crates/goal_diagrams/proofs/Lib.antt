@@ -1,4 +1,0 @@
-pub mod Tables
-pub mod Pairs
-pub mod Members
-pub mod Steps

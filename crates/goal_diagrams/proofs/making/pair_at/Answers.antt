@@ -1,5 +1,0 @@
-use Rattle.goal_diagrams.proofs.Pairs.{pair_at}
-use Rattle.goal_diagrams.proofs.making.pair_at.Goals as goal
-
-pub returns : goal.returns
-returns c = pair_at c.args.pairs.now c.args.number c.index-pairs-number.result c.requires c.index-pairs-number.is

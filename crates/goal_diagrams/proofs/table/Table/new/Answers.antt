@@ -1,6 +1,0 @@
-use Rattle.std.proofs.Common.{ap, reverse}
-use Rattle.goal_diagrams.proofs.Tables.{no-nodes}
-use Rattle.goal_diagrams.proofs.table.Table.new.Goals as goal
-
-pub returns : goal.returns
-returns c = no-nodes _ _ (ap reverse c.new-nodes.ensures.items) c.in_ok-joined.ensures

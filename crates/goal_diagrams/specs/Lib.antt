@@ -1,3 +1,0 @@
-pub mod Diagrams
-pub mod Goals
-pub mod Inside
