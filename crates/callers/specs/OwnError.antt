@@ -5,8 +5,8 @@ use Rattle.cargo_platform.specs.Trees.{Condition}
 use Rattle.cargo_platform.specs.Platforms.{IsConditionText, IsRefusedCondition}
 use Rattle.cargo_platform.specs.Errors.{orig_of, fault_in}
 use Rattle.cargo_platform.specs.Print.{print_error}
-use Rattle.callers.specs.declared.own_error.ManifestError.{ManifestError}
-use Rattle.callers.specs.declared.own_error.ManifestError.TheVariants.{Key, Memory}
+use Rattle.callers.specs.declared.conditions.own_error.ManifestError.{ManifestError}
+use Rattle.callers.specs.declared.conditions.own_error.ManifestError.TheVariants.{Key, Memory}
 
 -- the key of this line spells no condition, and the error has its fault
 abbrev pub IsErrorOf : ℕ → List ℕ → ManifestError → Type 0

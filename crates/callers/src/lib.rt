@@ -1,15 +1,14 @@
-//! Callers of `cargo_platform`, as its users write them. `README.md` says what each shows.
+//! Callers of the library and of the crates above it, as their users write them, and tests over public calls. A module
+//! has the callers of one crate. `README.md` says what each shows.
 #![tactic(auto)]
 
-pub mod audit;
-pub mod describe;
-pub mod fixed_key;
-pub mod limited;
-pub mod linter;
-pub mod members;
-pub mod own_error;
-pub mod own_facts;
-pub mod planner;
-pub mod printed_facts;
-pub mod selected;
-pub mod underline;
+pub mod conditions;
+pub mod graphs;
+pub mod licences;
+pub mod manifest_keys;
+pub mod metadata;
+pub mod partial;
+pub mod relations;
+#[cfg(test)]
+mod support;
+pub mod targets;

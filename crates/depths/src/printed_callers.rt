@@ -1,9 +1,9 @@
 //! The callers that the documents print, over a key from standard input.
 
 use crate::nests::name;
-use callers::describe::describe;
-use callers::linter::lint;
-use callers::selected::is_selected;
+use callers::conditions::describe::describe;
+use callers::conditions::linter::lint;
+use callers::conditions::selected::is_selected;
 use std::alloc::{AllocError, Global};
 
 /// A caller.

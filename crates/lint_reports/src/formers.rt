@@ -8,7 +8,7 @@ use cargo_platform::{Cfg, Platform, ReadError, values_of};
 use former_names::{
     Bounds, Release, Verdict, former_fact, former_target, has_former_value, name_now,
 };
-use manifest_documents::{Declared, Targets, target_keys};
+use manifests::{Declared, Targets, target_keys};
 use std::alloc::{AllocError, Global};
 use toml::Table;
 

@@ -6,7 +6,7 @@ use crate::rules::{Rule, Subject, Weight};
 use crate::settings::{Fault, TOOL};
 use crate::told::{Place, Told, place_of_key};
 use cargo_platform::shown_start;
-use manifest_documents::reading::Manifest;
+use manifests::reading::Manifest;
 use std::alloc::{AllocError, Global};
 
 /// What is told of something that can't be used in a table of rules.

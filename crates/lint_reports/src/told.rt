@@ -3,8 +3,8 @@
 use crate::rules::Weight;
 use cargo_platform::shown_start;
 use key_answers::answer::Status;
-use manifest_documents::TargetKey;
-use manifest_documents::reading::Manifest;
+use manifests::TargetKey;
+use manifests::reading::Manifest;
 use manifest_lints_findings::{Code, Finding, Level, Report};
 use std::alloc::{AllocError, Global};
 use std::ops::Range;

@@ -4,8 +4,8 @@ use Rattle.std.specs.List.{All}
 use Rattle.std.proofs.lemmas.List.{take_all, take_more, map-append}
 use Rattle.std.proofs.lemmas.List.Elements.{All-push}
 use Rattle.input_limits.specs.Limits.{IsShallow}
-use Rattle.manifest_documents.specs.Entries.{entry_of}
-use Rattle.manifest_documents.specs.declared.tables.TargetKey.{TargetKey}
+use Rattle.manifests.specs.Entries.{entry_of}
+use Rattle.manifests.specs.declared.tables.TargetKey.{TargetKey}
 use Rattle.manifest_answers.specs.Deep.{IsShallowEntry}
 
 pub one_more : (keys : List TargetKey) (i : ℕ) (key : TargetKey) → i < length keys → key ≡ get_or keys i key

@@ -2,7 +2,7 @@
 use Rattle.std.specs.Prelude.{List, Option, Some, None}
 use Rattle.std.specs.List.{All}
 use Rattle.input_limits.specs.Limits.{IsShallow}
-use Rattle.manifest_documents.specs.Entries.{Entry}
+use Rattle.manifests.specs.Entries.{Entry}
 
 abbrev pub IsShallowEntry : Entry → Type 0
 IsShallowEntry e = IsShallow e.0

@@ -2,7 +2,7 @@
 
 use cargo_platform::shown_start;
 use lint_reports::{Weight, shown_table, wrong_places};
-use manifest_documents::{Kind, table_of};
+use manifests::{Kind, table_of};
 use std::alloc::{AllocError, Global};
 use toml::{Table, Value};
 

@@ -4,14 +4,14 @@ ghost use Rattle.std.specs.Prelude.{IfOk, IfSome, IfNone, map};
 ghost use Rattle.std.specs.List.{All};
 ghost use Rattle.toml.specs.View.{table_view};
 ghost use Rattle.input_limits.specs.Limits.{IsDeepAt};
-ghost use Rattle.manifest_documents.specs.Entries.{entry_of};
-ghost use Rattle.manifest_documents.specs.Tables.{target_of};
+ghost use Rattle.manifests.specs.Entries.{entry_of};
+ghost use Rattle.manifests.specs.Tables.{target_of};
 ghost use Rattle.manifest_answers.specs.Deep.{HasNoDeepKey, IsShallowEntry};
 
 use cargo_platform::shown_start;
 use input_limits::{deep_at, deep_text};
-use manifest_documents::reading::Manifest;
-use manifest_documents::{TargetKey, Targets, target_keys};
+use manifests::reading::Manifest;
+use manifests::{TargetKey, Targets, target_keys};
 use std::alloc::{AllocError, Global};
 use toml::Table;
 

@@ -2,8 +2,8 @@
 
 use key_answers::printing::{put, put_text, text_value};
 use lint_reports::number_value;
-use manifest_documents::document::Document;
-use manifest_documents::{Dependency, table_of};
+use manifests::document::Document;
+use manifests::{Dependency, table_of};
 use serde_json::{Map, Value};
 use std::alloc::{AllocError, Global};
 use toml::{Table, Value as Told};

@@ -1,13 +1,13 @@
 //! What is asked of several manifests, one after the other.
 
 ghost use Rattle.toml.specs.View.{table_view};
-ghost use Rattle.manifest_documents.specs.Tables.{target_of};
+ghost use Rattle.manifests.specs.Tables.{target_of};
 ghost use Rattle.manifest_answers.specs.Deep.{HasNoDeepKey};
 
 use crate::deep::{first_deep, has_deep};
 use input_limits::Unusable;
 use key_answers::answer::{Answer, Status};
-use manifest_documents::reading::{Manifest, ManifestText, ReadError};
+use manifests::reading::{Manifest, ManifestText, ReadError};
 use std::alloc::{AllocError, Global};
 use std::rt::Files;
 

@@ -2,7 +2,7 @@
 
 use cargo_platform::{Platform, ReadError, values_of};
 use key_answers::printing::shown_name;
-use manifest_documents::{Targets, target_keys};
+use manifests::{Targets, target_keys};
 use manifest_lints_findings::near;
 use manifest_lints_standings::rustc_names::name_in;
 use std::alloc::{AllocError, Global};

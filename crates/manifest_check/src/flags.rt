@@ -4,7 +4,7 @@ use cargo_platform::{shown_start, shown_text};
 use key_answers::answer::{Refusal, Status};
 use manifest_answers::given_targets::FactsFrom;
 use manifest_answers::questions::applies;
-use manifest_documents::reading::{ReadError, read_manifest};
+use manifests::reading::{ReadError, read_manifest};
 use std::alloc::{AllocError, Global};
 use std::rt::{Env, Files};
 use toml::{Table, Value};

@@ -12,7 +12,7 @@ use lint_reports::{
     told_of_unneeded, told_of_wrong, unneeded_message, weight_by_each, wrong_fields, wrong_places,
 };
 use manifest_answers::deep::first_deep;
-use manifest_documents::reading::{Manifest, ReadError, read_manifest};
+use manifests::reading::{Manifest, ReadError, read_manifest};
 use manifest_lints::{Code, Finding, Report, Words, lint};
 use std::alloc::{AllocError, Global};
 use std::rt::{Env, Files};

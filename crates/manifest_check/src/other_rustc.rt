@@ -5,7 +5,7 @@ use cargo_platform::{Platform, ReadError, values_of};
 use former_names::former_target;
 use known_targets::KnownTarget;
 use manifest_answers::given_targets::GivenTargets;
-use manifest_documents::Declared;
+use manifests::Declared;
 use manifest_lints::{Code, Report};
 use manifest_lints_findings::Finding;
 use manifest_lints_standings::asked_facts::{asked_facts, open_names};

@@ -5,7 +5,7 @@ use Rattle.std.specs.Prelude.{bytes_eq, string_bytes}
 use Rattle.cargo_platform.specs.Trees.{Condition, condition_of}
 use Rattle.cargo_platform.specs.declared.Platform.{Platform}
 use Rattle.exact_answers.specs.declared.known.Known.{Known}
-use Rattle.manifest_documents.specs.Declarations.{DeclaredEntry}
+use Rattle.manifests.specs.Declarations.{DeclaredEntry}
 use Rattle.manifest_lints_standings.specs.declared.standing.Sort.TheVariants as sort
 use Rattle.manifest_lints_standings.specs.Standings.{sorted_by, sorted_in, has_sort}
 use Rattle.manifest_lints_findings.specs.declared.codes.Code.{Code}
@@ -18,10 +18,10 @@ use Rattle.manifest_lints_findings.specs.Known.{IsKnown, holds_alone, is_refused
 use Rattle.manifest_lints_findings.specs.Known.{has_marked_literal, sorted_of_spelled, print_spelled, IsUnknownSpelled}
 use Rattle.manifest_lints_findings.specs.NoTables.{is_no_table}
 use Rattle.manifest_lints_findings.specs.Spells.{IsSpelledAs, SpellsNothing, IsRead, entry_read}
-use Rattle.manifest_lints_questions.specs.Truths.{IsNever, IsAlways, CanHold, CanFail}
-use Rattle.manifest_lints_questions.specs.Earlier.{is_same, is_equivalent}
-use Rattle.manifest_lints_questions.specs.declared.earlier.Earlier.{Earlier}
-use Rattle.manifest_documents.specs.Entries.{Entry}
+use Rattle.manifest_lints.specs.Truths.{IsNever, IsAlways, CanHold, CanFail}
+use Rattle.manifest_lints.specs.Earlier.{is_same, is_equivalent}
+use Rattle.manifest_lints.specs.declared.earlier.Earlier.{Earlier}
+use Rattle.manifests.specs.Entries.{Entry}
 use Rattle.manifest_lints.specs.declared.found.Answers.{Answers}
 use Rattle.manifest_lints.specs.declared.found.Found.{Found}
 use Rattle.manifest_lints.specs.declared.found.TheConstants.{NONE}

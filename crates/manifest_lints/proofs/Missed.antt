@@ -14,17 +14,17 @@ use Rattle.cargo_platform.specs.Key.{condition_key}
 use Rattle.cargo_platform.specs.Platforms.{IsConditionText}
 use Rattle.cargo_platform.proofs.Conditions.{one_condition}
 use Rattle.exact_answers.specs.declared.known.Known.{Known}
-use Rattle.manifest_documents.specs.Entries.{Entry}
+use Rattle.manifests.specs.Entries.{Entry}
 use Rattle.manifest_lints_findings.specs.Spells.{SpellsNothing}
-use Rattle.manifest_lints_questions.specs.Classes.{AreClassed, TellsNoneEquivalent}
-use Rattle.manifest_lints_questions.specs.Earlier.{AddsMember, AreEquivalent, HasEquivalentMember, Member, IsMemberAt}
-use Rattle.manifest_lints_questions.specs.Earlier.{is_equivalent, is_undecided, is_unlike, IsExpression, PutsUnlike}
-use Rattle.manifest_lints_questions.specs.Earlier.{same_place, equivalent_place}
-use Rattle.manifest_lints_questions.specs.Rustcs.{AllowsRustcs}
-use Rattle.manifest_lints_questions.specs.Truths.{IsNever, IsAlways, CanHold, CanFail}
-use Rattle.manifest_lints_questions.specs.declared.earlier.Earlier.{Earlier}
-use Rattle.manifest_lints_questions.specs.declared.earlier.Earlier.TheVariants as earlier
-use Rattle.manifest_lints_questions.specs.declared.earlier.Keys.{Keys}
+use Rattle.manifest_lints.specs.Classes.{AreClassed, TellsNoneEquivalent}
+use Rattle.manifest_lints.specs.Earlier.{AddsMember, AreEquivalent, HasEquivalentMember, Member, IsMemberAt}
+use Rattle.manifest_lints.specs.Earlier.{is_equivalent, is_undecided, is_unlike, IsExpression, PutsUnlike}
+use Rattle.manifest_lints.specs.Earlier.{same_place, equivalent_place}
+use Rattle.manifest_lints.specs.Rustcs.{AllowsRustcs}
+use Rattle.manifest_lints.specs.Truths.{IsNever, IsAlways, CanHold, CanFail}
+use Rattle.manifest_lints.specs.declared.earlier.Earlier.{Earlier}
+use Rattle.manifest_lints.specs.declared.earlier.Earlier.TheVariants as earlier
+use Rattle.manifest_lints.specs.declared.earlier.Keys.{Keys}
 use Rattle.manifest_lints.specs.Reports.{left_open}
 use Rattle.manifest_lints.specs.Sames.{SpellsOne, HasOne, HasSame, IsFirst, IsSameAs, IsSpelledAt, AreMembers}
 use Rattle.manifest_lints.specs.Missed.{IsSettledAt, MissesNone, IsCovered, AreCovered}

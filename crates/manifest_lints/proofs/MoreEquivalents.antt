@@ -13,12 +13,12 @@ use Rattle.cargo_platform.specs.Platforms.{IsConditionText}
 use Rattle.exact_answers.specs.Asking.{NeedsMore}
 use Rattle.exact_answers.specs.Targets.{asked_trees}
 use Rattle.exact_answers.specs.declared.known.Known.{Known}
-use Rattle.manifest_lints_questions.specs.declared.deciding.TheConstants.{LEVELS}
-use Rattle.manifest_lints_questions.specs.declared.earlier.Keys.{Keys}
-use Rattle.manifest_lints_questions.specs.Earlier.{AddsMember, AreEquivalent, HasEquivalentMember, MayBeUndecided}
-use Rattle.manifest_lints_questions.specs.Truths.{budget_of}
-use Rattle.manifest_documents.specs.Declarations.{DeclaredEntry}
-use Rattle.manifest_documents.specs.Entries.{Entry}
+use Rattle.manifest_lints.specs.declared.deciding.TheConstants.{LEVELS}
+use Rattle.manifest_lints.specs.declared.earlier.Keys.{Keys}
+use Rattle.manifest_lints.specs.Earlier.{AddsMember, AreEquivalent, HasEquivalentMember, MayBeUndecided}
+use Rattle.manifest_lints.specs.Truths.{budget_of}
+use Rattle.manifests.specs.Declarations.{DeclaredEntry}
+use Rattle.manifests.specs.Entries.{Entry}
 use Rattle.manifest_lints_standings.specs.Standings.{sorted_in}
 use Rattle.manifest_lints.specs.Reports.{MayBeOpen, too_deep, few_beside, many_before}
 use Rattle.manifest_lints.specs.Sames.{HasOne, IsOneAt, IsSpelledAt, AreMembers}

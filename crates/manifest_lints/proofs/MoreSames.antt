@@ -12,13 +12,13 @@ use Rattle.cargo_platform.specs.OrderLaws.{condition_equal_iff}
 use Rattle.cargo_platform.specs.Platforms.{IsConditionText}
 use Rattle.cargo_platform.proofs.Conditions.{one_condition}
 use Rattle.exact_answers.specs.declared.known.Known.{Known}
-use Rattle.manifest_lints_questions.specs.declared.earlier.Earlier.{Earlier}
-use Rattle.manifest_lints_questions.specs.declared.earlier.Earlier.TheVariants as earlier
-use Rattle.manifest_lints_questions.specs.declared.earlier.Keys.{Keys}
-use Rattle.manifest_documents.specs.Entries.{Entry}
+use Rattle.manifest_lints.specs.declared.earlier.Earlier.{Earlier}
+use Rattle.manifest_lints.specs.declared.earlier.Earlier.TheVariants as earlier
+use Rattle.manifest_lints.specs.declared.earlier.Keys.{Keys}
+use Rattle.manifests.specs.Entries.{Entry}
 use Rattle.manifest_lints_findings.specs.Spells.{SpellsNothing}
-use Rattle.manifest_lints_questions.specs.Earlier.{noted, NotesBy, Notes, is_same, is_equivalent}
-use Rattle.manifest_lints_questions.specs.Earlier.{same_place, equivalent_place, AreEquivalent}
+use Rattle.manifest_lints.specs.Earlier.{noted, NotesBy, Notes, is_same, is_equivalent}
+use Rattle.manifest_lints.specs.Earlier.{same_place, equivalent_place, AreEquivalent}
 use Rattle.manifest_lints.specs.Sames.{SpellsOne, HasOne, IsOneAt, IsFirst, IsSameAs, HasSame, AreNoted}
 use Rattle.manifest_lints.specs.Sames.{HasEquivalent, NamesRightly, named_place}
 

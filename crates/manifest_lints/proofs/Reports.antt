@@ -9,7 +9,7 @@ use Rattle.std.proofs.lemmas.List.{get_or-take, get_or-map}
 use Rattle.std.proofs.lemmas.List.Elements.{filter-append, All-nil, All-push, All-append, All-weaker}
 use Rattle.std.proofs.Math.Bool.{cond}
 use Rattle.exact_answers.specs.declared.known.Known.{Known}
-use Rattle.manifest_lints_questions.specs.declared.earlier.Earlier.{Earlier}
+use Rattle.manifest_lints.specs.declared.earlier.Earlier.{Earlier}
 use Rattle.manifest_lints_findings.specs.declared.codes.Code.{Code}
 use Rattle.manifest_lints_findings.specs.declared.findings.Finding.{Finding}
 use Rattle.manifest_lints_findings.specs.declared.known_keys.KnownKey.{KnownKey}
@@ -18,8 +18,8 @@ use Rattle.manifest_lints_findings.specs.Codes.{CodeSet}
 use Rattle.manifest_lints_findings.specs.Marks.{Mark, mark}
 use Rattle.manifest_lints_findings.specs.Messages.{NamesKey, Shows}
 use Rattle.manifest_lints_findings.specs.Spells.{entry_read}
-use Rattle.manifest_documents.specs.Declarations.{DeclaredEntry}
-use Rattle.manifest_documents.specs.Entries.{Entry}
+use Rattle.manifests.specs.Declarations.{DeclaredEntry}
+use Rattle.manifests.specs.Entries.{Entry}
 use Rattle.manifest_lints.specs.Reports.{AreFindingsOn, on_more, IsFound, AreTold, NamesEarlier, AddsFindings}
 use Rattle.manifest_lints.specs.Reports.{told_marks, left_open, IsKnownOf, ShowsKey}
 use Rattle.manifest_lints.specs.Sames.{named_place}

@@ -7,7 +7,7 @@ use Rattle.partial_facts.specs.declared.one_valued.TheConstants.{ONE_VALUED}
 use Rattle.exact_answers.specs.declared.known.Known.{Known}
 use Rattle.exact_answers.specs.Possible.{HasOneValue}
 use Rattle.exact_answers.specs.Families.{KeepsFamilyRule}
-use Rattle.manifest_lints_questions.proofs.Tried.{none_listed, none_named}
+use Rattle.manifest_lints.proofs.Tried.{none_listed, none_named}
 use Rattle.manifest_lints.specs.Reports.{AllowsRustcs}
 
 pub allows_rustcs : (k : Known) → k.facts.now ≡ [] → k.complete.now ≡ []

@@ -2,14 +2,14 @@
 use Rattle.std.specs.Prelude.{◌<◌, List, IsTrue, length}
 use Rattle.cargo_platform.specs.Trees.{Condition}
 use Rattle.exact_answers.specs.declared.known.Known.{Known}
-use Rattle.manifest_documents.specs.Declarations.{DeclaredEntry}
+use Rattle.manifests.specs.Declarations.{DeclaredEntry}
 use Rattle.manifest_lints_standings.specs.Standings.{sorted_in, open_in}
 use Rattle.manifest_lints_findings.specs.declared.codes.Code.TheVariants as code
 use Rattle.manifest_lints_findings.specs.Codes.{CodeSet}
 use Rattle.manifest_lints_findings.specs.Known.{holds_alone}
-use Rattle.manifest_lints_questions.specs.declared.deciding.TheConstants.{MANY}
-use Rattle.manifest_lints_questions.specs.Truths.{IsNever, IsAlways, CanHold, CanFail, IsNowhere, IsEverywhere}
-use Rattle.manifest_lints_questions.specs.Earlier.{is_same, is_equivalent}
+use Rattle.manifest_lints.specs.declared.deciding.TheConstants.{MANY}
+use Rattle.manifest_lints.specs.Truths.{IsNever, IsAlways, CanHold, CanFail, IsNowhere, IsEverywhere}
+use Rattle.manifest_lints.specs.Earlier.{is_same, is_equivalent}
 use Rattle.manifest_lints.specs.declared.found.Answers.{Answers}
 use Rattle.manifest_lints.specs.declared.found.Found.{Found}
 use Rattle.manifest_lints.specs.Reports.{Settles, SettlesFew}

@@ -1,8 +1,8 @@
 -- What reports are by, by value.
 use Rattle.std.specs.Prelude.{◌≡◌, [], ◌∷◌, codes, map}
 use Rattle.partial_facts.specs.declared.one_valued.TheConstants.{ONE_VALUED}
-use Rattle.manifest_lints_questions.specs.declared.deciding.TheConstants.{MANY, LEVELS}
-use Rattle.manifest_lints_questions.specs.declared.earlier.TheConstants.{MOST}
+use Rattle.manifest_lints.specs.declared.deciding.TheConstants.{MANY, LEVELS}
+use Rattle.manifest_lints.specs.declared.earlier.TheConstants.{MOST}
 
 -- the keys of which rustc sets one value at most
 abbrev pub AreOneValued : Type 0

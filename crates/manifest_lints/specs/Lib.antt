@@ -1,3 +1,10 @@
+pub mod Truths
+pub mod Doubled
+pub mod Earlier
+pub mod Samples
+pub mod Rustcs
+pub mod Numbers
+pub mod Classes
 pub mod Sames
 pub mod Missed
 pub mod Reports

@@ -3,12 +3,12 @@ use Rattle.std.specs.Prelude.{◌≡◌, ◌⊎◌, ℕ, List, Contains}
 use Rattle.std.specs.List.{Any}
 use Rattle.cargo_platform.specs.Trees.{Condition, condition_of}
 use Rattle.exact_answers.specs.declared.known.Known.{Known}
-use Rattle.manifest_documents.specs.Entries.{Entry}
-use Rattle.manifest_lints_questions.specs.Classes.{AreClassed}
-use Rattle.manifest_lints_questions.specs.Earlier.{AreEquivalent, IsExpression}
-use Rattle.manifest_lints_questions.specs.Rustcs.{AllowsRustcs}
-use Rattle.manifest_lints_questions.specs.Truths.{IsNever, IsAlways, CanHold, CanFail}
-use Rattle.manifest_lints_questions.specs.declared.earlier.Keys.{Keys}
+use Rattle.manifests.specs.Entries.{Entry}
+use Rattle.manifest_lints.specs.Classes.{AreClassed}
+use Rattle.manifest_lints.specs.Earlier.{AreEquivalent, IsExpression}
+use Rattle.manifest_lints.specs.Rustcs.{AllowsRustcs}
+use Rattle.manifest_lints.specs.Truths.{IsNever, IsAlways, CanHold, CanFail}
+use Rattle.manifest_lints.specs.declared.earlier.Keys.{Keys}
 use Rattle.manifest_lints.specs.Sames.{HasSame, IsSpelledAt}
 
 -- the key at this place spells the condition, no key before it spells the same, and nothing of it is left open

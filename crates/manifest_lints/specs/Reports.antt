@@ -12,8 +12,8 @@ use Rattle.toml.specs.Data.{Members}
 use Rattle.exact_answers.specs.declared.known.Known.{Known}
 use Rattle.exact_answers.specs.Asking.{NeedsMore}
 use Rattle.exact_answers.specs.Targets.{asked_trees}
-use Rattle.manifest_documents.specs.Declarations.{DeclaredEntry, IsDeclaredBy}
-pub use Rattle.manifest_documents.specs.Entries.{Entry, entry_of}
+use Rattle.manifests.specs.Declarations.{DeclaredEntry, IsDeclaredBy}
+pub use Rattle.manifests.specs.Entries.{Entry, entry_of}
 use Rattle.manifest_lints_standings.specs.declared.standing.Sort.TheVariants as sort
 use Rattle.manifest_lints_standings.specs.Standings.{has_sort, sorted_in, open_in, IsUnknownTarget}
 use Rattle.manifest_lints_findings.specs.declared.codes.Code.{Code}
@@ -28,13 +28,13 @@ use Rattle.manifest_lints_findings.specs.Marks.{Mark, marks}
 use Rattle.manifest_lints_findings.specs.Messages.{NamesKey, Shows}
 use Rattle.manifest_lints_findings.specs.NoTables.{is_no_table}
 use Rattle.manifest_lints_findings.specs.Spells.{SpellsNothing, IsRead, entry_read}
-pub use Rattle.manifest_lints_questions.specs.Rustcs.{IsRustcs, AllowsRustcs}
-use Rattle.manifest_lints_questions.specs.declared.deciding.TheConstants.{MANY, LEVELS}
-use Rattle.manifest_lints_questions.specs.declared.earlier.TheConstants.{MOST}
-use Rattle.manifest_lints_questions.specs.declared.earlier.Earlier.{Earlier}
-use Rattle.manifest_lints_questions.specs.declared.earlier.Earlier.TheVariants.{Unlike}
-use Rattle.manifest_lints_questions.specs.Truths.{IsNever, IsAlways, CanHold, CanFail, IsNowhere, IsEverywhere}
-use Rattle.manifest_lints_questions.specs.Truths.{budget_of, NeedsMoreFor}
+pub use Rattle.manifest_lints.specs.Rustcs.{IsRustcs, AllowsRustcs}
+use Rattle.manifest_lints.specs.declared.deciding.TheConstants.{MANY, LEVELS}
+use Rattle.manifest_lints.specs.declared.earlier.TheConstants.{MOST}
+use Rattle.manifest_lints.specs.declared.earlier.Earlier.{Earlier}
+use Rattle.manifest_lints.specs.declared.earlier.Earlier.TheVariants.{Unlike}
+use Rattle.manifest_lints.specs.Truths.{IsNever, IsAlways, CanHold, CanFail, IsNowhere, IsEverywhere}
+use Rattle.manifest_lints.specs.Truths.{budget_of, NeedsMoreFor}
 use Rattle.manifest_lints.specs.Sames.{HasOne, HasSame, HasEquivalent, NamesRightly, named_place}
 use Rattle.manifest_lints.specs.Missed.{MissesNone}
 

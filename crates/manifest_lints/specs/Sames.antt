@@ -7,11 +7,11 @@ use Rattle.cargo_platform.specs.Trees.{Condition, condition_of}
 use Rattle.cargo_platform.specs.Key.{condition_key}
 use Rattle.cargo_platform.specs.Platforms.{IsConditionText}
 use Rattle.exact_answers.specs.declared.known.Known.{Known}
-use Rattle.manifest_lints_questions.specs.declared.earlier.Earlier.{Earlier}
-use Rattle.manifest_lints_questions.specs.declared.earlier.Earlier.TheVariants as earlier
-use Rattle.manifest_lints_questions.specs.declared.earlier.Keys.{Keys}
-use Rattle.manifest_lints_questions.specs.Earlier.{noted, AreEquivalent}
-use Rattle.manifest_documents.specs.Entries.{Entry}
+use Rattle.manifest_lints.specs.declared.earlier.Earlier.{Earlier}
+use Rattle.manifest_lints.specs.declared.earlier.Earlier.TheVariants as earlier
+use Rattle.manifest_lints.specs.declared.earlier.Keys.{Keys}
+use Rattle.manifest_lints.specs.Earlier.{noted, AreEquivalent}
+use Rattle.manifests.specs.Entries.{Entry}
 
 -- the text spells a condition of which something holds
 abbrev pub SpellsOne : (Condition → Type 0) → List ℕ → Type 0

@@ -2,25 +2,25 @@
 
 ghost use Rattle.std.specs.Prelude.{◌≡◌, ◌<◌, ◌++◌, IfOk, OnOk, IfSome, List, [], map, length, get_or};
 ghost use Rattle.std.specs.List.{All};
-ghost use Rattle.manifest_documents.specs.Declarations.{DeclaredEntry, IsDeclaredBy, declarations_of};
-ghost use Rattle.manifest_documents.specs.Entries.{Entry};
+ghost use Rattle.manifests.specs.Declarations.{DeclaredEntry, IsDeclaredBy, declarations_of};
+ghost use Rattle.manifests.specs.Entries.{Entry};
 ghost use Rattle.manifest_lints_findings.specs.Spells.{IsRead, entry_read};
 ghost use Rattle.manifest_lints.specs.Founds.{found_codes};
 ghost use Rattle.manifest_lints.specs.Reports.{told_mark, told_marks, left_open, AddsFindings};
 ghost use Rattle.manifest_lints.specs.Sames.{named_place};
 ghost use Rattle.toml.specs.View.{table_view};
 ghost use Rattle.manifest_lints.specs.Reports.{entry_of, AreFindingsOn, AreFindings, IsReport};
-ghost use Rattle.manifest_documents.specs.Tables.{target_of};
+ghost use Rattle.manifests.specs.Tables.{target_of};
 
+use crate::earlier::{Earlier, Keys};
 use crate::found::{Asking, Found, found_of};
 use exact_answers::{Known, ONE_VALUED, family_rule};
-use manifest_documents::document::Document;
-use manifest_documents::{Declared, TargetKey, Targets};
+use manifests::document::Document;
+use manifests::{Declared, TargetKey, Targets};
 use manifest_lints_findings::findings::target_is_no_table;
 use manifest_lints_findings::making::finding_on;
 use manifest_lints_findings::readings::ReadKey;
 use manifest_lints_findings::{CODES, Code, Finding, Report, Words};
-use manifest_lints_questions::earlier::{Earlier, Keys};
 use std::alloc::{AllocError, Global};
 
 /// The earlier key that is the same or as true.

@@ -4,7 +4,7 @@ use Rattle.std.specs.Prelude.{string_bytes}
 use Rattle.std.specs.List.{list_any}
 use Rattle.cargo_platform.specs.Trees.{CfgValue, Alone, KeyPair, condition_of}
 use Rattle.cargo_platform.specs.Print.{print_condition}
-use Rattle.manifest_documents.specs.Declarations.{DeclaredEntry}
+use Rattle.manifests.specs.Declarations.{DeclaredEntry}
 use Rattle.manifest_lints_standings.specs.declared.standing.Sort.TheVariants as sort
 use Rattle.manifest_lints_standings.specs.Standings.{Sorted, sorted_by, sorted_in, has_sort, IsUnknownTarget}
 use Rattle.manifest_lints_findings.specs.NoTables.{is_no_table, is_empty_list}

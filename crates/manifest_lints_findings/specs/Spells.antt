@@ -6,7 +6,7 @@ use Rattle.cargo_platform.specs.Platforms.{IsConditionText}
 use Rattle.toml.specs.declared.value.Value.{Value}
 use Rattle.toml.specs.Data.{Data, table, no_members}
 use Rattle.toml.specs.View.{view}
-use Rattle.manifest_documents.specs.Entries.{Entry}
+use Rattle.manifests.specs.Entries.{Entry}
 use Rattle.manifest_lints_findings.specs.declared.readings.ReadKey.{ReadKey}
 use Rattle.manifest_lints_findings.specs.declared.readings.Spelled.{Spelled}
 use Rattle.manifest_lints_findings.specs.declared.readings.Spelled.TheVariants as spelled

@@ -4,7 +4,7 @@ ghost use Rattle.std.specs.Prelude.{◌≡◌, IfOk, None};
 ghost use Rattle.manifest_lints_findings.specs.Marks.{mark};
 
 use crate::codes::{Code, Level};
-use manifest_documents::TargetKey;
+use manifests::TargetKey;
 use std::alloc::{AllocError, Global};
 use std::ops::Range;
 

@@ -3,7 +3,7 @@
 ghost use Rattle.std.specs.Prelude.{◌≡◌, [], IfOk, not, string_bytes};
 ghost use Rattle.cargo_platform.specs.Trees.{value_of, condition_of};
 ghost use Rattle.cargo_platform.specs.Print.{print_condition};
-ghost use Rattle.manifest_documents.specs.Declarations.{declarations_of};
+ghost use Rattle.manifests.specs.Declarations.{declarations_of};
 ghost use Rattle.manifest_lints_standings.specs.Standings.{sorted_by};
 ghost use Rattle.manifest_lints_findings.specs.NoTables.{is_empty_list, is_no_table};
 ghost use Rattle.manifest_lints_findings.specs.Spells.{entry_read};
@@ -14,7 +14,7 @@ use crate::codes::Code;
 use crate::no_tables::no_tables;
 use crate::readings::{ReadKey, Spelled};
 use cargo_platform::{Platform, values_with_levels};
-use manifest_documents::Declared;
+use manifests::Declared;
 use manifest_lints_standings::asked_facts::{AskedFact, asked_facts, has_sort};
 use manifest_lints_standings::key_spans::spans_of;
 use manifest_lints_standings::standing::{Sort, is_unknown_target};

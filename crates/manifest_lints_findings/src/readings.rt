@@ -1,12 +1,12 @@
 //! Keys as they are read, here and by Cargo of today.
 
 ghost use Rattle.std.specs.Prelude.{◌≡◌, IfOk};
-ghost use Rattle.manifest_documents.specs.Entries.{entry_of};
+ghost use Rattle.manifests.specs.Entries.{entry_of};
 ghost use Rattle.manifest_lints_findings.specs.Spells.{IsSpelledAs, IsRead, entry_read};
 
 use crate::wording::TOLD;
 use cargo_platform::{Cfg, CfgExpr, ParseError, Platform, ReadError, Token, Tokenizer, inside_cfg};
-use manifest_documents::TargetKey;
+use manifests::TargetKey;
 use manifest_lints_standings::rustc_names::pair;
 use std::alloc::{AllocError, Global};
 use std::collections::BTreeSet;

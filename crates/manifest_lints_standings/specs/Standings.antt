@@ -14,7 +14,7 @@ use Rattle.known_targets.specs.Rows.{plain}
 use Rattle.known_targets.specs.Table.{table_keys, target_name}
 use Rattle.known_targets.specs.declared.table.TheConstants.{COUNT}
 use Rattle.known_targets.specs.Listed.{is_had}
-use Rattle.manifest_documents.specs.Declarations.{DeclaredEntry, is_declared}
+use Rattle.manifests.specs.Declarations.{DeclaredEntry, is_declared}
 use Rattle.manifest_lints_standings.specs.declared.asked_facts.AskedFact.{AskedFact}
 use Rattle.manifest_lints_standings.specs.declared.asked_facts.TheConstants.{OPEN}
 use Rattle.manifest_lints_standings.specs.declared.rustc_names.TheConstants.{VALUED, FLAGGED, PLAIN}

@@ -4,7 +4,7 @@ ghost use Rattle.std.specs.Prelude.{◌≡◌, ◌++◌, IfOk, OnOk, map, flat_m
 ghost use Rattle.std.specs.List.{list_any};
 ghost use Rattle.cargo_platform.specs.Trees.{value_of};
 ghost use Rattle.partial_facts.specs.Partly.{names_of};
-ghost use Rattle.manifest_documents.specs.Declarations.{declarations_of};
+ghost use Rattle.manifests.specs.Declarations.{declarations_of};
 ghost use Rattle.manifest_lints_standings.specs.Standings.{Sorted, sorted_of, sorted_by, sorted_beside, has_sort};
 ghost use Rattle.manifest_lints_standings.specs.Standings.{flag_names, opened_by, is_sort, sort_in};
 
@@ -12,7 +12,7 @@ use crate::key_spans::Span;
 use crate::rustc_names::name_in;
 use crate::standing::{Sort, Standing, standing_of};
 use cargo_platform::Cfg;
-use manifest_documents::Declared;
+use manifests::Declared;
 use std::alloc::{AllocError, Global};
 use std::collections::BTreeSet;
 

@@ -7,17 +7,17 @@ use Rattle.std.proofs.lemmas.List.Elements.{All-nil, All-push}
 use Rattle.toml.specs.Data.{Members, as_table}
 use Rattle.cargo_platform.specs.Trees.{Condition}
 use Rattle.cargo_platform.specs.Platforms.{IsConditionText}
-use Rattle.manifest_documents.specs.Entries.{Entry, entry_of}
+use Rattle.manifests.specs.Entries.{Entry, entry_of}
 use Rattle.manifests.specs.Selecting.{Question, ChosenRow, IsChoiceFor, AreChosen, Adds, chosen_of, IsReadKey}
 use Rattle.manifests.specs.Selecting.{AreRowsOfKey, AreRowsOfKeys, of_none, of_more, OfFirstUnread}
 use Rattle.manifests.specs.Selecting.{IsErrorOn, IsErrorUnder}
-use Rattle.manifest_documents.specs.Tables.{DependencyRow, row_of, rows_of}
+use Rattle.manifests.specs.Tables.{DependencyRow, row_of, rows_of}
 use Rattle.manifests.specs.declared.selection.Choice.{Choice}
 use Rattle.manifests.specs.declared.selection.Row.{Row}
 use Rattle.manifests.specs.declared.selection.SelectError.{SelectError}
 use Rattle.manifests.specs.declared.selection.SelectError.TheVariants.{Memory, TargetIsNoTable, KeyIsNoTable, Refused}
-use Rattle.manifest_documents.specs.declared.tables.Dependency.{Dependency}
-use Rattle.manifest_documents.specs.declared.tables.TargetKey.{TargetKey}
+use Rattle.manifests.specs.declared.tables.Dependency.{Dependency}
+use Rattle.manifests.specs.declared.tables.TargetKey.{TargetKey}
 
 pub one_chosen : (q : Question) (c : Condition) (ds : List Dependency) (i : ℕ) (d : Dependency) (choice : Choice)
     (init old new : List Row) → i < length ds → Adds (AreChosen q c (map row_of (take i ds))) init old

@@ -1,1 +1,5 @@
+pub mod Stepping
+pub mod Lexemes
+pub mod Texts
+pub mod Written
 pub mod Chosen

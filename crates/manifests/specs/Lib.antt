@@ -1,3 +1,9 @@
+pub mod Entries
+pub mod Tables
+pub mod Declarations
+pub mod Steps
+pub mod Documents
+pub mod Laws
 pub mod Asking
 pub mod Choosing
 pub mod Selecting

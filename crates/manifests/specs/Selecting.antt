@@ -13,16 +13,16 @@ use Rattle.known_targets.specs.Sets.{place}
 use Rattle.known_targets.specs.Table.{target_name, target_facts}
 use Rattle.manifests.specs.Asking.{asked_told}
 use Rattle.manifests.specs.Choosing.{choice_of, IfOpen, IsChoiceBy}
-use Rattle.manifest_documents.specs.Entries.{Entry}
-use Rattle.manifest_documents.specs.Tables.{DependencyRow, row_of, rows_of, target_of}
+use Rattle.manifests.specs.Entries.{Entry}
+use Rattle.manifests.specs.Tables.{DependencyRow, row_of, rows_of, target_of}
 use Rattle.manifests.specs.declared.selection.Asked.{Asked}
 use Rattle.manifests.specs.declared.selection.Choice.{Choice}
 use Rattle.manifests.specs.declared.selection.Choice.TheVariants.{Selected}
 use Rattle.manifests.specs.declared.selection.Row.{Row}
 use Rattle.manifests.specs.declared.selection.SelectError.{SelectError}
 use Rattle.manifests.specs.declared.selection.SelectError.TheVariants.{Memory, TargetIsNoTable, KeyIsNoTable, Refused}
-use Rattle.manifest_documents.specs.declared.tables.Kind.{Kind}
-use Rattle.manifest_documents.specs.declared.tables.Kind.TheVariants.{Normal, Development, Build}
+use Rattle.manifests.specs.declared.tables.Kind.{Kind}
+use Rattle.manifests.specs.declared.tables.Kind.TheVariants.{Normal, Development, Build}
 
 -- ---- what is asked
 

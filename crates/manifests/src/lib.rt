@@ -1,6 +1,17 @@
-//! Which dependencies of a manifest a target selects.
+//! Manifests: the tables that hold dependencies, the keys of `target` with their lines, the names and pairs that are
+//! declared as expected, and which dependencies a target selects.
 #![tactic(auto)]
 
+mod declared;
+pub mod document;
+pub mod laws;
+pub mod lines;
+pub mod reading;
 pub mod selection;
+pub mod tables;
 
+pub use declared::Declared;
 pub use selection::{Asked, Choice, Row, SelectError, choose, select};
+pub use tables::{
+    Dependency, Kind, TargetKey, Targets, dependencies, keys_of, table_of, target_keys,
+};

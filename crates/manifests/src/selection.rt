@@ -6,15 +6,15 @@ ghost use Rattle.cargo_platform.specs.Trees.{condition_of};
 ghost use Rattle.cargo_platform.specs.Facts.{FactSet, IsTrueCondition};
 ghost use Rattle.partial_facts.specs.Conditions.{kleene_condition, residual_condition};
 ghost use Rattle.manifests.specs.Choosing.{choice_of, IfOpen};
-ghost use Rattle.manifest_documents.specs.Entries.{entry_of};
-ghost use Rattle.manifest_documents.specs.Tables.{row_of, rows_of, target_of};
+ghost use Rattle.manifests.specs.Entries.{entry_of};
+ghost use Rattle.manifests.specs.Tables.{row_of, rows_of, target_of};
 ghost use Rattle.manifests.specs.Selecting.{question_of, IsHostChoice, IsChoiceFor, chosen_of, selected};
 ghost use Rattle.manifests.specs.Selecting.{AreChosen, AreRowsOfKey, AreRowsOfKeys, AreRows, Adds};
 ghost use Rattle.manifests.specs.Selecting.{IsErrorOn, IsErrorUnder};
 
+use crate::{Dependency, Kind, TargetKey, Targets, dependencies, target_keys};
 use cargo_platform::{Cfg, Facts, Listed, ParseError, Platform, ReadError};
 use known_targets::KnownTarget;
-use manifest_documents::{Dependency, Kind, TargetKey, Targets, dependencies, target_keys};
 use partial_facts::names::is_named;
 use partial_facts::{Complete, Knowledge, decide_platform, residual_platform};
 use std::alloc::{AllocError, Global};

@@ -1,18 +1,18 @@
 //! What the callers of the crate `callers` answer.
 
 use crate::asked;
-use callers::audit::{canonical, is_one_key, note, note_hashed};
-use callers::describe::describe;
-use callers::fixed_key::is_unix;
-use callers::limited::read_within;
-use callers::linter::lint;
-use callers::members::members_of_all;
-use callers::own_error::{ManifestError, read_key};
-use callers::own_facts::System;
-use callers::planner::plan;
-use callers::printed_facts::holds_for;
-use callers::selected::is_selected;
-use callers::underline::underlined;
+use callers::conditions::audit::{canonical, is_one_key, note, note_hashed};
+use callers::conditions::describe::describe;
+use callers::conditions::fixed_key::is_unix;
+use callers::conditions::limited::read_within;
+use callers::conditions::linter::lint;
+use callers::conditions::members::members_of_all;
+use callers::conditions::own_error::{ManifestError, read_key};
+use callers::conditions::own_facts::System;
+use callers::conditions::planner::plan;
+use callers::conditions::printed_facts::holds_for;
+use callers::conditions::selected::is_selected;
+use callers::conditions::underline::underlined;
 use cargo_platform::{CfgExpr, FactsError, Platform, ReadError};
 use std::alloc::{AllocError, Global};
 use std::collections::{BTreeMap, HashMap};

@@ -1,6 +1,6 @@
 use Rattle.std.proofs.Common.{map, take}
 use Rattle.std.specs.List.{All}
-use Rattle.manifest_documents.specs.Entries.{entry_of}
+use Rattle.manifests.specs.Entries.{entry_of}
 use Rattle.manifest_answers.specs.Deep.{IsShallowEntry}
 use Rattle.manifest_answers.proofs.deep.deep_of.Given as goal
 

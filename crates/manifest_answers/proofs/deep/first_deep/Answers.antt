@@ -1,8 +1,8 @@
 use Rattle.std.proofs.Common.{◌∙◌, sym, ap, subst, List, map}
 use Rattle.std.specs.List.{All}
-use Rattle.manifest_documents.specs.Entries.{entry_of}
-use Rattle.manifest_documents.specs.Tables.{target_told}
-use Rattle.manifest_documents.specs.declared.tables.TargetKey.{TargetKey}
+use Rattle.manifests.specs.Entries.{entry_of}
+use Rattle.manifests.specs.Tables.{target_told}
+use Rattle.manifests.specs.declared.tables.TargetKey.{TargetKey}
 use Rattle.manifest_answers.specs.Deep.{HasNoDeepKey, IsShallowEntry}
 use Rattle.manifest_answers.proofs.deep.first_deep.Goals as goal
 

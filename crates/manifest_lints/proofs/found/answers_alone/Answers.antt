@@ -3,11 +3,11 @@ use Rattle.std.specs.Borrow.{Bor}
 use Rattle.std.proofs.lemmas.List.{length-map}
 use Rattle.cargo_platform.specs.Trees.{condition_of}
 use Rattle.partial_facts.specs.Partly.{names_of}
-use Rattle.manifest_documents.specs.Declarations.{declarations_of}
+use Rattle.manifests.specs.Declarations.{declarations_of}
 use Rattle.manifest_lints_standings.specs.Standings.{open_in, sorted_by, sorted_of, sorted_in}
 use Rattle.manifest_lints_findings.specs.Known.{sorted_of_spelled}
-use Rattle.manifest_lints_questions.specs.declared.deciding.TheConstants.{MANY}
-use Rattle.manifest_lints_questions.specs.Truths.{IsNowhere, IsEverywhere, NeedsMoreFor, budget_of}
+use Rattle.manifest_lints.specs.declared.deciding.TheConstants.{MANY}
+use Rattle.manifest_lints.specs.Truths.{IsNowhere, IsEverywhere, NeedsMoreFor, budget_of}
 use Rattle.manifest_lints.specs.Reports.{too_deep, many_open, few_splits}
 use Rattle.manifest_lints.proofs.Founds.{left_false, right_or, one_or}
 use Rattle.manifest_lints.proofs.found.answers_alone.Goals as goal

@@ -1,8 +1,8 @@
 use Rattle.std.proofs.Common.{◌≡◌, ◌∙◌, sym, ap, length, inl, inr, ◌||◌, rules}
 use Rattle.std.proofs.lemmas.List.{length-map}
 use Rattle.cargo_platform.specs.Trees.{condition_of}
-use Rattle.manifest_documents.specs.Declarations.{declarations_of}
-use Rattle.manifest_lints_questions.specs.Earlier.{is_undecided}
+use Rattle.manifests.specs.Declarations.{declarations_of}
+use Rattle.manifest_lints.specs.Earlier.{is_undecided}
 use Rattle.manifest_lints_standings.specs.Standings.{sorted_of, sorted_in}
 use Rattle.manifest_lints_findings.specs.Known.{sorted_of_spelled}
 use Rattle.manifest_lints.proofs.Founds.{beside_others, one_or}

@@ -3,10 +3,10 @@ use Rattle.std.specs.Borrow.{Bor}
 use Rattle.cargo_platform.specs.declared.Platform.{Platform}
 use Rattle.cargo_platform.specs.Trees.{condition_of}
 use Rattle.cargo_platform.specs.Platforms.{IsConditionText}
-use Rattle.manifest_documents.specs.Declarations.{declarations_of}
+use Rattle.manifests.specs.Declarations.{declarations_of}
 use Rattle.manifest_lints_findings.specs.Known.{IsKnown, is_condition}
 use Rattle.manifest_lints_findings.specs.Spells.{IsSpelledAs, entry_read}
-use Rattle.manifest_lints_questions.specs.Earlier.{same_place, equivalent_place, is_undecided}
+use Rattle.manifest_lints.specs.Earlier.{same_place, equivalent_place, is_undecided}
 use Rattle.manifest_lints.specs.Missed.{AreCovered}
 use Rattle.manifest_lints.specs.Reports.{MayBeOpen, left_open as listed}
 use Rattle.manifest_lints.proofs.Founds.{found_spelled, found_unspelled, spells_nothing}

@@ -3,7 +3,7 @@ use Rattle.std.proofs.Common.{arith}
 use Rattle.std.proofs.lemmas.List.{length-map, length-take-le}
 use Rattle.std.specs.List.{All}
 use Rattle.exact_answers.specs.declared.known.Known.{Known}
-use Rattle.manifest_documents.specs.Declarations.{DeclaredEntry, declarations_of}
+use Rattle.manifests.specs.Declarations.{DeclaredEntry, declarations_of}
 use Rattle.manifest_lints_findings.specs.declared.findings.Finding.{Finding}
 use Rattle.manifest_lints_findings.specs.declared.readings.ReadKey.{ReadKey}
 use Rattle.manifest_lints_findings.specs.Known.{IsKnown}

@@ -1,6 +1,6 @@
 use Rattle.std.proofs.Common.{map, take}
 use Rattle.std.specs.List.{All}
-use Rattle.manifest_documents.specs.Declarations.{declarations_of}
+use Rattle.manifests.specs.Declarations.{declarations_of}
 use Rattle.manifest_lints_findings.specs.Spells.{IsRead, entry_read}
 use Rattle.manifest_lints.specs.Reports.{AreFindingsOn}
 use Rattle.manifest_lints.specs.Sames.{AreNoted, AreMembers}

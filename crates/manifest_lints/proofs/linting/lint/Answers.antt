@@ -2,11 +2,11 @@ use Rattle.std.proofs.Common.{◌≡◌, sym, ap, subst, List, Option, Some, Non
 use Rattle.std.specs.List.Sorted.{IsPermutation}
 use Rattle.toml.specs.Data.{Members}
 use Rattle.toml.specs.View.{table_view}
-use Rattle.manifest_documents.specs.Declarations.{DeclaredEntry, IsDeclaredBy}
-use Rattle.manifest_documents.specs.Documents.{AreInSomeOrder}
-use Rattle.manifest_documents.specs.declared.tables.TargetKey.{TargetKey}
-use Rattle.manifest_documents.specs.declared.tables.Targets.{Targets}
-use Rattle.manifest_documents.specs.Tables.{target_of, target_told}
+use Rattle.manifests.specs.Declarations.{DeclaredEntry, IsDeclaredBy}
+use Rattle.manifests.specs.Documents.{AreInSomeOrder}
+use Rattle.manifests.specs.declared.tables.TargetKey.{TargetKey}
+use Rattle.manifests.specs.declared.tables.Targets.{Targets}
+use Rattle.manifests.specs.Tables.{target_of, target_told}
 use Rattle.manifest_lints_findings.specs.declared.findings.Report.{Report}
 use Rattle.manifest_lints.specs.Reports.{Entry, entry_of, AreFindings, IsReport}
 use Rattle.manifest_lints.proofs.linting.lint.Goals as goal

@@ -1,6 +1,6 @@
 use Rattle.std.proofs.Common.{◌≡◌, map, take}
 use Rattle.std.specs.List.{All}
-use Rattle.manifest_documents.specs.Entries.{entry_of}
+use Rattle.manifests.specs.Entries.{entry_of}
 use Rattle.manifest_lints_findings.specs.Spells.{IsRead, entry_read}
 use Rattle.manifest_lints.proofs.linting.read_keys.Given as goal
 

@@ -8,7 +8,7 @@ use Rattle.exact_answers.specs.Families.{KeepsFamilyRule}
 use Rattle.partial_facts.specs.declared.one_valued.TheConstants.{ONE_VALUED}
 use Rattle.toml.specs.Data.{Members}
 use Rattle.toml.specs.View.{table_view}
-use Rattle.manifest_documents.specs.Declarations.{DeclaredEntry, IsDeclaredBy}
+use Rattle.manifests.specs.Declarations.{DeclaredEntry, IsDeclaredBy}
 use Rattle.manifest_lints_findings.specs.declared.findings.Finding.{Finding}
 use Rattle.manifest_lints_findings.specs.Spells.{IsRead, entry_read}
 use Rattle.manifest_lints.specs.Reports.{Entry, entry_of, AreFindings, AreFindingsOn}

@@ -1,7 +1,7 @@
 use Rattle.std.proofs.Common.{◌∙◌, ◌↔◌, refl, sym, ap, subst, map, IsTrue}
 use Rattle.std.proofs.lemmas.Simd.{map-map}
 use Rattle.cargo_platform.specs.Trees.{value_of}
-use Rattle.manifest_documents.specs.Declarations.{declarations_of}
+use Rattle.manifests.specs.Declarations.{declarations_of}
 use Rattle.manifest_lints_standings.specs.Standings.{sorted_beside}
 use Rattle.manifest_lints_findings.specs.Known.{sorted_of_spelled, print_spelled, IsUnknownSpelled}
 use Rattle.manifest_lints_findings.proofs.known_keys.known_condition.Goals as goal

@@ -1,6 +1,6 @@
 use Rattle.std.proofs.Common.{◌≡◌, map, take}
 use Rattle.cargo_platform.specs.Trees.{value_of}
-use Rattle.manifest_documents.specs.Declarations.{declarations_of}
+use Rattle.manifests.specs.Declarations.{declarations_of}
 use Rattle.manifest_lints_standings.specs.Standings.{sorted_by, sorted_beside}
 use Rattle.manifest_lints_standings.proofs.asked_facts.asked_facts.Given as goal
 

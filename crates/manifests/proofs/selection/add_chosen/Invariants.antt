@@ -1,7 +1,7 @@
 use Rattle.std.proofs.Common.{map, take}
 use Rattle.cargo_platform.specs.Trees.{condition_of}
 use Rattle.manifests.specs.Selecting.{question_of, AreChosen, Adds}
-use Rattle.manifest_documents.specs.Tables.{row_of}
+use Rattle.manifests.specs.Tables.{row_of}
 use Rattle.manifests.proofs.selection.add_chosen.Given as goal
 
 abbrev pub invariant-dependencies : goal.invariant-dependencies

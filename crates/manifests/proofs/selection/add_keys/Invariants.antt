@@ -1,5 +1,5 @@
 use Rattle.std.proofs.Common.{map, take}
-use Rattle.manifest_documents.specs.Entries.{entry_of}
+use Rattle.manifests.specs.Entries.{entry_of}
 use Rattle.manifests.specs.Selecting.{question_of, AreRowsOfKeys, Adds}
 use Rattle.manifests.proofs.selection.add_keys.Given as goal
 

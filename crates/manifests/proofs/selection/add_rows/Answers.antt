@@ -1,5 +1,5 @@
 use Rattle.std.proofs.Common.{◌∙◌, refl, sym, ap, map}
-use Rattle.manifest_documents.specs.Tables.{row_of}
+use Rattle.manifests.specs.Tables.{row_of}
 use Rattle.manifests.proofs.Chosen.{of_key}
 use Rattle.manifests.proofs.selection.add_rows.Goals as goal
 

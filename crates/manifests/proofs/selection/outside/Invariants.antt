@@ -1,6 +1,6 @@
 use Rattle.std.proofs.Common.{◌≡◌, map, take}
 use Rattle.manifests.specs.Selecting.{chosen_of, selected}
-use Rattle.manifest_documents.specs.Tables.{row_of}
+use Rattle.manifests.specs.Tables.{row_of}
 use Rattle.manifests.proofs.selection.outside.Given as goal
 
 abbrev pub invariant-dependencies : goal.invariant-dependencies

@@ -1,4 +1,0 @@
-pub mod Audits
-pub mod Counted
-pub mod Shipped
-pub mod Targets

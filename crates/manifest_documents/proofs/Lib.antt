@@ -1,4 +1,0 @@
-pub mod Stepping
-pub mod Lexemes
-pub mod Texts
-pub mod Written

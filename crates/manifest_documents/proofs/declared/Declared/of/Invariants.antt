@@ -1,9 +1,0 @@
-use Rattle.std.proofs.Common.{map, take}
-use Rattle.toml.specs.View.{items_view}
-use Rattle.manifest_documents.specs.Declarations.{DeclareEach, strings, entry_in}
-use Rattle.manifest_documents.proofs.declared.Declared.of.Given as goal
-
--- what the values so far declare
-abbrev pub invariant-values : goal.invariant-values
-invariant-values l =
-    DeclareEach (strings (items_view (take l.value-index l.value-items))) (map entry_in l.entries.items)

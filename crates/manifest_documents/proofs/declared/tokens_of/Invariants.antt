@@ -1,5 +1,0 @@
-use Rattle.manifest_documents.proofs.Lexemes.{HasRead}
-use Rattle.manifest_documents.proofs.declared.tokens_of.Given as goal
-
-abbrev pub invariant-tokens : goal.invariant-tokens
-invariant-tokens l = HasRead l.text l.item-iterator l.tokens.items

@@ -1,0 +1,81 @@
+-- What it is for a condition to be never, always, nowhere and everywhere true.
+use Rattle.std.specs.Prelude.{◌≡◌, ◌<◌, ℕ, ◌*◌, ◌/◌, max, Bool, true, false, cond, nat_le, List, [], ◌∷◌}
+use Rattle.std.specs.Prelude.{Option, Some}
+use Rattle.cargo_platform.specs.Trees.{Condition}
+use Rattle.cargo_platform.specs.Facts.{FactSet, IsTrueCondition}
+use Rattle.partial_facts.specs.Conditions.{kleene_condition}
+use Rattle.exact_answers.specs.declared.known.Known.{Known}
+use Rattle.exact_answers.specs.Possible.{IsAllowed}
+use Rattle.exact_answers.specs.Asking.{NeedsMore}
+use Rattle.exact_answers.specs.Targets.{ForEach, asked_trees}
+use Rattle.known_targets.specs.Open.{open_told}
+use Rattle.known_targets.specs.Table.{target_name, target_facts}
+use Rattle.known_targets.specs.declared.table.TheConstants.{COUNT}
+use Rattle.manifest_lints.specs.declared.deciding.TheConstants.{FEW, SPLITS}
+use Rattle.manifest_lints.specs.declared.deciding.Decided.{Decided}
+use Rattle.manifest_lints.specs.declared.deciding.Decided.TheVariants as decided
+
+-- it holds for no target that is possible
+abbrev pub IsNever : Known → Condition → Type 0
+IsNever k c = ForEach k (λ name s. IsTrueCondition name s c → ⊥)
+
+-- it holds for each target that is possible
+abbrev pub IsAlways : Known → Condition → Type 0
+IsAlways k c = ForEach k (λ name s. IsTrueCondition name s c)
+
+-- it holds for some target that is possible, by a name and a set of facts
+abbrev pub CanHold : Known → Condition → Type 0
+CanHold k c = (name : List ℕ) × (s : FactSet) × IsAllowed k s × IsTrueCondition name s c
+
+-- it fails for some target that is possible
+abbrev pub CanFail : Known → Condition → Type 0
+CanFail k c = (name : List ℕ) × (s : FactSet) × IsAllowed k s × (IsTrueCondition name s c → ⊥)
+
+-- it can be as true as this
+abbrev pub CanBe : Bool → Known → Condition → Type 0
+CanBe true k c = CanHold k c
+CanBe false k c = CanFail k c
+
+-- what is said of whether it never holds, and of whether it always does
+abbrev pub SaysNever : Decided → Known → Condition → Type 0
+SaysNever decided.Yes k c = IsNever k c
+SaysNever decided.No k c = CanHold k c
+SaysNever decided.Unknown k c = Unit {0}
+
+abbrev pub SaysAlways : Decided → Known → Condition → Type 0
+SaysAlways decided.Yes k c = IsAlways k c
+SaysAlways decided.No k c = CanFail k c
+SaysAlways decided.Unknown k c = Unit {0}
+
+-- the same of whether it is never as true as this
+abbrev pub SaysNeverIs : Bool → Decided → Known → Condition → Type 0
+SaysNeverIs true d k c = SaysNever d k c
+SaysNeverIs false d k c = SaysAlways d k c
+
+abbrev pub is_yes : Decided → Bool
+is_yes decided.Yes = true
+is_yes decided.No = false
+is_yes decided.Unknown = false
+
+abbrev pub is_unknown : Decided → Bool
+is_unknown decided.Yes = false
+is_unknown decided.No = false
+is_unknown decided.Unknown = true
+
+-- how many splits a search of a condition with so many names and pairs may make
+abbrev pub budget_of : ℕ → ℕ
+budget_of facts = cond (nat_le facts FEW) SPLITS (max (SPLITS * 64 / facts) 8)
+
+-- so many splits are too few for the condition
+abbrev pub NeedsMoreFor : Known → Condition → ℕ → Type 0
+NeedsMoreFor k c budget = NeedsMore k (asked_trees (c ∷ [])) budget
+
+-- whether it holds at a known target, where that does not hang on the facts of open names and keys
+abbrev pub at_target : List (List ℕ) → Condition → ℕ → Option Bool
+at_target open_keys c k = kleene_condition (Some (target_name k)) (open_told (target_facts k) open_keys) c
+
+abbrev pub IsNowhere : List (List ℕ) → Condition → Type 0
+IsNowhere open_keys c = (k : ℕ) → k < COUNT → at_target open_keys c k ≡ Some false
+
+abbrev pub IsEverywhere : List (List ℕ) → Condition → Type 0
+IsEverywhere open_keys c = (k : ℕ) → k < COUNT → at_target open_keys c k ≡ Some true

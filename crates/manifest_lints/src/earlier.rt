@@ -1,0 +1,333 @@
+//! How a key stands to those before it: the same condition, or one that is as true.
+
+ghost use Rattle.std.specs.Prelude.{◌≡◌, None, [], IfOk, OnOk, IsTrue};
+ghost use Rattle.std.specs.Borrow.{Bor};
+ghost use Rattle.cargo_platform.specs.declared.Platform.{Platform as Shown};
+ghost use Rattle.cargo_platform.specs.Trees.{Expression, tree_of, condition_of};
+ghost use Rattle.manifest_lints.specs.Earlier.{is_same, is_equivalent, is_undecided, noted, Notes};
+ghost use Rattle.manifest_lints.specs.Earlier.{same_place, AddsMember};
+ghost use Rattle.manifest_lints.specs.Earlier.{TellsNoSame, TellsEquivalent, TellsUndecided, TellsUnlike};
+ghost use Rattle.manifest_lints.specs.Earlier.{is_unlike, part_of, PutsUnlike};
+ghost use Rattle.manifest_lints.specs.Rustcs.{AllowsRustcs};
+ghost use Rattle.manifest_lints.specs.Classes.{AreClassed, AreUnlike, IsClassOf, PutsIn, PutsMember};
+ghost use Rattle.manifest_lints.specs.Classes.{TellsNoneEquivalent};
+
+use crate::sample_sets::{beyond_targets, truths};
+use cargo_platform::{CfgExpr, Platform};
+use exact_answers::{Known, MustSelect, equivalent_platform};
+use known_targets::{WORDS, matching};
+use std::alloc::{AllocError, Global};
+use std::collections::BTreeMap;
+
+/// So many keys of its class a key is compared with at most.
+pub const MOST: usize = 64;
+
+/// What is known of an earlier key.
+#[derive(Clone, Copy, Debug, PartialEq, Eq, Drop)]
+pub enum Earlier {
+    /// None is the same or as true.
+    Unlike,
+    /// This one is the same.
+    Same(usize),
+    /// This one is as true.
+    Equivalent(usize),
+    /// It is not known whether one is as true.
+    Undecided,
+}
+
+impl Earlier {
+    /// Whether none is the same or as true.
+    fn is_unlike(self) -> bool
+        ensures { result ≡ is_unlike self }
+    {
+        matches!(self, Earlier::Unlike)
+    }
+
+    /// Whether an earlier key is the same.
+    pub fn is_same(self) -> bool
+        ensures { result ≡ is_same self }
+    {
+        matches!(self, Earlier::Same(_))
+    }
+
+    /// Whether an earlier key is as true.
+    pub fn is_equivalent(self) -> bool
+        ensures { result ≡ is_equivalent self }
+    {
+        matches!(self, Earlier::Equivalent(_))
+    }
+
+    /// Whether it is not known.
+    pub fn is_undecided(self) -> bool
+        ensures { result ≡ is_undecided self }
+    {
+        matches!(self, Earlier::Undecided)
+    }
+}
+
+/// What equivalent conditions share, and of which part of these conditions a class is.
+#[derive(Clone, Copy, Debug, PartialEq, Eq, PartialOrd, Ord, Drop)]
+struct Class {
+    // The known targets at which they hold.
+    targets: [u64; WORDS],
+    // Their truths over the sets of facts that are tried.
+    truths: u64,
+    part: Part,
+}
+
+/// A part of the conditions that share their truths.
+#[derive(Clone, Copy, Debug, PartialEq, Eq, PartialOrd, Ord, Drop)]
+enum Part {
+    /// All of them.
+    All,
+    /// Those that share this number too.
+    Numbered(u64),
+    /// Those whose number is not known.
+    NotNumbered,
+}
+
+/// Keys in their order, each with what its class has.
+#[derive(Drop)]
+pub struct Keys<'a> {
+    seen: BTreeMap<&'a Platform, usize>,
+    // The conditions that are compared with later ones, and the places of their keys.
+    members: Vec<(usize, &'a Platform)>,
+    // Where among them those of a class stand.
+    classes: BTreeMap<Class, Vec<usize>>,
+}
+
+impl<'a> Keys<'a> {
+    /// No keys.
+    pub fn new(alloc: Global) -> Keys<'a>
+        ensures none { (q : Bor Shown) → noted result q ≡ None }
+        ensures no_members { result.members.items ≡ [] }
+        ensures classed { AreClassed result }
+    {
+        Keys {
+            seen: BTreeMap::new(alloc),
+            members: Vec::new(alloc),
+            classes: BTreeMap::new(alloc),
+        }
+    }
+
+    /// Adds a key at a place after those that were added, and tells how it stands to them. With no budget it is not
+    /// asked what is as true.
+    pub fn add(
+        &mut self,
+        alloc: Global,
+        index: usize,
+        platform: &'a Platform,
+        known: &'a Known<'a>,
+        budget: Option<u64>,
+    ) -> Result<Earlier, AllocError>
+        ensures same { IfOk result (λ r. same_place r ≡ noted self.old platform.entry) }
+        ensures equivalent { IfOk result (TellsEquivalent known.now self.old (condition_of platform.entry.now)) }
+        ensures undecided { IfOk result (TellsUndecided known.now budget self.old (condition_of platform.entry.now)) }
+        ensures unlike { AllowsRustcs known.now → AreClassed self.old
+            → IfOk result (TellsNoneEquivalent known.now self.old (condition_of platform.entry.now)) }
+        ensures classed { AreClassed self.old → OnOk result (AreClassed self.new) }
+        ensures notes { OnOk result (Notes self.old self.new index platform.entry) }
+        ensures members { OnOk result (AddsMember self.old self.new index platform.entry) }
+        ensures puts { IfOk result (PutsUnlike self.old self.new index platform.entry) }
+    {
+        match self.note(index, platform)? {
+            Some(first) => Ok(Earlier::Same(first)),
+            None => self.compare(alloc, index, platform, known, budget),
+        }
+    }
+
+    /// Notes a condition, and answers the place of the same one where there is one.
+    fn note(&mut self, index: usize, platform: &'a Platform) -> Result<Option<usize>, AllocError>
+        ensures first { IfOk result (λ first. first ≡ noted self.old platform.entry) }
+        ensures notes { OnOk result (Notes self.old self.new index platform.entry) }
+        ensures members { OnOk result (self.new.members.items ≡ self.old.members.items) }
+        ensures classes { OnOk result (self.new.classes ≡ self.old.classes) }
+    {
+        if let Some(first) = self.seen.get(&platform) {
+            return Ok(Some(*first));
+        }
+        let _none = self.seen.insert(platform, index)?;
+        Ok(None)
+    }
+
+    /// Compares a condition with those of its class, and puts it among them unless it is as true as one or unknown.
+    fn compare(
+        &mut self,
+        alloc: Global,
+        index: usize,
+        platform: &'a Platform,
+        known: &'a Known<'a>,
+        budget: Option<u64>,
+    ) -> Result<Earlier, AllocError>
+        ensures other { IfOk result TellsNoSame }
+        ensures equivalent { IfOk result (TellsEquivalent known.now self.old (condition_of platform.entry.now)) }
+        ensures undecided { IfOk result (TellsUndecided known.now budget self.old (condition_of platform.entry.now)) }
+        ensures unlike { AllowsRustcs known.now → AreClassed self.old
+            → IfOk result (TellsNoneEquivalent known.now self.old (condition_of platform.entry.now)) }
+        ensures classed { AreClassed self.old → OnOk result (AreClassed self.new) }
+        ensures noted { OnOk result ((q : Bor Shown) → noted self.new q ≡ noted self.old q) }
+        ensures members { OnOk result (AddsMember self.old self.new index platform.entry) }
+        ensures puts { IfOk result (PutsUnlike self.old self.new index platform.entry) }
+    {
+        let Platform::Cfg(e) = platform else {
+            return Ok(Earlier::Unlike);
+        };
+        let class = class_of(alloc, platform, e)?;
+        let number = beyond_targets(alloc, platform, e)?;
+        let found = self.as_true_among(alloc, class, number, platform, known, budget)?;
+        if !found.is_unlike() {
+            return Ok(found);
+        }
+        self.put_member(alloc, index, platform, class, number)?;
+        Ok(Earlier::Unlike)
+    }
+
+    /// Puts a condition among the members of its class, and of the part of it.
+    fn put_member(
+        &mut self,
+        alloc: Global,
+        index: usize,
+        platform: &'a Platform,
+        class: Class,
+        number: Option<u64>,
+    ) -> Result<(), AllocError>
+        ensures puts { OnOk result (PutsMember self.old self.new (index, platform.entry) class number) }
+        ensures noted { OnOk result ((q : Bor Shown) → noted self.new q ≡ noted self.old q) }
+    {
+        let place = self.members.len();
+        self.members.push((index, platform))?;
+        put(alloc, &mut self.classes, class, place)?;
+        put(alloc, &mut self.classes, part_of(class, number), place)
+    }
+
+    /// Which member of a class is as true as a condition: one that shares its number, or one of all where it has none.
+    fn as_true_among(
+        &self,
+        alloc: Global,
+        class: Class,
+        number: Option<u64>,
+        platform: &'a Platform,
+        known: &'a Known<'a>,
+        budget: Option<u64>,
+    ) -> Result<Earlier, AllocError>
+        ensures other { IfOk result TellsNoSame }
+        ensures equivalent { IfOk result (TellsEquivalent known.now self.now (condition_of platform.entry.now)) }
+        ensures undecided { IfOk result (TellsUndecided known.now budget self.now (condition_of platform.entry.now)) }
+        ensures unlike { IfOk result (λ r. IsTrue (is_unlike r)
+            → AreUnlike known.now self.now (condition_of platform.entry.now) class number) }
+    {
+        match number {
+            Some(_) => self.as_true_in_part(alloc, class, number, platform, known, budget),
+            None => self.as_true(alloc, &class, platform, known, budget),
+        }
+    }
+
+    /// Which member of a class is as true as a condition that has a number: one that shares it, or has none.
+    fn as_true_in_part(
+        &self,
+        alloc: Global,
+        class: Class,
+        number: Option<u64>,
+        platform: &'a Platform,
+        known: &'a Known<'a>,
+        budget: Option<u64>,
+    ) -> Result<Earlier, AllocError>
+        ensures other { IfOk result TellsNoSame }
+        ensures equivalent { IfOk result (TellsEquivalent known.now self.now (condition_of platform.entry.now)) }
+        ensures undecided { IfOk result (TellsUndecided known.now budget self.now (condition_of platform.entry.now)) }
+        ensures numbered { IfOk result
+            (TellsUnlike known.now self.now (condition_of platform.entry.now) (part_of class number)) }
+        ensures not_numbered { IfOk result
+            (TellsUnlike known.now self.now (condition_of platform.entry.now) (part_of class None)) }
+    {
+        let part = part_of(class, number);
+        let found = self.as_true(alloc, &part, platform, known, budget)?;
+        if !found.is_unlike() {
+            return Ok(found);
+        }
+        let part = part_of(class, None);
+        self.as_true(alloc, &part, platform, known, budget)
+    }
+
+    /// Which member of a class is as true as a condition.
+    fn as_true(
+        &self,
+        alloc: Global,
+        class: &Class,
+        platform: &'a Platform,
+        known: &'a Known<'a>,
+        budget: Option<u64>,
+    ) -> Result<Earlier, AllocError>
+        ensures other { IfOk result TellsNoSame }
+        ensures equivalent { IfOk result (TellsEquivalent known.now self.now (condition_of platform.entry.now)) }
+        ensures undecided { IfOk result (TellsUndecided known.now budget self.now (condition_of platform.entry.now)) }
+        ensures unlike { IfOk result
+            (TellsUnlike known.now self.now (condition_of platform.entry.now) class.now) }
+    {
+        let Some(places) = self.classes.get(class) else {
+            return Ok(Earlier::Unlike);
+        };
+        let Some(splits) = budget else {
+            return Ok(Earlier::Undecided);
+        };
+        let mut asked: usize = 0;
+        'places: for place in places {
+            if asked == MOST && self.members.len() > MOST {
+                return Ok(Earlier::Undecided);
+            }
+            asked = asked.saturating_add(1);
+            let Some((first, other)) = self.members.get(*place) else {
+                continue;
+            };
+            match equivalent_platform(alloc, *other, platform, known, splits)? {
+                MustSelect::Yes => return Ok(Earlier::Equivalent(*first)),
+                MustSelect::No(_) => {}
+                MustSelect::Undecided => return Ok(Earlier::Undecided),
+            }
+        }
+        Ok(Earlier::Unlike)
+    }
+}
+
+/// The part of a class whose conditions share a number, or have none.
+fn part_of(class: Class, number: Option<u64>) -> Class
+    ensures { result ≡ part_of class number }
+{
+    let part = match number {
+        Some(number) => Part::Numbered(number),
+        None => Part::NotNumbered,
+    };
+    Class { part, ..class }
+}
+
+/// Puts a place among those of a class.
+fn put(
+    alloc: Global,
+    classes: &mut BTreeMap<Class, Vec<usize>>,
+    class: Class,
+    place: usize,
+) -> Result<(), AllocError>
+    ensures { OnOk result (PutsIn classes.old classes.new class place) }
+{
+    if let Some(others) = classes.get_mut(&class) {
+        others.push(place)?;
+        return Ok(());
+    }
+    let mut places = Vec::new(alloc);
+    places.push(place)?;
+    let _none = classes.insert(class, places)?;
+    Ok(())
+}
+
+/// The class of an expression.
+fn class_of(alloc: Global, platform: &Platform, e: &CfgExpr) -> Result<Class, AllocError>
+    ensures { condition_of platform.now ≡ Expression (tree_of e.now) → IfOk result (IsClassOf (tree_of e.now)) }
+{
+    let targets = matching(alloc, platform)?.words();
+    let truths = truths(alloc, e)?;
+    Ok(Class {
+        targets,
+        truths,
+        part: Part::All,
+    })
+}

@@ -1,0 +1,454 @@
+//! Sets of facts that are tried. Each has the facts of a known target, and some that are no fact of rustc's.
+
+ghost use Rattle.std.specs.Prelude.{◌≡◌, ◌<◌, ◌*◌, ◌==◌, ◌&&◌, ◌||◌, ℕ, true, false, [], map, length};
+ghost use Rattle.std.specs.Prelude.{IfOk, IfSome, IfNone};
+ghost use Rattle.std.specs.FinSet.{contains};
+ghost use Rattle.cargo_platform.specs.Trees.{Expression, value_of, tree_of, condition_of};
+ghost use Rattle.cargo_platform.specs.Facts.{fact_set, pair_of, truth_of_condition};
+ghost use Rattle.partial_facts.specs.OneValued.{is_single, is_value};
+ghost use Rattle.partial_facts.specs.Partly.{names_of};
+ghost use Rattle.known_targets.specs.Groups.{both};
+ghost use Rattle.known_targets.specs.Sets.{is_member};
+ghost use Rattle.known_targets.specs.Table.{target_facts};
+ghost use Rattle.known_targets.specs.declared.table.TheConstants.{COUNT};
+ghost use Rattle.manifest_lints.specs.Samples.{AreBits, AreTruths, is_rustcs, holds, holds_beside, text_of};
+ghost use Rattle.manifest_lints.specs.Numbers.{is_unknown_value, same_pair, has_pair, unknown_beside};
+ghost use Rattle.manifest_lints.specs.Numbers.{pair_at, truths_with, apart, apart_of, summed, IsNumberOf};
+ghost use Rattle.manifest_lints.specs.Samples.{is_set, is_only, mixed, spread, mixed_truths};
+
+use cargo_platform::{Cfg, CfgExpr, FactIndex, Fold, Platform, fold_expression, values_of};
+use known_targets::{KnownTarget, TargetSet, having, names};
+use partial_facts::ONE_VALUED;
+use partial_facts::names::is_among;
+use std::alloc::{AllocError, Global};
+use std::ops::ControlFlow;
+
+/// Each fifth known target stands in a set of facts that is tried.
+const STRIDE: usize = 5;
+
+/// Whether the condition holds over the facts, for a target whose name is empty.
+pub fn holds_over(alloc: Global, platform: &Platform, facts: &[Cfg]) -> Result<bool, AllocError>
+    ensures { IfOk result
+        (λ b. b ≡ truth_of_condition [] (fact_set (map value_of facts.now)) (condition_of platform.now)) }
+{
+    match platform {
+        Platform::Name(name) => Ok(name.as_str() == ""),
+        Platform::Cfg(e) => {
+            let index = FactIndex::new(alloc, facts)?;
+            Ok(e.matches_in(&index))
+        }
+    }
+}
+
+/// The facts of a set that is tried, over which the condition is as true as wanted where it is so over one.
+pub fn tried(alloc: Global, platform: &Platform, wanted: bool) -> Result<Vec<Cfg>, AllocError> {
+    let Platform::Cfg(e) = platform else {
+        return Ok(Vec::new(alloc));
+    };
+    let truths = truths(alloc, e)?;
+    let place = if wanted {
+        truths.trailing_zeros()
+    } else {
+        truths.trailing_ones()
+    };
+    facts_at(alloc, platform, place)
+}
+
+/// The facts of the set at this place: those of its target, and those of the condition that stand in the set besides.
+fn facts_at(alloc: Global, platform: &Platform, place: u32) -> Result<Vec<Cfg>, AllocError> {
+    let index = (place as usize).saturating_mul(STRIDE);
+    let target = match names().get(index) {
+        Some(name) => KnownTarget::by_name(name),
+        None => None,
+    };
+    let mut facts = match target {
+        Some(target) => target.facts(alloc)?,
+        None => Vec::new(alloc),
+    };
+    for each in &values_of(alloc, platform)? {
+        let c: &Cfg = *each;
+        if place < 64 && targets_of(c).is_none() && (mixed_truths(c) >> place) & 1 == 1 {
+            facts.push(c.clone(alloc)?)?;
+        }
+    }
+    Ok(facts)
+}
+
+/// The truths of an expression over 64 sets of facts that are possible, one a bit. Each has the facts of a known target
+/// and some that are no fact of rustc's.
+pub fn truths(alloc: Global, e: &CfgExpr) -> Result<u64, AllocError>
+    ensures { IfOk result (AreTruths (holds_beside None) (tree_of e.now)) }
+{
+    fold_expression(alloc, e, &OverSamples { other: None })
+}
+
+/// The 64 sets of facts, each a bit of what is made.
+#[derive(Clone, Copy, Drop)]
+struct OverSamples<'a> {
+    /// What stands in each set in place of the pair of its key.
+    other: Option<Other<'a>>,
+}
+
+/// A key with one value, and what it is in place of that of a known target; where it is none, no pair is a fact.
+#[derive(Clone, Copy, Drop)]
+struct Other<'a> {
+    key: &'a str,
+    value: Option<&'a str>,
+}
+
+impl<'a> OverSamples<'a> {
+    /// The truths of a name or pair.
+    fn truths_at(&self, c: &Cfg) -> u64
+        ensures { AreBits (λ l. holds_beside self.now.other l (pair_of (value_of c.now))) result }
+    {
+        match self.other {
+            None => truths_of(c),
+            Some(other) => truths_beside(other, c),
+        }
+    }
+}
+
+/// The truths of a name or pair, where a key has another value.
+fn truths_beside(other: Other<'_>, c: &Cfg) -> u64
+    ensures { AreBits (λ l. holds_beside (Some other.entry) l (pair_of (value_of c.now))) result }
+{
+    if is_value_of(c, other.key) {
+        return everywhere(has_only(c, other.value));
+    }
+    truths_of(c)
+}
+
+/// Whether the fact is a value of this key.
+fn is_value_of(c: &Cfg, key: &str) -> bool
+    ensures { result ≡ is_value key.now (pair_of (value_of c.now)) }
+{
+    match c {
+        Cfg::Name(_) => false,
+        Cfg::KeyPair(own, _) => own.as_str() == key,
+    }
+}
+
+/// Whether the fact has this value, where there is one.
+fn has_only(c: &Cfg, only: Option<&str>) -> bool
+    ensures { result ≡ is_only (text_of only.entry) (pair_of (value_of c.now)).value }
+{
+    match c {
+        Cfg::Name(_) => false,
+        Cfg::KeyPair(_, value) => is_only(only, value.as_str()),
+    }
+}
+
+/// Whether the text is this value, where there is one.
+fn is_only(only: Option<&str>, value: &str) -> bool
+    ensures { result ≡ is_only (text_of only.entry) (Some value.now) }
+{
+    match only {
+        Some(only) => value == only,
+        None => false,
+    }
+}
+
+impl<'a> Fold for OverSamples<'a> {
+    ghost use Rattle.cargo_platform.specs.Walk.{list_tree};
+
+    type Part = u64;
+
+    /// The truths of the group so far.
+    type Members = u64;
+
+    ghost makes = { λ sets e part. AreTruths (holds_beside sets.other) e part };
+
+    ghost gathers = { λ sets neutral es so_far. AreTruths (holds_beside sets.other) (list_tree neutral es) so_far };
+
+    fn value(&self, c: &Cfg) -> Result<u64, AllocError> {
+        Ok(self.truths_at(c))
+    }
+
+    fn literal(&self, truth: bool) -> u64 {
+        everywhere(truth)
+    }
+
+    fn negation(&self, part: u64) -> Result<u64, AllocError> {
+        Ok(!part)
+    }
+
+    fn no_members(&self, neutral: bool) -> u64 {
+        everywhere(neutral)
+    }
+
+    fn add(
+        &self,
+        neutral: bool,
+        so_far: u64,
+        part: u64,
+    ) -> Result<ControlFlow<u64, u64>, AllocError> {
+        Ok(ControlFlow::Continue(joined(neutral, so_far, part)))
+    }
+
+    fn group(&self, _neutral: bool, members: u64) -> u64 {
+        members
+    }
+}
+
+/// A pair of one value with its key, as texts.
+type Pair<'a> = (&'a str, &'a str);
+
+/// Of so many values that no known target has it is asked what a condition is worth there.
+const FEW: usize = 8;
+
+/// Whether it is a value that no known target has, of a key that has one value.
+fn is_unknown(c: &Cfg) -> bool
+    ensures { result ≡ is_unknown_value (pair_of (value_of c.now)) }
+{
+    if is_of_key(c, ONE_VALUED) {
+        return having(c).is_empty();
+    }
+    false
+}
+
+/// A value that no known target has, of a key that has one value.
+fn unknown_value(c: &Cfg) -> Option<Pair<'_>>
+    ensures some { IfSome result (λ x. pair_at x ≡ pair_of (value_of c.now)) }
+    ensures unknown { IfSome result (λ x. is_unknown_value (pair_of (value_of c.now)) ≡ true) }
+    ensures none { IfNone result (is_unknown_value (pair_of (value_of c.now)) ≡ false) }
+{
+    match c {
+        Cfg::Name(_) => None,
+        Cfg::KeyPair(key, value) => {
+            if is_unknown(c) {
+                return Some((key.as_str(), value.as_str()));
+            }
+            None
+        }
+    }
+}
+
+/// Whether a pair is among these.
+fn has_pair(pairs: &[Pair<'_>], pair: Pair<'_>) -> bool
+    ensures { result ≡ has_pair (map pair_at pairs.now) (pair_at pair.entry) }
+{
+    'pairs: for other in pairs {
+        if is_pair(pair, *other) {
+            return true;
+        }
+    }
+    false
+}
+
+/// Whether both are the same.
+fn is_pair(pair: Pair<'_>, other: Pair<'_>) -> bool
+    ensures { result ≡ same_pair (pair_at pair.entry) (pair_at other.entry) }
+{
+    pair.0 == other.0 && pair.1 == other.1
+}
+
+/// The values of a condition that no known target has, of keys that have one value; each once, and none where they are
+/// many.
+fn unknown_values<'a>(
+    alloc: Global,
+    values: &[&'a Cfg],
+) -> Result<Option<Vec<Pair<'a>>>, AllocError>
+    ensures some { IfOk result (λ o. IfSome o (λ found. map pair_at found.items
+        ≡ unknown_beside [] (map pair_of (map (λ c. value_of c.now) values.now)))) }
+    ensures none { IfOk result (λ o. IfNone o (FEW
+        < length (unknown_beside [] (map pair_of (map (λ c. value_of c.now) values.now))))) }
+{
+    let mut found: Vec<Pair<'a>> = Vec::new(alloc);
+    'values: for each in values {
+        if found.len() > FEW {
+            return Ok(None);
+        }
+        let c: &'a Cfg = *each;
+        let Some(pair) = unknown_value(c) else {
+            continue;
+        };
+        if has_pair(&found, pair) {
+            continue;
+        }
+        found.push(pair)?;
+    }
+    if found.len() > FEW {
+        return Ok(None);
+    }
+    Ok(Some(found))
+}
+
+/// What the truths of an expression hang on where a key has this value: none where they are those without the value.
+fn apart(alloc: Global, e: &CfgExpr, pair: Pair<'_>) -> Result<u64, AllocError>
+    ensures { IfOk result (λ n. n ≡ apart_of (tree_of e.now) (pair_at pair.entry)) }
+{
+    let (key, value) = pair;
+    let without = truths_beside_key(alloc, e, key, None)?;
+    let with = truths_beside_key(alloc, e, key, Some(value))?;
+    Ok(number_apart(with, without, key, value))
+}
+
+/// The truths of an expression where a key has this value alone, or none.
+fn truths_beside_key(
+    alloc: Global,
+    e: &CfgExpr,
+    key: &str,
+    value: Option<&str>,
+) -> Result<u64, AllocError>
+    ensures { IfOk result (λ w. w ≡ truths_with key.now (text_of value.entry) (tree_of e.now)) }
+{
+    let other = Some(Other { key, value });
+    let truths = fold_expression(alloc, e, &OverSamples { other })?;
+    Ok(truths)
+}
+
+/// The number of truths with a value: 0 where they are those without it.
+fn number_apart(with: u64, without: u64, key: &str, value: &str) -> u64
+    ensures { result ≡ apart with without (pair_at (key.entry, value.entry)) }
+{
+    if with == without {
+        return 0;
+    }
+    let number = mixed(spread(with), key);
+    spread(mixed(number.wrapping_add(1), value))
+}
+
+/// The sum of what an expression hangs on at each of these values.
+fn sum_apart(alloc: Global, e: &CfgExpr, pairs: &[Pair<'_>]) -> Result<u64, AllocError>
+    ensures { IfOk result (λ n. n ≡ summed (apart_of (tree_of e.now)) 0 (map pair_at pairs.now)) }
+{
+    let mut sum: u64 = 0;
+    'pairs: for pair in pairs {
+        sum = sum.wrapping_add(apart(alloc, e, *pair)?);
+    }
+    Ok(sum)
+}
+
+/// A number that conditions share which are as true over each possible set of facts. It hangs on their truths over sets
+/// where a key has a value that no known target has; where these values are many, it is not known.
+pub fn beyond_targets(
+    alloc: Global,
+    platform: &Platform,
+    e: &CfgExpr,
+) -> Result<Option<u64>, AllocError>
+    ensures { condition_of platform.now ≡ Expression (tree_of e.now) → IfOk result (IsNumberOf (tree_of e.now)) }
+{
+    let values = values_of(alloc, platform)?;
+    match unknown_values(alloc, &values)? {
+        Some(pairs) => Ok(Some(sum_apart(alloc, e, &pairs)?)),
+        None => Ok(None),
+    }
+}
+
+/// The truths of a group with one more member.
+fn joined(neutral: bool, so_far: u64, part: u64) -> u64
+    ensures { AreBits (λ l. both neutral (is_set so_far l) (is_set part l)) result }
+{
+    if neutral {
+        so_far & part
+    } else {
+        so_far | part
+    }
+}
+
+/// The same truth over each of the sets.
+fn everywhere(truth: bool) -> u64
+    ensures { AreBits (λ l. truth) result }
+{
+    if truth { u64::MAX } else { 0 }
+}
+
+/// The truths of a name or pair.
+fn truths_of(c: &Cfg) -> u64
+    ensures { AreBits (λ l. holds l (pair_of (value_of c.now))) result }
+{
+    match targets_of(c) {
+        Some(targets) => sampled(targets),
+        None => mixed_truths(c),
+    }
+}
+
+/// Which of the targets whose facts are in the sets are among these, a bit for each.
+fn sampled(targets: TargetSet) -> u64
+    ensures { AreBits (λ l. is_member targets (l * STRIDE)) result }
+{
+    let words = targets.words();
+    let mut truths = 0;
+    'places: for place in 0..64usize {
+        let index = place * STRIDE;
+        let is_there = (words[index / 64] >> (index % 64)) & 1 == 1;
+        truths = with_bit(truths, place, is_there);
+    }
+    truths
+}
+
+/// The word with one more bit where that is told.
+fn with_bit(word: u64, place: usize, is_there: bool) -> u64
+    requires { place < 64 }
+    ensures { (l : ℕ) → is_set result l ≡ (((l == place) && is_there) || is_set word l) }
+{
+    if is_there {
+        word | (1u64 << place)
+    } else {
+        word
+    }
+}
+
+/// The known targets that have a name or pair, if it is one of rustc's: one that some target has, or a value of a key
+/// that has one value.
+fn targets_of(c: &Cfg) -> Option<TargetSet>
+    ensures some { IfSome result (λ targets. is_rustcs (pair_of (value_of c.now)) ≡ true) }
+    ensures members { IfSome result (λ targets. (k : ℕ) → k < COUNT
+        → is_member targets k ≡ contains (target_facts k) (pair_of (value_of c.now))) }
+    ensures none { IfNone result (is_rustcs (pair_of (value_of c.now)) ≡ false) }
+{
+    let targets = having(c);
+    if is_of_key(c, ONE_VALUED) {
+        return Some(targets);
+    }
+    if targets.is_empty() {
+        return None;
+    }
+    Some(targets)
+}
+
+/// Whether the fact is a value of one of these keys.
+pub fn is_of_key(c: &Cfg, keys: &[&str]) -> bool
+    ensures { result ≡ is_single (names_of keys.now) (pair_of (value_of c.now)) }
+{
+    match c {
+        Cfg::Name(_) => false,
+        Cfg::KeyPair(key, _) => is_among(key.as_str(), keys),
+    }
+}
+
+/// Where the number of a name or pair begins.
+const START: u64 = 0xcbf2_9ce4_8422_2325;
+
+/// The truths of a name or pair that is none of rustc's.
+fn mixed_truths(c: &Cfg) -> u64
+    ensures { result ≡ mixed_truths (pair_of (value_of c.now)) }
+{
+    match c {
+        Cfg::Name(name) => spread(mixed(START, name.as_str())),
+        Cfg::KeyPair(key, value) => {
+            let number = mixed(START, key.as_str()).wrapping_add(1);
+            spread(mixed(number, value.as_str()))
+        }
+    }
+}
+
+/// A number that hangs on each byte of the text.
+fn mixed(start: u64, text: &str) -> u64
+    ensures { result ≡ mixed start text.now }
+{
+    let mut mixed = start;
+    'bytes: for byte in text.as_bytes() {
+        mixed = (mixed ^ u64::from(*byte)).wrapping_mul(0x0100_0000_01b3);
+    }
+    mixed
+}
+
+/// The number, each of whose bits hangs on each bit of this one.
+fn spread(number: u64) -> u64
+    ensures { result ≡ spread number }
+{
+    let number = (number ^ (number >> 33)).wrapping_mul(0xff51_afd7_ed55_8ccd);
+    let number = (number ^ (number >> 33)).wrapping_mul(0xc4ce_b9fe_1a85_ec53);
+    number ^ (number >> 33)
+}

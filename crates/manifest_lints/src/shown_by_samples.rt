@@ -1,0 +1,92 @@
+//! What sets of facts that are tried show, where a search takes too many splits.
+
+ghost use Rattle.std.specs.Prelude.{◌≡◌, map, IfOk, IsTrue};
+ghost use Rattle.std.specs.List.{list_any};
+ghost use Rattle.cargo_platform.specs.Trees.{value_of, condition_of};
+ghost use Rattle.cargo_platform.specs.Facts.{fact_set, pair_of};
+ghost use Rattle.exact_answers.specs.Possible.{IsAllowed};
+ghost use Rattle.partial_facts.specs.Partly.{names_of};
+ghost use Rattle.manifest_lints.specs.Truths.{CanBe};
+ghost use Rattle.manifest_lints.specs.Doubled.{are_two, has_doubled, pairs_at};
+
+use crate::sample_sets::{holds_over, is_of_key, tried};
+use cargo_platform::{Cfg, Platform};
+use exact_answers::Known;
+use std::alloc::{AllocError, Global};
+
+/// Whether a set of facts that is tried shows that the condition can be as true as this.
+pub fn is_shown(
+    alloc: Global,
+    platform: &Platform,
+    known: &Known<'_>,
+    truth: bool,
+) -> Result<bool, AllocError>
+    ensures { IfOk result (λ shown. IsTrue shown → CanBe truth known.now (condition_of platform.now)) }
+{
+    let facts = tried(alloc, platform, truth)?;
+    if !are_possible(&facts, known) {
+        return Ok(false);
+    }
+    let holds = holds_over(alloc, platform, &facts)?;
+    Ok(is_same(holds, truth))
+}
+
+/// Whether both are true, or both false.
+fn is_same(first: bool, second: bool) -> bool
+    ensures { IsTrue result → first ≡ second }
+{
+    first == second
+}
+
+/// Whether the facts are shown to be possible. Where some are listed, or names are complete, none are shown to be.
+#[tactic(auto, using(crate::proofs::Tried::are_possible))]
+fn are_possible(facts: &[Cfg], known: &Known<'_>) -> bool
+    ensures { IsTrue result → IsAllowed known.now (fact_set (map value_of facts.now)) }
+{
+    if !known.facts.is_empty() {
+        return false;
+    }
+    if !known.complete.is_empty() {
+        return false;
+    }
+    if has_doubled(facts, known.single) {
+        return false;
+    }
+    known.assumed.matches(facts)
+}
+
+/// Whether one of these keys has two values among the facts.
+fn has_doubled(facts: &[Cfg], single: &[&str]) -> bool
+    ensures { result ≡ has_doubled (names_of single.now) (pairs_at facts.now) }
+{
+    'facts: for c in facts {
+        if is_of_key(c, single) && is_doubled(c, facts) {
+            return true;
+        }
+    }
+    false
+}
+
+/// Whether one of the facts is another value of the key of this one.
+fn is_doubled(c: &Cfg, facts: &[Cfg]) -> bool
+    ensures { result ≡ list_any (are_two (pair_of (value_of c.now))) (pairs_at facts.now) }
+{
+    'facts: for other in facts {
+        if are_two(c, other) {
+            return true;
+        }
+    }
+    false
+}
+
+/// Whether two facts are two values of one key.
+fn are_two(c: &Cfg, other: &Cfg) -> bool
+    ensures { result ≡ are_two (pair_of (value_of c.now)) (pair_of (value_of other.now)) }
+{
+    match (c, other) {
+        (Cfg::KeyPair(key, value), Cfg::KeyPair(other_key, other_value)) => {
+            key.as_str() == other_key.as_str() && value.as_str() != other_value.as_str()
+        }
+        _ => false,
+    }
+}

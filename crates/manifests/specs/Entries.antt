@@ -1,0 +1,12 @@
+-- The keys of a manifest, each with what stands at it.
+use Rattle.std.specs.Prelude.{ℕ, List}
+use Rattle.toml.specs.Data.{Data}
+use Rattle.toml.specs.View.{view}
+use Rattle.manifests.specs.declared.tables.TargetKey.{TargetKey}
+
+-- a key, and what stands at it
+abbrev pub Entry : Type 0
+Entry = List ℕ × Data
+
+abbrev pub entry_of : TargetKey → Entry
+entry_of k = (k.key.now, view k.value.now)

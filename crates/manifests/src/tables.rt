@@ -1,0 +1,188 @@
+//! The tables of a manifest that hold dependencies.
+
+ghost use Rattle.std.specs.Prelude.{◌≡◌, ◌++◌, IfOk, OnOk, map, option_map};
+ghost use Rattle.std.specs.Option.{option_copied};
+ghost use Rattle.toml.specs.Data.{get_member};
+ghost use Rattle.toml.specs.View.{view, table_view};
+ghost use Rattle.manifests.specs.Entries.{entry_of};
+ghost use Rattle.manifests.specs.Tables.{entries_of, target_of, target_told};
+ghost use Rattle.manifests.specs.Tables.{table_name, old_table_name, is_optional};
+ghost use Rattle.manifests.specs.Tables.{row_of, table_of, member_rows, kind_rows, rows_of};
+
+use std::alloc::{AllocError, Global};
+use toml::{Table, Value};
+
+/// A key of the top table `target`, and what stands at it.
+#[derive(Clone, Copy, Drop)]
+pub struct TargetKey<'a> {
+    /// The key, as it reads after escapes.
+    pub key: &'a str,
+    /// What stands at it.
+    pub value: &'a Value,
+}
+
+/// What stands at `target` in a manifest.
+#[derive(Drop)]
+pub enum Targets<'a> {
+    /// Nothing.
+    Absent,
+    /// Something that is no table.
+    NoTable,
+    /// A table with these keys, in the order of their bytes.
+    Keys(Vec<TargetKey<'a>>),
+}
+
+/// The three kinds of dependencies.
+#[derive(Clone, Copy, Debug, PartialEq, Eq, Drop)]
+pub enum Kind {
+    /// `dependencies`
+    Normal,
+    /// `dev-dependencies`, or `dev_dependencies`
+    Development,
+    /// `build-dependencies`, or `build_dependencies`
+    Build,
+}
+
+/// A dependency as a row of a table.
+#[derive(Clone, Copy, Drop)]
+pub struct Dependency<'a> {
+    /// The name in the table.
+    pub name: &'a str,
+    /// The kind of the table.
+    pub kind: Kind,
+    /// The key under `target`; of a table outside `target` there is none.
+    pub key: Option<&'a str>,
+    /// Whether it has `optional = true`.
+    pub optional: bool,
+}
+
+impl Kind {
+    /// The name of its table today.
+    pub fn table_name(self) -> &'static str
+        ensures { result.now ≡ table_name self }
+    {
+        match self {
+            Kind::Normal => "dependencies",
+            Kind::Development => "dev-dependencies",
+            Kind::Build => "build-dependencies",
+        }
+    }
+
+    /// The name that its table had once.
+    pub fn old_table_name(self) -> &'static str
+        ensures { result.now ≡ old_table_name self }
+    {
+        match self {
+            Kind::Normal => "dependencies",
+            Kind::Development => "dev_dependencies",
+            Kind::Build => "build_dependencies",
+        }
+    }
+}
+
+/// What stands at a key of a table.
+fn member<'a>(table: &'a Table, key: &str) -> Option<&'a Value>
+    ensures { option_map (λ value. view value.now) result ≡ get_member key.now (table_view table.now) }
+{
+    table.get(key)
+}
+
+/// What stands at `target`.
+pub fn target_keys<'a>(alloc: Global, manifest: &'a Table) -> Result<Targets<'a>, AllocError>
+    ensures { IfOk result (λ found. target_told found ≡ target_of (table_view manifest.now)) }
+{
+    match member(manifest, "target") {
+        None => Ok(Targets::Absent),
+        Some(value) => match value.as_table() {
+            None => Ok(Targets::NoTable),
+            Some(table) => Ok(Targets::Keys(keys_of(alloc, table)?)),
+        },
+    }
+}
+
+/// The keys of a table, each with what stands at it.
+pub fn keys_of<'a>(alloc: Global, table: &'a Table) -> Result<Vec<TargetKey<'a>>, AllocError>
+    ensures { IfOk result (λ keys. map entry_of keys.items ≡ entries_of (table_view table.now)) }
+{
+    let mut keys = Vec::new(alloc);
+    'members: for (key, value) in table.iter() {
+        let key = key.as_str();
+        keys.push(TargetKey { key, value })?;
+    }
+    Ok(keys)
+}
+
+/// The table of dependencies of a kind: the one with today's name, and where there is none the one with the old name.
+pub fn table_of(table: &Table, kind: Kind) -> Option<&Value>
+    ensures { option_map (λ value. view value.now) result ≡ table_of kind (table_view table.now) }
+{
+    match member(table, kind.table_name()) {
+        Some(value) => Some(value),
+        None => member(table, kind.old_table_name()),
+    }
+}
+
+/// The rows of the dependencies in a table, by kinds: `dependencies`, `dev-dependencies`, `build-dependencies`.
+pub fn dependencies<'a>(
+    alloc: Global,
+    table: &'a Table,
+    key: Option<&'a str>,
+) -> Result<Vec<Dependency<'a>>, AllocError>
+    ensures { IfOk result (λ rows. map row_of rows.items ≡ rows_of (option_copied key.entry) (table_view table.now)) }
+{
+    let mut rows = Vec::new(alloc);
+    add_rows(table, Kind::Normal, key, &mut rows)?;
+    add_rows(table, Kind::Development, key, &mut rows)?;
+    add_rows(table, Kind::Build, key, &mut rows)?;
+    Ok(rows)
+}
+
+/// Appends the rows of a kind.
+fn add_rows<'a>(
+    table: &'a Table,
+    kind: Kind,
+    key: Option<&'a str>,
+    rows: &mut Vec<Dependency<'a>>,
+) -> Result<(), AllocError>
+    ensures { OnOk result (map row_of rows.new.items
+        ≡ map row_of rows.old.items ++ kind_rows (option_copied key.entry) (table_view table.now) kind) }
+{
+    let Some(value) = table_of(table, kind) else {
+        return Ok(());
+    };
+    let Some(members) = value.as_table() else {
+        return Ok(());
+    };
+    add_members(members, kind, key, rows)
+}
+
+/// Appends a row for each member.
+fn add_members<'a>(
+    members: &'a Table,
+    kind: Kind,
+    key: Option<&'a str>,
+    rows: &mut Vec<Dependency<'a>>,
+) -> Result<(), AllocError>
+    ensures { OnOk result (map row_of rows.new.items
+        ≡ map row_of rows.old.items ++ member_rows (option_copied key.entry) kind (table_view members.now)) }
+{
+    'members: for (name, value) in members.iter() {
+        rows.push(Dependency {
+            name: name.as_str(),
+            kind,
+            key,
+            optional: is_optional(value),
+        })?;
+    }
+    Ok(())
+}
+
+/// Whether the value of a dependency says `optional = true`.
+fn is_optional(value: &Value) -> bool
+    ensures { result ≡ is_optional (view value.now) }
+{
+    match value.get("optional") {
+        Some(value) => value.as_bool() == Some(true),
+        None => false,
+    }
+}
