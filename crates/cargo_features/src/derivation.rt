@@ -5,9 +5,9 @@ ghost use Rattle.known_targets.specs.declared.table.TheConstants.{COUNT};
 ghost use Rattle.package_graphs.specs.Graphs.{is_in};
 ghost use Rattle.cargo_features.specs.Derivations.{IsDerived};
 
-use crate::premises::Premises;
+use crate::applying_rules::apply;
 use crate::rules::Rule;
-use crate::work::apply;
+use crate::rules_by_premise::Premises;
 use known_targets::TargetSet;
 use std::alloc::{AllocError, Global};
 use std::collections::VecDeque;

@@ -2,18 +2,18 @@
 //! targets.
 #![tactic(auto)]
 
+mod applying_rules;
 mod build;
 mod claims;
 mod derivation;
 pub mod laws;
 mod numbers;
 mod packages;
-mod premises;
 mod resolved;
 pub mod rule_laws;
 mod rules;
+mod rules_by_premise;
 mod steps;
-mod work;
 
 pub use build::Build;
 pub use claims::{Claim, Condition};

@@ -1,8 +1,8 @@
 -- What rules make of a weight, one after the other.
 use Rattle.std.proofs.Common.{◌≡◌, ℕ, List, [], ◌∷◌, ◌++◌, Option, inl, inr, sym, subst, ◌∙◌, suc, ◌<◌, length, arith}
 use Rattle.std.specs.List.{All}
-use Rattle.lint_reports.specs.declared.rules.Weight.{Weight}
-use Rattle.lint_reports.specs.declared.rules.Rule.{Rule}
+use Rattle.lint_reports.specs.declared.weight_rules.Weight.{Weight}
+use Rattle.lint_reports.specs.declared.weight_rules.Rule.{Rule}
 use Rattle.lint_reports.specs.Weights.{weight_set, Hears, Makes}
 
 pub one : (code : List ℕ) (key : Option (List ℕ)) (own v w : Weight) (rules : List Rule)

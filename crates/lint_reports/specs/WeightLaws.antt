@@ -1,8 +1,8 @@
 -- What holds of weights that rules make.
 use Rattle.std.specs.Prelude.{◌≡◌, ℕ, List, ◌∷◌, ◌++◌, Option}
 use Rattle.std.specs.List.{All}
-use Rattle.lint_reports.specs.declared.rules.Weight.{Weight}
-use Rattle.lint_reports.specs.declared.rules.Rule.{Rule}
+use Rattle.lint_reports.specs.declared.weight_rules.Weight.{Weight}
+use Rattle.lint_reports.specs.declared.weight_rules.Rule.{Rule}
 use Rattle.lint_reports.specs.Weights.{weight_set, Hears, Makes}
 
 -- rules make one weight of a weight

@@ -2,14 +2,14 @@
 use Rattle.std.specs.Prelude.{◌≡◌, ◌≢◌, ◌⊎◌, ℕ, List, [], ◌∷◌, Option, Some, None, option_map, Contains, string_bytes}
 use Rattle.std.specs.declared.string.String.{String}
 use Rattle.std.specs.declared.alloc.Global.{Global}
-use Rattle.lint_reports.specs.declared.rules.Weight.{Weight}
-use Rattle.lint_reports.specs.declared.rules.Weight.TheVariants as weight
-use Rattle.lint_reports.specs.declared.rules.Setting.{Setting}
-use Rattle.lint_reports.specs.declared.rules.Setting.TheVariants as setting
-use Rattle.lint_reports.specs.declared.rules.Subject.{Subject}
-use Rattle.lint_reports.specs.declared.rules.Subject.TheVariants as subject
-use Rattle.lint_reports.specs.declared.rules.Rule.{Rule}
-use Rattle.lint_reports.specs.declared.rules.Weighed.{Weighed}
+use Rattle.lint_reports.specs.declared.weight_rules.Weight.{Weight}
+use Rattle.lint_reports.specs.declared.weight_rules.Weight.TheVariants as weight
+use Rattle.lint_reports.specs.declared.weight_rules.Setting.{Setting}
+use Rattle.lint_reports.specs.declared.weight_rules.Setting.TheVariants as setting
+use Rattle.lint_reports.specs.declared.weight_rules.Subject.{Subject}
+use Rattle.lint_reports.specs.declared.weight_rules.Subject.TheVariants as subject
+use Rattle.lint_reports.specs.declared.weight_rules.Rule.{Rule}
+use Rattle.lint_reports.specs.declared.weight_rules.Weighed.{Weighed}
 
 -- the weight of a finding that hears a rule with this setting
 abbrev pub weight_set : Setting → Weight

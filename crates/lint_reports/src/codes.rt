@@ -1,7 +1,7 @@
 //! What the codes of findings mean, for people.
 
-use crate::rules::Weight;
 use crate::told::own_weight;
+use crate::weight_rules::Weight;
 use manifest_lints_findings::{CODES, Code};
 use std::alloc::{AllocError, Global};
 

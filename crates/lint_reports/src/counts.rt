@@ -1,6 +1,6 @@
 //! How much was checked, and how much was found.
 
-use crate::rules::Weight;
+use crate::weight_rules::Weight;
 use std::alloc::{AllocError, Global};
 
 /// How many manifests, configurations and keys were checked, and how many findings there are of each weight.

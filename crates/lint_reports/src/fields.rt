@@ -2,7 +2,7 @@
 
 use crate::codes::UNREAD_FIELD;
 use crate::places::{WrongPlace, add_at_top};
-use crate::rules::Weight;
+use crate::weight_rules::Weight;
 use cargo_platform::shown_start;
 use manifest_lints_findings::near;
 use std::alloc::{AllocError, Global};

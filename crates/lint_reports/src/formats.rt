@@ -1,9 +1,9 @@
 //! The formats in which findings are printed.
 
 use crate::escapes::escaped;
-use crate::rules::Weight;
 use crate::sarif::{push_result, sarif_begin, sarif_end};
 use crate::told::{Place, Told, sentence_of, weight_word};
+use crate::weight_rules::Weight;
 use key_answers::printing::{push_indented, push_json, put, put_text, text_value};
 use serde_json::{Map, Value, json};
 use std::alloc::{AllocError, Global};

@@ -2,8 +2,8 @@
 
 use crate::codes::FORMER;
 use crate::places::WrongPlace;
-use crate::rules::Weight;
 use crate::settings::Settings;
+use crate::weight_rules::Weight;
 use cargo_platform::{Cfg, Platform, ReadError, values_of};
 use former_names::{
     Bounds, Release, Verdict, former_fact, former_target, has_former_value, name_now,

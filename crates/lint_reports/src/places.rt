@@ -1,7 +1,7 @@
 //! Tables that are meant for targets, and that Cargo reads otherwise or not at all.
 
 use crate::codes::{MISPLACED, UNDERSCORED};
-use crate::rules::Weight;
+use crate::weight_rules::Weight;
 use cargo_platform::shown_start;
 use known_targets::KnownTarget;
 use std::alloc::{AllocError, Global};

@@ -2,9 +2,9 @@
 
 use crate::codes::{SETTINGS, UNNEEDED_ALLOW};
 use crate::places::WrongPlace;
-use crate::rules::{Rule, Subject, Weight};
 use crate::settings::{Fault, TOOL};
 use crate::told::{Place, Told, place_of_key};
+use crate::weight_rules::{Rule, Subject, Weight};
 use cargo_platform::shown_start;
 use manifests::reading::Manifest;
 use std::alloc::{AllocError, Global};

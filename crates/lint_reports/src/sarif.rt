@@ -2,8 +2,8 @@
 
 use crate::codes::{Explained, all_explained};
 use crate::escapes::uri_of;
-use crate::rules::Weight;
 use crate::told::{Told, sentence_of, weight_word};
+use crate::weight_rules::Weight;
 use key_answers::printing::{put, put_text};
 use serde_json::{Map, Value, json};
 use std::alloc::{AllocError, Global};

@@ -1,6 +1,6 @@
 //! The rules that stand in a manifest.
 
-use crate::rules::{Rule, Setting, Subject};
+use crate::weight_rules::{Rule, Setting, Subject};
 use former_names::Release;
 use std::alloc::{AllocError, Global};
 use toml::{Table, Value};

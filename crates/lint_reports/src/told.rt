@@ -1,11 +1,11 @@
 //! What is told of a manifest: where, how much it weighs, and the text.
 
-use crate::rules::Weight;
+use crate::weight_rules::Weight;
 use cargo_platform::shown_start;
 use key_answers::answer::Status;
+use manifest_lints_findings::{Code, Finding, Level, Report};
 use manifests::TargetKey;
 use manifests::reading::Manifest;
-use manifest_lints_findings::{Code, Finding, Level, Report};
 use std::alloc::{AllocError, Global};
 use std::ops::Range;
 

@@ -12,8 +12,8 @@ use lint_reports::{
     told_of_unneeded, told_of_wrong, unneeded_message, weight_by_each, wrong_fields, wrong_places,
 };
 use manifest_answers::deep::first_deep;
-use manifests::reading::{Manifest, ReadError, read_manifest};
 use manifest_lints::{Code, Finding, Report, Words, lint};
+use manifests::reading::{Manifest, ReadError, read_manifest};
 use std::alloc::{AllocError, Global};
 use std::rt::{Env, Files};
 use toml::Table;

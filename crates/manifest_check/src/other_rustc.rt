@@ -5,10 +5,10 @@ use cargo_platform::{Platform, ReadError, values_of};
 use former_names::former_target;
 use known_targets::KnownTarget;
 use manifest_answers::given_targets::GivenTargets;
-use manifests::Declared;
 use manifest_lints::{Code, Report};
 use manifest_lints_findings::Finding;
 use manifest_lints_standings::asked_facts::{asked_facts, open_names};
+use manifests::Declared;
 use std::alloc::{AllocError, Global};
 use toml::Table;
 

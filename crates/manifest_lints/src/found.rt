@@ -24,11 +24,11 @@ use crate::deciding::{MANY, asked, budget_for, either, may_ask, places};
 use crate::earlier::{Earlier, Keys};
 use cargo_platform::Platform;
 use exact_answers::Known;
-use manifests::Declared;
 use manifest_lints_findings::Code;
 use manifest_lints_findings::known_keys::KnownKey;
 use manifest_lints_findings::readings::{ReadKey, Spelled};
 use manifest_lints_standings::asked_facts::open_names;
+use manifests::Declared;
 use std::alloc::{AllocError, Global};
 
 /// What all keys of a manifest are asked by.

@@ -11,7 +11,7 @@ mod shown_by_samples;
 
 pub use cargo_platform::values_of;
 pub use linting::lint;
-pub use manifests::document::Document;
 pub use manifest_lints_findings::{
     Code, Finding, Level, Report, Words, nearest_target, unknown_in,
 };
+pub use manifests::document::Document;

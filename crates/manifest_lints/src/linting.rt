@@ -15,12 +15,12 @@ ghost use Rattle.manifests.specs.Tables.{target_of};
 use crate::earlier::{Earlier, Keys};
 use crate::found::{Asking, Found, found_of};
 use exact_answers::{Known, ONE_VALUED, family_rule};
-use manifests::document::Document;
-use manifests::{Declared, TargetKey, Targets};
 use manifest_lints_findings::findings::target_is_no_table;
 use manifest_lints_findings::making::finding_on;
 use manifest_lints_findings::readings::ReadKey;
 use manifest_lints_findings::{CODES, Code, Finding, Report, Words};
+use manifests::document::Document;
+use manifests::{Declared, TargetKey, Targets};
 use std::alloc::{AllocError, Global};
 
 /// The earlier key that is the same or as true.

@@ -14,10 +14,10 @@ use crate::codes::Code;
 use crate::no_tables::no_tables;
 use crate::readings::{ReadKey, Spelled};
 use cargo_platform::{Platform, values_with_levels};
-use manifests::Declared;
 use manifest_lints_standings::asked_facts::{AskedFact, asked_facts, has_sort};
 use manifest_lints_standings::key_spans::spans_of;
 use manifest_lints_standings::standing::{Sort, is_unknown_target};
+use manifests::Declared;
 use std::alloc::{AllocError, Global};
 
 /// What is known of a key. A key that spells no condition asks for nothing.

@@ -6,8 +6,8 @@ ghost use Rattle.manifest_lints_findings.specs.Spells.{IsSpelledAs, IsRead, entr
 
 use crate::wording::TOLD;
 use cargo_platform::{Cfg, CfgExpr, ParseError, Platform, ReadError, Token, Tokenizer, inside_cfg};
-use manifests::TargetKey;
 use manifest_lints_standings::rustc_names::pair;
+use manifests::TargetKey;
 use std::alloc::{AllocError, Global};
 use std::collections::BTreeSet;
 use toml::Value;

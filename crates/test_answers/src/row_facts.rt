@@ -4,8 +4,8 @@ use cargo_platform::Cfg;
 use known_targets::KnownTarget;
 use std::alloc::{AllocError, Global};
 use test_rows::Fault;
-use test_rows::facts::value;
 use test_rows::fields::Fields;
+use test_rows::made_facts::value;
 
 /// The values of a list. A target's name after `@` stands for its facts, where nothing is set under that name.
 pub fn values(alloc: Global, fields: &mut Fields<'_>) -> Result<Vec<Cfg>, Fault> {

@@ -206,7 +206,7 @@ fn times(facts: &[KnownFact], fact: &Cfg) -> usize {
 
 /// How many targets have a fact, which the list of all facts has once or not at all.
 fn had(alloc: Global, word_of_fact: &str) -> Result<String, Fault> {
-    let fact = test_rows::facts::value(alloc, word_of_fact)?;
+    let fact = test_rows::made_facts::value(alloc, word_of_fact)?;
     let count = count(having(&fact))?;
     if times(&all_facts(alloc)?, &fact) != usize::from(count > 0) {
         return Ok(word(alloc, "the list of all facts says otherwise")?);

@@ -11,8 +11,8 @@ use cargo_platform::cfg::{Cfg, Facts, Listed};
 use std::alloc::Global;
 use std::cell::Cell;
 use std::process::Abort;
-use test_rows::facts;
 use test_rows::fields::Fields;
+use test_rows::made_facts;
 
 /// Two lists of facts as one set, as those of a target and those of a build.
 #[derive(Drop)]

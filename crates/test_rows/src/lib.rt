@@ -8,9 +8,9 @@
 #![tactic(auto)]
 
 pub mod bars;
-pub mod facts;
 pub mod fields;
 pub mod forms;
+pub mod made_facts;
 pub mod rows;
 pub mod sizes;
 pub mod texts;

@@ -1,8 +1,8 @@
 //! Trees that are made by hand, of the words of a row.
 
 use crate::Fault;
-use crate::facts::value;
 use crate::fields::Fields;
+use crate::made_facts::value;
 use cargo_platform::CfgExpr;
 use std::alloc::{AllocError, Global};
 

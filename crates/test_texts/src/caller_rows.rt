@@ -20,7 +20,7 @@ use test_rows::bars::{add_text, barred};
 use test_rows::fields::Fields;
 use test_rows::forms::{printed, word, yes};
 use test_rows::texts::{platform, spelled};
-use test_rows::{Fault, facts};
+use test_rows::{Fault, made_facts};
 
 /// The line that keys stand in.
 const LINE: usize = 7;
@@ -61,14 +61,14 @@ fn of_text(
 }
 
 fn unix(alloc: Global, fields: &mut Fields<'_>) -> Result<String, Fault> {
-    let facts = facts::values(alloc, fields)?;
+    let facts = made_facts::values(alloc, fields)?;
     Ok(yes(alloc, is_unix(alloc, &facts)?)?)
 }
 
 /// Whether a key selects a target with these facts.
 fn selects(alloc: Global, key: &str, fields: &mut Fields<'_>) -> Result<String, Fault> {
     let target = fields.text(alloc)?;
-    let facts = facts::values(alloc, fields)?;
+    let facts = made_facts::values(alloc, fields)?;
     match unless_refused(is_selected(alloc, key, &target, &facts))? {
         Some(holds) => Ok(yes(alloc, holds)?),
         None => Ok(word(alloc, "refused")?),
@@ -94,7 +94,7 @@ fn in_one_form(alloc: Global, key: &str) -> Result<String, Fault> {
 
 fn described(alloc: Global, key: &str, fields: &mut Fields<'_>) -> Result<String, Fault> {
     let target = fields.text(alloc)?;
-    let facts = facts::values(alloc, fields)?;
+    let facts = made_facts::values(alloc, fields)?;
     Ok(barred(alloc, &describe(alloc, key, &target, &facts)?)?)
 }
 
@@ -134,7 +134,7 @@ fn held(alloc: Global, answer: Result<bool, FactsError>) -> Result<String, Fault
 /// Which of the keys, one a line, apply to a target.
 fn planned(alloc: Global, lines: &str, fields: &mut Fields<'_>) -> Result<String, Fault> {
     let target = fields.text(alloc)?;
-    let facts = facts::values(alloc, fields)?;
+    let facts = made_facts::values(alloc, fields)?;
     let plan = plan(alloc, &target, &facts, &keys(alloc, lines)?)?;
     let mut out = word(alloc, "applies:")?;
     for applies in &plan {

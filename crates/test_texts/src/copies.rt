@@ -7,7 +7,7 @@ use test_rows::bars::add_text;
 use test_rows::fields::Fields;
 use test_rows::forms::{self, add_name, add_value, word};
 use test_rows::texts::spelled;
-use test_rows::{Fault, facts};
+use test_rows::{Fault, made_facts};
 
 pub fn answer(alloc: Global, call: &str, fields: &mut Fields<'_>) -> Result<String, Fault> {
     match call {
@@ -20,14 +20,14 @@ pub fn answer(alloc: Global, call: &str, fields: &mut Fields<'_>) -> Result<Stri
 }
 
 fn name(alloc: Global, word: &str) -> Result<String, Fault> {
-    let copy = facts::name(alloc, word)?.clone(alloc)?;
+    let copy = made_facts::name(alloc, word)?.clone(alloc)?;
     let mut out = String::new(alloc);
     add_name(&mut out, &copy)?;
     printed(alloc, out, &copy)
 }
 
 fn fact(alloc: Global, word: &str) -> Result<String, Fault> {
-    let copy = facts::value(alloc, word)?.clone(alloc)?;
+    let copy = made_facts::value(alloc, word)?.clone(alloc)?;
     let mut out = String::new(alloc);
     add_value(&mut out, &copy)?;
     printed(alloc, out, &copy)

@@ -5,7 +5,7 @@ use cargo_platform::{Cfg, CfgExpr, FactIndex, Facts, Listed};
 use std::alloc::Global;
 use test_rows::fields::Fields;
 use test_rows::forms::{word, yes};
-use test_rows::{Fault, facts};
+use test_rows::{Fault, made_facts};
 
 pub fn answer(alloc: Global, call: &str, fields: &mut Fields<'_>) -> Result<String, Fault> {
     match call {
@@ -35,7 +35,7 @@ fn has_fact<F: Facts>(facts: &F, fact: &Cfg) -> bool {
 /// Whether an expression holds over facts, if each holder says the same.
 fn over_each(alloc: Global, fields: &mut Fields<'_>) -> Result<String, Fault> {
     let e = asked::expression(alloc, fields)?;
-    let facts = facts::values(alloc, fields)?;
+    let facts = made_facts::values(alloc, fields)?;
     let answer = e.matches(&facts);
     let index = FactIndex::new(alloc, &facts)?;
     agreed(alloc, answer, is_same(&e, &facts, &index, answer))
@@ -59,7 +59,7 @@ fn agreed(alloc: Global, answer: bool, is_same: bool) -> Result<String, Fault> {
 /// Whether an expression holds over listed facts, and how often the list is asked.
 fn asks(alloc: Global, fields: &mut Fields<'_>) -> Result<String, Fault> {
     let e = asked::expression(alloc, fields)?;
-    let facts = facts::values(alloc, fields)?;
+    let facts = made_facts::values(alloc, fields)?;
     let (answer, count) = counted(&e, &Listed(&facts));
     told(alloc, answer, count)
 }
@@ -67,7 +67,7 @@ fn asks(alloc: Global, fields: &mut Fields<'_>) -> Result<String, Fault> {
 /// Whether an expression holds over an index of facts, and how often that is asked.
 fn by_index(alloc: Global, fields: &mut Fields<'_>) -> Result<String, Fault> {
     let e = asked::expression(alloc, fields)?;
-    let index = FactIndex::new(alloc, &facts::values(alloc, fields)?)?;
+    let index = FactIndex::new(alloc, &made_facts::values(alloc, fields)?)?;
     let (answer, count) = counted(&e, &index);
     told(alloc, answer, count)
 }
@@ -81,7 +81,7 @@ fn told(alloc: Global, answer: bool, count: u128) -> Result<String, Fault> {
 fn at_target(alloc: Global, fields: &mut Fields<'_>) -> Result<String, Fault> {
     let p = asked::key(alloc, fields)?;
     let name = fields.text(alloc)?;
-    let facts = facts::values(alloc, fields)?;
+    let facts = made_facts::values(alloc, fields)?;
     let (answer, asks) = p.matches_counted(&name, &Listed(&facts));
     if answer != p.matches(&name, &facts) {
         return Ok(word(alloc, "counted otherwise than not")?);
@@ -92,14 +92,14 @@ fn at_target(alloc: Global, fields: &mut Fields<'_>) -> Result<String, Fault> {
 /// Whether the text of a condition holds over facts.
 fn by_key(alloc: Global, fields: &mut Fields<'_>) -> Result<String, Fault> {
     let key = fields.text(alloc)?;
-    let facts = facts::values(alloc, fields)?;
+    let facts = made_facts::values(alloc, fields)?;
     Ok(yes(alloc, CfgExpr::matches_key(alloc, &key, &facts)?)?)
 }
 
 /// Whether a name or a pair is among the facts.
 fn has(alloc: Global, fields: &mut Fields<'_>) -> Result<String, Fault> {
-    let fact = facts::value(alloc, fields.need()?)?;
-    let facts = facts::values(alloc, fields)?;
+    let fact = made_facts::value(alloc, fields.need()?)?;
+    let facts = made_facts::values(alloc, fields)?;
     let index = FactIndex::new(alloc, &facts)?;
     let answer = has_fact(&Listed(&facts), &fact);
     agreed(alloc, answer, has_fact(&index, &fact) == answer)

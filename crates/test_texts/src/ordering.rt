@@ -10,7 +10,7 @@ use test_rows::bars::text_of;
 use test_rows::fields::Fields;
 use test_rows::forms::{self, word};
 use test_rows::texts::spelled;
-use test_rows::{Fault, facts};
+use test_rows::{Fault, made_facts};
 
 pub fn answer(alloc: Global, call: &str, fields: &mut Fields<'_>) -> Result<String, Fault> {
     match call {
@@ -36,18 +36,18 @@ fn of_keys(alloc: Global, fields: &mut Fields<'_>) -> Result<String, Fault> {
 }
 
 fn of_facts(alloc: Global, fields: &mut Fields<'_>) -> Result<String, Fault> {
-    let a = facts::value(alloc, fields.need()?)?;
-    stands(alloc, &a, &facts::value(alloc, fields.need()?)?)
+    let a = made_facts::value(alloc, fields.need()?)?;
+    stands(alloc, &a, &made_facts::value(alloc, fields.need()?)?)
 }
 
 fn of_names(alloc: Global, fields: &mut Fields<'_>) -> Result<String, Fault> {
-    let a = facts::name(alloc, fields.need()?)?;
-    stands(alloc, &a, &facts::name(alloc, fields.need()?)?)
+    let a = made_facts::name(alloc, fields.need()?)?;
+    stands(alloc, &a, &made_facts::name(alloc, fields.need()?)?)
 }
 
 /// Whether a name is that of a text.
 fn is_name(alloc: Global, fields: &mut Fields<'_>) -> Result<String, Fault> {
-    let name = facts::name(alloc, fields.need()?)?;
+    let name = made_facts::name(alloc, fields.need()?)?;
     let text = fields.text(alloc)?;
     Ok(forms::yes(alloc, name.eq_text(&text))?)
 }
@@ -83,7 +83,7 @@ fn is_agreed<T: Ord + Hash>(a: &T, b: &T, order: Ordering) -> bool {
 fn in_maps(alloc: Global, fields: &mut Fields<'_>) -> Result<String, Fault> {
     let mut sorted: BTreeMap<Cfg, usize> = BTreeMap::new(alloc);
     let mut hashed: HashMap<Cfg, usize> = HashMap::new(alloc);
-    for value in facts::values(alloc, fields)? {
+    for value in made_facts::values(alloc, fields)? {
         insert_hashed(&mut hashed, value.clone(alloc)?, 0)?;
         insert_sorted(&mut sorted, value, 0)?;
     }

@@ -5,7 +5,7 @@ use Rattle.std.specs.declared.alloc.Global.{Global}
 use Rattle.workspaces.specs.Stretches.{IsTaken}
 use Rattle.workspaces.specs.Globs.{is_folders, IsNamedBy}
 use Rattle.workspaces.specs.declared.patterns.Pattern.{Pattern}
-use Rattle.workspaces.specs.declared.rules.Rules.{Rules}
+use Rattle.workspaces.specs.declared.member_rules.Rules.{Rules}
 
 -- the names from the root of the workspace to a folder
 abbrev pub Path : Type 0

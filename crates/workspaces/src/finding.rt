@@ -6,8 +6,8 @@ use crate::manifests::{
     MANIFEST, folder_of, from_above, inside, is_file, is_folder, manifest_inside, package_name,
     table_at, table_in, table_with_word, text_in, texts_in, unless_refused,
 };
+use crate::member_rules::Rules;
 use crate::patterns::{Fault, Pattern, PatternError, names_of, plain_components};
-use crate::rules::Rules;
 use cargo_platform::shown_text;
 use input_limits::{INPUT, Unusable};
 use std::alloc::{AllocError, Global};

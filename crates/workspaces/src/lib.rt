@@ -11,9 +11,9 @@ mod dependencies;
 mod finding;
 mod folders;
 mod manifests;
+mod member_rules;
 mod patterns;
 mod pieces;
-mod rules;
 
 pub use components::{CharacterRange, Characters, Component, Name, Part};
 pub use configurations::{
@@ -21,6 +21,6 @@ pub use configurations::{
 };
 pub use finding::{Asked, Found, find, root_of, shorter};
 pub use manifests::{folder_of, inside, is_file, table_in, table_with_word, text_in};
+pub use member_rules::Rules;
 pub use patterns::{Fault, Pattern, PatternError, is_glob, names_of, plain_components, some_takes};
 pub use pieces::{Piece, are_taken};
-pub use rules::Rules;

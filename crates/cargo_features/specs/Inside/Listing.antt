@@ -1,7 +1,7 @@
 -- The places of the rules in which each fact is a premise.
 use Rattle.std.specs.Prelude.{◌<◌, ℕ, List, [], map, length, Contains}
 use Rattle.std.specs.List.{slice_index_or}
-use Rattle.cargo_features.specs.declared.premises.Premises.{Premises}
+use Rattle.cargo_features.specs.declared.rules_by_premise.Premises.{Premises}
 use Rattle.cargo_features.specs.declared.rules.Rule.{Rule}
 
 abbrev pub place_lists : Premises → List (List ℕ)
