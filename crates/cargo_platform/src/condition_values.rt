@@ -25,6 +25,7 @@ pub fn values_with_levels<'a>(
     alloc: Global,
     platform: &'a Platform,
 ) -> Result<ValuesWithLevels<'a>, AllocError>
+    // The names and pairs are those of the condition, from left to right.
     ensures { IfOk result (λ met. map (λ c. value_of c.now) met.values.items
         ≡ condition_values (condition_of platform.now)) }
 {
@@ -39,6 +40,7 @@ pub fn values_with_levels<'a>(
 
 /// The names and pairs of a condition, from left to right. The name of a target has none.
 pub fn values_of<'a>(alloc: Global, platform: &'a Platform) -> Result<Vec<&'a Cfg>, AllocError>
+    // The names and pairs are those of the condition, from left to right.
     ensures { IfOk result (λ found. map (λ c. value_of c.now) found.items
         ≡ condition_values (condition_of platform.now)) }
 {

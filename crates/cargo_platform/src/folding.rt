@@ -74,6 +74,7 @@ pub enum Next<'a, P> {
 /// What the fold makes of the expression, in one walk over it, without recursion. It refuses where the fold does, and
 /// where memory for the groups around a part is refused.
 pub fn fold_expression<F: Fold>(alloc: Global, e: &CfgExpr, f: &F) -> Result<F::Part, AllocError>
+    // What is answered is rightly made of the whole expression.
     ensures { IfOk result (λ part. F.makes f.now (tree_of e.now) part) }
 {
     let mut groups = EnteredGroups::new(alloc);
