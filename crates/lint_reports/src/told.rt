@@ -3,8 +3,8 @@
 use crate::weight_rules::Weight;
 use cargo_platform::shown_start;
 use key_answers::answer::Status;
+use manifest_lints_findings::readings::ReadKey;
 use manifest_lints_findings::{Code, Finding, Level, Report};
-use manifests::TargetKey;
 use manifests::reading::Manifest;
 use std::alloc::{AllocError, Global};
 use std::ops::Range;
@@ -41,7 +41,7 @@ pub struct Told<'a> {
 }
 
 /// The key that a finding is on, if it is on one.
-fn key_of<'k, 'a>(report: &'k Report<'a>, finding: &Finding) -> Option<&'k TargetKey<'a>> {
+fn key_of<'k, 'a>(report: &'k Report<'a>, finding: &Finding) -> Option<&'k ReadKey<'a>> {
     report.keys.get(finding.key?)
 }
 
@@ -58,7 +58,7 @@ pub fn place_of_key<'a>(manifest: &'a Manifest, key: &'a str) -> Place<'a> {
 /// The place of a finding of a report on a manifest.
 pub fn place_of<'a>(manifest: &'a Manifest, report: &Report<'a>, finding: &Finding) -> Place<'a> {
     match key_of(report, finding) {
-        Some(key) => place_of_key(manifest, key.key),
+        Some(key) => place_of_key(manifest, key.text),
         None => Place {
             path: manifest.path.as_str(),
             key: None,

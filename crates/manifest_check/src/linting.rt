@@ -222,7 +222,7 @@ fn is_left_out(root: &Root, report: &Report<'_>, formers: &Formers, finding: &Fi
         Code::Custom => root.hides_lints,
         Code::UnknownTarget => match finding.key {
             Some(place) => match report.keys.get(place) {
-                Some(key) => formers.has_target(key.key),
+                Some(key) => formers.has_target(key.text),
                 None => false,
             },
             None => false,
@@ -279,7 +279,7 @@ fn push_undecided(
 ) -> Result<(), AllocError> {
     for place in &report.undecided {
         if let Some(key) = report.keys.get(*place) {
-            let key = shown_start(alloc, key.key)?;
+            let key = shown_start(alloc, key.text)?;
             let note = format!(in alloc;
                 "{path}: note: target.'{key}': whether it is always, never or equivalent takes too many splits\n"
             )?;

@@ -1,12 +1,13 @@
 //! What another rustc makes of findings: its targets and facts count in place of those that are known.
 
 use crate::declaring::declare;
-use cargo_platform::{Platform, ReadError, values_of};
+use cargo_platform::{Platform, values_of};
 use former_names::former_target;
 use known_targets::KnownTarget;
 use manifest_answers::given_targets::GivenTargets;
 use manifest_lints::{Code, Report};
 use manifest_lints_findings::Finding;
+use manifest_lints_findings::readings::Spelled;
 use manifest_lints_standings::asked_facts::{asked_facts, open_names};
 use manifests::Declared;
 use std::alloc::{AllocError, Global};
@@ -48,16 +49,11 @@ impl OtherRustc {
         report.findings.retain(|it| stays(it, &named));
         let mut added = Vec::new(alloc);
         let hiding = hiding_of(alloc, report)?;
-        for place in 0..report.keys.len() {
-            let hides = hiding.get(place).copied().unwrap_or(Hiding::NOTHING);
-            self.add_key(
-                alloc,
-                &mut added,
-                report.keys[place].key,
-                place,
-                hides,
-                declared,
-            )?;
+        for (place, key) in report.keys.iter().enumerate() {
+            if let Spelled::Condition(condition) = &key.spelled {
+                let hides = hiding.get(place).copied().unwrap_or(Hiding::NOTHING);
+                self.add(alloc, &mut added, place, condition, hides, declared)?;
+            }
         }
         for it in added {
             report.findings.push(it)?;
@@ -65,28 +61,11 @@ impl OtherRustc {
         report.findings.sort_by_key(|it| (it.key, it.code))
     }
 
-    /// Adds what is so of a key, which spells a condition or nothing.
-    fn add_key(
-        &self,
-        alloc: Global,
-        added: &mut Vec<Finding>,
-        key: &str,
-        place: usize,
-        hides: Hiding,
-        declared: &Declared<'_>,
-    ) -> Result<(), AllocError> {
-        match Platform::from_str(alloc, key) {
-            Ok(condition) => self.add(alloc, added, place, &condition, hides, declared),
-            Err(ReadError::Parse(_)) => Ok(()),
-            Err(ReadError::Memory(refused)) => Err(refused),
-        }
-    }
-
     /// Of each key of a report, whether it is the name of a target.
     fn named(&self, alloc: Global, report: &Report<'_>) -> Result<Vec<bool>, AllocError> {
         let mut named = Vec::new(alloc);
         for key in &report.keys {
-            named.push(self.given.by_name(key.key).is_some())?;
+            named.push(self.given.by_name(key.text).is_some())?;
         }
         Ok(named)
     }

@@ -178,10 +178,11 @@ pub record AddsFindings (ms : List Mark) (other : List ℕ) (key : KnownKey) (ol
 -- of a table at `target`: its keys in some order, and the findings on them
 abbrev pub IsReportOn : Members → List Entry → Report → Type 0
 IsReportOn ms es r =
-    IsPermutation es (map entry_of r.keys.items)
+    IsPermutation es (map entry_read r.keys.items)
+    × All IsRead r.keys.items
     × ((ds : List DeclaredEntry)
     × IsDeclaredBy ms ds
-    × AreFindings ds (map entry_of r.keys.items) r.findings.items r.undecided.items)
+    × AreFindings ds (map entry_read r.keys.items) r.findings.items r.undecided.items)
 
 -- of no table: no keys, and these findings
 abbrev pub IsReportOf : List Mark → Report → Type 0

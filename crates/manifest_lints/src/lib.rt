@@ -11,6 +11,7 @@ mod shown_by_samples;
 
 pub use cargo_platform::values_of;
 pub use linting::lint;
+pub use manifest_lints_findings::readings::{ReadKey, Spelled};
 pub use manifest_lints_findings::{
     Code, Finding, Level, Report, Words, nearest_target, unknown_in,
 };

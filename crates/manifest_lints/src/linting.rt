@@ -132,13 +132,14 @@ fn findings_on<'a>(
 fn report_on<'a>(
     alloc: Global,
     manifest: &toml::Table,
-    keys: Vec<TargetKey<'a>>,
+    keys: &[TargetKey<'a>],
     words: &Words,
 ) -> Result<Report<'a>, AllocError>
-    ensures keys { IfOk result (λ r. r.keys.items ≡ keys.entry.items) }
+    ensures keys { IfOk result (λ r. map entry_read r.keys.items ≡ map entry_of keys.now) }
+    ensures read { IfOk result (λ r. All IsRead r.keys.items) }
     ensures findings { IfOk result (λ r. (ds : List DeclaredEntry)
         × IsDeclaredBy (table_view manifest.now) ds
-        × AreFindings ds (map entry_of keys.entry.items) r.findings.items r.undecided.items) }
+        × AreFindings ds (map entry_read r.keys.items) r.findings.items r.undecided.items) }
 {
     let rule = family_rule(alloc)?;
     let known = Known {
@@ -152,10 +153,10 @@ fn report_on<'a>(
         declared: &declared,
         known: &known,
     };
-    let read = read_keys(alloc, &keys)?;
+    let read = read_keys(alloc, keys)?;
     let (findings, undecided) = findings_on(alloc, words, &asking, &read)?;
     Ok(Report {
-        keys,
+        keys: read,
         findings,
         undecided,
     })
@@ -185,7 +186,7 @@ pub fn lint<'a>(
         (λ r. IsReport (table_view document.now.table) (target_of (table_view document.now.table)) r) }
 {
     match document.target_keys(alloc)? {
-        Targets::Keys(keys) => report_on(alloc, &document.table, keys, words),
+        Targets::Keys(keys) => report_on(alloc, &document.table, &keys, words),
         Targets::Absent => Ok(report_of(alloc, Vec::new(alloc))),
         Targets::NoTable => {
             let mut findings = Vec::new(alloc);

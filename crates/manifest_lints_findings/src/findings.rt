@@ -4,7 +4,7 @@ ghost use Rattle.std.specs.Prelude.{◌≡◌, IfOk, None};
 ghost use Rattle.manifest_lints_findings.specs.Marks.{mark};
 
 use crate::codes::{Code, Level};
-use manifests::TargetKey;
+use crate::readings::ReadKey;
 use std::alloc::{AllocError, Global};
 use std::ops::Range;
 
@@ -30,9 +30,9 @@ pub struct Finding {
 /// The keys of a manifest, the findings on them, and those of which something was left open for want of splits.
 #[derive(Drop)]
 pub struct Report<'a> {
-    /// The keys, in the order in which they first appear where the document knows that, and else in that of their
-    /// bytes.
-    pub keys: Vec<TargetKey<'a>>,
+    /// The keys with what they spell, in the order in which they first appear where the document knows that, and else
+    /// in that of their bytes.
+    pub keys: Vec<ReadKey<'a>>,
     /// The findings, by the keys in their order, and of one key by their codes.
     pub findings: Vec<Finding>,
     /// The places of the keys of which something is not known: the splits are too few, or too many parentheses lie in

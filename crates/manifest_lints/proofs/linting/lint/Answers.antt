@@ -1,5 +1,6 @@
-use Rattle.std.proofs.Common.{◌≡◌, sym, ap, subst, List, Option, Some, None, Result, Ok, Err, IfOk, map}
+use Rattle.std.proofs.Common.{◌≡◌, sym, subst, List, Option, Some, None, Result, Ok, Err, IfOk, map}
 use Rattle.std.specs.List.Sorted.{IsPermutation}
+use Rattle.std.specs.List.{All}
 use Rattle.toml.specs.Data.{Members}
 use Rattle.toml.specs.View.{table_view}
 use Rattle.manifests.specs.Declarations.{DeclaredEntry, IsDeclaredBy}
@@ -8,27 +9,26 @@ use Rattle.manifests.specs.declared.tables.TargetKey.{TargetKey}
 use Rattle.manifests.specs.declared.tables.Targets.{Targets}
 use Rattle.manifests.specs.Tables.{target_of, target_told}
 use Rattle.manifest_lints_findings.specs.declared.findings.Report.{Report}
+use Rattle.manifest_lints_findings.specs.Spells.{IsRead, entry_read}
 use Rattle.manifest_lints.specs.Reports.{Entry, entry_of, AreFindings, IsReport}
 use Rattle.manifest_lints.proofs.linting.lint.Goals as goal
 
 -- the report on some keys is one on a table with these keys in some order
 reported : {E : Type 0} (ms : Members) (t : Option (Option (List Entry))) (keys : List TargetKey) (r : Result Report E)
-    → AreInSomeOrder t (Some (Some (map entry_of keys))) → IfOk r (λ r. r.keys.items ≡ keys)
+    → AreInSomeOrder t (Some (Some (map entry_of keys)))
+    → IfOk r (λ r. map entry_read r.keys.items ≡ map entry_of keys) → IfOk r (λ r. All IsRead r.keys.items)
     → IfOk r (λ r. (ds : List DeclaredEntry) × IsDeclaredBy ms ds
-    × AreFindings ds (map entry_of keys) r.findings.items r.undecided.items)
+    × AreFindings ds (map entry_read r.keys.items) r.findings.items r.undecided.items)
     → IfOk r (λ r. IsReport ms t r)
-reported ms (Some (Some es)) keys (Ok r) order same found =
-    let is = sym (ap (map entry_of) same) in (
-      subst (IsPermutation es) is order,
-      (found.0, found.1, subst (λ fs. AreFindings found.0 fs r.findings.items r.undecided.items) is found.2),
-    )
-reported ms (Some None) keys r order same found = absurd order
-reported ms None keys r order same found = absurd order
-reported ms (Some (Some es)) keys (Err e) order same found = tt
+reported ms (Some (Some es)) keys (Ok r) order same read found =
+    (subst (IsPermutation es) (sym same) order, (read, found))
+reported ms (Some None) keys r order same read found = absurd order
+reported ms None keys r order same read found = absurd order
+reported ms (Some (Some es)) keys (Err e) order same read found = tt
 
 pub returns-in-Keys : goal.returns-in-Keys
 returns-in-Keys c =
     let ms = table_view c.args.document.now.table in
     let O : Targets → Type 0 = λ t. AreInSomeOrder (target_of ms) (target_told t) in
     reported ms (target_of ms) c.in-Keys.keys.items c.report_on.result (subst O c.in-Keys.is c.in_ok-keys.ensures)
-    c.report_on.ensures.keys c.report_on.ensures.findings
+    c.report_on.ensures.keys c.report_on.ensures.read c.report_on.ensures.findings

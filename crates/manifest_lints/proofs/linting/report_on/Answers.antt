@@ -1,5 +1,5 @@
 -- What is known of each target allows the sets of facts that rustc may set, and no others.
-use Rattle.std.proofs.Common.{◌≡◌, ◌↔◌, ◌∙◌, true, refl, sym, ap, subst, ℕ, List, [], map}
+use Rattle.std.proofs.Common.{◌≡◌, ◌↔◌, true, refl, sym, ap, subst, ℕ, List, [], map}
 use Rattle.std.specs.List.{All}
 use Rattle.cargo_platform.specs.Facts.{FactSet, truth}
 use Rattle.cargo_platform.specs.Trees.{tree_of}
@@ -11,7 +11,7 @@ use Rattle.toml.specs.View.{table_view}
 use Rattle.manifests.specs.Declarations.{DeclaredEntry, IsDeclaredBy}
 use Rattle.manifest_lints_findings.specs.declared.findings.Finding.{Finding}
 use Rattle.manifest_lints_findings.specs.Spells.{IsRead, entry_read}
-use Rattle.manifest_lints.specs.Reports.{Entry, entry_of, AreFindings, AreFindingsOn}
+use Rattle.manifest_lints.specs.Reports.{Entry, AreFindings, AreFindingsOn}
 use Rattle.manifest_lints.proofs.Rustcs.{allows_rustcs}
 use Rattle.manifest_lints.proofs.linting.report_on.Goals as goal
 
@@ -29,5 +29,5 @@ returns-clause-findings c =
     let read = c.deref-2.ensures.value in
     of_keys _ (table_view c.args.manifest.now) _ _ _ _ _
     (c.in_ok-findings.ensures (subst (All IsRead) (sym read) c.in_ok-read.ensures.read)) c.in_ok-declared.ensures
-    (ap (map entry_read) read ∙ c.in_ok-read.ensures.keys ∙ ap (map entry_of) c.deref.ensures.value) refl refl refl
+    (ap (map entry_read) read) refl refl refl
     c.in_ok-rule.ensures.sets
