@@ -70,7 +70,7 @@ impl<'a> Facts for Counting<'a> {
 
 /// The facts that words stand for.
 fn facts_of(rt: &impl Abort, alloc: Global, words: &str) -> Vec<Cfg> {
-    facts::values(alloc, &mut Fields::new(words, &[]))
+    made_facts::values(alloc, &mut Fields::new(words, &[]))
         .ok()
         .expect(rt, words)
 }
