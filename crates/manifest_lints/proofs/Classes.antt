@@ -51,7 +51,7 @@ use Rattle.manifest_lints.specs.contracts.earlier.PartOrd.TheImpl as part_ord
 use Rattle.manifest_lints.specs.declared.earlier.Earlier.{Earlier}
 use Rattle.manifest_lints.specs.declared.earlier.Keys.{Keys}
 use Rattle.manifest_lints.specs.declared.sample_sets.TheConstants.{STRIDE}
-use Rattle.manifest_lints.proofs.Words.{same_word, left_true, right_true}
+use Rattle.manifest_lints.proofs.SetWords.{same_word, left_true, right_true}
 use Rattle.manifest_lints.proofs.Rows.{one_value, family_name, family_pair, unix_family, windows_family}
 use Rattle.manifest_lints.proofs.Rows.{unix_is, windows_is}
 use Rattle.manifest_lints.proofs.Samples.{single_is, holds_known, beside_none, sample, in_sample, over_sample}

@@ -1,7 +1,7 @@
 pub mod Verdicts
 pub mod Tried
 pub mod Noting
-pub mod Words
+pub mod SetWords
 pub mod Rows
 pub mod Samples
 pub mod Numbers

@@ -13,8 +13,8 @@ use Rattle.partial_facts.specs.OneValued.{either}
 use Rattle.manifest_lints.specs.Samples.{AreBits, is_set, is_only, mixed, mixed_value, spread}
 use Rattle.manifest_lints.specs.Numbers.{is_unknown_value, same_value, same_pair, has_pair, unknown_beside}
 use Rattle.manifest_lints.specs.Numbers.{first_bits, summed, apart}
-use Rattle.manifest_lints.proofs.Words.{same_word, one_more_bit, no_more_bit, none_set, away}
-use Rattle.manifest_lints.proofs.Words.{left_true, right_true}
+use Rattle.manifest_lints.proofs.SetWords.{same_word, one_more_bit, no_more_bit, none_set, away}
+use Rattle.manifest_lints.proofs.SetWords.{left_true, right_true}
 use Rattle.manifest_lints.proofs.Samples.{or_false, or_assoc, or_right, not_true}
 
 -- ---- words by their bits

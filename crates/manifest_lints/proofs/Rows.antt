@@ -17,7 +17,7 @@ use Rattle.known_targets.specs.Table.{table_keys, target_facts}
 use Rattle.known_targets.specs.declared.table.TheConstants.{COUNT, WORDS}
 use Rattle.known_targets.proofs.Found.{has_name-contains, has_pair-contains}
 use Rattle.manifest_lints.specs.Samples.{is_set, one_valued, is_rustcs}
-use Rattle.manifest_lints.proofs.Words.{are_apart, none_more, set_or, left_true, right_true}
+use Rattle.manifest_lints.proofs.SetWords.{are_apart, none_more, set_or, left_true, right_true}
 
 either : (P : Type 0) (a b : Bool) → (a || b) ≡ true → (a ≡ true → P) → (b ≡ true → P) → P
 either P true b h f g = f refl

@@ -24,7 +24,7 @@ use Rattle.known_targets.proofs.Listed.{some_none, none_some}
 use Rattle.manifest_lints.specs.Samples.{truth_by, all_by, any_by, one_valued, is_rustcs, holds}
 use Rattle.manifest_lints.specs.Samples.{is_set, mixed_truths, holds_with, holds_beside, is_only, text_of}
 use Rattle.manifest_lints.specs.Numbers.{is_unknown_value}
-use Rattle.manifest_lints.proofs.Words.{right_true}
+use Rattle.manifest_lints.proofs.SetWords.{right_true}
 use Rattle.manifest_lints.specs.declared.sample_sets.Other.{Other}
 use Rattle.manifest_lints.specs.declared.sample_sets.TheConstants.{STRIDE}
 

@@ -1,6 +1,6 @@
 use Rattle.std.proofs.Common.{◌∙◌, sym, ap, eqb}
 use Rattle.std.proofs.lemmas.Nat.Bits.{bit_at_ones}
-use Rattle.manifest_lints.proofs.Words.{none_set}
+use Rattle.manifest_lints.proofs.SetWords.{none_set}
 use Rattle.manifest_lints.proofs.sample_sets.everywhere.Goals as goal
 
 pub returns-then-truth : goal.returns-then-truth

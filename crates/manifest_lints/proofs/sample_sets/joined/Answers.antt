@@ -1,7 +1,7 @@
 use Rattle.std.proofs.Common.{◌∙◌, sym, ap}
 use Rattle.known_targets.specs.Groups.{both}
 use Rattle.manifest_lints.specs.Samples.{is_set}
-use Rattle.manifest_lints.proofs.Words.{set_and, set_or}
+use Rattle.manifest_lints.proofs.SetWords.{set_and, set_or}
 use Rattle.manifest_lints.proofs.sample_sets.joined.Goals as goal
 
 pub returns-then-neutral : goal.returns-then-neutral

@@ -1,7 +1,7 @@
 use Rattle.std.proofs.Common.{◌∙◌, sym, ap, ◌+◌, ◌%◌, ◌^◌}
 use Rattle.manifest_lints.specs.Samples.{mixed, spread}
 use Rattle.manifest_lints.specs.Numbers.{pair_at}
-use Rattle.manifest_lints.proofs.Words.{away}
+use Rattle.manifest_lints.proofs.SetWords.{away}
 use Rattle.manifest_lints.proofs.Numbers.{apart_none, apart_some}
 use Rattle.manifest_lints.proofs.sample_sets.number_apart.Goals as goal
 

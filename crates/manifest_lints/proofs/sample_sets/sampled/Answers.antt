@@ -3,7 +3,7 @@ use Rattle.known_targets.specs.Bits.{has}
 use Rattle.known_targets.proofs.Bits.{has_tests}
 use Rattle.known_targets.proofs.Steps.{named_more, named_none}
 use Rattle.manifest_lints.specs.declared.sample_sets.TheConstants.{STRIDE}
-use Rattle.manifest_lints.proofs.Words.{none_set}
+use Rattle.manifest_lints.proofs.SetWords.{none_set}
 use Rattle.manifest_lints.proofs.sample_sets.sampled.Goals as goal
 
 pub returns : goal.returns

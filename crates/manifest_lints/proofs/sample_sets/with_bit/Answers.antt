@@ -1,4 +1,4 @@
-use Rattle.manifest_lints.proofs.Words.{one_more_bit, no_more_bit}
+use Rattle.manifest_lints.proofs.SetWords.{one_more_bit, no_more_bit}
 use Rattle.manifest_lints.proofs.sample_sets.with_bit.Goals as goal
 
 pub returns-then-is_there : goal.returns-then-is_there

@@ -1,5 +1,5 @@
 use Rattle.std.proofs.Common.{◌∙◌, ◌<◌, ◌^◌, ap, not, arith}
-use Rattle.manifest_lints.proofs.Words.{set_not}
+use Rattle.manifest_lints.proofs.SetWords.{set_not}
 use Rattle.manifest_lints.proofs.sample_sets.OverSamplesFold.negation.Goals as goal
 
 pub returns : goal.returns
