@@ -1,5 +1,5 @@
 -- No `equivalent` is missed.
-use Rattle.std.proofs.Common.{◌≡◌, ◌∙◌, refl, sym, ap, subst, ℕ, ◌+◌, ◌≤◌, ◌<◌, Bool, true, false, true≢false, not}
+use Rattle.std.proofs.Common.{◌≡◌, ◌∙◌, refl, sym, ap, subst, ℕ, ◌+◌, Bool, true, false, true≢false, not}
 use Rattle.std.proofs.Common.{◌&&◌, ◌||◌, arith, IsTrue}
 use Rattle.std.proofs.Common.{List, [], ◌∷◌, ◌++◌, length, length-append, get_or, drop, ◌⊎◌, inl, inr}
 use Rattle.std.specs.Prelude.{IfSome, Contains}
@@ -26,11 +26,10 @@ use Rattle.manifest_lints.specs.declared.earlier.Earlier.{Earlier}
 use Rattle.manifest_lints.specs.declared.earlier.Earlier.TheVariants as earlier
 use Rattle.manifest_lints.specs.declared.earlier.Keys.{Keys}
 use Rattle.manifest_lints.specs.Reports.{left_open}
-use Rattle.manifest_lints.specs.Sames.{SpellsOne, HasOne, HasSame, IsFirst, IsSameAs, IsSpelledAt, AreMembers}
+use Rattle.manifest_lints.specs.Sames.{SpellsOne, HasSame, IsFirst, IsSameAs, IsSpelledAt, AreMembers}
 use Rattle.manifest_lints.specs.Missed.{IsSettledAt, MissesNone, IsCovered, AreCovered}
 use Rattle.manifest_lints.proofs.Founds.{one_or}
 use Rattle.manifest_lints.proofs.MoreSames.{at_has, at_within, has_so}
-use Rattle.manifest_lints.proofs.MoreEquivalents.{as_spelled}
 
 -- ---- conditions that are as true
 

@@ -1,5 +1,5 @@
 -- No `equivalent` is missed: of which earlier keys it is known that they are not as true.
-use Rattle.std.specs.Prelude.{◌≡◌, ◌⊎◌, ℕ, List, Contains}
+use Rattle.std.specs.Prelude.{◌⊎◌, ℕ, List, Contains}
 use Rattle.std.specs.List.{Any}
 use Rattle.cargo_platform.specs.Trees.{Condition, condition_of}
 use Rattle.exact_answers.specs.declared.known.Known.{Known}

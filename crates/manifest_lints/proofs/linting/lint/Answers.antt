@@ -21,7 +21,7 @@ reported : {E : Type 0} (ms : Members) (t : Option (Option (List Entry))) (keys 
     × AreFindings ds (map entry_read r.keys.items) r.findings.items r.undecided.items)
     → IfOk r (λ r. IsReport ms t r)
 reported ms (Some (Some es)) keys (Ok r) order same read found =
-    (subst (IsPermutation es) (sym same) order, (read, found))
+    (subst (IsPermutation es) (sym same) order, read, found)
 reported ms (Some None) keys r order same read found = absurd order
 reported ms None keys r order same read found = absurd order
 reported ms (Some (Some es)) keys (Err e) order same read found = tt
@@ -30,5 +30,7 @@ pub returns-in-Keys : goal.returns-in-Keys
 returns-in-Keys c =
     let ms = table_view c.args.document.now.table in
     let O : Targets → Type 0 = λ t. AreInSomeOrder (target_of ms) (target_told t) in
-    reported ms (target_of ms) c.in-Keys.keys.items c.report_on.result (subst O c.in-Keys.is c.in_ok-keys.ensures)
+    let order = subst O c.in-Keys.is c.in_ok-keys.ensures in
+    let K : List TargetKey → Type 0 = λ ks. AreInSomeOrder (target_of ms) (Some (Some (map entry_of ks))) in
+    reported ms (target_of ms) c.deref.result.now c.report_on.result (subst K (sym c.deref.ensures.value) order)
     c.report_on.ensures.keys c.report_on.ensures.read c.report_on.ensures.findings

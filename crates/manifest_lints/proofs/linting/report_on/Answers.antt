@@ -26,7 +26,7 @@ of_keys k ms ds es fs found ns on declared same facts complete single rule =
 
 pub returns-clause-findings : goal.returns-clause-findings
 returns-clause-findings c =
-    let read = c.deref-2.ensures.value in
+    let read = c.deref.ensures.value in
     of_keys _ (table_view c.args.manifest.now) _ _ _ _ _
     (c.in_ok-findings.ensures (subst (All IsRead) (sym read) c.in_ok-read.ensures.read)) c.in_ok-declared.ensures
     (ap (map entry_read) read) refl refl refl
