@@ -48,6 +48,8 @@ class Steps:
         self.start = self.last = time.monotonic()
         self.lock, self.running, self.failures = threading.Lock(), {}, []
         self.totals = {}
+        # How many failures were told as they came, also of steps that run on.
+        self.told = 0
         self.passed = self.failed = 0
 
     def say(self, text):
@@ -65,7 +67,7 @@ class Steps:
                     f"{name} ({done}{self.totals[name]} done, {(now - since) / 60:.0f} min)"
                     for name, (since, done) in running
                 ]
-                self.say(f"running: {', '.join(each) or 'nothing'}; {len(self.failures)} failed so far")
+                self.say(f"running: {', '.join(each) or 'nothing'}; {self.told} failed so far")
 
     def run(self, step):
         """Runs a step, and takes how it ended."""
@@ -85,6 +87,7 @@ class Steps:
                     self.running[step.name] = (since, done + bool(re.search(step.done, line)))
                     if line.startswith(FAILED) or re.search(step.wrong, line):
                         told.append(line.removeprefix(FAILED).strip())
+                        self.told += 1
                         self.say(f"{step.name}: {FAILED}{told[-1]}")
                     elif re.search(step.told, line):
                         self.say(f"{step.name}: {line.rstrip()}")
@@ -101,10 +104,12 @@ class Steps:
                 passed, failed = int(found[1]), int(found[2])
             else:
                 told.append(f"it was cut off, with status {status}")
+                self.told += 1
                 passed, failed = 0, 1
         self.passed += passed
         self.failed += failed
         log = f"out/log/{step.name.replace(' ', '-')}.log"
+        self.told += failed > 0 and not told
         if failed:
             self.failures += [f"{step.name}: {it}" for it in told or [last]] + [f"  again: {step.again}   ({log})"]
             self.say(f"{step.name}: FAILED: {told[-1] if told else last}; again: {step.again}")
