@@ -109,8 +109,8 @@ class Steps:
         self.passed += passed
         self.failed += failed
         log = f"out/log/{step.name.replace(' ', '-')}.log"
-        self.told += failed > 0 and not told
         if failed:
+            self.told += not told
             self.failures += [f"{step.name}: {it}" for it in told or [last]] + [f"  again: {step.again}   ({log})"]
             self.say(f"{step.name}: FAILED: {told[-1] if told else last}; again: {step.again}")
         minutes = (time.monotonic() - since) / 60
