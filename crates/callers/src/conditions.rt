@@ -1,4 +1,4 @@
-//! Callers of `cargo_platform`. Rows of `test_texts` are their tests.
+//! Callers of `cargo_platform`, whose tests are rows of `test_texts`; and a test that compares its reader with another.
 
 pub mod audit;
 pub mod describe;
@@ -10,5 +10,9 @@ pub mod own_error;
 pub mod own_facts;
 pub mod planner;
 pub mod printed_facts;
+#[cfg(test)]
+mod recursive_reader;
 pub mod selected;
+#[cfg(test)]
+mod two_readers;
 pub mod underline;
