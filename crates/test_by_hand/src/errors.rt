@@ -1,6 +1,6 @@
 //! Errors that are made by hand: what they hold and print.
 
-use cargo_platform::{Cfg, CfgExpr, Ident, ParseError, ParseErrorKind, ReadError};
+use cargo_platform::{Cfg, CfgExpr, Ident, ParseError, ParseErrorKind, Platform, ReadError};
 use std::alloc::Global;
 use std::error::Error;
 use std::fmt::Display;
@@ -114,4 +114,28 @@ fn a_value_named_true_is_a_fact(rt: HostRuntime) {
     let e = CfgExpr::Value(named(false));
     assert_prints(&rt, alloc, &e, "true");
     assert!(rt; e.matches(&[named(true)]) && !e.matches(&[]));
+}
+
+/// Asserts that a value prints the same with a fill, an alignment, a width and a precision as without.
+fn assert_unpadded<T: Display>(rt: &impl Abort, alloc: Global, value: &T) {
+    let plain = value.to_string(alloc).expect(rt, "memory");
+    let padded = format!(in alloc; "{value:*^99.2}").expect(rt, "memory");
+    assert!(rt; padded.as_str() == plain.as_str(), "{plain}");
+}
+
+/// The Rust crate pads and cuts the name of a target, and nothing else.
+#[test]
+fn widths_change_nothing(rt: HostRuntime) {
+    let alloc = rt.alloc();
+    let named = Platform::Name(owned(&rt, alloc, "x86_64-apple-darwin"));
+    assert_unpadded(&rt, alloc, &named);
+    let name = Cfg::from_str(alloc, "r#unix").expect(&rt, "a name");
+    assert_unpadded(&rt, alloc, &name);
+    let pair = CfgExpr::from_str(alloc, "k = \"value\"").expect(&rt, "a pair");
+    assert_unpadded(&rt, alloc, &pair);
+    assert_unpadded(&rt, alloc, &Platform::Cfg(pair));
+    let error = ParseError::new(alloc, "a b", surplus(&rt, alloc, "b")).expect(&rt, "memory");
+    assert_unpadded(&rt, alloc, error.kind());
+    assert_unpadded(&rt, alloc, &error);
+    assert_unpadded(&rt, alloc, &ReadError::Parse(error));
 }
