@@ -1,21 +1,23 @@
-# make run    runs `platform_check` on its sample input, from source if it is not built; PROVED=yes proves and builds it
-# make lint MANIFEST=path  tells what is wrong or odd about the keys of `target` in a manifest, in the same way
+# make try    builds both programs without proof, in two minutes, and says where they are
+# make run    runs `platform_check` on its sample input; PROVED=yes proves and builds it first
+# make lint MANIFEST=path  reports what is wrong or odd about the target keys of a manifest
+# make test   runs every test over builds without proof, within minutes
+# make prove  proves every crate and its tests, and runs all tests and programs as they are proved
+# make mutants    judges all mutants, and writes the record of them; ONLY=".." judges those of some crates
 # make build  proves and builds both programs, and says where they are
-# make install PREFIX=..  puts both programs into PREFIX/bin, manifest_check as cargo-manifest-check too, and its man
-#             page and completions into PREFIX/share; where a C compiler is, it does what `make install-c` does too
+# make install PREFIX=..  proves and installs both programs, manifest_check as cargo-manifest-check too, with a man page
+#             and completions; where a C compiler is, it does what `make install-c` does too. UNPROVED=yes proves nothing,
+#             and installs the programs alone, marked as unproved builds
 # make c-library  proves and builds the library for C, and says where it is
 # make install-c PREFIX=..  puts the library for C, its header, a file for pkg-config and the Python package in place
 # make wheel  builds a wheel of the Python package, with the shared library in it, into out/wheel
 # make dist   one archive of the programs, the library for C and the wheel, of what it proves and builds, into out/dist
 # make take INTO=FOLDER CRATES=".."  copies crates into another repository, with those that they stand on
-# make test   THE GATE: proves everything from nothing, tries wrong bodies, and runs all tests and programs
-# make quick  the proofs alone, over what earlier checks kept
-# make fits   in a second: whether each wrong body can still be applied
-# make mutants    all wrong bodies, those that `make test` does not try too; ONLY=".." tries some crates' alone
 # make measure    times the calls, and prints the tables that `.ci/performance` takes
 # make targets    asks the rustc at hand for its targets, and writes the table of crates/known_targets anew
 # make fmt    lays out the files
-# Parts of `make test`, alone:
+# Parts of `make test`, alone; with PROVED=yes those that run a program take the proved one:
+# make fits       whether each mutant can still be applied
 # make refusals   each allocation refused in turn, in each row and in both programs, and what is released counted
 # make second-reader  what a reader in Python says of the rows on texts, and of 1.3 million questions to the library
 # make statuses   the program where reading or writing fails
@@ -24,20 +26,25 @@
 # make graphs     the same for its command graph
 # make relations  what `manifest_check compare` answers, beside all sets of facts, and of hard conditions
 # make cargo-select  what `manifest_check select` selects, beside what Cargo does; it needs cargo and rustc 1.95.0
-# make try-c      the library for C and Python, called from both; it needs a C compiler
+# make try-c      the library for C, Python and Rust, called from each; it needs a C compiler
 # make pages      what the pages say, beside what it is said of; `.ci/promises --write` makes their lists anew
 # make depths     the programs on the deepest conditions that their inputs hold
-.PHONY: lint run build install c-library install-c wheel dist try-c take test gate fits mutants refusals second-reader \
-	statuses manifests workspaces graphs relations cargo-select \
-	pages depths quick measure targets fmt rt
+.PHONY: try lint run test prove mutants build install install-programs c-library install-c wheel dist take measure \
+	targets fmt fits refusals second-reader statuses manifests workspaces graphs relations cargo-select try-c pages \
+	depths rt
 
 PROGRAM := crates/platform_check
 CHECK := crates/manifest_check
+UNPROVED_BUILDS := out/unproved/platform_check/platform_check out/unproved/manifest_check/manifest_check
 PREFIX ?= /usr/local
 MANIFEST ?= Cargo.toml
 
 rt:
 	@command -v rt >/dev/null || { echo "make: rt, Rattle's command, is not on the PATH" >&2; exit 1; }
+
+try: rt
+	@.ci/unproved platform_check manifest_check
+	@echo "these are unproved builds: \`make build\` proves both programs"
 
 # The status is the program's own: 1 where there is an error or a warning.
 lint: rt
@@ -47,18 +54,35 @@ lint: rt
 run: rt
 	@$(if $(PROVED),.ci/build &&) .ci/start platform_check < $(PROGRAM)/stdin
 
+test: rt
+	@.ci/test
+
+prove: rt
+	@.ci/prove
+
+mutants: rt
+	@.ci/mutants $(ONLY)
+
 build: rt
 	@.ci/build platform_check
 	@.ci/build manifest_check
 	@echo "the programs are $(PROGRAM)/out/platform_check and $(CHECK)/out/manifest_check"
 
-install: build
+install-programs:
 	install -d "$(DESTDIR)$(PREFIX)/bin"
-	install $(PROGRAM)/out/platform_check $(CHECK)/out/manifest_check "$(DESTDIR)$(PREFIX)/bin"
+	install $(if $(UNPROVED),$(UNPROVED_BUILDS),$(PROGRAM)/out/platform_check $(CHECK)/out/manifest_check) \
+		"$(DESTDIR)$(PREFIX)/bin"
 	ln -sf manifest_check "$(DESTDIR)$(PREFIX)/bin/cargo-manifest-check"
 	install -d "$(DESTDIR)$(PREFIX)/share"
 	cp -R share/. "$(DESTDIR)$(PREFIX)/share"
+
+ifdef UNPROVED
+install: try install-programs
+	@echo "installed unproved builds: \`manifest_check --version\` says so"
+else
+install: build install-programs
 	@! command -v $(CC) > /dev/null || $(MAKE) --no-print-directory install-c
+endif
 
 C_LIBRARY := crates/nevgrasi_c/out
 PYTHON_FOLDER ?= $(PREFIX)/lib/python3/dist-packages
@@ -88,19 +112,8 @@ try-c: rt
 take:
 	@.ci/take $(if $(CACHE),--cache) $(INTO) $(CRATES)
 
-test: rt
-	@.ci/test
-
-gate: test
-
-quick: rt
-	rt all check --jobs 2
-
 fits:
 	@.ci/fits
-
-mutants: rt
-	.ci/mutants $(ONLY)
 
 measure: build
 	.ci/measure

@@ -1,10 +1,14 @@
-"""Runs steps of the gate side by side, and tells how far they are.
+"""Runs steps side by side, each once those that it waits for have passed, and reports how far they are.
 
 Each step writes all that it prints to out/log/NAME.log. What a person wants to see at once goes to standard output too:
-how each step ended, each failure, and a line a minute. A failure is a line that begins with `FAILED: `. All of them are
-printed again at the end, with the command that repeats the step alone.
+how each step ended, each failure as it comes, and a line a minute with the time that is left. A failure is a line that
+begins with `FAILED: `. All of them are printed again at the end, with the command that repeats the step alone.
+
+The time that is left comes from an earlier run: the last one on this machine that passed, and else the one that is
+committed in .ci/earlier-runs.json.
 """
-import concurrent.futures
+import json
+import os
 import pathlib
 import re
 import subprocess
@@ -12,133 +16,188 @@ import threading
 import time
 from typing import NamedTuple
 
-ROOT = pathlib.Path(__file__).resolve().parent.parent
-LOGS = ROOT / "out" / "log"
+from crates import ROOT
 
-# A step that prints nothing for so long, in seconds, is told of by its state.
+LOGS = ROOT / "out" / "log"
+CACHE = pathlib.Path(os.environ.get("XDG_CACHE_HOME") or pathlib.Path.home() / ".cache") / "nevgrasi"
+EARLIER = (CACHE / "runs.json", ROOT / ".ci" / "earlier-runs.json")
+
+# After so many seconds in which nothing was printed, a line says what is running.
 SILENCE = 50
 
-COUNTED = re.compile(r"(\d+) passed, (\d+) failed")
+COUNTED = re.compile(r"(?:\w+: )?(\d+) passed, (\d+) failed")
 FAILED = "FAILED: "
 
 
 class Step(NamedTuple):
-    """A step: its name, its command, the folder that it works in, and the command that repeats it alone.
+    """A step: its name, its command, the steps that it waits for, and the command that repeats it alone.
 
-    A step that counts prints `N passed, M failed` at its end; each other one counts as one. Lines that match `told` are
-    passed on, and those that match `done` are counted as its progress, of so many as `total` says. Those that match
-    `wrong` are failures too, where a command that is not ours says so in its own words.
+    A step that counts prints `N passed, M failed` at its end; each other one counts as one. A line that matches `mark`
+    is its progress, and the first group names what was done. A line that matches `wrong` is a failure too, where a
+    command that is not ours says so in its own words.
     """
 
     name: str
     words: list
-    folder: pathlib.Path
-    again: str
+    after: tuple = ()
+    again: str = ""
     counts: bool = False
-    told: str = "(?!)"
-    done: str = "(?!)"
-    total: str = ""
+    mark: str = "(?!)()"
     wrong: str = "(?!)"
 
 
-class Steps:
-    """What the steps came to so far. One of them prints at a time."""
+def script(name, *words, after=(), counts=True, title=""):
+    """The step that is a script of this folder."""
+    again = " ".join([f".ci/{name}", *words])
+    return Step(title or name, [ROOT / ".ci" / name, *words], after, again, counts)
 
-    def __init__(self):
+
+def earlier_runs():
+    """How long each step took in the last run of each kind, and when its marks came, in seconds."""
+    found = {}
+    for file in reversed(EARLIER):
+        found |= json.loads(file.read_text()) if file.exists() else {}
+    return found
+
+
+class Run:
+    """A run of steps, and what they came to so far. One of them prints at a time. A run of some steps alone has no
+    kind: no other run is told from it."""
+
+    def __init__(self, kind, steps, lanes=None):
+        self.kind, self.steps = kind, {it.name: it for it in steps}
+        self.lanes = lanes or len(os.sched_getaffinity(0))
         self.start = self.last = time.monotonic()
-        self.lock, self.running, self.failures = threading.Lock(), {}, []
-        self.totals = {}
-        # How many failures were told as they came, also of steps that run on.
-        self.told = 0
-        self.passed = self.failed = 0
+        self.changed, self.printing = threading.Condition(), threading.Lock()
+        self.taken, self.ended, self.running, self.marks, self.times = set(), {}, {}, {}, {}
+        self.failures, self.told, self.passed, self.failed, self.processors = [], 0, 0, 0, 0.0
+        self.earlier = earlier_runs().get(f"{kind} on {self.lanes}", {})
 
     def say(self, text):
-        with self.lock:
+        with self.printing:
             self.last = time.monotonic()
             print(f"[{(self.last - self.start) / 60:4.1f} min] {text}", flush=True)
 
-    def beat(self, ended):
-        """Tells which steps are running, where nothing was told for a while."""
-        while not ended.wait(5):
+    # ---- the time that is left
+
+    def share(self, name, now):
+        """How many seconds of an earlier run of a step its progress comes to."""
+        earlier = self.earlier.get(name, {"seconds": 0, "marks": {}})
+        if name in self.ended:
+            return earlier["seconds"]
+        if name not in self.running:
+            return 0
+        reached = max((earlier["marks"].get(it, 0) for it in self.marks[name]), default=0)
+        passed = now - self.running[name]
+        return min(earlier["seconds"], reached if earlier["marks"] and reached else passed)
+
+    def left(self):
+        """How many minutes are left, in words; nothing where no earlier run says it."""
+        now = time.monotonic()
+        whole = sum(it["seconds"] for name, it in self.earlier.items() if name in self.steps)
+        done = sum(self.share(name, now) for name in self.steps)
+        if done < 5 or not whole:
+            return ""
+        return f"; about {max(1, round((now - self.start) * (whole - done) / done / 60))} minutes left"
+
+    def beat(self):
+        """Says what is running, where nothing was said for a while."""
+        while len(self.ended) < len(self.steps):
+            time.sleep(2)
             if time.monotonic() - self.last > SILENCE:
                 now = time.monotonic()
-                running = self.running.items()
-                each = [
-                    f"{name} ({done}{self.totals[name]} done, {(now - since) / 60:.0f} min)"
-                    for name, (since, done) in running
-                ]
-                self.say(f"running: {', '.join(each) or 'nothing'}; {self.told} failed so far")
+                each = [f"{name} ({len(self.marks[name])} done, {(now - since) / 60:.0f} min)"
+                        for name, since in [*self.running.items()]]  # fmt: skip
+                self.say(f"running: {', '.join(each)}; {self.told} failed so far{self.left()}")
+
+    # ---- steps
+
+    def next(self):
+        """A step whose own steps have ended. It waits for one, and there is none once all are taken."""
+        with self.changed:
+            while len(self.taken) < len(self.steps):
+                for name, step in self.steps.items():
+                    if name not in self.taken and all(it in self.ended for it in step.after if it in self.steps):
+                        self.taken.add(name)
+                        return step
+                self.changed.wait()
+        return None
+
+    def lane(self):
+        while step := self.next():
+            missing = [it for it in step.after if it in self.steps and not self.ended[it]]
+            if missing:
+                self.end(step, 1, f"not run, since {', '.join(missing)} failed", [])
+            else:
+                self.run(step)
+            with self.changed:
+                self.changed.notify_all()
 
     def run(self, step):
         """Runs a step, and takes how it ended."""
-        self.totals[step.name] = f" of {step.total}" if step.total else ""
-        self.running[step.name] = (time.monotonic(), 0)
-        self.say(f"{step.name}: begins")
+        self.marks[step.name], self.running[step.name] = {}, time.monotonic()
         last, count, told = "", "", []
+        how = {"stdin": subprocess.DEVNULL, "stdout": subprocess.PIPE, "stderr": subprocess.STDOUT}
         with open(LOGS / f"{step.name.replace(' ', '-')}.log", "w", encoding="utf-8") as log:
-            how = {"stdin": subprocess.DEVNULL, "stdout": subprocess.PIPE, "stderr": subprocess.STDOUT}
-            with subprocess.Popen(step.words, cwd=step.folder, text=True, errors="replace", **how) as process:
-                for line in process.stdout:
-                    log.write(line)
-                    log.flush()
-                    last = line.strip() or last
-                    count = last if COUNTED.fullmatch(last) else count
-                    since, done = self.running[step.name]
-                    self.running[step.name] = (since, done + bool(re.search(step.done, line)))
-                    if line.startswith(FAILED) or re.search(step.wrong, line):
-                        told.append(line.removeprefix(FAILED).strip())
-                        self.told += 1
-                        self.say(f"{step.name}: {FAILED}{told[-1]}")
-                    elif re.search(step.told, line):
-                        self.say(f"{step.name}: {line.rstrip()}")
+            process = subprocess.Popen([*map(str, step.words)], cwd=ROOT, text=True, errors="replace", **how)
+            for line in process.stdout:
+                log.write(line)
+                log.flush()
+                last = line.strip() or last
+                count = last if COUNTED.fullmatch(last) else count
+                if mark := re.search(step.mark, line):
+                    self.marks[step.name][mark[1]] = time.monotonic() - self.running[step.name]
+                if line.startswith(FAILED) or re.search(step.wrong, line):
+                    told.append(line.removeprefix(FAILED).strip())
+                    self.told += 1
+                    self.say(f"{step.name}: {FAILED}{told[-1]}")
+            process.stdout.close()
+            _, status, usage = os.wait4(process.pid, 0)
+            process.returncode = os.waitstatus_to_exitcode(status)
+            self.processors += usage.ru_utime + usage.ru_stime
             log.write(f"the step ended with status {process.returncode}\n")
-        self.end(step, process.returncode, count if step.counts else last, told)
+        seconds = time.monotonic() - self.running.pop(step.name)
+        self.times[step.name] = {"seconds": round(seconds), "marks": {k: round(v) for k, v in self.marks[step.name].items()}}
+        self.end(step, process.returncode, count if step.counts else last, told, usage.ru_utime + usage.ru_stime)
 
-    def end(self, step, status, last, told):
+    def end(self, step, status, last, told, used=0):
         """Takes how a step ended. One that counts is one failure where it does not say how, or says it wrongly."""
-        since, _ = self.running.pop(step.name)
         passed, failed = (0, 1) if status else (1, 0)
-        if step.counts:
+        if step.counts and step.name in self.times:
             found = COUNTED.fullmatch(last)
             if found and (status == 0) == (found[2] == "0"):
                 passed, failed = int(found[1]), int(found[2])
             else:
                 told.append(f"it was cut off, with status {status}")
-                self.told += 1
                 passed, failed = 0, 1
         self.passed += passed
         self.failed += failed
-        log = f"out/log/{step.name.replace(' ', '-')}.log"
         if failed:
+            log = f"out/log/{step.name.replace(' ', '-')}.log"
             self.told += not told
             self.failures += [f"{step.name}: {it}" for it in told or [last]] + [f"  again: {step.again}   ({log})"]
-            self.say(f"{step.name}: FAILED: {told[-1] if told else last}; again: {step.again}")
-        minutes = (time.monotonic() - since) / 60
-        self.say(f"{step.name}: {passed} passed, {failed} failed in {minutes:.1f} minutes")
+            self.say(f"{step.name}: {FAILED}{told[-1] if told else last}; again: {step.again}")
+        seconds = self.times.get(step.name, {"seconds": 0})["seconds"]
+        self.say(f"{step.name}: {passed} passed, {failed} failed in {seconds} s, {used:.0f} s of processors")
+        self.ended[step.name] = not failed
 
-    def run_in_turn(self, steps):
-        """Runs steps one after the other. A list in place of a step is lists of steps that go side by side."""
-        for step in steps:
-            if isinstance(step, Step):
-                self.run(step)
-            else:
-                self.run_side_by_side(step)
+    # ---- the whole
 
-    def run_side_by_side(self, sides):
-        with concurrent.futures.ThreadPoolExecutor(len(sides)) as lanes:
-            [*lanes.map(self.run_in_turn, sides)]
-
-    def run_all(self, sides):
-        """Runs lists of steps side by side, each list in turn, and tells how far they are."""
+    def run_all(self):
+        """Runs the steps, and prints what failed. Returns the status."""
         LOGS.mkdir(parents=True, exist_ok=True)
-        ended = threading.Event()
-        threading.Thread(target=self.beat, args=(ended,), daemon=True).start()
-        self.run_side_by_side(sides)
-        ended.set()
-
-    def finish(self):
-        """Prints what the steps came to. Returns the status."""
+        lanes = [threading.Thread(target=self.lane) for _ in range(self.lanes)]
+        threading.Thread(target=self.beat, daemon=True).start()
+        for it in lanes:
+            it.start()
+        for it in lanes:
+            it.join()
         for it in self.failures:
             print(it if it.startswith(" ") else f"{FAILED}{it}")
-        print(f"{self.passed} passed, {self.failed} failed", flush=True)
+        if self.kind and not self.failed:
+            CACHE.mkdir(parents=True, exist_ok=True)
+            kept = json.loads(EARLIER[0].read_text()) if EARLIER[0].exists() else {}
+            EARLIER[0].write_text(json.dumps({**kept, f"{self.kind} on {self.lanes}": self.times}))
+        minutes = (time.monotonic() - self.start) / 60
+        print(f"{minutes:.1f} minutes, {self.processors / 60:.1f} minutes of processors", flush=True)
         return 1 if self.failed else 0

@@ -8,8 +8,6 @@
 mod escaping;
 pub mod laws;
 mod page;
-#[cfg(test)]
-mod tests;
 
 pub use escaping::escaped;
 pub use page::Page;

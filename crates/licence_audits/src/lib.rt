@@ -7,8 +7,6 @@
 mod audits;
 mod findings;
 mod subjects;
-#[cfg(test)]
-mod tests;
 
 pub use audits::{Told, audit};
 pub use findings::{Finding, judge};

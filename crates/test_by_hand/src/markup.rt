@@ -1,6 +1,6 @@
 //! Texts on pages. The entities are those of the HTML standard, "Named character references".
 
-use crate::{Page, escaped};
+use html_pages::{Page, escaped};
 use std::alloc::{AllocError, Global};
 use std::process::Abort;
 use std::test::Fail;

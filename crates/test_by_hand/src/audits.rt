@@ -1,6 +1,6 @@
 //! What is told of packages. The rules are those of the page of `spdx_expressions`.
 
-use crate::{Exception, Finding, Subject, Told, audit};
+use licence_audits::{Exception, Finding, Subject, Told, audit};
 use spdx_expressions::{Licence, ReadError};
 use std::alloc::{AllocError, Global};
 use std::process::Abort;
