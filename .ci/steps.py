@@ -52,6 +52,11 @@ def script(name, *words, after=(), counts=True, title=""):
     return Step(title or name, [ROOT / ".ci" / name, *words], after, again, counts)
 
 
+def file_name(step):
+    """The name of the file with all that a step printed."""
+    return re.sub(r"[^\w-]", "-", step.name) + ".log"
+
+
 def earlier_runs():
     """How long each step took in the last run of each kind, and when its marks came, in seconds."""
     found = {}
@@ -66,6 +71,7 @@ class Run:
 
     def __init__(self, kind, steps, lanes=None):
         self.kind, self.steps = kind, {it.name: it for it in steps}
+        assert len(self.steps) == len(steps), "two steps have one name"
         self.lanes = lanes or len(os.sched_getaffinity(0))
         self.start = self.last = time.monotonic()
         self.changed, self.printing = threading.Condition(), threading.Lock()
@@ -138,7 +144,7 @@ class Run:
         self.marks[step.name], self.running[step.name] = {}, time.monotonic()
         last, count, told = "", "", []
         how = {"stdin": subprocess.DEVNULL, "stdout": subprocess.PIPE, "stderr": subprocess.STDOUT}
-        with open(LOGS / f"{step.name.replace(' ', '-')}.log", "w", encoding="utf-8") as log:
+        with open(LOGS / file_name(step), "w", encoding="utf-8") as log:
             process = subprocess.Popen([*map(str, step.words)], cwd=ROOT, text=True, errors="replace", **how)
             for line in process.stdout:
                 log.write(line)
@@ -173,7 +179,7 @@ class Run:
         self.passed += passed
         self.failed += failed
         if failed:
-            log = f"out/log/{step.name.replace(' ', '-')}.log"
+            log = f"out/log/{file_name(step)}"
             self.told += not told
             self.failures += [f"{step.name}: {it}" for it in told or [last]] + [f"  again: {step.again}   ({log})"]
             self.say(f"{step.name}: {FAILED}{told[-1] if told else last}; again: {step.again}")
