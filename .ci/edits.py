@@ -14,9 +14,6 @@ from crates import ROOT
 
 CRATES = ROOT / "crates"
 
-# The names of the edits that `make test` tries.
-OF_THE_GATE = ROOT / ".ci" / "mutants-of-the-gate"
-
 
 class NotFit(Exception):
     """The edit cannot be applied."""
@@ -45,11 +42,6 @@ def all_edits():
     names = [str(edit) for edit in found]
     strange = [f"{edit.file} is no edit" for edit in found if edit.file.suffix != ".edit"]
     return found, strange + [f"two edits are {name}" for name in sorted({*names}) if names.count(name) > 1]
-
-
-def names_of_the_gate():
-    """The names of the edits that `make test` tries, a line each."""
-    return [line for line in text_of(OF_THE_GATE).splitlines() if line and not line.startswith("#")]
 
 
 @functools.cache

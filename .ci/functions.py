@@ -5,17 +5,24 @@ from typing import NamedTuple
 
 from edits import changes, text_of
 
-# The head of a function with the attributes above it, the head of an `impl`, and a constant of a file's own.
-HEAD = re.compile(r"(?P<above>(?:^[ \t]*#\[[^\n]*\n)*)^(?P<indent>[ \t]*)(?:pub(?:\(\w+\))? )?fn (?P<word>\w+)", re.M)
-IMPL = re.compile(
-    r"^impl(?:<[^{\n]*?>)? (?:(?:\w+::)*(?P<trait>\w+)(?:<[^{\n]*?>)? for )?&?(?:'\w+ )?(?P<type>\w+)", re.M
+# The head of a function with the attributes above it, the head of an `impl`, and a constant.
+HEAD = re.compile(
+    r"(?P<above>(?:^[ \t]*#\[[^\n]*\n)*)^(?P<indent>[ \t]*)(?:pub(?:\(\w+\))? )?(?:extern \"C\" )?fn (?P<word>\w+)",
+    re.M,
 )
-CONSTANT = re.compile(r"^const (?P<word>\w+): [^=\n]+ = [^;]*;", re.M)
+IMPL = re.compile(
+    r"^impl(?P<parameters><[^{\n]*?>)? (?:(?:\w+::)*(?P<trait>\w+)(?P<of><[^{\n]*?>)? for )?&?(?:'\w+ )?(?P<type>\w+)",
+    re.M,
+)
+CONSTANT = re.compile(r"^(?:pub(?:\(\w+\))? )?const (?P<word>\w+): [^=\n]+ = [^;]*;", re.M)
+
+# The name that a definition of the specs begins with.
+DEFINITION = re.compile(r"^(?:(?:pub|abbrev|opaque) )*(\w+) :", re.M)
 
 
 class Function(NamedTuple):
-    """A function of a crate's text: its module, the type and the trait of its `impl` if it has those, its name, and its
-    cycle of calls."""
+    """A function of a crate's text: its module, the type and the trait of its `impl` if it has those, as a check prints
+    them, its name, and its cycle of calls."""
 
     module: str
     type: str
@@ -23,16 +30,36 @@ class Function(NamedTuple):
     word: str
     cycle: str
 
-    def names(self, named):
-        """Those names of the crate's functions, as a check prints them, that may be its own.
+    @property
+    def path(self):
+        """The end of the name by which a check prints the function: that fits no other function of its crate.
 
-        A method is printed by a module and its type's name, with the trait's name after that where it is of a trait,
-        but for `drop`.
+        A method is printed by its type's name, with the trait's name after that where it is of a trait, but for `drop`.
         """
-        of_trait = rf"({self.trait}\w*)?" if self.trait else ""
-        of_module = "" if self.module in ("main", "lib") else f"{self.module}::"
-        within = rf"(\w+::)*{self.type}{of_trait}::" if self.type else of_module
-        return [name for name in named if re.fullmatch(within + self.word, name)]
+        if self.type:
+            return f"{self.type}{'' if self.word == 'drop' else self.trait}::{self.word}"
+        return self.word if self.module in ("main", "lib") else f"{self.module}::{self.word}"
+
+    def is_named(self, name):
+        """Whether a check prints the function by this name, below its crate."""
+        return f"::{name}".endswith(f"::{self.path}")
+
+    def is_answered_in(self, path):
+        """Whether the file of written answers at this path is the function's. The functions of a cycle share one."""
+        folder = [*self.path.split("::")[:-1], f"+{self.cycle}" if self.cycle else self.word]
+        return f"/{path}".endswith("/".join(["", *folder, "Answers.antt"]))
+
+    def owns(self, goal):
+        """Whether a goal is its own: the goals of a cycle begin with their function's word."""
+        return not self.cycle or goal.startswith(f"{self.word}-")
+
+
+def printed(impl):
+    """The type and the trait of an `impl`, as a check prints them: a parameter is `Any`, and the trait's arguments stand
+    behind it, but for parameters."""
+    parameters = re.findall(r"[<,] ?(\w+)", impl["parameters"] or "")
+    arguments = [it for it in re.findall(r"\b[A-Z]\w*", impl["of"] or "") if it not in parameters]
+    return "Any" if impl["type"] in parameters else impl["type"], "".join([impl["trait"] or "", *arguments])
 
 
 @functools.cache
@@ -46,44 +73,48 @@ def functions_of(crate):
             closed = re.compile(rf"^{head['indent']}}}\n", re.M).search(text, head.end(), next)
             end = closed.end() if closed else next
             above = [impl for impl in impls if impl.start() < head.start()]
-            type, trait = above[-1].group("type", "trait") if head["indent"] and above else ("", "")
+            type, trait = printed(above[-1]) if head["indent"] and above else ("", "")
             cycle = re.search(r"#\[cycle\((\w+)\)\]", head["above"])
             module = path[len("src/") : -len(".rt")].replace("/", "::")
-            it = Function(module, type, trait or "", head["word"], cycle[1] if cycle else "")
+            it = Function(module, type, trait, head["word"], cycle[1] if cycle else "")
             found.append((it, path, head.start(), end, text[head.end() : end]))
     return found
 
 
-def changed_by(edit, crate):
-    """The functions that the edit changes: where it changes a constant of a file's own, those of the file that name it.
+def naming(constant, crate):
+    """The functions of the crate that name a constant, or a definition of its specs that names it."""
+    words = {constant}
+    for file in sorted(crate.glob("specs/**/*.antt")):
+        for part in text_of(file).split("\n\n"):
+            if re.search(rf"\b{constant}\b", part):
+                words |= {*DEFINITION.findall(part)}
+    sought = re.compile(rf"\b({'|'.join(sorted(words))})\b")
+    return [it for it, *_, body in functions_of(crate) if sought.search(body)]
 
-    None where it changes anything else outside of functions.
-    """
+
+def constants_of(edit, crate):
+    """The constants that the edit changes."""
     found = set()
     for path, old, _ in changes(edit):
         text = text_of(crate / path)
         at = text.find(old)
-        end = at + len(old)
-        of_file = [function for function in functions_of(crate) if function[1] == path]
-        its = [it for it, _, start, stop, _ in of_file if start < end and at < stop]
-        for constant in CONSTANT.finditer(text):
-            if constant.start() <= at and end <= constant.end():
-                its += [it for it, *_, body in of_file if re.search(rf"\b{constant['word']}\b", body)]
-        if not its:
-            return set()
-        found |= {*its}
+        found |= {it["word"] for it in CONSTANT.finditer(text) if it.start() <= at and at + len(old) <= it.end()}
     return found
 
 
-def own_of(name, it):
-    """Tests for the goals of a function with this name, as a check prints it, and for its files of answers.
+def changed_by(edit, crate):
+    """The functions that the edit changes, with those of the crate that name a constant that it changes.
 
-    The functions of a cycle share a folder of proofs, named by some of them. There a goal begins with its function's
-    word.
+    None where it changes anything else.
     """
-    folders = name.split("::")
-    file = "/".join([*folders[:-1], r"\+[\w.+]+" if it.cycle else folders[-1]])
-    return (
-        lambda goal: goal.startswith(it.word + "-") if it.cycle else True,
-        lambda path: bool(re.fullmatch(f"proofs/{file}/Answers.antt", path)),
-    )
+    found = {it for constant in constants_of(edit, crate) for it in naming(constant, crate)}
+    for path, old, _ in changes(edit):
+        text = text_of(crate / path)
+        at = text.find(old)
+        end = at + len(old)
+        its = {it for it, file, start, stop, _ in functions_of(crate) if file == path and start < end and at < stop}
+        is_of_constant = any(it.start() <= at and end <= it.end() for it in CONSTANT.finditer(text))
+        if not its and not is_of_constant:
+            return set()
+        found |= its
+    return found

@@ -1,53 +1,69 @@
-"""What edits came to earlier in this checkout."""
+"""What edits were judged to be earlier on this machine, by checksums, outside of each checkout."""
 import functools
 import hashlib
+import json
 import os
 import pathlib
 import subprocess
 import threading
 
-from crates import ROOT, stands_on, with_those_below
-from edits import CRATES, text_of
+from crates import ROOT, lines_of_crates, stands_on, with_those_below
+from edits import text_of
+from judge import Judgement
+from proved import RT
 
 HERE = pathlib.Path(__file__).resolve().parent
 
+# The scripts by which an edit is judged.
+SCRIPTS = ("mutants", *(f"{name}.py" for name in ("crates", "edits", "functions", "judge", "kept", "proved", "record", "trial")))
+
+
+def folder_of_judgements():
+    """The folder for judgements of all checkouts."""
+    cache = os.environ.get("XDG_CACHE_HOME") or pathlib.Path.home() / ".cache"
+    return pathlib.Path(cache) / "nevgrasi" / "judged"
+
 
 class Kept:
-    """A file for each edit that was judged as it must be, named by the sum of all that it was judged by."""
+    """A file for each edit that was judged as it must be, named by the sum of all that it was judged by: the edit, its
+    crate and those below as they lie in a folder of crates, the toolchain and the scripts."""
 
-    def __init__(self, is_anew):
-        self.is_anew, self.folder, self.below = is_anew, ROOT / "out" / "mutants", stands_on()
-        version = subprocess.run([os.environ.get("RT", "rt"), "version"], capture_output=True, check=True).stdout
-        names = ("crates", "edits", "functions", "kept", "proved")
-        scripts = [HERE / "mutants", *(HERE / f"{name}.py" for name in names)]
-        self.base = b"".join([version, *(file.read_bytes() for file in (ROOT / "HANDLES", *scripts))])
+    def __init__(self, crates):
+        self.crates, self.folder, self.below = crates, folder_of_judgements(), stands_on()
+        version = subprocess.run([RT, "version"], capture_output=True, check=True).stdout
+        self.base = b"".join([version, *(file.read_bytes() for file in (ROOT / "HANDLES", *map(HERE.joinpath, SCRIPTS)))])
 
     @functools.cache
     def sum_of(self, crate):
-        """The sum of what proves a crate, as it stood when it was asked for first."""
-        return self.sum_now(crate, CRATES)
-
-    def sum_now(self, crate, crates):
-        """The sum of what proves a crate, as it stands in this folder of crates."""
-        found = hashlib.sha256(self.base)
+        """The sum of what proves a crate."""
+        found, lines = hashlib.sha256(self.base), {words[0]: (words, below) for words, below in lines_of_crates()}
         for name in with_those_below([crate], self.below):
-            found.update(repr([name, self.below[name]]).encode())
+            found.update(repr(lines[name]).encode())
             for part in ("src", "specs", "proofs"):
-                for file in sorted(it for it in (crates / name / part).glob("**/*") if it.is_file()):
-                    found.update(repr([str(file.relative_to(crates)), file.read_bytes()]).encode())
+                for file in sorted(it for it in (self.crates / name / part).glob("**/*") if it.is_file()):
+                    found.update(repr([str(file.relative_to(self.crates)), file.read_bytes()]).encode())
         return found.hexdigest()
 
-    def file_of(self, edit):
+    @functools.cache
+    def sum_of_edit(self, edit):
         text = repr([self.sum_of(edit.crate), str(edit), edit.is_control, edit.file.read_bytes()])
-        return self.folder / hashlib.sha256(text.encode()).hexdigest()
+        return hashlib.sha256(text.encode()).hexdigest()
 
-    def said_of(self, edit):
-        """What was said of the edit, if it was judged as it must be."""
-        file = self.file_of(edit)
-        return text_of(file) if file.is_file() and not self.is_anew else None
+    def sum_with_edits(self, crate, edits):
+        """The sum of a crate and all its edits, as the record has it."""
+        sums = sorted(self.sum_of_edit(edit) for edit in edits)
+        return hashlib.sha256(repr([self.sum_of(crate), sums]).encode()).hexdigest()[:40]
 
-    def keep(self, edit, line):
+    def judgement_of(self, edit):
+        """What the edit was judged to be, and the processor seconds that this took, or None."""
+        try:
+            kind, line, seconds = json.loads(text_of(self.folder / self.sum_of_edit(edit)))
+            return Judgement(kind, line), float(seconds)
+        except (OSError, ValueError, TypeError):
+            return None
+
+    def keep(self, edit, judgement, seconds):
         self.folder.mkdir(parents=True, exist_ok=True)
-        new = self.folder / f"new-{threading.get_ident()}"
-        new.write_text(line, encoding="utf-8")
-        new.rename(self.file_of(edit))
+        new = self.folder / f"new-{os.getpid()}-{threading.get_ident()}"
+        new.write_text(json.dumps([*judgement, round(seconds, 1)]), encoding="utf-8")
+        new.rename(self.folder / self.sum_of_edit(edit))

@@ -1,0 +1,88 @@
+"""What the prover's output says of an edit: whether it is refused, proved, or shows nothing.
+
+`rattle check --start FN` looks for a proof of the function FN as if it had no written answers. It prints that nothing
+is left to answer, or writes the goals that stay open into a file. No proof of another function is checked: a function
+is proved by the contracts of those that it calls.
+"""
+import re
+from typing import NamedTuple
+
+REFUSED, PROVED, SILENT = "refused", "proved", "shows nothing"
+UNREADABLE, UNJUDGED, ANSWERED = "does not compile", "not judged", "open where answers are written"
+
+# What a start says of a function of which no goal stays open, and a goal in a file that it writes, or that is written.
+CLOSED = re.compile(r"^note: `\w+::(\S+)` needs no (?:other )?file: nothing is left to choose or to answer$", re.M)
+GOAL = re.compile(r"^(?:(?:pub|abbrev|opaque) )*([^\s:]+) : goal\.", re.M)
+
+# What a check says of code that it cannot read: the file and the line.
+UNREAD = re.compile(r"^(?:\./)?(src/\S+\.rt):(\d+):\d+: error.*", re.M)
+
+# What a check past holes says of a function that is proved.
+HOLDS = "no holes"
+
+
+class Judgement(NamedTuple):
+    """A judgement, and the words that it goes by."""
+
+    kind: str
+    line: str
+
+
+class Said(NamedTuple):
+    """What a start said, and the files of goals that it wrote: their texts by their paths in the crate."""
+
+    text: str
+    files: dict
+
+
+def goals_in(text):
+    """The goals of a file of answers."""
+    return frozenset(GOAL.findall(text))
+
+
+def goals_of(function, files):
+    """The function's own goals in these files of answers, and whether any of the files is its own."""
+    own = [text for path, text in files.items() if function.is_answered_in(path)]
+    return frozenset(goal for text in own for goal in goals_in(text) if function.owns(goal)), bool(own)
+
+
+def left_open(function, said):
+    """The goals of the function that stay open, or None where the start says nothing of it."""
+    goals, is_told = goals_of(function, said.files)
+    is_closed = any(function.is_named(name) for name in CLOSED.findall(said.text))
+    return None if is_told == is_closed else goals
+
+
+def judged(functions, said, answers, open_anyway=frozenset()):
+    """What a start says of an edit of these functions.
+
+    A goal that stays open refuses the edit where the real code has no written answer to it: there the prover finds the
+    proof itself. Where it has one, the goal may be open without it in the real code too. `open_anyway` are those goals
+    that are, with their functions, and None where that is not known.
+    """
+    found = [(it, left_open(it, said)) for it in functions]
+    untold = [it.path for it, goals in found if goals is None]
+    if untold:
+        return Judgement(UNJUDGED, f"nothing is said of {', '.join(untold)}: {said.text[-300:]}")
+    known = {(it, goal) for it in functions for goal in goals_of(it, answers)[0]} if open_anyway is None else open_anyway
+    new = [f"{it.path}: {goal}" for it, goals in found for goal in sorted(goals) if (it, goal) not in known]
+    if new:
+        return Judgement(REFUSED, f"open: {', '.join(new)}")
+    if any(goals for _, goals in found):
+        return Judgement(ANSWERED, ", ".join(f"{it.path}: {goal}" for it, goals in found for goal in sorted(goals)))
+    return Judgement(PROVED, "nothing is left to answer")
+
+
+def judged_with_answers(crate, functions, text):
+    """What a check past holes, with the written answers, says of an edit whose goals are open without them: either they
+    fit it, or they do not, which shows nothing of the contract."""
+    lines = re.findall(rf"^fn {crate}::(\S+): (.*)$", text, re.M)
+    own = [line for it in functions for name, line in lines if it.is_named(name)]
+    if len(own) == len(functions) and {*own} == {HOLDS}:
+        return Judgement(PROVED, "the written answers fit it")
+    return Judgement(SILENT, next((line for line in own if line != HOLDS), text[-300:]))
+
+
+def is_well(judgement, is_control):
+    """Whether an edit was judged as it must be: a control proved, and a mutant refused, or found to show nothing."""
+    return judgement.kind == PROVED if is_control else judgement.kind in (REFUSED, SILENT)

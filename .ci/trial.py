@@ -1,0 +1,153 @@
+"""Judges edits of one crate, many in one run of the prover."""
+import collections
+import os
+import pathlib
+import shutil
+import subprocess
+import tempfile
+import threading
+import time
+
+from crates import LEFT_OUT
+from edits import NotFit, applied, changes, text_of
+from functions import changed_by, constants_of
+from judge import ANSWERED, UNJUDGED, UNREAD, UNREADABLE, Judgement, Said
+from judge import goals_of, judged, judged_with_answers, left_open
+from proved import kit, words_of_sources
+
+# A run of the prover that takes longer, in seconds, is cut off, and judges nothing.
+LIMIT = 3600
+
+# As many edits are in a round at most.
+MOST = 40
+
+
+class Trial:
+    """The edits of one crate that are left to judge, over copies of the crates in a folder."""
+
+    def __init__(self, crate, run, crates, room):
+        self.crate, self.run, self.source, self.room = crate, run, crates / crate, room
+        self.words = words_of_sources(crate, crates)
+        self.own, self.waiting, self.lock = {}, [], threading.Lock()
+        for edit in run.wanted:
+            if edit.crate == crate and edit in run.left:
+                self.take(edit)
+        # The written answers, by their paths in the crate.
+        files = self.source.glob("proofs/**/Answers.antt")
+        self.answers = {str(file.relative_to(self.source)): text_of(file) for file in files}
+        # The edits whose goals are open where answers are written, with what they took so far.
+        self.answered = {}
+
+    def take(self, edit):
+        """Takes an edit that can be judged, with the functions that it changes."""
+        try:
+            applied(edit, self.source)
+            own = sorted(changed_by(edit, self.source))
+            if not own:
+                raise NotFit("it changes no function and no constant that a function names")
+            self.own[edit] = own
+            self.waiting.append(edit)
+        except NotFit as why:
+            self.run.settle(edit, Judgement(UNJUDGED, str(why)), 0)
+
+    def rounds(self):
+        """Rounds of the edits: no two of a round change one function, or functions of one cycle of calls. First come
+        edits of functions with many edits, of which a round takes one each. An edit of a constant is a round by itself,
+        since other functions may read the constant through definitions."""
+        alone = [edit for edit in self.waiting if constants_of(edit, self.source)]
+        yield from ([edit] for edit in alone)
+        left = [edit for edit in self.waiting if edit not in alone]
+        crowds = collections.Counter(it for edit in left for it in self.own[edit])
+        left.sort(key=lambda edit: max(crowds[it] for it in self.own[edit]), reverse=True)
+        while left:
+            found, taken, texts = [], set(), {}
+            for edit in left:
+                marks = {mark for it in self.own[edit] for mark in (it, it.cycle and (it.module, it.type, it.cycle)) if mark}
+                if len(found) < MOST and not marks & taken:
+                    try:
+                        texts = applied(edit, self.source, texts)
+                    except NotFit:
+                        continue
+                    found.append(edit)
+                    taken |= marks
+            left = [edit for edit in left if edit not in found]
+            yield found
+
+    def rattle(self, texts, has_answers, *given):
+        """Runs a check of a copy of the crate with these texts. Returns what it said, the files of answers that lie there
+        then, and the processor seconds that it took."""
+        with tempfile.TemporaryDirectory(dir=self.room) as room:
+            folder, said = pathlib.Path(room) / self.crate, pathlib.Path(room) / "said"
+            left_out = [*LEFT_OUT, *([] if has_answers else ["Answers.antt"])]
+            shutil.copytree(self.source, folder, ignore=shutil.ignore_patterns(*left_out))
+            for path, text in texts.items():
+                (folder / path).write_text(text, encoding="utf-8")
+            words = [kit() / "bin" / "rattle", "check", *self.words, *given]
+            with open(said, "w") as log:
+                began = time.monotonic()
+                process = subprocess.Popen(words, cwd=folder, stdin=subprocess.DEVNULL, stdout=log, stderr=log)
+                while not (ended := os.wait4(process.pid, os.WNOHANG))[0]:
+                    if time.monotonic() - began > LIMIT:
+                        process.kill()
+                    time.sleep(0.1)
+                process.returncode = os.waitstatus_to_exitcode(ended[1])
+            files = {str(file.relative_to(folder)): text_of(file) for file in folder.glob("proofs/**/Answers.antt")}
+            text = said.read_text(encoding="utf-8", errors="replace")
+            return Said(text, files), ended[2].ru_utime + ended[2].ru_stime
+
+    def start(self, texts, functions):
+        """What a start of these functions says, with these texts and without written answers."""
+        given = [word for path in sorted({it.path for it in functions}) for word in ("--start", path)]
+        return self.rattle(texts, False, *given)
+
+    def try_round(self, edits):
+        """Judges a round. Where it judges an edit by nothing, since the code of another does not compile, say, the edit
+        is judged alone."""
+        texts = {}
+        for edit in edits:
+            texts = applied(edit, self.source, texts)
+        said, seconds = self.start(texts, [it for edit in edits for it in self.own[edit]])
+        each, alone = seconds / len(edits), []
+        for edit in edits:
+            judgement = judged(self.own[edit], said, self.answers, None)
+            unread = [it[0] for it in UNREAD.finditer(said.text)
+                      if len(edits) == 1 or stands_at(edit, self.source, it[1], int(it[2]))]  # fmt: skip
+            if unread:
+                self.run.settle(edit, Judgement(UNREADABLE, unread[0]), each)
+            elif judgement.kind == UNJUDGED and len(edits) > 1:
+                alone.append(edit)
+            elif judgement.kind == ANSWERED:
+                with self.lock:
+                    self.answered[edit] = (said, each)
+            else:
+                self.run.settle(edit, judgement, each)
+        for edit in alone:
+            self.try_round([edit])
+
+    def try_answered(self):
+        """Judges the edits whose goals are open only where answers are written: by the goals that are open without
+        these in the real code, and where that refuses none, by a check with the answers."""
+        if not self.answered:
+            return
+        functions = sorted({it for edit in self.answered for it in self.own[edit]})
+        said, seconds = self.start({}, functions)
+        anyway = {(it, goal) for it in functions for goal in left_open(it, said) or goals_of(it, self.answers)[0]}
+        with tempfile.TemporaryDirectory(dir=self.room) as kept:
+            for edit, (found, each) in self.answered.items():
+                each += seconds / len(self.answered)
+                judgement = judged(self.own[edit], found, self.answers, anyway)
+                if judgement.kind == ANSWERED:
+                    judgement, more = self.with_answers(edit, kept)
+                    each += more
+                self.run.settle(edit, judgement, each)
+
+    def with_answers(self, edit, kept):
+        only = [word for it in self.own[edit] for word in ("--only", it.path)]
+        said, seconds = self.rattle(applied(edit, self.source), True, "--allow-holes", "--incremental", kept, *only)
+        return judged_with_answers(self.crate, self.own[edit], said.text), seconds
+
+
+def stands_at(edit, crate, path, line):
+    """Whether the edit changes this line of a file. A changed line takes the place of one line."""
+    return any(file == path and line == text_of(crate / path).partition(old)[0].count("\n") + 1
+               for file, old, _ in changes(edit))  # fmt: skip
