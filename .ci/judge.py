@@ -14,8 +14,10 @@ UNREADABLE, UNJUDGED, ANSWERED = "does not compile", "not judged", "open where a
 CLOSED = re.compile(r"^note: `\w+::(\S+)` needs no (?:other )?file: nothing is left to choose or to answer$", re.M)
 GOAL = re.compile(r"^(?:(?:pub|abbrev|opaque) )*([^\s:]+) : goal\.", re.M)
 
-# What a check says of code that it cannot read: the file and the line.
-UNREAD = re.compile(r"^(?:\./)?(src/\S+\.rt):(\d+):\d+: error.*", re.M)
+# What a check says of code that it cannot read: the whole line, the file and the line's number; and of a function that
+# it does not find by its name, or not that one alone.
+UNREAD = re.compile(r"^((?:\./)?(src/\S+\.rt):(\d+):\d+: error.*)", re.M)
+UNNAMED = re.compile(r"^rattle: error: .*(?:has no function|several functions are named) `([^`]+)`.*", re.M)
 
 # What a check past holes says of a function that is proved.
 HOLDS = "no holes"

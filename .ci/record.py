@@ -4,6 +4,7 @@ A line has the crate, the sum of all that its edits were judged by, and how many
 and mutants found to show nothing, with the processor seconds that this took. Only `.ci/mutants` writes lines.
 """
 import collections
+import functools
 import re
 import subprocess
 from typing import NamedTuple
@@ -120,8 +121,14 @@ class Record:
         for edit in all_edits()[0]:
             self.edits[edit.crate].append(edit)
         self.lines, self.wrong = read()
-        self.sums = {crate: kept.sum_with_edits(crate, edits) for crate, edits in self.edits.items()}
-        self.fitting = [it for it in sorted(self.edits) if it in self.lines and self.lines[it].sum == self.sums[it]]
+
+    def sum_of(self, crate):
+        return self.kept.sum_with_edits(crate, self.edits[crate])
+
+    @functools.cached_property
+    def fitting(self):
+        """The crates whose line is of the state of the checkout."""
+        return [it for it in sorted(self.edits) if it in self.lines and self.lines[it].sum == self.sum_of(it)]
 
     def check(self):
         """What is wrong with the record by itself: counts that do not fit the edits, and counts that fell."""
@@ -150,10 +157,10 @@ class Record:
     def write(self, run):
         """Writes the lines of crates that the run judged whole. Returns their names."""
         found = {it: counts for it in self.edits if (counts := self.counts(run, it))}
-        new = {it: Line(self.sums[it], counts, round(sum(run.seconds[edit] for edit in self.edits[it])))
+        new = {it: Line(self.sum_of(it), counts, round(sum(run.seconds[edit] for edit in self.edits[it])))
                for it, counts in found.items()}  # fmt: skip
         new = {it: line for it, line in new.items() if self.lines.get(it, line)[:2] != line[:2] or it not in self.lines}
-        lines = {it: line for it, line in (self.lines | new).items() if it in self.edits}
+        lines = {it: line for it, line in (read()[0] | new).items() if it in self.edits}
         if lines != self.lines:
             write(lines)
         return sorted(new)

@@ -11,7 +11,7 @@ import time
 from crates import LEFT_OUT
 from edits import NotFit, applied, changes, text_of
 from functions import changed_by, constants_of
-from judge import ANSWERED, UNJUDGED, UNREAD, UNREADABLE, Judgement, Said
+from judge import ANSWERED, UNJUDGED, UNNAMED, UNREAD, UNREADABLE, Judgement, Said
 from judge import goals_of, judged, judged_with_answers, left_open
 from proved import kit, words_of_sources
 
@@ -101,28 +101,36 @@ class Trial:
         return self.rattle(texts, False, *given)
 
     def try_round(self, edits):
-        """Judges a round. Where it judges an edit by nothing, since the code of another does not compile, say, the edit
-        is judged alone."""
+        """Judges a round. Edits that no prover can read are taken out, and the others are judged without them. One of
+        which nothing is said for another reason is judged alone."""
         texts = {}
         for edit in edits:
             texts = applied(edit, self.source, texts)
         said, seconds = self.start(texts, [it for edit in edits for it in self.own[edit]])
-        each, alone = seconds / len(edits), []
-        for edit in edits:
+        each, lost = seconds / len(edits), {edit: why for edit in edits if (why := self.stopped_by(edit, edits, said))}
+        for edit, why in lost.items():
+            self.run.settle(edit, why, each)
+        left = [edit for edit in edits if edit not in lost]
+        if lost and left:
+            self.try_round(left)
+            return
+        for edit in left:
             judgement = judged(self.own[edit], said, self.answers, None)
-            unread = [it[0] for it in UNREAD.finditer(said.text)
-                      if len(edits) == 1 or stands_at(edit, self.source, it[1], int(it[2]))]  # fmt: skip
-            if unread:
-                self.run.settle(edit, Judgement(UNREADABLE, unread[0]), each)
-            elif judgement.kind == UNJUDGED and len(edits) > 1:
-                alone.append(edit)
+            if judgement.kind == UNJUDGED and len(edits) > 1:
+                self.try_round([edit])
             elif judgement.kind == ANSWERED:
                 with self.lock:
                     self.answered[edit] = (said, each)
             else:
                 self.run.settle(edit, judgement, each)
-        for edit in alone:
-            self.try_round([edit])
+
+    def stopped_by(self, edit, edits, said):
+        """The judgement of an edit that stops the prover: it does not compile, or its function has another name."""
+        for line, path, number in UNREAD.findall(said.text):
+            if len(edits) == 1 or stands_at(edit, self.source, path, int(number)):
+                return Judgement(UNREADABLE, line)
+        told = UNNAMED.search(said.text)
+        return Judgement(UNJUDGED, told[0]) if told and told[1] in [it.path for it in self.own[edit]] else None
 
     def try_answered(self):
         """Judges the edits whose goals are open only where answers are written: by the goals that are open without
