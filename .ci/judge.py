@@ -22,6 +22,9 @@ UNNAMED = re.compile(r"^rattle: error: .*(?:has no function|several functions ar
 # What a check past holes says of a function that is proved.
 HOLDS = "no holes"
 
+# The files of answers by which it says that a function is not proved.
+ANSWERS = re.compile(r"`Rattle\.\w+\.proofs\.([^`]*?\.Answers)\b")
+
 
 class Judgement(NamedTuple):
     """A judgement, and the words that it goes by."""
@@ -77,12 +80,15 @@ def judged(functions, said, answers, open_anyway=frozenset()):
 
 def judged_with_answers(crate, functions, text):
     """What a check past holes, with the written answers, says of an edit whose goals are open without them: either they
-    fit it, or they do not, which shows nothing of the contract."""
+    fit it, or the prover refuses one of them, which shows nothing of the contract."""
     lines = re.findall(rf"^fn {crate}::(\S+): (.*)$", text, re.M)
-    own = [line for it in functions for name, line in lines if it.is_named(name)]
-    if len(own) == len(functions) and {*own} == {HOLDS}:
+    own = [(it, line) for it in functions for name, line in lines if it.is_named(name)]
+    if len(own) == len(functions) and {line for _, line in own} == {HOLDS}:
         return Judgement(PROVED, "the written answers fit it")
-    return Judgement(SILENT, next((line for line in own if line != HOLDS), text[-300:]))
+    for it, line in own:
+        if any(it.is_answered_in(f"{name.replace('.', '/')}.antt") for name in ANSWERS.findall(line)):
+            return Judgement(SILENT, line)
+    return Judgement(UNJUDGED, next((line for _, line in own if line != HOLDS), text[-300:]))
 
 
 def is_well(judgement, is_control):

@@ -50,13 +50,13 @@ class Trial:
         except NotFit as why:
             self.run.settle(edit, Judgement(UNJUDGED, str(why)), 0)
 
-    def rounds(self):
-        """Rounds of the edits: no two of a round change one function, or functions of one cycle of calls. First come
+    def rounds(self, edits):
+        """Rounds of these edits: no two of a round change one function, or functions of one cycle of calls. First come
         edits of functions with many edits, of which a round takes one each. An edit of a constant is a round by itself,
         since other functions may read the constant through definitions."""
-        alone = [edit for edit in self.waiting if constants_of(edit, self.source)]
+        alone = [edit for edit in edits if constants_of(edit, self.source)]
         yield from ([edit] for edit in alone)
-        left = [edit for edit in self.waiting if edit not in alone]
+        left = [edit for edit in edits if edit not in alone]
         crowds = collections.Counter(it for edit in left for it in self.own[edit])
         left.sort(key=lambda edit: max(crowds[it] for it in self.own[edit]), reverse=True)
         while left:
@@ -72,6 +72,13 @@ class Trial:
                     taken |= marks
             left = [edit for edit in left if edit not in found]
             yield found
+
+    def with_edits(self, edits):
+        """The texts of the files that these edits change."""
+        texts = {}
+        for edit in edits:
+            texts = applied(edit, self.source, texts)
+        return texts
 
     def rattle(self, texts, has_answers, *given):
         """Runs a check of a copy of the crate with these texts. Returns what it said, the files of answers that lie there
@@ -103,10 +110,7 @@ class Trial:
     def try_round(self, edits):
         """Judges a round. Edits that no prover can read are taken out, and the others are judged without them. One of
         which nothing is said for another reason is judged alone."""
-        texts = {}
-        for edit in edits:
-            texts = applied(edit, self.source, texts)
-        said, seconds = self.start(texts, [it for edit in edits for it in self.own[edit]])
+        said, seconds = self.start(self.with_edits(edits), [it for edit in edits for it in self.own[edit]])
         each, lost = seconds / len(edits), {edit: why for edit in edits if (why := self.stopped_by(edit, edits, said))}
         for edit, why in lost.items():
             self.run.settle(edit, why, each)
@@ -134,25 +138,33 @@ class Trial:
 
     def try_answered(self):
         """Judges the edits whose goals are open only where answers are written: by the goals that are open without
-        these in the real code, and where that refuses none, by a check with the answers."""
+        these in the real code, and where that refuses none, by a check with the answers. A control is checked alone."""
         if not self.answered:
             return
-        functions = sorted({it for edit in self.answered for it in self.own[edit]})
+        functions, left = sorted({it for edit in self.answered for it in self.own[edit]}), []
         said, seconds = self.start({}, functions)
         anyway = {(it, goal) for it in functions for goal in left_open(it, said) or goals_of(it, self.answers)[0]}
-        with tempfile.TemporaryDirectory(dir=self.room) as kept:
-            for edit, (found, each) in self.answered.items():
-                each += seconds / len(self.answered)
-                judgement = judged(self.own[edit], found, self.answers, anyway)
-                if judgement.kind == ANSWERED:
-                    judgement, more = self.with_answers(edit, kept)
-                    each += more
+        for edit, (found, each) in self.answered.items():
+            judgement, each = judged(self.own[edit], found, self.answers, anyway), each + seconds / len(self.answered)
+            if judgement.kind == ANSWERED:
+                self.answered[edit] = found, each
+                left.append(edit)
+            else:
                 self.run.settle(edit, judgement, each)
+        with tempfile.TemporaryDirectory(dir=self.room) as kept:
+            for edits in [[it] for it in left if it.is_control] + [*self.rounds([it for it in left if not it.is_control])]:
+                self.try_with_answers(edits, kept)
 
-    def with_answers(self, edit, kept):
-        only = [word for it in self.own[edit] for word in ("--only", it.path)]
-        said, seconds = self.rattle(applied(edit, self.source), True, "--allow-holes", "--incremental", kept, *only)
-        return judged_with_answers(self.crate, self.own[edit], said.text), seconds
+    def try_with_answers(self, edits, kept):
+        """Judges a round by a check with the written answers, over what such checks keep in a folder."""
+        only = [word for edit in edits for it in self.own[edit] for word in ("--only", it.path)]
+        said, seconds = self.rattle(self.with_edits(edits), True, "--allow-holes", "--incremental", kept, *only)
+        for edit in edits:
+            judgement = judged_with_answers(self.crate, self.own[edit], said.text)
+            if judgement.kind == UNJUDGED and len(edits) > 1:
+                self.try_with_answers([edit], kept)
+            else:
+                self.run.settle(edit, judgement, self.answered[edit][1] + seconds / len(edits))
 
 
 def stands_at(edit, crate, path, line):
