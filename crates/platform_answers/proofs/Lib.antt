@@ -3,3 +3,4 @@ pub mod Facts
 pub mod OneAnswer
 pub mod Outputs
 pub mod SomeAnswer
+pub mod Truths

@@ -1,5 +1,5 @@
 -- An input has at most one output.
-use Rattle.std.proofs.Common.{◌≡◌, ◌<◌, ℕ, List, [], ◌∷◌, ◌++◌, sym, ◌∙◌, ap, subst, inl, inr, arith, IsUtf8}
+use Rattle.std.proofs.Common.{◌≡◌, ◌<◌, ℕ, List, [], ◌∷◌, ◌++◌, sym, ◌∙◌, subst, inl, inr, arith}
 use Rattle.cargo_platform.specs.Trees.{CfgValue, Condition}
 use Rattle.cargo_platform.specs.Spelling.{Values}
 use Rattle.cargo_platform.specs.Faults.{Fault}
@@ -8,13 +8,11 @@ use Rattle.cargo_platform.proofs.Conditions.{one_condition}
 use Rattle.cargo_platform.proofs.OneFault.{one_fault}
 use Rattle.cargo_platform.proofs.FactLines.{one_list}
 use Rattle.platform_answers.specs.declared.Outcome.{Outcome}
-use Rattle.platform_answers.specs.Lines.{line, lines_of, line_at, fact_lines}
+use Rattle.platform_answers.specs.Lines.{lines_of, line_at, fact_lines}
 use Rattle.platform_answers.specs.Answering.{IsQuery, IsLineFault, IsAnswerToQuery, IsAnswerToLines}
-use Rattle.platform_answers.specs.Answering.{IsAnswerToShallow, refused_line, deep_line}
+use Rattle.platform_answers.specs.Answering.{refused_line}
 use Rattle.platform_answers.specs.Laws.{HasOneAnswer}
 use Rattle.platform_answers.proofs.Facts.{no_refused_line}
-use Rattle.platform_answers.proofs.SomeAnswer.{first_text}
-use Rattle.input_limits.proofs.OneDepth.{not_both, one_place}
 
 -- ---- one fault of a line
 
@@ -39,28 +37,19 @@ same_query ls c d cs ds output other outcome another p q a b =
     let here : P d ds = subst (λ x. P x ds) first (subst (P c) others a) in
     (here.0 ∙ sym b.0, here.1 ∙ sym b.1)
 
-same_shallow : (ls : List (List ℕ)) (output other : List ℕ) (outcome another : Outcome)
-    → IsAnswerToShallow ls output outcome → IsAnswerToShallow ls other another → (output ≡ other) × (outcome ≡ another)
-same_shallow ls output other outcome another (inl a) (inl b) =
+same_lines : (ls : List (List ℕ)) (output other : List ℕ) (outcome another : Outcome)
+    → IsAnswerToLines ls output outcome → IsAnswerToLines ls other another → (output ≡ other) × (outcome ≡ another)
+same_lines ls output other outcome another (inl a) (inl b) =
     same_query ls a.0 b.0 a.1 b.1 output other outcome another a.2 b.2 a.3 b.3
-same_shallow ls output other outcome another (inl a) (inr b) = absurd (no_refused_line ls a.0 a.1 b.0 a.2 b.3.0)
-same_shallow ls output other outcome another (inr a) (inl b) = absurd (no_refused_line ls b.0 b.1 a.0 b.2 a.3.0)
-same_shallow ls output other outcome another (inr a) (inr b) =
+same_lines ls output other outcome another (inl a) (inr b) = absurd (no_refused_line ls a.0 a.1 b.0 a.2 b.3.0)
+same_lines ls output other outcome another (inr a) (inl b) = absurd (no_refused_line ls b.0 b.1 a.0 b.2 a.3.0)
+same_lines ls output other outcome another (inr a) (inr b) =
     let above : a.0 < b.0 → ⊥ = λ l. b.3.1 a.0 l a.3.0 in
     let below : b.0 < a.0 → ⊥ = λ l. a.3.1 b.0 l b.3.0 in
     let number : a.0 ≡ b.0 = omega arith in
     let P : ℕ → Type 0 = λ n. IsLineFault ls n a.1 a.2 in
     let same = one_line_fault ls b.0 a.1 b.1 a.2 b.2 (subst P number a.4) b.4 in
     (a.5.0 ∙ (λ i. refused_line (number i) (same.0 i) (same.1 i) ++ 10 ∷ []) ∙ sym b.5.0, a.5.1 ∙ sym b.5.1)
-
-same_lines : (ls : List (List ℕ)) (output other : List ℕ) (outcome another : Outcome) → IsUtf8 (line_at ls 1)
-    → IsAnswerToLines ls output outcome → IsAnswerToLines ls other another → (output ≡ other) × (outcome ≡ another)
-same_lines ls output other outcome another u (inl a) (inl b) = same_shallow ls output other outcome another a.1 b.1
-same_lines ls output other outcome another u (inl a) (inr b) = absurd (not_both (line_at ls 1) b.0 a.0 b.1)
-same_lines ls output other outcome another u (inr a) (inl b) = absurd (not_both (line_at ls 1) a.0 b.0 a.1)
-same_lines ls output other outcome another u (inr a) (inr b) =
-    let place = one_place (line_at ls 1) a.0 b.0 u a.1 b.1 in
-    (a.2.0 ∙ ap (λ n. line (deep_line n)) place ∙ sym b.2.0, a.2.1 ∙ sym b.2.1)
 
 pub one_answer : (bs : List ℕ) → HasOneAnswer bs
 one_answer bs output other outcome another (inl a) (inl b) = (a.1.0 ∙ sym b.1.0, a.1.1 ∙ sym b.1.1)
@@ -72,4 +61,4 @@ one_answer bs output other outcome another (inr (inl a)) (inr (inr b)) = absurd 
 one_answer bs output other outcome another (inr (inr a)) (inl b) = absurd (a.0 b.0)
 one_answer bs output other outcome another (inr (inr a)) (inr (inl b)) = absurd (b.1 a.1)
 one_answer bs output other outcome another (inr (inr a)) (inr (inr b)) =
-    same_lines (lines_of bs) output other outcome another (first_text bs a.1) a.2 b.2
+    same_lines (lines_of bs) output other outcome another a.2 b.2

@@ -2,7 +2,6 @@
 use Rattle.std.proofs.Common.{◌≡◌, ◌<◌, ◌+◌, ◌∙◌, ℕ, List, [], ◌∷◌, ◌++◌, codes, length, get_or, take, map, flat_map}
 use Rattle.std.proofs.Common.{sym, ap, append_assoc}
 use Rattle.std.proofs.lemmas.List.{map_more, flat_map_more}
-use Rattle.platform_answers.specs.Lines.{line}
 use Rattle.platform_answers.specs.Answering.{warning_line}
 
 -- the three parts of a warning's line
@@ -23,11 +22,3 @@ one_more_line {A} text_of ws i w old now new below is h next =
     ∙ flat_map_more warning_line old (map text_of (take i ws)) (text_of w)
     ∙ ap (λ (z : A). old ++ flat_map warning_line (map text_of (take i ws) ++ text_of z ∷ [])) is
     ∙ ap (λ zs. old ++ flat_map warning_line zs) (sym (map_more text_of ws i w below))
-
--- the two lines on a condition, piece by piece
-pub two_lines : (condition word text : List ℕ)
-    → text ≡ codes "condition: " ++ (condition ++ (codes "\nmatch: " ++ (word ++ codes "\n")))
-    → text ≡ line (codes "condition: " ++ condition) ++ line (codes "match: " ++ word)
-two_lines condition word text e =
-    e ∙ ap
-    (λ z. codes "condition: " ++ z) (sym (append_assoc condition (10 ∷ []) (codes "match: " ++ (word ++ 10 ∷ []))))

@@ -19,10 +19,9 @@ use Rattle.platform_answers.specs.declared.Outcome.{Outcome}
 use Rattle.platform_answers.specs.declared.Outcome.TheVariants.{Refused}
 use Rattle.platform_answers.specs.Reading.{IsTooLong}
 use Rattle.platform_answers.specs.Lines.{line, lines_of, line_at, fact_lines}
-use Rattle.platform_answers.specs.Answering.{SpellFacts, SpellsNoFact, IsQuery, IsAnswerToLines, IsAnswerToShallow}
-use Rattle.platform_answers.specs.Answering.{is_match, match_outcome, query_text, refused_line, deep_line}
+use Rattle.platform_answers.specs.Answering.{SpellFacts, SpellsNoFact, IsQuery, IsAnswerToLines}
+use Rattle.platform_answers.specs.Answering.{is_match, match_outcome, query_text, refused_line}
 use Rattle.cargo_platform.specs.Lines.{ended, AreLines}
-use Rattle.input_limits.proofs.OneDepth.{some_depth_of_key}
 use Rattle.platform_answers.specs.Laws.{HasAnswer}
 use Rattle.platform_answers.proofs.Facts.{fact_line, first_fact, no_line_before, not_before}
 use Rattle.cargo_platform.proofs.TextLines.{lines_are}
@@ -102,7 +101,7 @@ facts_or_refused (t ∷ texts) us =
 -- ---- the lines have an answer
 
 abbrev HaveAnswer : List (List ℕ) → Type 0
-HaveAnswer ls = (output : List ℕ) × (outcome : Outcome) × IsAnswerToShallow ls output outcome
+HaveAnswer ls = (output : List ℕ) × (outcome : Outcome) × IsAnswerToLines ls output outcome
 
 refused_fact : (ls : List (List ℕ)) (p : Condition) → IsConditionText (line_at ls 1) p → FirstRefused (fact_lines ls)
     → HaveAnswer ls
@@ -124,8 +123,8 @@ refused_fact ls p spelled r =
       ),
     )
 
-shallow_answered : (ls : List (List ℕ)) → AllByRecursion IsUtf8 ls → HaveAnswer ls
-shallow_answered ls us =
+lines_answered : (ls : List (List ℕ)) → AllByRecursion IsUtf8 ls → HaveAnswer ls
+lines_answered ls us =
     elim (spells_condition_or_is_refused (line_at ls 1) (nth_text ls 0 us)) [
       | inr r ↦ (
         line (refused_line 1 r.0.0 r.0.1),
@@ -150,18 +149,6 @@ shallow_answered ls us =
             (query_text p.0 met, match_outcome met, inl (p.0, facts.0, query, (refl, refl)))
       ]
     ]
-
-lines_answered : (ls : List (List ℕ)) → AllByRecursion IsUtf8 ls
-    → (output : List ℕ) × (outcome : Outcome) × IsAnswerToLines ls output outcome
-lines_answered ls us =
-    elim (some_depth_of_key (line_at ls 1) (nth_text ls 0 us)) [
-      | inr deep ↦ (line (deep_line deep.0), Refused, inr (deep.0, deep.1, (refl, refl)))
-      | inl shallow ↦ let a = shallow_answered ls us in (a.0, a.1, inl (shallow, a.2))
-    ]
-
--- the first line of a text of characters is one
-pub first_text : (bs : List ℕ) → IsUtf8 bs → IsUtf8 (line_at (lines_of bs) 1)
-first_text bs u = nth_text (lines_of bs) 0 (line_texts bs (lines_of bs) u (lines_are bs))
 
 -- ---- the bytes have an answer
 

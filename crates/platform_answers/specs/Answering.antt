@@ -11,7 +11,6 @@ use Rattle.cargo_platform.specs.Facts.{fact_set, truth}
 use Rattle.cargo_platform.specs.Print.{print_condition, print_error}
 use Rattle.cargo_platform.specs.Warnings.{attribute_warnings, keyword_warnings}
 use Rattle.cargo_platform.specs.Errors.{orig_of, fault_in}
-use Rattle.input_limits.specs.Limits.{IsShallow, IsDeepAt, deep_text}
 use Rattle.platform_answers.specs.declared.Outcome.{Outcome}
 use Rattle.platform_answers.specs.declared.Outcome.TheVariants.{Match, NoMatch, Refused}
 use Rattle.platform_answers.specs.declared.answering.Refusal.{Refusal}
@@ -91,23 +90,13 @@ IsRefusedAs text output outcome = (output ≡ line text) × (outcome ≡ Refused
 abbrev pub refused_line : ℕ → List ℕ → Fault → List ℕ
 refused_line n orig fault = codes "line " ++ decimal n ++ codes ": " ++ print_error orig fault
 
--- what is written of line 1 where that is a key that is nested too deep from a byte on
-abbrev pub deep_line : ℕ → List ℕ
-deep_line at = codes "line 1: the key is " ++ deep_text at
-
--- the output and the outcome of lines whose key is not: they ask something, or one is the first that is refused
-abbrev pub IsAnswerToShallow : List (List ℕ) → List ℕ → Outcome → Type 0
-IsAnswerToShallow ls output outcome =
+-- the output and the outcome of the lines: they ask something, or one of them is the first that is refused
+abbrev pub IsAnswerToLines : List (List ℕ) → List ℕ → Outcome → Type 0
+IsAnswerToLines ls output outcome =
     ((p : Condition) × (facts : List CfgValue) × IsQuery ls p facts
     × IsAnswerToQuery (line_at ls 2) p facts output outcome)
     ⊎ ((n : ℕ) × (orig : List ℕ) × (fault : Fault) × IsLeast (IsRefusedLine ls) n × IsLineFault ls n orig fault
     × IsRefusedAs (refused_line n orig fault) output outcome)
-
--- the output and the outcome of the lines: the key is nested too deep, or not
-abbrev pub IsAnswerToLines : List (List ℕ) → List ℕ → Outcome → Type 0
-IsAnswerToLines ls output outcome =
-    (IsShallow (line_at ls 1) × IsAnswerToShallow ls output outcome)
-    ⊎ ((at : ℕ) × IsDeepAt (line_at ls 1) at × IsRefusedAs (deep_line at) output outcome)
 
 -- the output and the outcome of an input of these bytes: the whole input is refused, or its lines are answered
 abbrev pub IsAnswer : List ℕ → List ℕ → Outcome → Type 0

@@ -11,13 +11,13 @@ ghost use Rattle.platform_answers.specs.Lines.{line, lines_of, line_at};
 ghost use Rattle.platform_answers.specs.Answering.{SpellsNoCondition, SpellFacts, IsQuery};
 ghost use Rattle.platform_answers.specs.Answering.{IsLeast, IsFactFault, IsRefusedLine, IsLineFault, is_match};
 ghost use Rattle.platform_answers.specs.Answering.{match_word, match_outcome, warnings, warning_line, IsAnswerToQuery};
-ghost use Rattle.platform_answers.specs.Answering.{IsAnswerToLines, IsAnswerToShallow, IsRefusedAs, IsAnswer, IfLine};
-ghost use Rattle.platform_answers.specs.Answering.{refused_line, deep_line};
+ghost use Rattle.platform_answers.specs.Answering.{IsAnswerToLines, IsRefusedAs, IsAnswer, IfLine, refused_line};
 
 use crate::Outcome;
+use crate::evaluation::is_true;
+use crate::printing::push_condition;
 use crate::reading::{Gathered, MOST_BYTES};
 use cargo_platform::{Cfg, FactIndex, FactsError, ParseError, Platform, ReadError, read_facts};
-use input_limits::{deep_at, deep_text};
 use std::alloc::{AllocError, Global};
 
 /// What is to be written, and how the run ends then.
@@ -138,9 +138,9 @@ fn is_match(alloc: Global, query: &Query<'_>, name: &str) -> Result<bool, AllocE
     match &query.platform {
         Platform::Cfg(expression) => {
             let index = FactIndex::new(alloc, &query.facts)?;
-            Ok(expression.matches_in(&index))
+            is_true(alloc, expression, &index)
         }
-        Platform::Name(_) => Ok(query.platform.matches(name, &[])),
+        Platform::Name(target) => Ok(target.as_str() == name),
     }
 }
 
@@ -162,7 +162,10 @@ fn met_lines(alloc: Global, platform: &Platform, word: &str) -> Result<String, A
         (λ t. string_bytes t ≡ line (codes "condition: " ++ print_condition (condition_of platform.now)) ++ line
         (codes "match: " ++ word.now)) }
 {
-    format!(in alloc; "condition: {platform}\nmatch: {word}\n")
+    let mut text = String::from_str(alloc, "condition: ")?;
+    push_condition(alloc, platform, &mut text)?;
+    write!(text, "\nmatch: {word}\n")?;
+    Ok(text)
 }
 
 /// The warnings on a condition, those on attributes first.
@@ -202,31 +205,9 @@ fn answer_query(alloc: Global, query: &Query<'_>, name: &str) -> Result<Answer, 
     Ok(Answer { text, outcome })
 }
 
-/// The answer to lines whose key is nested too deep from this byte on.
-fn refuse_deep(alloc: Global, at: usize) -> Result<Answer, AllocError>
-    ensures { IfOk result (λ a. IsRefusedAs (deep_line at) (string_bytes a.text) a.outcome) }
-{
-    let reason = deep_text(alloc, at)?;
-    Ok(Answer {
-        text: format!(in alloc; "line 1: the key is {reason}\n")?,
-        outcome: Outcome::Refused,
-    })
-}
-
 /// The answer to the lines of a text.
 fn answer_lines(alloc: Global, text: &str) -> Result<Answer, AllocError>
     ensures { IfOk result (λ a. IsAnswerToLines (lines_of text.now) (string_bytes a.text) a.outcome) }
-{
-    let (key, _others) = split_line(text);
-    match deep_at(key) {
-        Some(at) => refuse_deep(alloc, at),
-        None => answer_shallow(alloc, text),
-    }
-}
-
-/// The answer to the lines of a text whose key is not nested too deep.
-fn answer_shallow(alloc: Global, text: &str) -> Result<Answer, AllocError>
-    ensures { IfOk result (λ a. IsAnswerToShallow (lines_of text.now) (string_bytes a.text) a.outcome) }
 {
     match read_query(alloc, text) {
         Ok(query) => answer_query(alloc, &query, query.target),

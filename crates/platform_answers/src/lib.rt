@@ -8,7 +8,9 @@ ghost use Rattle.platform_answers.specs.Running.{Answers, BreaksOff};
 
 pub mod answering;
 pub mod counted;
+mod evaluation;
 pub mod laws;
+mod printing;
 pub mod reading;
 pub mod writing;
 
@@ -61,9 +63,6 @@ pub fn run<R: Read, W: Write>(
     requires unwritten { write_counts output.old ≡ no_writes }
     // With an outcome, the input was read to its end or is too long, and the output was written, then flushed once.
     // Interrupted calls were repeated, and nothing failed.
-    //
-    // A key with more than 100,000 groups in one another is refused, whatever else is wrong, at the first parenthesis
-    // too many.
     ensures ran { IfOk result (λ outcome. (bs : List ℕ)
         × IsInput (R.remaining (reader_of input.old)) (R.remaining (reader_of input.new)) (read_counts input.new) bs
         × Answers (W.contents (writer_of output.old)) (W.contents (writer_of output.new)) (write_counts output.new)

@@ -1,0 +1,69 @@
+//! The truth of an expression, with no stack for its depth.
+
+ghost use Rattle.std.specs.Prelude.{◌≡◌, IfOk};
+ghost use Rattle.cargo_platform.specs.Trees.{tree_of};
+ghost use Rattle.cargo_platform.specs.Facts.{truth};
+
+use cargo_platform::{Cfg, CfgExpr, Facts, Fold, fold_expression};
+use std::alloc::{AllocError, Global};
+use std::ops::ControlFlow;
+
+/// Returns whether the expression is true over the set of facts that the holder means. The groups around a part are
+/// kept in memory. It fails only if memory is refused.
+pub fn is_true<F: Facts>(alloc: Global, e: &CfgExpr, facts: &F) -> Result<bool, AllocError>
+    ensures { IfOk result (λ b. b ≡ truth (F.meant facts.now) (tree_of e.now)) }
+{
+    fold_expression(alloc, e, &Evaluation { facts })
+}
+
+/// Evaluates each part of an expression over the facts of a holder.
+#[derive(Drop)]
+struct Evaluation<'a, F> {
+    facts: &'a F,
+}
+
+impl<'a, F: Facts> Fold for Evaluation<'a, F> {
+    ghost use Rattle.cargo_platform.specs.Walk.{list_tree};
+
+    type Part = bool;
+
+    /// The members so far settled nothing, so there is nothing to keep of them.
+    type Members = ();
+
+    ghost makes = { λ v e is_true. is_true ≡ truth (F.meant v.facts.now) e };
+
+    // The members so far have the neutral truth, and so has the group if no others follow.
+    ghost gathers = { λ v neutral es so_far. truth (F.meant v.facts.now) (list_tree neutral es) ≡ neutral };
+
+    fn value(&self, c: &Cfg) -> Result<bool, AllocError> {
+        Ok(self.facts.holds(c))
+    }
+
+    fn literal(&self, truth: bool) -> bool {
+        truth
+    }
+
+    fn negation(&self, part: bool) -> Result<bool, AllocError> {
+        Ok(!part)
+    }
+
+    fn no_members(&self, _neutral: bool) {}
+
+    /// The first member that has not the neutral truth settles the group.
+    fn add(
+        &self,
+        neutral: bool,
+        _so_far: (),
+        part: bool,
+    ) -> Result<ControlFlow<bool, ()>, AllocError> {
+        if part == neutral {
+            Ok(ControlFlow::Continue(()))
+        } else {
+            Ok(ControlFlow::Break(part))
+        }
+    }
+
+    fn group(&self, neutral: bool, _members: ()) -> bool {
+        neutral
+    }
+}
