@@ -27,12 +27,11 @@ impl<'a, F: Facts> Fold for Evaluation<'a, F> {
 
     type Part = bool;
 
-    /// The members so far settled nothing, so there is nothing to keep of them.
+    /// Nothing is kept of the members so far: each has the neutral truth.
     type Members = ();
 
     ghost makes = { λ v e is_true. is_true ≡ truth (F.meant v.facts.now) e };
 
-    // The members so far have the neutral truth, and so has the group if no others follow.
     ghost gathers = { λ v neutral es so_far. truth (F.meant v.facts.now) (list_tree neutral es) ≡ neutral };
 
     fn value(&self, c: &Cfg) -> Result<bool, AllocError> {

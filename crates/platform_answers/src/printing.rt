@@ -1,6 +1,6 @@
 //! A condition as it prints, with no stack for its depth.
 
-ghost use Rattle.std.specs.Prelude.{◌≡◌, ◌≤◌, ◌+◌, ◌*◌, [], ◌∷◌, ◌++◌, IfOk, OnOk, MatchOption, string_bytes, map};
+ghost use Rattle.std.specs.Prelude.{◌≡◌, ◌≤◌, ◌+◌, ◌*◌, [], ◌∷◌, ◌++◌, IfOk, OnOk, MatchOption, string_bytes};
 ghost use Rattle.cargo_platform.specs.Trees.{tree_of, condition_of};
 ghost use Rattle.cargo_platform.specs.Print.{print, print_condition};
 ghost use Rattle.cargo_platform.specs.ExpressionSizes.{node_count, node_counts};
