@@ -21,7 +21,7 @@ module _ (facts : FactSet) where
   one_more true es e so_far more = grind (arith, all_from es (e ∷ []) so_far)
   one_more false es e so_far more = grind (arith, any_from es (e ∷ []) so_far)
 
-  -- a member that has not settles the group
+  -- a member without it settles the group
   pub settled : (neutral : Bool) (es others : List Tree) (e : Tree) → truth facts (list_tree neutral es) ≡ neutral
       → truth facts e ≢ neutral → truth facts e ≡ truth facts (list_tree neutral (es ++ e ∷ others))
   settled true es others e so_far other = grind (arith, all_from es (e ∷ others) so_far)

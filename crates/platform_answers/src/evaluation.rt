@@ -48,7 +48,8 @@ impl<'a, F: Facts> Fold for Evaluation<'a, F> {
 
     fn no_members(&self, _neutral: bool) {}
 
-    /// The first member that has not the neutral truth settles the group.
+    /// The first member without the neutral truth settles the group.
+    #[tactic(auto, using(crate::proofs::Truths::one_more, crate::proofs::Truths::settled))]
     fn add(
         &self,
         neutral: bool,
