@@ -8,7 +8,7 @@ ghost use Rattle.cargo_platform.specs.Reading.{characters_from};
 ghost use Rattle.cargo_platform.specs.Cut.{AreSpaces, Nothing};
 ghost use Rattle.cargo_platform.specs.Faults.{from_to, span_of};
 ghost use Rattle.cargo_platform.specs.Cut as cut;
-ghost use Rattle.cargo_platform.specs.Inside.Ahead.{NextIs, IsSeenTo};
+ghost use Rattle.cargo_platform.specs.Inside.Ahead.{Ahead, NextIs, IsSeenTo};
 ghost use Rattle.cargo_platform.specs.Inside.Parsing.{IsIdentifier, SeesRest, Takes, TakesToken, LacksPunctuation};
 ghost use Rattle.cargo_platform.specs.Inside.Parsing.{LacksName, LacksString, lexeme_of, RefusesNext, RefusesMore};
 ghost use Rattle.cargo_platform.specs.Inside.Parsing.{SeesTaken, HasLooked};
@@ -213,6 +213,30 @@ impl<'a> Reader<'a> {
         }
     }
 
+    /// The refusal of what was taken last, where nothing ended.
+    fn refusal_of(
+        &self,
+        taken: Option<Result<Spanned<'a>, TokenFaultKind>>,
+        expected: &'static str,
+        at_end: &'static str,
+    ) -> Refusal<'a>
+        requires taken { (old : Ahead) × Takes old self.now.ahead taken }
+        requires seen { SeesTaken self.now taken }
+        ensures refused { (old : Ahead) → Takes old self.now.ahead taken.entry
+            → RefusesNext old expected.now at_end.now result }
+        ensures looked { HasLooked self.now result }
+    {
+        match taken {
+            Some(Ok(taken)) => Refusal::Unexpected {
+                expected,
+                found: taken.token.classify(),
+                span: taken.start..taken.end,
+            },
+            Some(Err(kind)) => Refusal::Lexical(kind, self.fault_span(kind)),
+            None => Refusal::Incomplete(at_end, self.end_span()),
+        }
+    }
+
     /// The looks that were made.
     #[inline(always)]
     pub fn spend(self) -> Looks
@@ -295,15 +319,8 @@ pub(crate) fn refuse<'a>(
     ensures refused { RefusesNext reader.old.ahead expected.now at_end.now result }
     ensures looked { HasLooked reader.new result }
 {
-    match reader.take() {
-        Some(Ok(taken)) => Refusal::Unexpected {
-            expected,
-            found: taken.token.classify(),
-            span: taken.start..taken.end,
-        },
-        Some(Err(kind)) => Refusal::Lexical(kind, reader.fault_span(kind)),
-        None => Refusal::Incomplete(at_end, reader.end_span()),
-    }
+    let taken = reader.take();
+    reader.refusal_of(taken, expected, at_end)
 }
 
 /// Refuses what is left after a whole value or expression.
