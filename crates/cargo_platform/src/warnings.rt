@@ -159,6 +159,7 @@ fn keyword_text(alloc: Global, path: &str, c: &Cfg, word: &str) -> Result<String
 }
 
 /// Appends all warnings of a kind, or takes back those that were appended before memory was refused.
+#[tactic(auto, using(crate::proofs::WarningWalks::cut_back))]
 fn warn<L: Lint>(
     platform: &Platform,
     alloc: Global,
