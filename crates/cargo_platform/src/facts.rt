@@ -3,6 +3,7 @@
 ghost use Rattle.std.specs.Prelude.{◌≡◌, ◌≤◌, ◌-◌, ◌^◌, min, map, length, IfOk};
 ghost use Rattle.std.specs.ControlFlow.{MatchControlFlow, ForContinue};
 ghost use Rattle.std.proofs.Props.{props};
+ghost use Rattle.std.specs.List.{list_any};
 ghost use Rattle.std.specs.List.Sorted.{IsSorted};
 ghost use Rattle.std.specs.Ordering.{eq_by_cmp, on};
 ghost use Rattle.std.specs.FinSet.{contains};
@@ -39,8 +40,21 @@ impl<'a> Facts for Listed<'a> {
     ghost meant = { λ facts. fact_set (map value_of facts.0.now) };
 
     fn holds(&self, c: &Cfg) -> bool {
-        self.0.iter().any(|fact| is_same(fact, c))
+        is_listed(self.0, c)
     }
+}
+
+/// Whether a list has an equal fact.
+#[inline(always)]
+fn is_listed(facts: &[Cfg], c: &Cfg) -> bool
+    ensures { result ≡ list_any (λ fact. eq_by_cmp value_cmp (value_of fact) (value_of c.now)) facts.now }
+{
+    for fact in facts {
+        if is_same(fact, c) {
+            return true;
+        }
+    }
+    false
 }
 
 /// Whether two facts are equal. Mostly the lengths of their names or keys tell that they are not.
