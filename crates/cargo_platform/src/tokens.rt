@@ -9,7 +9,7 @@ ghost use Rattle.std.specs.Prelude.{◌≡◌, ◌≢◌, ◌+◌, ◌*◌, ◌�
 ghost use Rattle.std.specs.Prelude.{MatchOption, true, false};
 ghost use Rattle.std.specs.Str.{IsCharBoundary};
 ghost use Rattle.cargo_platform.specs.Chars.{is_identifier_start};
-ghost use Rattle.cargo_platform.specs.Tokens.{lexeme, called};
+ghost use Rattle.cargo_platform.specs.Tokens.{String as string_token, lexeme, called};
 ghost use Rattle.cargo_platform.specs.Cut.{AreSpaces};
 ghost use Rattle.cargo_platform.specs.Reading.{IsRestFrom, characters_from};
 ghost use Rattle.cargo_platform.specs.Inside.Looking.{IsCharAt, Shows, Costs, ShowedBefore, unseen};
@@ -276,15 +276,25 @@ fn string_at<'a>(source: &mut Source<'a>, start: usize) -> Result<Cut<'a>, Token
         Costs source.old.text.now (start + 1) cut.end 9 1 source.old.looks source.new.looks) }
 {
     match source.value(start + 1) {
-        Some((value, quote)) => {
-            let seen = source.look(quote + 1);
-            Ok(Cut {
-                token: Token::String(value),
-                end: quote + 1,
-                seen,
-            })
-        }
+        Some((value, quote)) => Ok(string_between(source, start, value, quote)),
         None => Err(TokenFaultKind::UnterminatedString),
+    }
+}
+
+/// The string between the quotes at two places.
+#[inline(always)]
+fn string_between<'a>(source: &mut Source<'a>, start: usize, value: &'a str, quote: usize) -> Cut<'a>
+    requires stands { IsTokenAt source.old.text.now (string_token value.now) start (quote + 1) }
+    requires boundary { IsCharBoundary source.old.text.now (quote + 1) }
+    ensures same { source.new.text ≡ source.old.text }
+    ensures token { IsCutAt source.old.text.now start result }
+    ensures cost { Costs source.old.text.now (quote + 1) result.end 1 1 source.old.looks source.new.looks }
+{
+    let seen = source.look(quote + 1);
+    Cut {
+        token: Token::String(value),
+        end: quote + 1,
+        seen,
     }
 }
 

@@ -1,19 +1,17 @@
-use Rattle.std.proofs.Common.{subst, arith, ◌+◌}
-use Rattle.cargo_platform.specs.Inside.Looking.{Shows}
+use Rattle.std.proofs.Common.{sym, subst, arith, ◌+◌}
+use Rattle.cargo_platform.specs.Tokens.{String}
+use Rattle.cargo_platform.specs.Inside.Scanning.{IsTokenAt}
 use Rattle.cargo_platform.proofs.Scanning.{string_stands, unterminated}
 use Rattle.cargo_platform.proofs.tokens.string_at.Goals as goal
 
-pub returns-in-Some-clause-token : goal.returns-in-Some-clause-token
-returns-in-Some-clause-token c =
+pub string_between-requires-clause-stands : goal.string_between-requires-clause-stands
+string_between-requires-clause-stands c =
     let found = c.in-Some.ensures in
     let quote = found.at_quote in
-    record {
-      stands = string_stands c.args.source.now.text.now _ c.args.start c.in-Some.quote
-          (c.requires.there.ascii (omega arith)) (quote.ascii (omega arith)) found.order quote.within
-          found.value found.utf8 found.inside;
-      boundary = quote.boundary;
-      sees = subst (λ t. Shows t.now (c.in-Some.quote + 1) c.look-seen.result) found.same c.look-seen.ensures.sees;
-    }
+    subst (λ t. IsTokenAt t.now (String c.in-Some.value.now) c.args.start (c.in-Some.quote + 1)) (sym found.same)
+    (string_stands c.args.source.now.text.now _ c.args.start c.in-Some.quote
+    (c.requires.there.ascii (omega arith)) (quote.ascii (omega arith)) found.order quote.within
+    found.value found.utf8 found.inside)
 
 pub returns-in-None-clause-fault : goal.returns-in-None-clause-fault
 returns-in-None-clause-fault c =
