@@ -1,13 +1,15 @@
 //! The tokens of a text, each taken where it is wanted: what the parsers read from.
 
 ghost use Rattle.std.specs.Prelude.{◌≡◌, ◌≤◌, ◌+◌, ◌*◌, length, [], ◌∷◌, IsTrue, IsFalse, IfSome, IfNone, IfErr, OnOk};
-ghost use Rattle.std.specs.Prelude.{MatchOption, false};
+ghost use Rattle.std.specs.Prelude.{MatchOption, false, Some as some};
 ghost use Rattle.cargo_platform.specs.declared.source.Look.TheVariants.{Ascii};
-ghost use Rattle.cargo_platform.specs.Tokens.{Ident as ident_token, String as string_token, Placed, lexeme, written};
+ghost use Rattle.cargo_platform.specs.Tokens.{Ident as ident_token, String as string_token, Placed, called};
+ghost use Rattle.cargo_platform.specs.Tokens.{lexeme, written};
 ghost use Rattle.cargo_platform.specs.Reading.{characters_from};
 ghost use Rattle.cargo_platform.specs.Cut.{AreSpaces, Nothing};
-ghost use Rattle.cargo_platform.specs.Faults.{from_to, span_of};
+ghost use Rattle.cargo_platform.specs.Faults.{UnexpectedToken, from_to, span_of};
 ghost use Rattle.cargo_platform.specs.Cut as cut;
+ghost use Rattle.cargo_platform.specs.Inside.Refusals.{refused_at};
 ghost use Rattle.cargo_platform.specs.Inside.Ahead.{Ahead, NextIs, IsSeenTo};
 ghost use Rattle.cargo_platform.specs.Inside.Parsing.{IsIdentifier, SeesRest, Takes, TakesToken, LacksPunctuation};
 ghost use Rattle.cargo_platform.specs.Inside.Parsing.{LacksName, LacksString, lexeme_of, RefusesNext, RefusesMore};
@@ -214,6 +216,7 @@ impl<'a> Reader<'a> {
     }
 
     /// The refusal of what was taken last, where nothing ended.
+    #[inline(always)]
     fn refusal_of(
         &self,
         taken: Option<Result<Spanned<'a>, TokenFaultKind>>,
@@ -227,11 +230,7 @@ impl<'a> Reader<'a> {
         ensures looked { HasLooked self.now result }
     {
         match taken {
-            Some(Ok(taken)) => Refusal::Unexpected {
-                expected,
-                found: taken.token.classify(),
-                span: taken.start..taken.end,
-            },
+            Some(Ok(taken)) => unexpected(expected, taken),
             Some(Err(kind)) => Refusal::Lexical(kind, self.fault_span(kind)),
             None => Refusal::Incomplete(at_end, self.end_span()),
         }
@@ -304,6 +303,21 @@ fn byte_of(wanted: Punctuation) -> u8
         Punctuation::RightParen => b')',
         Punctuation::Comma => b',',
         Punctuation::Equals => b'=',
+    }
+}
+
+/// The refusal of a token that does not fit.
+#[inline(always)]
+fn unexpected<'a>(expected: &'static str, taken: Spanned<'a>) -> Refusal<'a>
+    ensures { refused_at result ≡ some (record {
+      fault = UnexpectedToken expected.now (called (lexeme taken.entry.token));
+      span = from_to taken.entry.start taken.entry.end;
+    }) }
+{
+    Refusal::Unexpected {
+        expected,
+        found: taken.token.classify(),
+        span: taken.start..taken.end,
     }
 }
 

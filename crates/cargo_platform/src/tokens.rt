@@ -283,7 +283,12 @@ fn string_at<'a>(source: &mut Source<'a>, start: usize) -> Result<Cut<'a>, Token
 
 /// The string between the quotes at two places.
 #[inline(always)]
-fn string_between<'a>(source: &mut Source<'a>, start: usize, value: &'a str, quote: usize) -> Cut<'a>
+fn string_between<'a>(
+    source: &mut Source<'a>,
+    start: usize,
+    value: &'a str,
+    quote: usize,
+) -> Cut<'a>
     requires stands { IsTokenAt source.old.text.now (string_token value.now) start (quote + 1) }
     requires boundary { IsCharBoundary source.old.text.now (quote + 1) }
     ensures same { source.new.text ≡ source.old.text }
