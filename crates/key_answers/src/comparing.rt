@@ -1,15 +1,15 @@
 //! `compare`: how two keys stand to each other.
 
 use crate::answer::{Answer, Refusal, Status};
+use crate::comparison::json_line;
 use crate::conditions::read_key;
-use crate::printing::{push_json, put, put_text, shown_example, text_value};
+use crate::printing::shown_example;
 use crate::work::{Keys, splits_within};
-use cargo_platform::{Cfg, CfgExpr, Platform};
+use cargo_platform::{CfgExpr, Platform};
 use exact_answers::{
     Known, MustSelect, ONE_VALUED, PossibleTarget, exclude_platform, family_rule, implies_platform,
 };
 use known_targets::{COUNT, TargetSet, matching};
-use serde_json::{Map, Value, json};
 use std::alloc::{AllocError, Global};
 
 /// The relations, as they are asked and told.
@@ -63,7 +63,7 @@ pub struct Everywhere {
 
 impl Everywhere {
     /// Whether each key implies the other one. What shows that one does not shows that they are not equivalent.
-    fn equivalent(&self) -> &MustSelect {
+    pub fn equivalent(&self) -> &MustSelect {
         match (&self.implies, &self.implied_by) {
             (MustSelect::Yes, _) | (MustSelect::Undecided, MustSelect::No(_)) => &self.implied_by,
             _ => &self.implies,
@@ -196,89 +196,6 @@ fn known_lines(alloc: Global, known: &AtKnown) -> Result<String, AllocError> {
     Ok(lines)
 }
 
-/// How many targets there are, and their names, as JSON.
-fn targets_value(alloc: Global, targets: TargetSet) -> Result<Value, AllocError> {
-    let mut names = Vec::new(alloc);
-    for target in targets.iter() {
-        names.push(Value::String(String::from_str(alloc, target.name())?))?;
-    }
-    let count = targets.len();
-    let mut object = Map::new(alloc);
-    put(&mut object, alloc, "targets", json!(in alloc; count)?)?;
-    if targets.equals(TargetSet::all()) {
-        put_text(&mut object, alloc, "at", "all")?;
-    } else {
-        put(&mut object, alloc, "at", Value::Array(names))?;
-    }
-    Ok(Value::Object(object))
-}
-
-/// Adds how the keys stand to each other at the known targets.
-fn put_known(
-    object: &mut Map<String, Value>,
-    alloc: Global,
-    known: &AtKnown,
-) -> Result<(), AllocError> {
-    put(object, alloc, "known", known_value(alloc, &known.held)?)?;
-    put(object, alloc, "both", targets_value(alloc, known.both)?)?;
-    let first_alone = targets_value(alloc, known.first_alone)?;
-    put(object, alloc, "first_alone", first_alone)?;
-    let second_alone = targets_value(alloc, known.second_alone)?;
-    put(object, alloc, "second_alone", second_alone)
-}
-
-/// The facts of an example, as JSON.
-fn facts_value(alloc: Global, facts: &[Cfg]) -> Result<Value, AllocError> {
-    let mut texts = Vec::new(alloc);
-    for fact in facts {
-        texts.push(Value::String(fact.to_string(alloc)?))?;
-    }
-    Ok(Value::Array(texts))
-}
-
-/// Adds an example, or nulls where there is none.
-fn put_example(
-    object: &mut Map<String, Value>,
-    alloc: Global,
-    example: Option<&PossibleTarget>,
-) -> Result<(), AllocError> {
-    match example {
-        Some(example) => {
-            let name = example.name.as_ref().map(|name: &String| name.as_str());
-            put(object, alloc, "target", text_value(alloc, name)?)?;
-            put(object, alloc, "facts", facts_value(alloc, &example.facts)?)
-        }
-        None => {
-            put(object, alloc, "target", Value::Null)?;
-            put(object, alloc, "facts", Value::Null)
-        }
-    }
-}
-
-/// The answer on one relation, as JSON.
-fn relation_value(alloc: Global, answer: &MustSelect) -> Result<Value, AllocError> {
-    let (word, example) = match answer {
-        MustSelect::Yes => ("yes", None),
-        MustSelect::Undecided => ("undecided", None),
-        MustSelect::No(example) => ("no", Some(example)),
-    };
-    let mut object = Map::new(alloc);
-    put_text(&mut object, alloc, "answer", word)?;
-    put_example(&mut object, alloc, example)?;
-    Ok(Value::Object(object))
-}
-
-/// The relations that hold at each known target, as JSON.
-fn known_value(alloc: Global, held: &[bool; 4]) -> Result<Value, AllocError> {
-    let mut fields = Vec::new(alloc);
-    for (relation, holds) in RELATIONS.iter().zip(held.iter()) {
-        if *holds {
-            fields.push(Value::String(String::from_str(alloc, relation.field())?))?;
-        }
-    }
-    Ok(Value::Array(fields))
-}
-
 /// How `a` stands to `b` everywhere, within so many splits for each search.
 fn found_everywhere<'a>(
     alloc: Global,
@@ -356,23 +273,6 @@ fn lines_of(alloc: Global, everywhere: &Everywhere, known: &AtKnown) -> Result<S
     Ok(lines)
 }
 
-/// The answers as one object, on a line.
-fn object_of(
-    alloc: Global,
-    everywhere: &Everywhere,
-    known: &AtKnown,
-) -> Result<String, AllocError> {
-    let mut object = Map::new(alloc);
-    put_known(&mut object, alloc, known)?;
-    for relation in RELATIONS {
-        let value = relation_value(alloc, everywhere.on(relation))?;
-        put(&mut object, alloc, relation.field(), value)?;
-    }
-    let mut text = String::new(alloc);
-    push_json(&mut text, alloc, &Value::Object(object))?;
-    Ok(text)
-}
-
 /// How the keys stand to each other, at every target that may be and at the known ones.
 fn compared(
     alloc: Global,
@@ -396,7 +296,7 @@ fn compared(
     let undecided = undecided_notes(alloc, &everywhere, budget)?;
     errors.push_str(undecided.as_str())?;
     let output = if json {
-        object_of(alloc, &everywhere, &at_known)?
+        json_line(alloc, &everywhere, &at_known)?
     } else {
         lines_of(alloc, &everywhere, &at_known)?
     };

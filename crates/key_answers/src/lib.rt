@@ -3,6 +3,11 @@
 
 pub mod answer;
 pub mod comparing;
+mod comparison;
 pub mod conditions;
+pub mod json_lines;
 pub mod printing;
+pub mod targets;
+#[cfg(test)]
+mod tests;
 mod work;

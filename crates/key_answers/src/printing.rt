@@ -7,7 +7,6 @@ ghost use Rattle.key_answers.specs.Printing.{fact_line, deep_key};
 use cargo_platform::{Cfg, ParseError, shown_start};
 use exact_answers::PossibleTarget;
 use input_limits::deep_text;
-use serde_json::{Map, Value};
 use std::alloc::{AllocError, Global};
 
 /// Appends the fact as `rustc --print cfg` prints it, and a line end.
@@ -90,44 +89,6 @@ pub fn push_indented(text: &mut String, lines: &str) -> Result<(), AllocError> {
         text.push_str("\n")?;
     }
     Ok(())
-}
-
-/// The text, or null.
-pub fn text_value(alloc: Global, text: Option<&str>) -> Result<Value, AllocError> {
-    match text {
-        Some(text) => Ok(Value::String(String::from_str(alloc, text)?)),
-        None => Ok(Value::Null),
-    }
-}
-
-/// Adds a member to an object.
-pub fn put(
-    object: &mut Map<String, Value>,
-    alloc: Global,
-    field: &str,
-    value: Value,
-) -> Result<(), AllocError> {
-    let field = String::from_str(alloc, field)?;
-    let _before = object.insert(field, value)?;
-    Ok(())
-}
-
-/// Adds a member that is a text.
-pub fn put_text(
-    object: &mut Map<String, Value>,
-    alloc: Global,
-    field: &str,
-    text: &str,
-) -> Result<(), AllocError> {
-    let value = Value::String(String::from_str(alloc, text)?);
-    put(object, alloc, field, value)
-}
-
-/// Appends the object, on a line of its own.
-pub fn push_json(text: &mut String, alloc: Global, object: &Value) -> Result<(), AllocError> {
-    let object = object.to_string(alloc)?;
-    text.push_str(object.as_str())?;
-    text.push_str("\n")
 }
 
 /// Appends where a text is refused and why, indented.

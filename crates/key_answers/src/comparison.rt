@@ -1,0 +1,124 @@
+//! The line of `compare --json`.
+
+use crate::comparing::{AtKnown, Everywhere, RELATIONS};
+use crate::json_lines::push_line;
+use crate::targets::{At, Every, names_of};
+use exact_answers::MustSelect;
+use known_targets::TargetSet;
+use serde::Serialize;
+use std::alloc::{AllocError, Global};
+
+/// Known targets.
+#[derive(Drop, Serialize)]
+struct Targets {
+    /// Their names, or `all`.
+    at: At<'static>,
+    /// How many they are.
+    targets: usize,
+}
+
+/// Whether a relation holds at every target that may exist.
+#[derive(Drop, Serialize)]
+struct Verdict<'a> {
+    /// One of `yes`, `no` and `undecided`.
+    answer: &'static str,
+    /// With `no`, the facts of a target at which it does not hold.
+    facts: Option<Vec<String>>,
+    /// With `no`, the name of that target. Null stands for any name that neither key is.
+    target: Option<&'a str>,
+}
+
+/// The line of `compare --json`: how two keys relate.
+#[derive(Drop, Serialize)]
+struct Comparison<'a> {
+    /// The known targets at which both keys hold.
+    both: Targets,
+    /// Whether both keys hold at the same targets.
+    equivalent: Verdict<'a>,
+    /// Whether the keys hold at no target together.
+    excludes: Verdict<'a>,
+    /// The known targets at which the first key alone holds.
+    first_alone: Targets,
+    /// Whether the second key implies the first one.
+    implied_by: Verdict<'a>,
+    /// Whether the first key implies the second one.
+    implies: Verdict<'a>,
+    /// The relations that hold at each known target: `implies`, `implied_by`, `equivalent` and `excludes`.
+    known: Vec<&'static str>,
+    /// The known targets at which the second key alone holds.
+    second_alone: Targets,
+}
+
+/// Known targets, for JSON.
+fn targets_of(alloc: Global, targets: TargetSet) -> Result<Targets, AllocError> {
+    let at = if targets.equals(TargetSet::all()) {
+        At::All(Every::All)
+    } else {
+        At::Names(names_of(alloc, targets)?)
+    };
+    Ok(Targets {
+        at,
+        targets: targets.len(),
+    })
+}
+
+/// The answer on a relation, for JSON.
+fn verdict_of(alloc: Global, answer: &MustSelect) -> Result<Verdict<'_>, AllocError> {
+    let example = match answer {
+        MustSelect::No(example) => example,
+        MustSelect::Yes => return Ok(Verdict::without_example("yes")),
+        MustSelect::Undecided => return Ok(Verdict::without_example("undecided")),
+    };
+    let mut facts = Vec::new(alloc);
+    for fact in &example.facts {
+        facts.push(fact.to_string(alloc)?)?;
+    }
+    Ok(Verdict {
+        answer: "no",
+        facts: Some(facts),
+        target: example.name.as_ref().map(|name: &String| name.as_str()),
+    })
+}
+
+impl<'a> Verdict<'a> {
+    /// The answer that no example goes with.
+    fn without_example(answer: &'static str) -> Verdict<'a> {
+        Verdict {
+            answer,
+            facts: None,
+            target: None,
+        }
+    }
+}
+
+/// The fields of the relations that hold at each known target.
+fn fields_of(alloc: Global, held: &[bool; 4]) -> Result<Vec<&'static str>, AllocError> {
+    let mut fields = Vec::new(alloc);
+    for (relation, holds) in RELATIONS.iter().zip(held.iter()) {
+        if *holds {
+            fields.push(relation.field())?;
+        }
+    }
+    Ok(fields)
+}
+
+/// The answers as a line of JSON.
+pub fn json_line(
+    alloc: Global,
+    everywhere: &Everywhere,
+    known: &AtKnown,
+) -> Result<String, AllocError> {
+    let comparison = Comparison {
+        both: targets_of(alloc, known.both)?,
+        equivalent: verdict_of(alloc, everywhere.equivalent())?,
+        excludes: verdict_of(alloc, &everywhere.excludes)?,
+        first_alone: targets_of(alloc, known.first_alone)?,
+        implied_by: verdict_of(alloc, &everywhere.implied_by)?,
+        implies: verdict_of(alloc, &everywhere.implies)?,
+        known: fields_of(alloc, &known.held)?,
+        second_alone: targets_of(alloc, known.second_alone)?,
+    };
+    let mut text = String::new(alloc);
+    push_line(&mut text, alloc, &comparison)?;
+    Ok(text)
+}

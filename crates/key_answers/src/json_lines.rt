@@ -1,0 +1,99 @@
+//! Lines of JSON: one value a line, of any type that derives `Serialize`. No text in it can end or disguise the line.
+
+ghost use Rattle.std.specs.Prelude.{◌≡◌, ◌++◌, OnOk, codes, string_bytes};
+ghost use Rattle.key_answers.specs.JsonLines.{AppendsShown, AppendsLine};
+
+use cargo_platform::shown_text;
+use serde::Serialize;
+use std::alloc::{AllocError, Global};
+
+/// Appends 16 bits of a character as `\u` and four hexadecimal digits.
+fn push_unit(text: &mut String, alloc: Global, unit: u32) -> Result<(), AllocError> {
+    let unit = format!(in alloc; "\\u{unit:04x}")?;
+    text.push_str(unit.as_str())
+}
+
+/// Appends the escape of a character: its number, or its two surrogates if it lies above U+FFFF.
+fn push_escape(text: &mut String, alloc: Global, c: char) -> Result<(), AllocError> {
+    let code = u32::from(c);
+    if code <= 0xffff {
+        return push_unit(text, alloc, code);
+    }
+    let above = code.wrapping_sub(0x1_0000);
+    push_unit(text, alloc, 0xd800 | (above >> 10) & 0x3ff)?;
+    push_unit(text, alloc, 0xdc00 | above & 0x3ff)
+}
+
+/// Returns the JSON with an escape for each character that differs from the one that is shown for it. Such characters
+/// occur within the strings of printed JSON alone.
+fn escaped(alloc: Global, json: &str, shown: &str) -> Result<String, AllocError> {
+    let mut text = String::new(alloc);
+    for (c, shown) in json.chars().zip(shown.chars()) {
+        if c == shown {
+            text.push(c)?;
+        } else {
+            push_escape(&mut text, alloc, c)?;
+        }
+    }
+    Ok(text)
+}
+
+/// Appends printed JSON, with an escape for each character that [`shown_text`] hides. What is appended is what
+/// `shown_text` returns, so that nothing of it is hidden.
+fn push_shown(text: &mut String, alloc: Global, json: &str) -> Result<(), AllocError>
+    ensures { OnOk result (AppendsShown (string_bytes text.old) (string_bytes text.new)) }
+{
+    let mut shown = shown_text(alloc, json)?;
+    if shown.as_str() != json {
+        let escaped = escaped(alloc, json, shown.as_str())?;
+        shown = shown_text(alloc, escaped.as_str())?;
+    }
+    text.push_str(shown.as_str())
+}
+
+/// Returns JSON of several lines on one line: a space follows each comma and each colon.
+fn joined(alloc: Global, json: &str) -> Result<String, AllocError> {
+    let mut text = String::new(alloc);
+    for line in json.lines() {
+        let part = line.trim_start_matches(' ');
+        text.push_str(part)?;
+        if part.ends_with(',') {
+            text.push_str(" ")?;
+        }
+    }
+    Ok(text)
+}
+
+/// Appends a value as a line of JSON, without spaces between its tokens.
+pub fn push_line<T: Serialize>(
+    text: &mut String,
+    alloc: Global,
+    value: &T,
+) -> Result<(), AllocError>
+    // The characters of the line are those that are shown.
+    ensures { OnOk result (AppendsLine (string_bytes text.old) (string_bytes text.new)) }
+{
+    // A derived type is refused for want of memory alone.
+    let Ok(json) = serde_json::to_string(alloc, value) else {
+        return Err(AllocError);
+    };
+    push_shown(text, alloc, json.as_str())?;
+    text.push_str("\n")
+}
+
+/// Appends a value as a line of JSON, with a space after each comma and each colon.
+pub fn push_spaced_line<T: Serialize>(
+    text: &mut String,
+    alloc: Global,
+    value: &T,
+) -> Result<(), AllocError>
+    // The characters of the line are those that are shown.
+    ensures { OnOk result (AppendsLine (string_bytes text.old) (string_bytes text.new)) }
+{
+    let Ok(json) = serde_json::to_string_pretty(alloc, value) else {
+        return Err(AllocError);
+    };
+    let json = joined(alloc, json.as_str())?;
+    push_shown(text, alloc, json.as_str())?;
+    text.push_str("\n")
+}
