@@ -1,7 +1,7 @@
 //! The line of `compare --json`.
 
 use crate::comparing::{AtKnown, Everywhere, RELATIONS};
-use crate::json_lines::push_line;
+use crate::json_lines;
 use crate::targets::{At, Every, names_of};
 use exact_answers::MustSelect;
 use known_targets::TargetSet;
@@ -119,6 +119,6 @@ pub fn json_line(
         second_alone: targets_of(alloc, known.second_alone)?,
     };
     let mut text = String::new(alloc);
-    push_line(&mut text, alloc, &comparison)?;
+    json_lines::push_line(&mut text, alloc, &comparison)?;
     Ok(text)
 }

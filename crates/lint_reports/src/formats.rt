@@ -2,10 +2,11 @@
 
 use crate::escapes::escaped;
 use crate::sarif::{push_result, sarif_begin, sarif_end};
-use crate::told::{Place, Told, sentence_of, weight_word};
+use crate::told::{Told, sentence_of, weight_word};
 use crate::weight_rules::Weight;
-use key_answers::printing::{push_indented, push_json, put, put_text, text_value};
-use serde_json::{Map, Value, json};
+use key_answers::json_lines;
+use key_answers::printing::push_indented;
+use serde::Serialize;
 use std::alloc::{AllocError, Global};
 
 /// How findings are printed.
@@ -104,53 +105,40 @@ fn push_lines(
     }
 }
 
-/// A number, or null.
-pub fn number_value(alloc: Global, number: Option<usize>) -> Result<Value, AllocError> {
-    match number {
-        Some(number) => json!(in alloc; number),
-        None => Ok(Value::Null),
+/// A line of `lint --json`: a diagnostic.
+#[derive(Drop, Serialize)]
+struct Diagnostic<'a> {
+    /// The name of its lint.
+    code: &'a str,
+    /// The key of `target` that it is on.
+    key: Option<&'a str>,
+    /// One of `error`, `warning`, `note` and `allowed`.
+    level: &'static str,
+    /// The line of that key.
+    line: Option<usize>,
+    /// The path of the manifest.
+    manifest: &'a str,
+    message: &'a str,
+    /// Where the key goes wrong: the first byte, and the byte after the last one.
+    span: Option<(usize, usize)>,
+    /// A key that may stand in its place.
+    suggestion: Option<&'a str>,
+}
+
+impl<'a> Diagnostic<'a> {
+    /// The diagnostic for a finding.
+    fn of(told: &Told<'a>) -> Diagnostic<'a> {
+        Diagnostic {
+            code: told.code,
+            key: told.place.key,
+            level: weight_word(told.weight),
+            line: told.place.line,
+            manifest: told.place.path,
+            message: told.message,
+            span: told.span,
+            suggestion: told.suggestion,
+        }
     }
-}
-
-/// The beginning and the end of a span, or null.
-pub fn span_value(alloc: Global, span: Option<(usize, usize)>) -> Result<Value, AllocError> {
-    match span {
-        Some((start, end)) => json!(in alloc; [start, end]),
-        None => Ok(Value::Null),
-    }
-}
-
-/// Adds where a finding is to its object.
-fn put_place(
-    object: &mut Map<String, Value>,
-    alloc: Global,
-    place: &Place<'_>,
-) -> Result<(), AllocError> {
-    put_text(object, alloc, "manifest", place.path)?;
-    put(object, alloc, "line", number_value(alloc, place.line)?)?;
-    put(object, alloc, "key", text_value(alloc, place.key)?)
-}
-
-/// Adds what is told of a finding to its object.
-fn put_told(
-    object: &mut Map<String, Value>,
-    alloc: Global,
-    told: &Told<'_>,
-) -> Result<(), AllocError> {
-    put(object, alloc, "span", span_value(alloc, told.span)?)?;
-    let suggestion = text_value(alloc, told.suggestion)?;
-    put(object, alloc, "suggestion", suggestion)?;
-    put_text(object, alloc, "level", weight_word(told.weight))?;
-    put_text(object, alloc, "code", told.code)?;
-    put_text(object, alloc, "message", told.message)
-}
-
-/// Appends the object of a finding, on a line of its own.
-fn push_object(text: &mut String, alloc: Global, told: &Told<'_>) -> Result<(), AllocError> {
-    let mut object = Map::new(alloc);
-    put_place(&mut object, alloc, &told.place)?;
-    put_told(&mut object, alloc, told)?;
-    push_json(text, alloc, &Value::Object(object))
 }
 
 /// The command for a weight.
@@ -205,7 +193,7 @@ impl Printed {
         match self.style.format {
             Format::Human => push_lines(text, alloc, told, self.style.colours),
             Format::Short => push_line(text, alloc, told, self.style.colours),
-            Format::Json => push_object(text, alloc, told),
+            Format::Json => json_lines::push_line(text, alloc, &Diagnostic::of(told)),
             Format::Github => push_command(text, alloc, told),
             Format::Sarif => push_result(text, alloc, told, is_first),
         }

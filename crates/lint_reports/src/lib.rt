@@ -21,7 +21,7 @@ mod weight_rules;
 
 pub use counts::Counts;
 pub use fields::wrong_fields;
-pub use formats::{Format, Printed, Style, number_value, span_value};
+pub use formats::{Format, Printed, Style};
 pub use formers::{Formers, Project};
 pub use places::{WrongPlace, shown_table, wrong_places};
 pub use rules_told::{

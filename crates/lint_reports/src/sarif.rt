@@ -4,102 +4,142 @@ use crate::codes::{Explained, all_explained};
 use crate::escapes::uri_of;
 use crate::told::{Told, sentence_of, weight_word};
 use crate::weight_rules::Weight;
-use key_answers::printing::{put, put_text};
-use serde_json::{Map, Value, json};
+use key_answers::json_lines;
+use serde::Serialize;
 use std::alloc::{AllocError, Global};
 
 /// The schema of a document.
 const SCHEMA: &str = "https://json.schemastore.org/sarif-2.1.0.json";
 
-/// An object with one member that is a text.
-fn with_text(alloc: Global, member: &str, text: &str) -> Result<Value, AllocError> {
-    let text = String::from_str(alloc, text)?;
-    with_member(alloc, member, Value::String(text))
+/// The document of `lint --message-format sarif`.
+#[derive(Drop, Serialize)]
+struct SarifLog<'a> {
+    #[serde(rename = "$schema")]
+    schema: &'static str,
+    version: &'static str,
+    runs: [Run<'a>; 1],
 }
 
-/// An object with one member.
-fn with_member(alloc: Global, member: &str, value: Value) -> Result<Value, AllocError> {
-    let mut object = Map::new(alloc);
-    put(&mut object, alloc, member, value)?;
-    Ok(Value::Object(object))
+/// A run of the tool.
+#[derive(Drop, Serialize)]
+struct Run<'a> {
+    tool: Tool<'a>,
+    results: Vec<SarifResult<'a>>,
+}
+
+/// The tool.
+#[derive(Drop, Serialize)]
+struct Tool<'a> {
+    driver: Driver<'a>,
+}
+
+/// The program that the tool is, with a rule for each lint.
+#[derive(Drop, Serialize)]
+struct Driver<'a> {
+    name: &'static str,
+    rules: Vec<Rule<'a>>,
+    version: &'a str,
+}
+
+/// A lint.
+#[derive(Drop, Serialize)]
+#[serde(rename_all = "camelCase")]
+struct Rule<'a> {
+    full_description: Message<'a>,
+    id: &'a str,
+    short_description: Message<'a>,
+}
+
+/// A text.
+#[derive(Drop, Serialize)]
+struct Message<'a> {
+    text: &'a str,
+}
+
+/// A diagnostic.
+#[derive(Drop, Serialize)]
+#[serde(rename_all = "camelCase")]
+struct SarifResult<'a> {
+    /// One of `error`, `warning`, `note` and `none`.
+    level: &'static str,
+    locations: [Location<'a>; 1],
+    message: Message<'a>,
+    rule_id: &'a str,
+}
+
+/// The place of a diagnostic.
+#[derive(Drop, Serialize)]
+#[serde(rename_all = "camelCase")]
+struct Location<'a> {
+    physical_location: PhysicalLocation<'a>,
+}
+
+/// A manifest, and the line where it is certain.
+#[derive(Drop, Serialize)]
+#[serde(rename_all = "camelCase")]
+struct PhysicalLocation<'a> {
+    artifact_location: ArtifactLocation<'a>,
+    #[serde(skip_serializing_if = "Option::is_none")]
+    region: Option<Region>,
+}
+
+/// The path of a manifest as a reference of a URI.
+#[derive(Drop, Serialize)]
+struct ArtifactLocation<'a> {
+    uri: &'a str,
+}
+
+/// The line at which a region begins.
+#[derive(Drop, Serialize)]
+#[serde(rename_all = "camelCase")]
+struct Region {
+    start_line: usize,
 }
 
 /// The rule of a code.
-fn rule_of(alloc: Global, explained: &Explained) -> Result<Value, AllocError> {
-    let mut rule = Map::new(alloc);
-    put_text(&mut rule, alloc, "id", explained.word)?;
-    let short = with_text(alloc, "text", explained.short)?;
-    put(&mut rule, alloc, "shortDescription", short)?;
-    let full = with_text(alloc, "text", explained.text)?;
-    put(&mut rule, alloc, "fullDescription", full)?;
-    Ok(Value::Object(rule))
-}
-
-/// The text of a value that is JSON.
-fn text_of(alloc: Global, value: &Value) -> Result<String, AllocError> {
-    value.to_string(alloc)
-}
-
-/// The rules of all codes.
-fn all_rules(alloc: Global) -> Result<Value, AllocError> {
-    let all = all_explained(alloc)?;
-    let mut rules = Vec::new(alloc);
-    for explained in &all {
-        rules.push(rule_of(alloc, explained)?)?;
+fn rule_of(explained: &Explained) -> Rule<'static> {
+    Rule {
+        full_description: Message {
+            text: explained.text,
+        },
+        id: explained.word,
+        short_description: Message {
+            text: explained.short,
+        },
     }
-    Ok(Value::Array(rules))
 }
 
-/// The tool, with its rules.
-fn driver_of(alloc: Global, version: &str) -> Result<Value, AllocError> {
-    let mut driver = Map::new(alloc);
-    put_text(&mut driver, alloc, "name", "manifest_check")?;
-    put_text(&mut driver, alloc, "version", version)?;
-    put(&mut driver, alloc, "rules", all_rules(alloc)?)?;
-    Ok(Value::Object(driver))
-}
-
-/// What stands before the first result: the schema, the tool and its rules.
+/// What stands before the first result: the schema, the tool and its rules. It is a document without results, up to
+/// their place.
 pub fn sarif_begin(alloc: Global, version: &str) -> Result<String, AllocError> {
-    let driver = driver_of(alloc, version)?;
-    let driver = text_of(alloc, &driver)?;
-    format!(in alloc;
-        "{{\"$schema\":\"{SCHEMA}\",\"version\":\"2.1.0\",\"runs\":[{{\"tool\":{{\"driver\":{driver}}},\"results\":[\n"
-    )
+    let explained = all_explained(alloc)?;
+    let mut rules = Vec::new(alloc);
+    for one in &explained {
+        rules.push(rule_of(one))?;
+    }
+    let driver = Driver {
+        name: "manifest_check",
+        rules,
+        version,
+    };
+    let log = SarifLog {
+        schema: SCHEMA,
+        version: "2.1.0",
+        runs: [Run {
+            tool: Tool { driver },
+            results: Vec::new(alloc),
+        }],
+    };
+    let mut text = String::new(alloc);
+    json_lines::push_line(&mut text, alloc, &log)?;
+    let begin = text.as_str();
+    let begin = begin.strip_suffix(sarif_end()).unwrap_or(begin);
+    format!(in alloc; "{begin}\n")
 }
 
 /// What stands behind the last result.
 pub fn sarif_end() -> &'static str {
     "]}]}\n"
-}
-
-/// The path of a manifest as a reference of a URI.
-fn artifact_of(alloc: Global, path: &str) -> Result<Value, AllocError> {
-    let uri = uri_of(alloc, path)?;
-    with_text(alloc, "uri", uri.as_str())
-}
-
-/// The line at which a region begins.
-fn region_of(alloc: Global, line: usize) -> Result<Value, AllocError> {
-    with_member(alloc, "startLine", json!(in alloc; line)?)
-}
-
-/// Where a result is: the path of the manifest and the line.
-fn location_of(alloc: Global, told: &Told<'_>) -> Result<Value, AllocError> {
-    let mut place = Map::new(alloc);
-    let artifact = artifact_of(alloc, told.place.path)?;
-    put(&mut place, alloc, "artifactLocation", artifact)?;
-    if let Some(line) = told.place.line {
-        put(&mut place, alloc, "region", region_of(alloc, line)?)?;
-    }
-    with_member(alloc, "physicalLocation", Value::Object(place))
-}
-
-/// Where a result is, as a list of one place.
-fn locations_of(alloc: Global, told: &Told<'_>) -> Result<Value, AllocError> {
-    let mut locations = Vec::new(alloc);
-    locations.push(location_of(alloc, told)?)?;
-    Ok(Value::Array(locations))
 }
 
 /// The word for the level of a result.
@@ -110,20 +150,14 @@ fn level_word(weight: Weight) -> &'static str {
     }
 }
 
-/// The message of a result.
-fn message_of(alloc: Global, told: &Told<'_>) -> Result<Value, AllocError> {
-    let message = sentence_of(alloc, told)?;
-    with_text(alloc, "text", message.as_str())
-}
-
-/// The result of a finding.
-fn result_of(alloc: Global, told: &Told<'_>) -> Result<Value, AllocError> {
-    let mut result = Map::new(alloc);
-    put_text(&mut result, alloc, "ruleId", told.code)?;
-    put_text(&mut result, alloc, "level", level_word(told.weight))?;
-    put(&mut result, alloc, "message", message_of(alloc, told)?)?;
-    put(&mut result, alloc, "locations", locations_of(alloc, told)?)?;
-    Ok(Value::Object(result))
+/// The place of a finding.
+fn location_of<'a>(told: &Told<'_>, uri: &'a str) -> Location<'a> {
+    Location {
+        physical_location: PhysicalLocation {
+            artifact_location: ArtifactLocation { uri },
+            region: told.place.line.map(|start_line| Region { start_line }),
+        },
+    }
 }
 
 /// Appends the result of a finding, on a line of its own.
@@ -133,9 +167,16 @@ pub fn push_result(
     told: &Told<'_>,
     is_first: bool,
 ) -> Result<(), AllocError> {
-    let result = result_of(alloc, told)?;
-    let result = text_of(alloc, &result)?;
+    let uri = uri_of(alloc, told.place.path)?;
+    let message = sentence_of(alloc, told)?;
+    let result = SarifResult {
+        level: level_word(told.weight),
+        locations: [location_of(told, uri.as_str())],
+        message: Message {
+            text: message.as_str(),
+        },
+        rule_id: told.code,
+    };
     text.push_str(if is_first { "" } else { "," })?;
-    text.push_str(result.as_str())?;
-    text.push_str("\n")
+    json_lines::push_line(text, alloc, &result)
 }

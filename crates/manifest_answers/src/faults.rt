@@ -3,9 +3,8 @@
 use cargo_platform::ParseError;
 use input_limits::Unusable;
 use key_answers::answer::{Answer, Status};
-use key_answers::printing::{push_json, put, put_text, text_value};
-use lint_reports::{number_value, span_value};
-use serde_json::{Map, Value};
+use key_answers::json_lines;
+use serde::Serialize;
 use std::alloc::{AllocError, Global};
 
 /// For which target something is asked, and how what can't be used is told.
@@ -50,49 +49,43 @@ pub fn span_of(key: &str, error: &ParseError) -> Option<(usize, usize)> {
     Some((span.start, span.end))
 }
 
-/// Adds what is wrong.
-fn put_fault(
-    object: &mut Map<String, Value>,
-    alloc: Global,
-    fault: &Fault<'_, '_>,
-) -> Result<(), AllocError> {
-    put_text(object, alloc, "message", fault.message)?;
-    put(object, alloc, "key", text_value(alloc, fault.key)?)?;
-    put(object, alloc, "line", number_value(alloc, fault.line)?)?;
-    put(object, alloc, "span", span_value(alloc, fault.span)?)
+/// What is wrong, in a line of `select --json`.
+#[derive(Drop, Serialize)]
+struct Cause<'a> {
+    /// The key of `target` that can't be used.
+    key: Option<&'a str>,
+    /// The line on which that key first stands.
+    line: Option<usize>,
+    message: &'a str,
+    /// Where the key goes wrong: the first byte, and the byte after the last one.
+    span: Option<(usize, usize)>,
 }
 
-/// What is wrong, as JSON.
-fn error_value(alloc: Global, fault: &Fault<'_, '_>) -> Result<Value, AllocError> {
-    let mut object = Map::new(alloc);
-    put_fault(&mut object, alloc, fault)?;
-    Ok(Value::Object(object))
+/// A line of `select --json`: what can't be used.
+#[derive(Drop, Serialize)]
+struct SelectionError<'a> {
+    error: Cause<'a>,
+    /// The path of the manifest, if one can't be used.
+    manifest: Option<&'a str>,
+    /// The name of the target.
+    target: &'a str,
 }
 
 impl<'a> Asking<'a> {
-    /// Adds the manifest, the target and what is wrong.
-    fn put_told(
-        &self,
-        object: &mut Map<String, Value>,
-        alloc: Global,
-        fault: &Fault<'_, '_>,
-    ) -> Result<(), AllocError> {
-        put(
-            object,
-            alloc,
-            "manifest",
-            text_value(alloc, fault.manifest)?,
-        )?;
-        put_text(object, alloc, "target", self.target)?;
-        put(object, alloc, "error", error_value(alloc, fault)?)
-    }
-
-    /// The object that tells a fault, on a line of its own.
+    /// The line of JSON that tells a fault.
     fn told(&self, alloc: Global, fault: &Fault<'_, '_>) -> Result<String, AllocError> {
-        let mut object = Map::new(alloc);
-        self.put_told(&mut object, alloc, fault)?;
+        let line = SelectionError {
+            error: Cause {
+                key: fault.key,
+                line: fault.line,
+                message: fault.message,
+                span: fault.span,
+            },
+            manifest: fault.manifest,
+            target: self.target,
+        };
         let mut text = String::new(alloc);
-        push_json(&mut text, alloc, &Value::Object(object))?;
+        json_lines::push_line(&mut text, alloc, &line)?;
         Ok(text)
     }
 

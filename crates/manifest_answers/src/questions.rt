@@ -11,10 +11,12 @@ use cargo_platform::{
 use input_limits::without_mark;
 use key_answers::answer::{Answer, Refusal, Status};
 use key_answers::conditions::read_key;
+use key_answers::json_lines;
 use key_answers::printing::{fact_lines, refused_cfg, refused_fact, shown_name};
+use key_answers::targets::names_of;
 use known_targets::{COUNT, KnownTarget, RUSTC_VERSION, TargetSet, having, matching};
 use manifest_lints_findings::{Code, Finding, Words, nearest_target, unknown_in};
-use serde_json::Value;
+use serde::Serialize;
 use std::alloc::{AllocError, Global};
 
 /// What is said of a name that no known target has, with the nearest one that some target has.
@@ -159,14 +161,14 @@ fn name_lines(alloc: Global, names: &[&str]) -> Result<String, AllocError> {
     Ok(text)
 }
 
+/// The line of `targets --json`: the names of targets.
+#[derive(Drop, Serialize)]
+struct TargetNames<'a>(&'a [&'a str]);
+
 /// The names, as one array.
 fn name_array(alloc: Global, names: &[&str]) -> Result<String, AllocError> {
-    let mut values = Vec::new(alloc);
-    for name in names {
-        values.push(Value::String(String::from_str(alloc, name)?))?;
-    }
-    let mut text = Value::Array(values).to_string(alloc)?;
-    text.push_str("\n")?;
+    let mut text = String::new(alloc);
+    json_lines::push_line(&mut text, alloc, &TargetNames(names))?;
     Ok(text)
 }
 
@@ -223,15 +225,6 @@ fn counted(alloc: Global, condition: &Platform, targets: TargetSet) -> Result<St
         }
     }
     Ok(errors)
-}
-
-/// The names of known targets.
-fn names_of(alloc: Global, targets: TargetSet) -> Result<Vec<&'static str>, AllocError> {
-    let mut names = Vec::new(alloc);
-    for target in targets.iter() {
-        names.push(target.name())?;
-    }
-    Ok(names)
 }
 
 /// The known targets at which the key holds.

@@ -1,7 +1,7 @@
 //! `select`: which dependencies of a manifest are selected.
 
 use crate::cargo_refuses::refused_by_cargo;
-use crate::described::{first_line, put_described};
+use crate::described::{Described, first_line};
 use crate::faults::{Asking, Fault, span_of};
 use crate::given_targets::FactsFrom;
 use crate::in_turn::{Question, answer_each};
@@ -9,12 +9,13 @@ use crate::opened::OpenNames;
 use crate::questions::{added_facts, facts_from, unknown_name};
 use cargo_platform::{ParseError, shown_start};
 use key_answers::answer::{Answer, Refusal, Status};
-use key_answers::printing::{push_json, put, put_text, refused_key, text_value};
+use key_answers::json_lines;
+use key_answers::printing::refused_key;
 use known_targets::KnownTarget;
 use lint_reports::shown_table;
 use manifests::reading::Manifest;
 use manifests::{Asked, Choice, Dependency, Kind, Row, SelectError, choose, select};
-use serde_json::{Map, Value};
+use serde::Serialize;
 use std::alloc::{AllocError, Global};
 use std::rt::Files;
 use target_tables::TargetRow;
@@ -140,48 +141,36 @@ fn push_lines(
     Ok(())
 }
 
-/// Adds what stands in the manifest.
-fn put_dependency(
-    object: &mut Map<String, Value>,
-    alloc: Global,
-    dependency: &Dependency<'_>,
-) -> Result<(), AllocError> {
-    put_text(object, alloc, "dependency", dependency.name)?;
-    put_text(object, alloc, "table", dependency.kind.table_name())?;
-    put(object, alloc, "key", text_value(alloc, dependency.key)?)?;
-    put(object, alloc, "optional", Value::Bool(dependency.optional))
+/// A line of `select --json`: a dependency, and whether it is selected.
+#[derive(Drop, Serialize)]
+struct SelectedDependency<'a> {
+    /// One of `selected`, `left out` and `open`.
+    choice: &'static str,
+    /// The name in the table.
+    dependency: &'a str,
+    features: Vec<&'a str>,
+    /// The key of `target`; null outside of `target`.
+    key: Option<&'a str>,
+    /// The line on which that key first stands.
+    line: Option<usize>,
+    /// The path of the manifest.
+    manifest: &'a str,
+    /// Whether it has `optional = true`.
+    optional: bool,
+    /// The package's own name.
+    package: &'a str,
+    /// With `open`, the key that is left to decide.
+    residual: Option<String>,
+    /// One of `registry`, `git`, `path` and `workspace`.
+    source: &'static str,
+    /// One of `dependencies`, `dev-dependencies` and `build-dependencies`.
+    table: &'static str,
+    /// The name of the target.
+    target: &'a str,
+    version: Option<&'a str>,
 }
 
-/// Adds what is chosen.
-fn put_choice(
-    object: &mut Map<String, Value>,
-    alloc: Global,
-    choice: &Choice,
-) -> Result<(), AllocError> {
-    put_text(object, alloc, "choice", choice_word(choice))?;
-    let residual = match residual(alloc, choice)? {
-        Some(text) => Value::String(text),
-        None => Value::Null,
-    };
-    put(object, alloc, "residual", residual)
-}
-
-/// Adds what is told of a row, with its manifest and the target.
-fn put_row(
-    object: &mut Map<String, Value>,
-    alloc: Global,
-    manifest: &Manifest,
-    target: &str,
-    row: &Row<'_>,
-) -> Result<(), AllocError> {
-    put_text(object, alloc, "manifest", manifest.path.as_str())?;
-    put_text(object, alloc, "target", target)?;
-    put_dependency(object, alloc, &row.dependency)?;
-    put_described(object, alloc, &manifest.document, &row.dependency)?;
-    put_choice(object, alloc, &row.choice)
-}
-
-/// Appends the object of a dependency, on a line of its own.
+/// Appends the line of JSON of a dependency.
 fn push_object(
     text: &mut String,
     alloc: Global,
@@ -189,9 +178,24 @@ fn push_object(
     target: &str,
     row: &Row<'_>,
 ) -> Result<(), AllocError> {
-    let mut object = Map::new(alloc);
-    put_row(&mut object, alloc, manifest, target, row)?;
-    push_json(text, alloc, &Value::Object(object))
+    let dependency = &row.dependency;
+    let described = Described::of(alloc, &manifest.document, dependency)?;
+    let line = SelectedDependency {
+        choice: choice_word(&row.choice),
+        dependency: dependency.name,
+        features: described.features,
+        key: dependency.key,
+        line: described.line,
+        manifest: manifest.path.as_str(),
+        optional: dependency.optional,
+        package: described.package.unwrap_or(dependency.name),
+        residual: residual(alloc, &row.choice)?,
+        source: described.source,
+        table: dependency.kind.table_name(),
+        target,
+        version: described.version,
+    };
+    json_lines::push_line(text, alloc, &line)
 }
 
 /// What people read of a key that is no table.
