@@ -3,6 +3,7 @@
 use crate::groups::Groups;
 use key_answers::answer::Refusal;
 use key_answers::printing::shown_name;
+use key_answers::targets::{At, Every, names_of};
 use known_targets::{COUNT, KnownTarget, RUSTC_VERSION, TargetSet};
 use package_graphs::Kinds;
 use std::alloc::{AllocError, Global};
@@ -239,5 +240,16 @@ impl<'a> Asked<'a> {
             Some(groups) => groups.count_of(targets),
             None => targets.len(),
         }
+    }
+
+    /// The targets of a set, for a line of JSON.
+    pub fn at(&self, alloc: Global, targets: TargetSet) -> Result<At<'a>, AllocError> {
+        if targets.equals(self.targets) {
+            return Ok(At::All(Every::All));
+        }
+        Ok(At::Names(match self.groups {
+            Some(groups) => groups.names(alloc, targets)?,
+            None => names_of(alloc, targets)?,
+        }))
     }
 }

@@ -3,12 +3,14 @@
 use crate::asked::Asked;
 use crate::conditions::Finder;
 use crate::graph::Graph;
-use crate::json::{push_comma, push_field, push_optional, push_targets, push_text};
 use crate::lines::{kind_word, push, shown_condition, shown_package, shown_targets};
 use cargo_metadata::Kind;
 use cargo_platform::{CfgExpr, Platform, ReadError};
 use key_answers::answer::{Answer, Status};
+use key_answers::json_lines;
+use key_answers::targets::At;
 use known_targets::TargetSet;
+use serde::Serialize;
 use std::alloc::{AllocError, Global};
 
 /// A dependency of a package, by one of its kinds.
@@ -24,6 +26,51 @@ pub struct Edge<'a> {
     pub condition: Option<Platform>,
     /// The targets at which the condition holds.
     pub holds: TargetSet,
+}
+
+/// A dependency by one of its kinds, in a line of JSON.
+#[derive(Drop, Serialize)]
+pub struct PathStep<'a> {
+    /// The id of the package that depends.
+    from: Option<&'a str>,
+    /// The id of the package that it depends on.
+    to: Option<&'a str>,
+    name: Option<&'a str>,
+    /// One of `normal`, `build` and `dev`.
+    kind: &'static str,
+    /// The condition in canonical form.
+    condition: Option<String>,
+}
+
+/// A line of `graph --show edges --json`.
+#[derive(Drop, Serialize)]
+struct EdgeLine<'a> {
+    /// The id of the package that depends.
+    from: Option<&'a str>,
+    /// The id of the package that it depends on.
+    to: Option<&'a str>,
+    name: Option<&'a str>,
+    /// One of `normal`, `build` and `dev`.
+    kind: &'static str,
+    /// The condition in canonical form.
+    condition: Option<String>,
+    /// How many targets are in `at`.
+    targets: usize,
+    /// The selected targets at which the dependency is followed.
+    at: At<'a>,
+    /// A shorter condition that holds at the same targets: one fact, or a name.
+    simple: Option<String>,
+    /// The condition of all edges between the two packages by this kind.
+    group: Option<&'a Group>,
+}
+
+/// The condition of several edges.
+#[derive(Drop, Serialize)]
+#[serde(untagged)]
+enum Group {
+    Key(String),
+    /// Keys of which one at least is a target's name.
+    Keys(Vec<String>),
 }
 
 /// The condition that is written; none where none is.
@@ -101,21 +148,13 @@ pub fn show_edges(
     for from in &graph.order {
         let mut edges = edges_of(alloc, graph, *from)?;
         edges.retain(|edge| is_asked(graph, edge, asked));
-        let groups = groups_of(alloc, &edges)?;
+        let groups = Groups::of(alloc, &edges)?;
         for i in 0..edges.len() {
             let edge = &edges[i];
             count = count.saturating_add(1);
             if asked.json {
-                let group = groups.get(i).map(|group| group.as_str()).unwrap_or("null");
-                push_object(
-                    &mut answer.output,
-                    alloc,
-                    graph,
-                    edge,
-                    group,
-                    &finder,
-                    asked,
-                )?;
+                let line = line_of(alloc, graph, edge, groups.at(i), &finder, asked)?;
+                json_lines::push_spaced_line(&mut answer.output, alloc, &line)?;
             } else {
                 push_line(&mut answer.output, alloc, graph, edge, asked)?;
             }
@@ -167,44 +206,43 @@ fn canonical(alloc: Global, condition: &Option<Platform>) -> Result<Option<Strin
     }
 }
 
-/// Appends the members of an edge that a path has too: `from`, `to`, `name`, `kind` and `condition`, after `{`.
-pub fn push_edge(
-    text: &mut String,
+/// The step of an edge.
+pub fn step_of<'a>(
     alloc: Global,
-    graph: &Graph<'_>,
-    edge: &Edge<'_>,
-) -> Result<(), AllocError> {
-    push_field(text, "{", "from")?;
-    push_optional(text, alloc, graph.described(edge.from).map(|it| it.id))?;
-    push_field(text, ", ", "to")?;
-    push_optional(text, alloc, graph.described(edge.to).map(|it| it.id))?;
-    push_field(text, ", ", "name")?;
-    push_optional(text, alloc, edge.name)?;
-    push_field(text, ", ", "kind")?;
-    push_text(text, alloc, kind_word(edge.kind))?;
-    push_field(text, ", ", "condition")?;
-    let condition = canonical(alloc, &edge.condition)?;
-    push_optional(text, alloc, condition.as_ref().map(|text| text.as_str()))
+    graph: &Graph<'a>,
+    edge: &Edge<'a>,
+) -> Result<PathStep<'a>, AllocError> {
+    Ok(PathStep {
+        from: graph.described(edge.from).map(|it| it.id),
+        to: graph.described(edge.to).map(|it| it.id),
+        name: edge.name,
+        kind: kind_word(edge.kind),
+        condition: canonical(alloc, &edge.condition)?,
+    })
 }
 
-/// Appends the object of an edge, on a line of its own.
-fn push_object(
-    text: &mut String,
+/// The line of JSON of an edge.
+fn line_of<'a>(
     alloc: Global,
-    graph: &Graph<'_>,
-    edge: &Edge<'_>,
-    group: &str,
+    graph: &Graph<'a>,
+    edge: &Edge<'a>,
+    group: Option<&'a Group>,
     finder: &Finder<'_>,
-    asked: &Asked<'_>,
-) -> Result<(), AllocError> {
-    push_edge(text, alloc, graph, edge)?;
-    push_targets(text, alloc, followed(graph, edge, asked), asked)?;
-    push_field(text, ", ", "simple")?;
-    let smaller = smaller_condition(alloc, edge, finder)?;
-    push_optional(text, alloc, smaller.as_ref().map(|text| text.as_str()))?;
-    push_field(text, ", ", "group")?;
-    push(text, group)?;
-    push(text, "}\n")
+    asked: &Asked<'a>,
+) -> Result<EdgeLine<'a>, AllocError> {
+    let targets = followed(graph, edge, asked);
+    let step = step_of(alloc, graph, edge)?;
+    Ok(EdgeLine {
+        from: step.from,
+        to: step.to,
+        name: step.name,
+        kind: step.kind,
+        condition: step.condition,
+        targets: asked.count_of(targets),
+        at: asked.at(alloc, targets)?,
+        simple: smaller_condition(alloc, edge, finder)?,
+        group,
+    })
 }
 
 /// A shorter condition that holds at the same targets: one fact or a name, where there is one.
@@ -261,44 +299,39 @@ fn is_last(members: &[Member], at: usize) -> bool {
     }
 }
 
-/// Puts the condition of a group at the places of its edges.
-fn put_group(
-    groups: &mut Vec<String>,
-    alloc: Global,
-    places: &[usize],
-    group: &str,
-) -> Result<(), AllocError> {
-    for place in places {
-        if let Some(slot) = groups.get_mut(*place) {
-            *slot = String::from_str(alloc, group)?;
-        }
-    }
-    Ok(())
+/// The conditions of groups of edges.
+#[derive(Drop)]
+struct Groups {
+    conditions: Vec<Option<Group>>,
+    /// For each edge the place of the condition of its group.
+    places: Vec<usize>,
 }
 
-/// An empty text for each edge.
-fn no_groups(alloc: Global, edges: &[Edge<'_>]) -> Result<Vec<String>, AllocError> {
-    let mut groups = Vec::new(alloc);
-    for _ in edges {
-        groups.push(String::new(alloc))?;
-    }
-    Ok(groups)
-}
-
-/// For each edge of a package the one condition of all that lead to the same package by the same kind, as JSON.
-fn groups_of(alloc: Global, edges: &[Edge<'_>]) -> Result<Vec<String>, AllocError> {
-    let mut groups = no_groups(alloc, edges)?;
-    let members = by_group(alloc, edges)?;
-    let mut places = Vec::new(alloc);
-    for i in 0..members.len() {
-        places.push(members[i].1)?;
-        if is_last(&members, i) {
-            let group = group_of(alloc, edges, &places)?;
-            put_group(&mut groups, alloc, &places, group.as_str())?;
-            places.clear();
+impl Groups {
+    /// The groups of the edges of a package: those that lead to the same package by the same kind.
+    fn of(alloc: Global, edges: &[Edge<'_>]) -> Result<Groups, AllocError> {
+        let mut conditions = Vec::new(alloc);
+        let mut places = vec![in alloc; 0; edges.len()]?;
+        let members = by_group(alloc, edges)?;
+        let mut group = Vec::new(alloc);
+        for i in 0..members.len() {
+            let edge = members[i].1;
+            group.push(edge)?;
+            if let Some(place) = places.get_mut(edge) {
+                *place = conditions.len();
+            }
+            if is_last(&members, i) {
+                conditions.push(group_of(alloc, edges, &group)?)?;
+                group.clear();
+            }
         }
+        Ok(Groups { conditions, places })
     }
-    Ok(groups)
+
+    /// The condition of the group of an edge, if each edge of the group has one.
+    fn at(&self, edge: usize) -> Option<&Group> {
+        self.conditions.get(*self.places.get(edge)?)?.as_ref()
+    }
 }
 
 /// Whether some edge has no condition.
@@ -330,15 +363,19 @@ fn conditions_of(
     Ok(keys)
 }
 
-/// The one condition of some edges, as JSON: null where one has none, and an array of keys where one is a name.
-fn group_of(alloc: Global, edges: &[Edge<'_>], places: &[usize]) -> Result<String, AllocError> {
+/// The one condition of some edges, if each of them has one.
+fn group_of(
+    alloc: Global,
+    edges: &[Edge<'_>],
+    places: &[usize],
+) -> Result<Option<Group>, AllocError> {
     if has_no_condition(edges, places) {
-        return String::from_str(alloc, "null");
+        return Ok(None);
     }
     let mut keys = conditions_of(alloc, edges, places)?;
     keys.sort()?;
     keys.dedup();
-    any_of(alloc, keys)
+    Ok(Some(any_of(alloc, keys)?))
 }
 
 /// Whether a condition is an expression.
@@ -346,34 +383,17 @@ fn is_expression(condition: &Platform) -> bool {
     matches!(condition, Platform::Cfg(_))
 }
 
-/// A key as a text of JSON.
-fn push_key(text: &mut String, alloc: Global, key: &Platform) -> Result<(), AllocError> {
-    let key = format!(in alloc; "{key}")?;
-    push_text(text, alloc, key.as_str())
-}
-
-/// An array of keys.
-fn array_of(alloc: Global, keys: &[Platform]) -> Result<String, AllocError> {
-    let mut text = String::from_str(alloc, "[")?;
-    let mut is_first = true;
-    for key in keys {
-        push_comma(&mut text, is_first)?;
-        is_first = false;
-        push_key(&mut text, alloc, key)?;
-    }
-    push(&mut text, "]")?;
-    Ok(text)
-}
-
-/// The only key, the `any(..)` of several expressions, or an array of keys where one of several is a name.
-fn any_of(alloc: Global, keys: Vec<Platform>) -> Result<String, AllocError> {
+/// The only key, the `any(..)` of several expressions, or all keys where one of several is a name.
+fn any_of(alloc: Global, keys: Vec<Platform>) -> Result<Group, AllocError> {
     if keys.len() > 1 && !keys.iter().all(is_expression) {
-        return array_of(alloc, &keys);
+        let mut texts = Vec::new(alloc);
+        for key in &keys {
+            texts.push(format!(in alloc; "{key}")?)?;
+        }
+        return Ok(Group::Keys(texts));
     }
-    let mut text = String::new(alloc);
     let whole = any_of_expressions(alloc, keys)?;
-    push_key(&mut text, alloc, &whole)?;
-    Ok(text)
+    Ok(Group::Key(format!(in alloc; "{whole}")?))
 }
 
 /// The only key, or the `any(..)` of the expressions.

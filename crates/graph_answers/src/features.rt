@@ -2,14 +2,32 @@
 
 use crate::asked::Asked;
 use crate::graph::Graph;
-use crate::json::{push_field, push_targets, push_text};
 use crate::lines::{push, shown, shown_package, shown_targets};
-use crate::packages::push_package;
+use crate::packages::name_and_version;
 use crate::resolving::Features;
 use key_answers::answer::{Answer, Status};
+use key_answers::json_lines;
+use key_answers::targets::At;
 use known_targets::TargetSet;
 use package_graphs::Side;
+use serde::Serialize;
 use std::alloc::{AllocError, Global};
+
+/// A line of `graph --show features --json`: a feature that is on.
+#[derive(Drop, Serialize)]
+struct FeatureLine<'a> {
+    /// The name and the version of the package.
+    package: String,
+    /// The id of the package.
+    id: &'a str,
+    feature: &'a str,
+    /// One of `target` and `host`.
+    side: &'static str,
+    /// How many targets are in `at`.
+    targets: usize,
+    /// The selected targets at which it is on.
+    at: At<'a>,
+}
 
 /// The word of a side.
 pub fn side_word(side: Side) -> &'static str {
@@ -110,7 +128,7 @@ fn push_line(
     push(text, line.as_str())
 }
 
-/// Appends the object of a feature, on a line of its own.
+/// Appends the line of JSON of a feature.
 fn push_object(
     text: &mut String,
     alloc: Global,
@@ -121,11 +139,16 @@ fn push_object(
     targets: TargetSet,
     asked: &Asked<'_>,
 ) -> Result<(), AllocError> {
-    push_package(text, alloc, graph, index)?;
-    push_field(text, ", ", "feature")?;
-    push_text(text, alloc, name)?;
-    push_field(text, ", ", "side")?;
-    push_text(text, alloc, side_word(side))?;
-    push_targets(text, alloc, targets, asked)?;
-    push(text, "}\n")
+    let Some(described) = graph.described(index) else {
+        return Ok(());
+    };
+    let line = FeatureLine {
+        package: name_and_version(alloc, described)?,
+        id: described.id,
+        feature: name,
+        side: side_word(side),
+        targets: asked.count_of(targets),
+        at: asked.at(alloc, targets)?,
+    };
+    json_lines::push_spaced_line(text, alloc, &line)
 }

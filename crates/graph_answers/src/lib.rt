@@ -10,7 +10,6 @@ mod features;
 mod file_conditions;
 mod graph;
 mod groups;
-mod json;
 mod licences;
 mod lines;
 mod packages;

@@ -4,16 +4,38 @@
 use crate::asked::{Asked, Words, unusable_words};
 use crate::faults::{fault_lines, fault_message};
 use crate::graph::Graph;
-use crate::json::{push_count, push_field, push_optional, push_targets, push_text};
 use crate::lines::{push, shown_package, shown_targets};
-use crate::packages::push_package;
+use crate::packages::name_and_version;
 use crate::refused::unusable;
 use cargo_platform::{shown_start, shown_text};
 use key_answers::answer::{Answer, Refusal, Status, answered};
+use key_answers::json_lines;
 use key_answers::printing::shown_name;
+use key_answers::targets::At;
 use licence_audits::{Exception, Finding, Subject, audit};
+use serde::Serialize;
 use spdx_expressions::{Licence, ParseError, ReadError};
 use std::alloc::{AllocError, Global};
+
+/// A line of `graph --allow --json`: a package whose licence is not allowed.
+#[derive(Drop, Serialize)]
+struct LicenceLine<'a> {
+    /// Its name and version.
+    package: String,
+    id: &'a str,
+    /// The expression of its licence.
+    license: Option<&'a str>,
+    /// How many targets are in `at`.
+    targets: usize,
+    /// The selected targets at which it is in the build.
+    at: At<'a>,
+    /// One of `not-allowed`, `missing` and `refused`.
+    finding: &'static str,
+    /// With `refused`, what was expected, and what was found.
+    message: Option<String>,
+    /// With `refused`, where the expression goes wrong: the first byte, and the byte after the last one.
+    span: Option<(usize, usize)>,
+}
 
 /// What an audit is asked by.
 #[derive(Drop)]
@@ -288,7 +310,21 @@ fn finding_word(finding: &Finding) -> &'static str {
     }
 }
 
-/// Appends the object of a package that is told, on a line of its own.
+/// What was expected of a refused licence, and where it goes wrong.
+type Fault = (Option<String>, Option<(usize, usize)>);
+
+/// The fault of a licence, if it is refused.
+fn fault_of(alloc: Global, finding: &Finding) -> Result<Fault, AllocError> {
+    match finding {
+        Finding::Refused(error) => {
+            let message = fault_message(alloc, error)?;
+            Ok((Some(message), Some((error.span.start, error.span.end))))
+        }
+        Finding::NotAllowed(_) | Finding::Missing => Ok((None, None)),
+    }
+}
+
+/// Appends the line of JSON of a package that is told.
 fn push_object(
     text: &mut String,
     alloc: Global,
@@ -297,31 +333,20 @@ fn push_object(
     finding: &Finding,
     asked: &Asked<'_>,
 ) -> Result<(), AllocError> {
-    let license = graph
-        .described(index)
-        .and_then(|described| described.license);
-    push_package(text, alloc, graph, index)?;
-    push_field(text, ", ", "license")?;
-    push_optional(text, alloc, license)?;
-    push_targets(text, alloc, graph.at(index, asked), asked)?;
-    push_field(text, ", ", "finding")?;
-    push_text(text, alloc, finding_word(finding))?;
-    match finding {
-        Finding::Refused(error) => push_fault(text, alloc, error)?,
-        _ => push(text, ", \"message\": null, \"span\": null")?,
-    }
-    push(text, "}\n")
-}
-
-/// Appends the members `message` and `span` of a refused licence.
-fn push_fault(text: &mut String, alloc: Global, error: &ParseError) -> Result<(), AllocError> {
-    let message = fault_message(alloc, error)?;
-    push_field(text, ", ", "message")?;
-    push_text(text, alloc, message.as_str())?;
-    push_field(text, ", ", "span")?;
-    push(text, "[")?;
-    push_count(text, alloc, error.span.start)?;
-    push(text, ", ")?;
-    push_count(text, alloc, error.span.end)?;
-    push(text, "]")
+    let Some(described) = graph.described(index) else {
+        return Ok(());
+    };
+    let targets = graph.at(index, asked);
+    let (message, span) = fault_of(alloc, finding)?;
+    let line = LicenceLine {
+        package: name_and_version(alloc, described)?,
+        id: described.id,
+        license: described.license,
+        targets: asked.count_of(targets),
+        at: asked.at(alloc, targets)?,
+        finding: finding_word(finding),
+        message,
+        span,
+    };
+    json_lines::push_spaced_line(text, alloc, &line)
 }

@@ -11,6 +11,14 @@ pub fn push(text: &mut String, part: &str) -> Result<(), AllocError> {
     text.push_str(part)
 }
 
+/// Appends a comma and a space before each part but the first.
+pub fn push_comma(text: &mut String, is_first: bool) -> Result<(), AllocError> {
+    if is_first {
+        return Ok(());
+    }
+    push(text, ", ")
+}
+
 /// A text of the document as it is shown, and the empty one as two quotes.
 pub fn shown(alloc: Global, text: &str) -> Result<String, AllocError> {
     if text.is_empty() {

@@ -2,11 +2,14 @@
 
 use crate::asked::Asked;
 use crate::graph::Graph;
-use crate::json::{push_comma, push_field, push_optional, push_targets, push_text};
-use crate::lines::{push, shown_package, shown_targets};
-use crate::reasons::{Reasons, push_reasons, shown_reasons};
+use crate::lines::{push, push_comma, shown_package, shown_targets};
+use crate::reasons::{LeftOut, Reasons, left_out_of, shown_reasons};
+use cargo_metadata::Package as Described;
 use key_answers::answer::{Answer, Status};
+use key_answers::json_lines;
+use key_answers::targets::At;
 use package_graphs::Kind;
+use serde::Serialize;
 use std::alloc::{AllocError, Global};
 
 /// By which kinds of dependencies a package is reached at a target that is asked for.
@@ -27,13 +30,19 @@ impl Reached {
         Ok(text)
     }
 
-    /// The words of the kinds, as an array.
-    fn push(self, text: &mut String) -> Result<(), AllocError> {
-        push(text, "[")?;
-        push_word(text, self.normal, "\"normal\"", true)?;
-        push_word(text, self.build, "\"build\"", !self.normal)?;
-        push_word(text, self.dev, "\"dev\"", !self.normal && !self.build)?;
-        push(text, "]")
+    /// The words of the kinds.
+    fn kinds(self, alloc: Global) -> Result<Vec<&'static str>, AllocError> {
+        let mut kinds = Vec::new(alloc);
+        if self.normal {
+            kinds.push("normal")?;
+        }
+        if self.build {
+            kinds.push("build")?;
+        }
+        if self.dev {
+            kinds.push("dev")?;
+        }
+        Ok(kinds)
     }
 }
 
@@ -49,6 +58,25 @@ fn push_word(
     }
     push_comma(text, is_first)?;
     push(text, word)
+}
+
+/// A line of `graph --json`: a package.
+#[derive(Drop, Serialize)]
+struct PackageLine<'a> {
+    /// Its name and version.
+    package: String,
+    id: &'a str,
+    /// The expression of its licence.
+    license: Option<&'a str>,
+    /// How many targets are in `at`.
+    targets: usize,
+    /// The selected targets at which it is in the build.
+    at: At<'a>,
+    /// The kinds of dependencies that reach it. Each is one of `normal`, `build` and `dev`.
+    kinds: Vec<&'static str>,
+    /// Where features are resolved: why it is not in the build at the targets at which dependencies lead to it.
+    #[serde(skip_serializing_if = "Option::is_none")]
+    left_out: Option<Vec<LeftOut<'a>>>,
 }
 
 /// By which kinds each package is reached.
@@ -148,23 +176,11 @@ fn push_line(
     push(text, line.as_str())
 }
 
-/// Appends the members `package` and `id` of the object of a package, after `{`.
-pub fn push_package(
-    text: &mut String,
-    alloc: Global,
-    graph: &Graph<'_>,
-    index: usize,
-) -> Result<(), AllocError> {
-    let Some(described) = graph.described(index) else {
-        return Ok(());
-    };
+/// The name and the version of a package, as they are.
+pub fn name_and_version(alloc: Global, described: &Described<'_>) -> Result<String, AllocError> {
     let name = described.name;
     let version = described.version;
-    let package = format!(in alloc; "{name} {version}")?;
-    push_field(text, "{", "package")?;
-    push_text(text, alloc, package.as_str())?;
-    push_field(text, ", ", "id")?;
-    push_text(text, alloc, described.id)
+    format!(in alloc; "{name} {version}")
 }
 
 /// Appends the objects of all packages.
@@ -184,7 +200,7 @@ fn push_objects(
     Ok(())
 }
 
-/// Appends the object of a package, on a line of its own.
+/// Appends the line of JSON of a package.
 fn push_object(
     text: &mut String,
     alloc: Global,
@@ -197,12 +213,15 @@ fn push_object(
     let Some(described) = graph.described(index) else {
         return Ok(());
     };
-    push_package(text, alloc, graph, index)?;
-    push_field(text, ", ", "license")?;
-    push_optional(text, alloc, described.license)?;
-    push_targets(text, alloc, graph.at(index, asked), asked)?;
-    push_field(text, ", ", "kinds")?;
-    reached.push(text)?;
-    push_reasons(text, alloc, reasons, index, asked)?;
-    push(text, "}\n")
+    let targets = graph.at(index, asked);
+    let line = PackageLine {
+        package: name_and_version(alloc, described)?,
+        id: described.id,
+        license: described.license,
+        targets: asked.count_of(targets),
+        at: asked.at(alloc, targets)?,
+        kinds: reached.kinds(alloc)?,
+        left_out: left_out_of(alloc, reasons, index, asked)?,
+    };
+    json_lines::push_spaced_line(text, alloc, &line)
 }

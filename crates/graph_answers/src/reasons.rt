@@ -2,11 +2,12 @@
 
 use crate::asked::Asked;
 use crate::graph::Graph;
-use crate::json::{push_comma, push_field, push_targets, push_text};
 use crate::lines::{push, shown_targets};
 use crate::resolving::Features;
 use cargo_features::{Build, Dependency, Member, Package, used_packages};
+use key_answers::targets::At;
 use known_targets::TargetSet;
+use serde::Serialize;
 use std::alloc::{AllocError, Global};
 
 /// A reason for which packages are left out.
@@ -200,31 +201,38 @@ pub fn shown_reasons(
     Ok(text)
 }
 
-/// Appends the member `left_out` of the object of a package, where features are resolved.
-pub fn push_reasons(
-    text: &mut String,
+/// Why a package is not in the build at some targets, in a line of JSON.
+#[derive(Drop, Serialize)]
+pub struct LeftOut<'a> {
+    /// One of `weak`, `target`, `side`, `dev`, `several` and `unasked`.
+    reason: &'static str,
+    /// How many targets are in `at`.
+    targets: usize,
+    /// The selected targets at which this is why.
+    at: At<'a>,
+}
+
+/// Why a package is left out, for a line of JSON, where features are resolved.
+pub fn left_out_of<'a>(
     alloc: Global,
     reasons: &Option<Reasons>,
     index: usize,
-    asked: &Asked<'_>,
-) -> Result<(), AllocError> {
+    asked: &Asked<'a>,
+) -> Result<Option<Vec<LeftOut<'a>>>, AllocError> {
     let Some(reasons) = reasons else {
-        return Ok(());
+        return Ok(None);
     };
-    push_field(text, ", ", "left_out")?;
-    push(text, "[")?;
-    let mut is_first = true;
+    let mut left_out = Vec::new(alloc);
     for i in 0..reasons.told.len() {
         let targets = reasons.at(i, index, asked);
         if targets.is_empty() {
             continue;
         }
-        push_comma(text, is_first)?;
-        is_first = false;
-        push_field(text, "{", "reason")?;
-        push_text(text, alloc, reasons.told[i].0.word)?;
-        push_targets(text, alloc, targets, asked)?;
-        push(text, "}")?;
+        left_out.push(LeftOut {
+            reason: reasons.told[i].0.word,
+            targets: asked.count_of(targets),
+            at: asked.at(alloc, targets)?,
+        })?;
     }
-    push(text, "]")
+    Ok(Some(left_out))
 }

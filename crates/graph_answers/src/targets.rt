@@ -4,12 +4,14 @@ use crate::asked::Asked;
 use crate::conditions::Finder;
 use crate::edges::edges_of;
 use crate::graph::Graph;
-use crate::json::{push_comma, push_count, push_field, push_optional, push_targets, push_text};
-use crate::lines::{joined_names, push, shown_count, shown_package};
+use crate::lines::{joined_names, push, push_comma, shown_count, shown_package};
 use cargo_platform::{Cfg, shown_text, values_of};
 use key_answers::answer::{Answer, Status};
+use key_answers::json_lines;
+use key_answers::targets::At;
 use known_targets::TargetSet;
 use known_targets::classes::classes;
+use serde::Serialize;
 use std::alloc::{AllocError, Global};
 
 /// A class of targets, and a condition that holds at exactly these of all targets, where one was found.
@@ -17,6 +19,21 @@ use std::alloc::{AllocError, Global};
 pub struct Class {
     pub targets: TargetSet,
     pub condition: Option<String>,
+}
+
+/// A line of `graph --show targets --json`: a class of targets that no package tells apart.
+#[derive(Drop, Serialize)]
+struct ClassLine<'a> {
+    /// Its number, from 1 on.
+    class: usize,
+    /// A condition that holds at exactly its targets, selected or not.
+    condition: Option<&'a str>,
+    /// How many targets are in `at`.
+    targets: usize,
+    /// Its selected targets.
+    at: At<'a>,
+    /// The ids of the packages that are in the build there.
+    packages: Vec<&'a str>,
 }
 
 /// The targets of each package, without those that are alike.
@@ -175,7 +192,8 @@ fn push_classes(
             continue;
         }
         push_comma(&mut numbers, count == 0)?;
-        push_count(&mut numbers, alloc, i.saturating_add(1))?;
+        let number = i.saturating_add(1);
+        push(&mut numbers, format!(in alloc; "{number}")?.as_str())?;
         count = count.saturating_add(1);
     }
     if count == 0 {
@@ -189,7 +207,25 @@ fn push_classes(
     }
 }
 
-/// Appends the object of a class, on a line of its own.
+/// The ids of the packages that are there at a target of a class.
+fn ids_at<'a>(
+    alloc: Global,
+    graph: &Graph<'a>,
+    targets: TargetSet,
+) -> Result<Vec<&'a str>, AllocError> {
+    let mut ids = Vec::new(alloc);
+    for i in &graph.order {
+        if graph.present(*i).intersection(targets).is_empty() {
+            continue;
+        }
+        if let Some(described) = graph.described(*i) {
+            ids.push(described.id)?;
+        }
+    }
+    Ok(ids)
+}
+
+/// Appends the line of JSON of a class.
 fn push_object(
     text: &mut String,
     alloc: Global,
@@ -198,32 +234,13 @@ fn push_object(
     class: &Class,
     asked: &Asked<'_>,
 ) -> Result<(), AllocError> {
-    push_field(text, "{", "class")?;
-    push_count(text, alloc, number)?;
-    push_field(text, ", ", "condition")?;
-    push_optional(
-        text,
-        alloc,
-        class.condition.as_ref().map(|text| text.as_str()),
-    )?;
-    push_targets(
-        text,
-        alloc,
-        class.targets.intersection(asked.targets),
-        asked,
-    )?;
-    push_field(text, ", ", "packages")?;
-    push(text, "[")?;
-    let mut is_first = true;
-    for i in &graph.order {
-        if graph.present(*i).intersection(class.targets).is_empty() {
-            continue;
-        }
-        if let Some(described) = graph.described(*i) {
-            push_comma(text, is_first)?;
-            is_first = false;
-            push_text(text, alloc, described.id)?;
-        }
-    }
-    push(text, "]}\n")
+    let targets = class.targets.intersection(asked.targets);
+    let line = ClassLine {
+        class: number,
+        condition: class.condition.as_ref().map(|text| text.as_str()),
+        targets: asked.count_of(targets),
+        at: asked.at(alloc, targets)?,
+        packages: ids_at(alloc, graph, class.targets)?,
+    };
+    json_lines::push_spaced_line(text, alloc, &line)
 }

@@ -3,14 +3,16 @@
 use crate::asked::Asked;
 use crate::features::{side_note, side_word};
 use crate::graph::Graph;
-use crate::json::{push_comma, push_field, push_targets, push_text};
 use crate::lines::{push, shown, shown_package, shown_targets};
-use crate::packages::push_package;
+use crate::packages::name_and_version;
 use crate::resolving::Features;
 use key_answers::answer::{Answer, Status};
+use key_answers::json_lines;
+use key_answers::targets::At;
 use known_targets::TargetSet;
 use known_targets::classes::classes;
 use package_graphs::Side;
+use serde::Serialize;
 use std::alloc::{AllocError, Global};
 
 /// Targets at which a package is built for a side with the same features.
@@ -19,6 +21,23 @@ struct Built<'a> {
     side: Side,
     targets: TargetSet,
     features: Vec<&'a str>,
+}
+
+/// A line of `graph --show unified --json`: a package that is built with different features, with some of them.
+#[derive(Drop, Serialize)]
+struct UnifiedLine<'a> {
+    /// The name and the version of the package.
+    package: String,
+    /// The id of the package.
+    id: &'a str,
+    /// One of `target` and `host`.
+    side: &'static str,
+    /// The features that are on.
+    features: &'a [&'a str],
+    /// How many targets are in `at`.
+    targets: usize,
+    /// The selected targets at which it is built with these features.
+    at: At<'a>,
 }
 
 /// Appends how a package is built for a side, at the targets that are asked for.
@@ -129,7 +148,7 @@ fn push_line(
     push(text, "\n")
 }
 
-/// Appends the object of a package with some features, on a line of its own.
+/// Appends the line of JSON of a package with some features.
 fn push_object(
     text: &mut String,
     alloc: Global,
@@ -138,18 +157,16 @@ fn push_object(
     built: &Built<'_>,
     asked: &Asked<'_>,
 ) -> Result<(), AllocError> {
-    push_package(text, alloc, graph, index)?;
-    push_field(text, ", ", "side")?;
-    push_text(text, alloc, side_word(built.side))?;
-    push_field(text, ", ", "features")?;
-    push(text, "[")?;
-    let mut is_first = true;
-    for name in &built.features {
-        push_comma(text, is_first)?;
-        is_first = false;
-        push_text(text, alloc, name)?;
-    }
-    push(text, "]")?;
-    push_targets(text, alloc, built.targets, asked)?;
-    push(text, "}\n")
+    let Some(described) = graph.described(index) else {
+        return Ok(());
+    };
+    let line = UnifiedLine {
+        package: name_and_version(alloc, described)?,
+        id: described.id,
+        side: side_word(built.side),
+        features: &built.features,
+        targets: asked.count_of(built.targets),
+        at: asked.at(alloc, built.targets)?,
+    };
+    json_lines::push_spaced_line(text, alloc, &line)
 }

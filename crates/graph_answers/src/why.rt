@@ -1,16 +1,18 @@
 //! `--show why`: for each package of a name a shortest path from a root, at each target at which it is there.
 
 use crate::asked::Asked;
-use crate::edges::{Edge, edges_of, push_edge, shown_kind};
+use crate::edges::{Edge, PathStep, edges_of, shown_kind, step_of};
 use crate::graph::Graph;
-use crate::json::{push_comma, push_field, push_targets};
 use crate::lines::{joined_names, push, shown_count, shown_package};
-use crate::packages::push_package;
+use crate::packages::name_and_version;
 use crate::refused::unusable;
 use key_answers::answer::{Answer, Status, answered};
+use key_answers::json_lines;
 use key_answers::printing::shown_name;
+use key_answers::targets::At;
 use known_targets::TargetSet;
 use package_graphs::{Step, shortest_path};
+use serde::Serialize;
 use std::alloc::{AllocError, Global};
 
 /// The targets at which one path is the shortest.
@@ -18,6 +20,21 @@ use std::alloc::{AllocError, Global};
 struct Way {
     targets: TargetSet,
     steps: Vec<Step>,
+}
+
+/// A line of `graph --show why --json`: a shortest path to a package.
+#[derive(Drop, Serialize)]
+struct PathLine<'a> {
+    /// The name and the version of the package.
+    package: String,
+    /// The id of the package.
+    id: &'a str,
+    /// How many targets are in `at`.
+    targets: usize,
+    /// The selected targets at which this path is a shortest one.
+    at: At<'a>,
+    /// The steps of the path, from a root on. Null where no path leads to the package.
+    path: Option<Vec<PathStep<'a>>>,
 }
 
 /// The ways to a package, in the order of their first targets.
@@ -155,7 +172,49 @@ fn push_path(
     Ok(())
 }
 
-/// Appends the objects of the ways to a package, each on a line of its own; one without a path where there is no way.
+/// The steps of a way.
+fn path_of<'a>(
+    alloc: Global,
+    graph: &Graph<'a>,
+    way: &Way,
+) -> Result<Vec<PathStep<'a>>, AllocError> {
+    let mut path = Vec::new(alloc);
+    for step in &way.steps {
+        if let Some(edge) = edge_of(alloc, graph, step)? {
+            path.push(step_of(alloc, graph, &edge)?)?;
+        }
+    }
+    Ok(path)
+}
+
+/// Appends the line of JSON of a way to a package at these targets; without a path where there is no way.
+fn push_object(
+    text: &mut String,
+    alloc: Global,
+    graph: &Graph<'_>,
+    index: usize,
+    targets: TargetSet,
+    way: Option<&Way>,
+    asked: &Asked<'_>,
+) -> Result<(), AllocError> {
+    let Some(described) = graph.described(index) else {
+        return Ok(());
+    };
+    let path = match way {
+        Some(way) => Some(path_of(alloc, graph, way)?),
+        None => None,
+    };
+    let line = PathLine {
+        package: name_and_version(alloc, described)?,
+        id: described.id,
+        targets: asked.count_of(targets),
+        at: asked.at(alloc, targets)?,
+        path,
+    };
+    json_lines::push_spaced_line(text, alloc, &line)
+}
+
+/// Appends the lines of JSON of the ways to a package; one without a path where there is no way.
 fn push_objects(
     text: &mut String,
     alloc: Global,
@@ -165,26 +224,10 @@ fn push_objects(
     asked: &Asked<'_>,
 ) -> Result<(), AllocError> {
     if ways.is_empty() {
-        push_package(text, alloc, graph, index)?;
-        push_targets(text, alloc, TargetSet::none(), asked)?;
-        push_field(text, ", ", "path")?;
-        return push(text, "null}\n");
+        return push_object(text, alloc, graph, index, TargetSet::none(), None, asked);
     }
     for way in ways {
-        push_package(text, alloc, graph, index)?;
-        push_targets(text, alloc, way.targets, asked)?;
-        push_field(text, ", ", "path")?;
-        push(text, "[")?;
-        let mut is_first = true;
-        for step in &way.steps {
-            if let Some(edge) = edge_of(alloc, graph, step)? {
-                push_comma(text, is_first)?;
-                is_first = false;
-                push_edge(text, alloc, graph, &edge)?;
-                push(text, "}")?;
-            }
-        }
-        push(text, "]}\n")?;
+        push_object(text, alloc, graph, index, way.targets, Some(way), asked)?;
     }
     Ok(())
 }
