@@ -1,7 +1,7 @@
 //! Lines of JSON: one value a line, of any type that derives `Serialize`. No text in it can end or disguise the line.
 
-ghost use Rattle.std.specs.Prelude.{◌≡◌, ◌++◌, OnOk, codes, string_bytes};
-ghost use Rattle.key_answers.specs.JsonLines.{AppendsShown, AppendsLine};
+ghost use Rattle.std.specs.Prelude.{◌≡◌, OnOk, string_bytes};
+ghost use Rattle.key_answers.specs.JsonLines.{is_printable, AppendsShown, AppendsLine};
 
 use cargo_platform::shown_text;
 use serde::Serialize;
@@ -38,11 +38,21 @@ fn escaped(alloc: Global, json: &str, shown: &str) -> Result<String, AllocError>
     Ok(text)
 }
 
+/// Whether a byte is a printable character of ASCII.
+fn is_printable(byte: u8) -> bool
+    ensures { result ≡ is_printable byte }
+{
+    0x20 <= byte && byte < 0x7f
+}
+
 /// Appends printed JSON, with an escape for each character that [`shown_text`] hides. What is appended is what
 /// `shown_text` returns, so that nothing of it is hidden.
 fn push_shown(text: &mut String, alloc: Global, json: &str) -> Result<(), AllocError>
     ensures { OnOk result (AppendsShown (string_bytes text.old) (string_bytes text.new)) }
 {
+    if json.bytes().all(is_printable) {
+        return text.push_str(json);
+    }
     let mut shown = shown_text(alloc, json)?;
     if shown.as_str() != json {
         let escaped = escaped(alloc, json, shown.as_str())?;

@@ -52,7 +52,10 @@ fn texts_are_spelled(rt: HostRuntime) -> Result<(), Fail> {
         ("\u{10fffd}", "\\udbff\\udffd"),
         ("\u{e000}\u{a0}", "\\ue000\\u00a0"),
         ("e\u{301}", "e\\u0301"),
-        ("\u{e9}\u{4e16}\u{1f980}\u{fffd}", "\u{e9}\u{4e16}\u{1f980}\u{fffd}"),
+        (
+            "\u{e9}\u{4e16}\u{1f980}\u{fffd}",
+            "\u{e9}\u{4e16}\u{1f980}\u{fffd}",
+        ),
     ] {
         assert!(rt; is_spelled(alloc, text, spelling)?, "{spelling}");
     }
