@@ -149,7 +149,8 @@ def faults(schema, value, place="it"):
     if type(value) not in [TYPES[name] for name in names]:
         return [f"{place} is no {' and no '.join(names)}"]
     if isinstance(value, list):
-        wrong = [] if schema.get("minItems", 0) <= len(value) <= schema.get("maxItems", len(value)) else [f"{place}: length"]
+        least, most = schema.get("minItems", 0), schema.get("maxItems", len(value))
+        wrong = [] if least <= len(value) <= most else [f"{place} has {len(value)} items"]
         return wrong + [it for at, one in enumerate(value) for it in faults(schema["items"], one, f"{place}[{at}]")]
     if isinstance(value, dict):
         known = schema["properties"]

@@ -3,7 +3,8 @@ import unicodedata
 
 # What of the other characters turns a line, ends it, joins its characters or has no width.
 FORGING = (
-    "\r\n\t\x00\x1b\x7f\x85\u061c\u200b\u200e\u200f\u202a\u202b\u202d\u202e\u2028\u2029\u2066\u2067\u2069\ufeff\U000e0001")
+    "\r\n\t\x00\x1b\x7f\x85\u061c\u200b\u200e\u200f\u202a\u202b\u202d\u202e\u2028\u2029\u2066\u2067\u2069\ufeff"
+    "\U000e0001")
 
 
 def is_shown(text):

@@ -43,7 +43,8 @@ struct Comparison<'a> {
     implied_by: Verdict<'a>,
     /// Whether the first key implies the second one.
     implies: Verdict<'a>,
-    /// The relations that hold at each known target. Each is one of `implies`, `implied_by`, `equivalent` and `excludes`.
+    /// The relations that hold at each known target. Each is one of `implies`, `implied_by`, `equivalent` and
+    /// `excludes`.
     known: Vec<&'static str>,
     /// The known targets at which the second key alone holds.
     second_alone: Targets,

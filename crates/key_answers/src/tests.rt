@@ -28,9 +28,11 @@ fn lines_of(alloc: Global, text: &str) -> Result<String, AllocError> {
 
 /// Whether the lines of a text have this spelling of it.
 fn is_spelled(alloc: Global, text: &str, spelling: &str) -> Result<bool, AllocError> {
-    let wanted = format!(in alloc;
-        "{{\"text\":\"{spelling}\",\"at\":\"all\",\"span\":null}}\n{{\"text\": \"{spelling}\", \"at\": \"all\", \"span\": null}}\n"
+    let line = format!(in alloc; "{{\"text\":\"{spelling}\",\"at\":\"all\",\"span\":null}}\n")?;
+    let spaced = format!(in alloc;
+        "{{\"text\": \"{spelling}\", \"at\": \"all\", \"span\": null}}\n"
     )?;
+    let wanted = format!(in alloc; "{line}{spaced}")?;
     let lines = lines_of(alloc, text)?;
     Ok(lines.as_str() == wanted.as_str())
 }
