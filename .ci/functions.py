@@ -16,6 +16,9 @@ IMPL = re.compile(
 )
 CONSTANT = re.compile(r"^(?:pub(?:\(\w+\))? )?const (?P<word>\w+): [^=\n]+ = [^;]*;", re.M)
 
+# The head of a closure.
+CLOSURE = re.compile(r"[(,=]\s*(?:move )?\|[^|\n]*\|\s*[^|]")
+
 # The name that a definition of the specs begins with.
 DEFINITION = re.compile(r"^(?:(?:pub|abbrev|opaque) )*(\w+) :", re.M)
 
@@ -44,14 +47,15 @@ class Function(NamedTuple):
         """Whether a check prints the function by this name, below its crate."""
         return f"::{name}".endswith(f"::{self.path}")
 
+    def has_closure(self, name):
+        """Whether a check prints a closure of the function by this name, below its crate."""
+        folders = self.path.split("::")[-2 if self.type else -1 :]
+        return "::".join(["", "fn", *folders, ""]) in f"::{name}"
+
     def is_answered_in(self, path):
         """Whether the file of written answers at this path is the function's. The functions of a cycle share one."""
         folder = [*self.path.split("::")[:-1], f"+{self.cycle}" if self.cycle else self.word]
         return f"/{path}".endswith("/".join(["", *folder, "Answers.antt"]))
-
-    def owns(self, goal):
-        """Whether a goal is its own: the goals of a cycle begin with their function's word."""
-        return not self.cycle or goal.startswith(f"{self.word}-")
 
 
 def printed(impl):
@@ -79,6 +83,11 @@ def functions_of(crate):
             it = Function(module, type, trait, head["word"], cycle[1] if cycle else "")
             found.append((it, path, head.start(), end, text[head.end() : end]))
     return found
+
+
+def with_closures(crate):
+    """The functions of the crate that have closures. A check proves these by themselves."""
+    return {it for it, *_, body in functions_of(crate) if CLOSURE.search(body)}
 
 
 def naming(constant, crate):

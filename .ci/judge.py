@@ -10,9 +10,10 @@ from typing import NamedTuple
 REFUSED, PROVED, SILENT = "refused", "proved", "shows nothing"
 UNREADABLE, UNJUDGED, ANSWERED = "does not compile", "not judged", "open where answers are written"
 
-# What a start says of a function of which no goal stays open, and a goal in a file that it writes, or that is written.
+# What a start says of a function of which no goal stays open; an item of a file of answers, and one that is a goal.
 CLOSED = re.compile(r"^note: `\w+::(\S+)` needs no (?:other )?file: nothing is left to choose or to answer$", re.M)
-GOAL = re.compile(r"^(?:(?:pub|abbrev|opaque) )*([^\s:]+) : goal\.", re.M)
+ITEM = re.compile(r"^(?:(?:pub|abbrev|opaque) )*([^\s:]+)\s+:\s", re.M)
+GOAL = re.compile(r"^(?:(?:pub|abbrev|opaque) )*([^\s:]+)\s+:\s+goal\.", re.M)
 
 # What a check says of code that it cannot read: the whole line, the file and the line's number; and of a function that
 # it does not find by its name, or not that one alone.
@@ -21,6 +22,9 @@ UNNAMED = re.compile(r"^rattle: error: .*(?:has no function|several functions ar
 
 # What a check past holes says of a function that is proved.
 HOLDS = "no holes"
+
+# What it says of one whose goals it does not prove, and for which no answer is written.
+OPEN = re.compile(r"`search` did not prove `")
 
 # The files of answers by which it says that a function is not proved.
 ANSWERS = re.compile(r"`Rattle\.\w+\.proofs\.([^`]*?\.Answers)\b")
@@ -40,22 +44,17 @@ class Said(NamedTuple):
     files: dict
 
 
-def goals_in(text):
-    """The goals of a file of answers."""
-    return frozenset(GOAL.findall(text))
-
-
-def goals_of(function, files):
-    """The function's own goals in these files of answers, and whether any of the files is its own."""
-    own = [text for path, text in files.items() if function.is_answered_in(path)]
-    return frozenset(goal for text in own for goal in goals_in(text) if function.owns(goal)), bool(own)
+def items_of(function, files, item=ITEM):
+    """The items in those of these files of answers that are the function's. The functions of a cycle have one proof, and
+    so share a file."""
+    return frozenset(it for path, text in files.items() if function.is_answered_in(path) for it in item.findall(text))
 
 
 def left_open(function, said):
-    """The goals of the function that stay open, or None where the start says nothing of it."""
-    goals, is_told = goals_of(function, said.files)
+    """The goals of the function that stay open, or None where the start says nothing of it, or wrote no goal."""
+    goals, is_told = items_of(function, said.files, GOAL), any(map(function.is_answered_in, said.files))
     is_closed = any(function.is_named(name) for name in CLOSED.findall(said.text))
-    return None if is_told == is_closed else goals
+    return None if is_told == is_closed or is_told and not goals else goals
 
 
 def judged(functions, said, answers, open_anyway=frozenset()):
@@ -69,7 +68,7 @@ def judged(functions, said, answers, open_anyway=frozenset()):
     untold = [it.path for it, goals in found if goals is None]
     if untold:
         return Judgement(UNJUDGED, f"nothing is said of {', '.join(untold)}: {said.text[-300:]}")
-    known = {(it, goal) for it in functions for goal in goals_of(it, answers)[0]} if open_anyway is None else open_anyway
+    known = {(it, goal) for it in functions for goal in items_of(it, answers)} if open_anyway is None else open_anyway
     new = [f"{it.path}: {goal}" for it, goals in found for goal in sorted(goals) if (it, goal) not in known]
     if new:
         return Judgement(REFUSED, f"open: {', '.join(new)}")
@@ -79,12 +78,17 @@ def judged(functions, said, answers, open_anyway=frozenset()):
 
 
 def judged_with_answers(crate, functions, text):
-    """What a check past holes, with the written answers, says of an edit whose goals are open without them: either they
-    fit it, or the prover refuses one of them, which shows nothing of the contract."""
+    """What a check past holes, with the written answers, says of an edit that a start does not judge: a goal with no
+    answer is open, in the function or a closure of it; or it is proved; or the prover refuses a written answer, which
+    shows nothing of the contract."""
     lines = re.findall(rf"^fn {crate}::(\S+): (.*)$", text, re.M)
     own = [(it, line) for it in functions for name, line in lines if it.is_named(name)]
-    if len(own) == len(functions) and {line for _, line in own} == {HOLDS}:
-        return Judgement(PROVED, "the written answers fit it")
+    closures = [(it, line) for it in functions for name, line in lines if it.has_closure(name)]
+    open = [f"{it.path}: {line}" for it, line in [*own, *closures] if OPEN.search(line)]
+    if open:
+        return Judgement(REFUSED, open[0])
+    if len(own) == len(functions) and {line for _, line in [*own, *closures]} == {HOLDS}:
+        return Judgement(PROVED, "it is proved with the written answers")
     for it, line in own:
         if any(it.is_answered_in(f"{name.replace('.', '/')}.antt") for name in ANSWERS.findall(line)):
             return Judgement(SILENT, line)

@@ -10,9 +10,9 @@ import time
 
 from crates import LEFT_OUT
 from edits import NotFit, applied, changes, text_of
-from functions import changed_by, constants_of
-from judge import ANSWERED, UNJUDGED, UNNAMED, UNREAD, UNREADABLE, Judgement, Said
-from judge import goals_of, judged, judged_with_answers, left_open
+from functions import changed_by, constants_of, with_closures
+from judge import ANSWERED, PROVED, REFUSED, UNJUDGED, UNNAMED, UNREAD, UNREADABLE, Judgement, Said
+from judge import items_of, judged, judged_with_answers, left_open
 from proved import kit, words_of_sources
 
 # A run of the prover that takes longer, in seconds, is cut off, and judges nothing.
@@ -35,7 +35,10 @@ class Trial:
         # The written answers, by their paths in the crate.
         files = self.source.glob("proofs/**/Answers.antt")
         self.answers = {str(file.relative_to(self.source)): text_of(file) for file in files}
-        # The edits whose goals are open where answers are written, with what they took so far.
+        # The functions with closures, which a start does not look at.
+        self.closing = with_closures(self.source)
+        # The edits that a start does not judge, with what it said, and the seconds that they took so far: their goals are
+        # open where answers are written, or may be open in a closure, or an invariant does not fit.
         self.answered = {}
 
     def take(self, edit):
@@ -122,7 +125,7 @@ class Trial:
             judgement = judged(self.own[edit], said, self.answers, None)
             if judgement.kind == UNJUDGED and len(edits) > 1:
                 self.try_round([edit])
-            elif judgement.kind == ANSWERED:
+            elif judgement.kind in (ANSWERED, UNJUDGED) or judgement.kind == PROVED and self.closing & {*self.own[edit]}:
                 with self.lock:
                     self.answered[edit] = (said, each)
             else:
@@ -137,16 +140,16 @@ class Trial:
         return Judgement(UNJUDGED, told[0]) if told and told[1] in [it.path for it in self.own[edit]] else None
 
     def try_answered(self):
-        """Judges the edits whose goals are open only where answers are written: by the goals that are open without
-        these in the real code, and where that refuses none, by a check with the answers. A control is checked alone."""
+        """Judges the edits that a start does not judge: by the goals that are open without written answers in the real
+        code, and where that refuses none, by a check with the answers. A control is checked alone."""
         if not self.answered:
             return
         functions, left = sorted({it for edit in self.answered for it in self.own[edit]}), []
         said, seconds = self.start({}, functions)
-        anyway = {(it, goal) for it in functions for goal in left_open(it, said) or goals_of(it, self.answers)[0]}
+        anyway = {(it, goal) for it in functions for goal in left_open(it, said) or items_of(it, self.answers)}
         for edit, (found, each) in self.answered.items():
             judgement, each = judged(self.own[edit], found, self.answers, anyway), each + seconds / len(self.answered)
-            if judgement.kind == ANSWERED:
+            if judgement.kind != REFUSED:
                 self.answered[edit] = found, each
                 left.append(edit)
             else:
