@@ -133,6 +133,11 @@ def files():
     return {f"{name}.json": json.dumps(schema, indent=2) + "\n" for name, schema in schemas().items()}
 
 
+def stored():
+    """The text of each file that stands there."""
+    return {file.name: file.read_text(encoding="utf-8") for file in FOLDER.glob("*.json")}
+
+
 # ---- what is printed
 
 TYPES = {"string": str, "integer": int, "boolean": bool, "array": list, "object": dict, "null": type(None)}

@@ -6,6 +6,7 @@ use crate::graph::Graph;
 use crate::lines::{joined_names, push, shown_count, shown_package};
 use crate::packages::name_and_version;
 use crate::refused::unusable;
+use cargo_metadata::Package as Described;
 use key_answers::answer::{Answer, Status, answered};
 use key_answers::json_lines;
 use key_answers::printing::shown_name;
@@ -187,31 +188,23 @@ fn path_of<'a>(
     Ok(path)
 }
 
-/// Appends the line of JSON of a way to a package at these targets; without a path where there is no way.
-fn push_object(
-    text: &mut String,
-    alloc: Global,
-    graph: &Graph<'_>,
-    index: usize,
-    targets: TargetSet,
-    way: Option<&Way>,
-    asked: &Asked<'_>,
-) -> Result<(), AllocError> {
-    let Some(described) = graph.described(index) else {
-        return Ok(());
-    };
-    let path = match way {
-        Some(way) => Some(path_of(alloc, graph, way)?),
-        None => None,
-    };
-    let line = PathLine {
-        package: name_and_version(alloc, described)?,
-        id: described.id,
-        targets: asked.count_of(targets),
-        at: asked.at(alloc, targets)?,
-        path,
-    };
-    json_lines::push_spaced_line(text, alloc, &line)
+impl<'a> PathLine<'a> {
+    /// The line of a package with a path to it at these targets, if one leads there.
+    fn of(
+        alloc: Global,
+        described: &Described<'a>,
+        targets: TargetSet,
+        path: Option<Vec<PathStep<'a>>>,
+        asked: &Asked<'a>,
+    ) -> Result<PathLine<'a>, AllocError> {
+        Ok(PathLine {
+            package: name_and_version(alloc, described)?,
+            id: described.id,
+            targets: asked.count_of(targets),
+            at: asked.at(alloc, targets)?,
+            path,
+        })
+    }
 }
 
 /// Appends the lines of JSON of the ways to a package; one without a path where there is no way.
@@ -223,11 +216,17 @@ fn push_objects(
     ways: &[Way],
     asked: &Asked<'_>,
 ) -> Result<(), AllocError> {
+    let Some(described) = graph.described(index) else {
+        return Ok(());
+    };
     if ways.is_empty() {
-        return push_object(text, alloc, graph, index, TargetSet::none(), None, asked);
+        let line = PathLine::of(alloc, described, TargetSet::none(), None, asked)?;
+        return json_lines::push_spaced_line(text, alloc, &line);
     }
     for way in ways {
-        push_object(text, alloc, graph, index, way.targets, Some(way), asked)?;
+        let path = path_of(alloc, graph, way)?;
+        let line = PathLine::of(alloc, described, way.targets, Some(path), asked)?;
+        json_lines::push_spaced_line(text, alloc, &line)?;
     }
     Ok(())
 }

@@ -1,6 +1,7 @@
 //! Lines of JSON: one value a line, of any type that derives `Serialize`. No text in it can end or disguise the line.
 
 ghost use Rattle.std.specs.Prelude.{◌≡◌, OnOk, string_bytes};
+ghost use Rattle.std.specs.List.{list_all};
 ghost use Rattle.key_answers.specs.JsonLines.{is_printable, AppendsShown, AppendsLine};
 
 use cargo_platform::shown_text;
@@ -45,12 +46,19 @@ fn is_printable(byte: u8) -> bool
     0x20 <= byte && byte < 0x7f
 }
 
+/// Whether each byte is a printable character of ASCII.
+fn are_printable(bytes: &[u8]) -> bool
+    ensures { result ≡ list_all is_printable bytes.now }
+{
+    bytes.iter().all(|byte| is_printable(*byte))
+}
+
 /// Appends printed JSON, with an escape for each character that [`shown_text`] hides. What is appended is what
 /// `shown_text` returns, so that nothing of it is hidden.
 fn push_shown(text: &mut String, alloc: Global, json: &str) -> Result<(), AllocError>
     ensures { OnOk result (AppendsShown (string_bytes text.old) (string_bytes text.new)) }
 {
-    if json.bytes().all(is_printable) {
+    if are_printable(json.as_bytes()) {
         return text.push_str(json);
     }
     let mut shown = shown_text(alloc, json)?;
@@ -74,21 +82,28 @@ fn joined(alloc: Global, json: &str) -> Result<String, AllocError> {
     Ok(text)
 }
 
+/// Appends printed JSON as a line.
+fn push_json(text: &mut String, alloc: Global, json: &str) -> Result<(), AllocError>
+    ensures { OnOk result (AppendsLine (string_bytes text.old) (string_bytes text.new)) }
+{
+    push_shown(text, alloc, json)?;
+    text.push_str("\n")
+}
+
 /// Appends a value as a line of JSON, without spaces between its tokens.
 pub fn push_line<T: Serialize>(
     text: &mut String,
     alloc: Global,
     value: &T,
 ) -> Result<(), AllocError>
-    // The characters of the line are those that are shown.
+    // Each character of the line is shown.
     ensures { OnOk result (AppendsLine (string_bytes text.old) (string_bytes text.new)) }
 {
     // A derived type is refused for want of memory alone.
     let Ok(json) = serde_json::to_string(alloc, value) else {
         return Err(AllocError);
     };
-    push_shown(text, alloc, json.as_str())?;
-    text.push_str("\n")
+    push_json(text, alloc, json.as_str())
 }
 
 /// Appends a value as a line of JSON, with a space after each comma and each colon.
@@ -97,13 +112,12 @@ pub fn push_spaced_line<T: Serialize>(
     alloc: Global,
     value: &T,
 ) -> Result<(), AllocError>
-    // The characters of the line are those that are shown.
+    // Each character of the line is shown.
     ensures { OnOk result (AppendsLine (string_bytes text.old) (string_bytes text.new)) }
 {
     let Ok(json) = serde_json::to_string_pretty(alloc, value) else {
         return Err(AllocError);
     };
     let json = joined(alloc, json.as_str())?;
-    push_shown(text, alloc, json.as_str())?;
-    text.push_str("\n")
+    push_json(text, alloc, json.as_str())
 }
