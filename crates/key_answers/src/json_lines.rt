@@ -1,8 +1,8 @@
 //! Lines of JSON: one value a line, of any type that derives `Serialize`. No text in it can end or disguise the line.
 
-ghost use Rattle.std.specs.Prelude.{◌≡◌, OnOk, string_bytes};
+ghost use Rattle.std.specs.Prelude.{◌≡◌, IfOk, OnOk, string_bytes};
 ghost use Rattle.std.specs.List.{list_all};
-ghost use Rattle.key_answers.specs.JsonLines.{is_printable, AppendsShown, AppendsLine};
+ghost use Rattle.key_answers.specs.JsonLines.{is_printable, IsShownText, AppendsShown, AppendsLine};
 
 use cargo_platform::shown_text;
 use serde::Serialize;
@@ -39,6 +39,19 @@ fn escaped(alloc: Global, json: &str, shown: &str) -> Result<String, AllocError>
     Ok(text)
 }
 
+/// Returns printed JSON with an escape for each character that [`shown_text`] hides. It is what `shown_text` returns, so
+/// that nothing of it is hidden.
+fn with_escapes(alloc: Global, json: &str) -> Result<String, AllocError>
+    ensures { IfOk result (λ s. IsShownText (string_bytes s)) }
+{
+    let shown = shown_text(alloc, json)?;
+    if shown.as_str() == json {
+        return Ok(shown);
+    }
+    let escaped = escaped(alloc, json, shown.as_str())?;
+    shown_text(alloc, escaped.as_str())
+}
+
 /// Whether a byte is a printable character of ASCII.
 fn is_printable(byte: u8) -> bool
     ensures { result ≡ is_printable byte }
@@ -53,19 +66,14 @@ fn are_printable(bytes: &[u8]) -> bool
     bytes.iter().all(|byte| is_printable(*byte))
 }
 
-/// Appends printed JSON, with an escape for each character that [`shown_text`] hides. What is appended is what
-/// `shown_text` returns, so that nothing of it is hidden.
+/// Appends printed JSON, with an escape for each character that is hidden where texts are shown.
 fn push_shown(text: &mut String, alloc: Global, json: &str) -> Result<(), AllocError>
     ensures { OnOk result (AppendsShown (string_bytes text.old) (string_bytes text.new)) }
 {
     if are_printable(json.as_bytes()) {
         return text.push_str(json);
     }
-    let mut shown = shown_text(alloc, json)?;
-    if shown.as_str() != json {
-        let escaped = escaped(alloc, json, shown.as_str())?;
-        shown = shown_text(alloc, escaped.as_str())?;
-    }
+    let shown = with_escapes(alloc, json)?;
     text.push_str(shown.as_str())
 }
 
