@@ -59,7 +59,7 @@ class Function(NamedTuple):
 
 
 def printed(impl):
-    """The type and the trait of an `impl`, as a check prints them: a parameter is `Any`, and the trait's arguments stand
+    """The type and the trait of an `impl`, as a check prints them: a parameter is `Any`, and the trait's arguments are
     behind it, but for parameters."""
     parameters = re.findall(r"[<,] ?(\w+)", impl["parameters"] or "")
     arguments = [it for it in re.findall(r"\b[A-Z]\w*", impl["of"] or "") if it not in parameters]

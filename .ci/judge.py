@@ -45,8 +45,8 @@ class Said(NamedTuple):
 
 
 def items_of(function, files, item=ITEM):
-    """The items in those of these files of answers that are the function's. The functions of a cycle have one proof, and
-    so share a file."""
+    """The items in those of these files of answers that are the function's. The functions of a cycle have one proof,
+    and so share a file."""
     return frozenset(it for path, text in files.items() if function.is_answered_in(path) for it in item.findall(text))
 
 

@@ -15,7 +15,8 @@ from proved import RT
 HERE = pathlib.Path(__file__).resolve().parent
 
 # The scripts by which an edit is judged.
-SCRIPTS = ("mutants", *(f"{name}.py" for name in ("crates", "edits", "functions", "judge", "kept", "proved", "record", "trial")))
+MODULES = ("crates", "edits", "functions", "judge", "kept", "proved", "record", "trial")
+SCRIPTS = ("mutants", *(f"{name}.py" for name in MODULES))
 
 
 def folder_of_judgements():
@@ -31,7 +32,8 @@ class Kept:
     def __init__(self, crates):
         self.crates, self.folder, self.below = crates, folder_of_judgements(), stands_on()
         version = subprocess.run([RT, "version"], capture_output=True, check=True).stdout
-        self.base = b"".join([version, *(file.read_bytes() for file in (ROOT / "HANDLES", *map(HERE.joinpath, SCRIPTS)))])
+        files = [ROOT / "HANDLES", *(HERE / name for name in SCRIPTS)]
+        self.base = b"".join([version, *(file.read_bytes() for file in files)])
 
     @functools.cache
     def sum_of(self, crate):

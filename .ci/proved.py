@@ -54,7 +54,8 @@ def words_of_sources(crate, crates):
     for name in sorted({"core", "std", *of_kit}):
         given += ["--extern", f"{name}={kit()}/rlibs/{name}.rlib"]
     for name in sources:
-        given += ["--lib", f"{name}:{','.join(dict.fromkeys(['core', 'std', *below[name]]))}={crates}/{name}/src/lib.rt"]
+        used = ",".join(dict.fromkeys(["core", "std", *below[name]]))
+        given += ["--lib", f"{name}:{used}={crates}/{name}/src/lib.rt"]
     return [*given, *last_words(crate)]
 
 

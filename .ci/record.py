@@ -95,8 +95,8 @@ def counts_at(commit):
 def falls(counts, before):
     """The crates of which fewer mutants are refused, or fewer controls proved, than in each of the records before."""
     crates = {*before[0]}.intersection(*before) if before else ()
-    return sorted(crate for crate in crates
-                  if any(counts.get(crate, (0, 0))[at] < min(it[crate][at] for it in before) for at in (0, 1)))  # fmt: skip
+    pairs = {crate: zip(counts.get(crate, (0, 0)), *(it[crate] for it in before)) for crate in crates}
+    return sorted(crate for crate in crates if any(now < min(then) for now, *then in pairs[crate]))
 
 
 def falls_in_history():
@@ -109,7 +109,7 @@ def falls_in_history():
         before = [counts_at(it) for it in parents if git("cat-file", "-e", it) is not None]
         fallen = falls(counts_at(commit), before)
         if fallen and not WORD.search(git("log", "-1", "--format=%B", commit) or ""):
-            wrong.append(f"{FILE}: counts of {', '.join(fallen)} fall in {commit[:12]}, and its message has no word of mutants")
+            wrong.append(f"{FILE}: counts of {', '.join(fallen)} fall in {commit[:12]}, whose message lacks `mutants`")
     return wrong, "this clone is shallow, so counts of commits that it lacks are not compared" if is_shallow else ""
 
 
@@ -132,7 +132,8 @@ class Record:
 
     def check(self):
         """What is wrong with the record by itself: counts that do not fit the edits, and counts that fell."""
-        wrong = [*self.wrong, *(f"{FILE} has a line of {it}, which has no edits" for it in self.lines.keys() - self.edits)]
+        strange = sorted(self.lines.keys() - self.edits)
+        wrong = [*self.wrong, *(f"{FILE} has a line of {crate}, which has no edits" for crate in strange)]
         for crate in self.fitting:
             counts, controls = self.lines[crate].counts, sum(edit.is_control for edit in self.edits[crate])
             if (counts.refused + counts.silent, counts.proved) != (len(self.edits[crate]) - controls, controls):

@@ -37,8 +37,8 @@ class Trial:
         self.answers = {str(file.relative_to(self.source)): text_of(file) for file in files}
         # The functions with closures, which a start does not look at.
         self.closing = with_closures(self.source)
-        # The edits that a start does not judge, with what it said, and the seconds that they took so far: their goals are
-        # open where answers are written, or may be open in a closure, or an invariant does not fit.
+        # The edits that a start does not judge, with what it said, and the seconds that they took so far. Their goals
+        # are open where answers are written, or may be open in a closure, or an invariant does not fit.
         self.answered = {}
 
     def take(self, edit):
@@ -65,7 +65,7 @@ class Trial:
         while left:
             found, taken, texts = [], set(), {}
             for edit in left:
-                marks = {mark for it in self.own[edit] for mark in (it, it.cycle and (it.module, it.type, it.cycle)) if mark}
+                marks = {(it.module, it.type, it.cycle) if it.cycle else it for it in self.own[edit]}
                 if len(found) < MOST and not marks & taken:
                     try:
                         texts = applied(edit, self.source, texts)
@@ -84,8 +84,8 @@ class Trial:
         return texts
 
     def rattle(self, texts, has_answers, *given):
-        """Runs a check of a copy of the crate with these texts. Returns what it said, the files of answers that lie there
-        then, and the processor seconds that it took."""
+        """Runs a check of a copy of the crate with these texts. Returns what it said, with the files of answers that
+        lie there then, and the processor seconds that it took."""
         with tempfile.TemporaryDirectory(dir=self.room) as room:
             folder, said = pathlib.Path(room) / self.crate, pathlib.Path(room) / "said"
             left_out = [*LEFT_OUT, *([] if has_answers else ["Answers.antt"])]
@@ -125,11 +125,15 @@ class Trial:
             judgement = judged(self.own[edit], said, self.answers, None)
             if judgement.kind == UNJUDGED and len(edits) > 1:
                 self.try_round([edit])
-            elif judgement.kind in (ANSWERED, UNJUDGED) or judgement.kind == PROVED and self.closing & {*self.own[edit]}:
+            elif judgement.kind in (ANSWERED, UNJUDGED) or judgement.kind == PROVED and self.has_closures(edit):
                 with self.lock:
                     self.answered[edit] = (said, each)
             else:
                 self.run.settle(edit, judgement, each)
+
+    def has_closures(self, edit):
+        """Whether a function that the edit changes has closures."""
+        return not self.closing.isdisjoint(self.own[edit])
 
     def stopped_by(self, edit, edits, said):
         """The judgement of an edit that stops the prover: it does not compile, or its function has another name."""
@@ -155,7 +159,9 @@ class Trial:
             else:
                 self.run.settle(edit, judgement, each)
         with tempfile.TemporaryDirectory(dir=self.room) as kept:
-            for edits in [[it] for it in left if it.is_control] + [*self.rounds([it for it in left if not it.is_control])]:
+            for edit in [it for it in left if it.is_control]:
+                self.try_with_answers([edit], kept)
+            for edits in self.rounds([it for it in left if not it.is_control]):
                 self.try_with_answers(edits, kept)
 
     def try_with_answers(self, edits, kept):
