@@ -17,7 +17,7 @@ struct SarifLog<'a> {
     #[serde(rename = "$schema")]
     schema: &'static str,
     version: &'static str,
-    runs: [Run<'a>; 1],
+    runs: Vec<Run<'a>>,
 }
 
 /// A run of the tool.
@@ -122,13 +122,14 @@ pub fn sarif_begin(alloc: Global, version: &str) -> Result<String, AllocError> {
         rules,
         version,
     };
+    let run = Run {
+        tool: Tool { driver },
+        results: Vec::new(alloc),
+    };
     let log = SarifLog {
         schema: SCHEMA,
         version: "2.1.0",
-        runs: [Run {
-            tool: Tool { driver },
-            results: Vec::new(alloc),
-        }],
+        runs: vec![in alloc; run]?,
     };
     let mut text = String::new(alloc);
     json_lines::push_line(&mut text, alloc, &log)?;
