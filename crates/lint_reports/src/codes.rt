@@ -155,7 +155,7 @@ const UNKNOWN_FACT: Said = Said {
 const NOWHERE: Said = Said {
     short: "the condition holds at no known target",
     text: "Facts may make the condition true, and no target that rustc knows has them. A target of one's own may.\n\n\
-           Example: [target.'cfg(all(target_os = \"ios\", target_arch = \"x86\"))'.dependencies]",
+           Example: [target.'cfg(all(target_os = \"windows\", target_arch = \"s390x\"))'.dependencies]",
 };
 
 const SAME: Said = Said {
