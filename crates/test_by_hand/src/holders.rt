@@ -52,18 +52,25 @@ impl Facts for Flags {
     }
 }
 
-/// A list that counts how often it is asked.
+/// A list that counts how often it is asked, and keeps whether it was asked for these values in turn.
 #[derive(Drop)]
 struct Counting<'a> {
     facts: &'a [Cfg],
-    calls: Cell<u32>,
+    turns: &'a [Cfg],
+    calls: Cell<usize>,
+    is_in_turn: Cell<bool>,
 }
 
 impl<'a> Facts for Counting<'a> {
     ghost meant = { λ counting. fact_set (map value_of counting.facts.now) };
 
     fn holds(&self, c: &Cfg) -> bool {
-        self.calls.set(self.calls.get().saturating_add(1));
+        let calls = self.calls.get();
+        match self.turns.get(calls) {
+            Some(turn) if turn == c => {}
+            _ => self.is_in_turn.set(false),
+        }
+        self.calls.set(calls.saturating_add(1));
         Listed(self.facts).holds(c)
     }
 }
@@ -134,33 +141,36 @@ fn two_lists_are_asked(rt: HostRuntime) {
     }
 }
 
-/// An expression, the facts, and how many asks say what it is over them.
-const ASKED: &[(&str, &str, u32)] = &[
-    ("true", "", 0),
-    ("all(a, b, c)", "a", 2),
-    ("any(a, b, c)", "", 3),
-    ("any(all(a, b), not(c), d)", "d", 2),
-    ("all(any(a, b), any(c, d), e)", "b d e", 5),
+/// An expression, the facts, and the values that are asked for in turn.
+const ASKED: &[(&str, &str, &str)] = &[
+    ("true", "", ""),
+    ("all(a, b, c)", "a", "a b"),
+    ("any(a, b, c)", "", "a b c"),
+    ("any(all(a, b), not(c), d)", "d", "a c"),
+    ("all(any(a, b), any(c, d), e)", "b d e", "a b c d e"),
 ];
 
-/// The holder's own count is the one that is told.
+/// The holder is asked from left to right, and its own count is the one that is told.
 #[test]
-fn the_holder_is_asked_so_often(rt: HostRuntime) {
+fn the_holder_is_asked_in_turn(rt: HostRuntime) {
     for (text, words, wanted) in ASKED {
         let e = read(&rt, rt.alloc(), text);
         let facts = facts_of(&rt, rt.alloc(), words);
+        let turns = facts_of(&rt, rt.alloc(), wanted);
         let counting = Counting {
             facts: &facts,
+            turns: &turns,
             calls: Cell::new(0),
+            is_in_turn: Cell::new(true),
         };
         let answer = e.matches_in(&counting);
         assert!(rt; answer == e.matches(&facts), "{text}");
-        assert!(rt; counting.calls.get() == *wanted, "{text}");
+        assert!(rt; counting.calls.get() == turns.len(), "{text}");
+        counting.calls.set(0);
         let (again, asks) = e.matches_counted(&counting);
-        assert!(rt;
-            again == answer && asks.count() == u128::from(*wanted),
-            "{text}"
-        );
-        assert!(rt; counting.calls.get() == 2 * *wanted, "{text}, counted");
+        assert!(rt; again == answer, "{text}");
+        assert!(rt; asks.count() == turns.len() as u128, "{text}");
+        assert!(rt; counting.calls.get() == turns.len(), "{text}, counted");
+        assert!(rt; counting.is_in_turn.get(), "{text}");
     }
 }
