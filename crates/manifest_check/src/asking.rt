@@ -1,7 +1,6 @@
 //! The subcommands, asked by the words that `clap` read.
 
 use crate::explaining::{explained_code, listed_codes};
-use crate::flags::{FlagFacts, Flagged, facts_of_flags};
 use crate::graphs::graph_answer;
 use crate::levels::command_rules;
 use crate::limits::{limit_of, text_of};
@@ -10,6 +9,7 @@ use crate::named::{Named, named_manifests};
 use crate::other_rustc::OtherRustc;
 use crate::styles::{Shown, style_of};
 use anyhow::Result;
+use cargo_configuration::{FlagFacts, FlaggedTarget, flag_facts};
 use cargo_platform::shown_text;
 use clap::ArgMatches;
 use key_answers::answer::{Answer, Refusal, Status, answered};
@@ -118,15 +118,15 @@ fn select_answer<R: Files + Input + Env + AllocGlobal + Clone + Drop>(
     let lines = facts_file(rt, matches)?;
     let given = given_targets(rt, matches)?;
     let from = facts_from(&lines, &given);
-    let target = Flagged {
+    let target = FlaggedTarget {
         name: word(matches, "target"),
-        from,
+        facts_from: from,
         added: matches.get_strs("cfg").unwrap_or(&[]),
     };
     let flags = if matches.get_flag("no-config") {
         FlagFacts::none(rt.alloc())
     } else {
-        facts_of_flags(rt, &target, limit_of(matches))?
+        flag_facts(rt, &target, limit_of(matches))?
     };
     selected_with(rt, matches, from, &flags)
 }

@@ -1,8 +1,8 @@
 //! Facts that a project knows, put among those that its manifest declares.
 
-use crate::tables::put;
 use std::alloc::{AllocError, Global};
 use toml::{Table, Value};
+use workspaces::put;
 
 /// Where a manifest declares facts: at the last of these members, one in the other.
 const PATH: [&str; 3] = ["lints", "rust", "unexpected_cfgs"];

@@ -1,9 +1,12 @@
 //! `lint`: what there is to tell of the keys of a manifest.
 
-use crate::configurations::{as_manifest, reword};
 use crate::declaring::declare;
 use crate::other_rustc::{OtherRustc, declare_by, given_formers, judge_by};
-use crate::roots::{Root, inherit_lints, is_unneeded, rust_version};
+use crate::roots::{Root, is_unneeded};
+use cargo_configuration::{
+    configuration_beside, explain_unsupported, is_configuration, manifest_beside,
+    manifest_with_targets,
+};
 use cargo_platform::{shown_start, shown_text};
 use key_answers::answer::{Answer, Status};
 use lint_reports::{
@@ -17,7 +20,7 @@ use manifests::reading::{Manifest, ReadError, read_manifest};
 use std::alloc::{AllocError, Global};
 use std::rt::{Env, Files};
 use toml::Table;
-use workspaces::{configuration_beside, is_configuration, manifest_beside, shorter};
+use workspaces::shorter;
 
 /// What is asked of manifests.
 #[derive(Drop)]
@@ -368,8 +371,8 @@ fn lint_configuration<R: Files + Input + AllocGlobal>(
         return Ok(());
     };
     let wrong = wrong_fields(alloc, &manifest.document.table)?;
-    let lints = root.lints_for_all(rt, telling.asked.limit)?;
-    let mut table = as_manifest(alloc, &manifest.document.table, lints)?;
+    let lints = root.configuration_lints(rt, telling.asked.limit)?;
+    let mut table = manifest_with_targets(alloc, &manifest.document.table, lints)?;
     declare(alloc, &mut table, &root.settings.facts)?;
     declare_by(alloc, &telling.asked.other, &mut table)?;
     let settings = Settings::of(alloc, None, &[])?;
@@ -383,7 +386,7 @@ fn lint_configuration<R: Files + Input + AllocGlobal>(
     manifest.document.table = table;
     root.hides_lints = false;
     let mut report = report_on(alloc, &manifest, words, &telling.asked.other)?;
-    reword(alloc, &mut report)?;
+    explain_unsupported(alloc, &mut report.findings)?;
     telling.counts.add_configuration(report.keys.len());
     let beside = Beside { formers, wrong };
     tell_report(alloc, root, telling, &settings, &manifest, &report, &beside)
@@ -402,7 +405,7 @@ fn lint_at<R: Files + Input + AllocGlobal>(
         return Ok(());
     };
     let table = &mut manifest.document.table;
-    inherit_lints(alloc, root, table)?;
+    root.put_lints(alloc, table)?;
     declare(alloc, table, &root.settings.facts)?;
     let settings = Settings::of(alloc, settings_at(table, "package"), &telling.asked.codes)?;
     declare(alloc, table, &settings.facts)?;
@@ -410,7 +413,7 @@ fn lint_at<R: Files + Input + AllocGlobal>(
     let project = Project {
         of_workspace: &root.settings,
         of_package: &settings,
-        rust_version: rust_version(root, table),
+        rust_version: root.rust_version_of(table),
         targets: given_formers(&telling.asked.other),
     };
     let formers = declare_formers(alloc, table, &project)?;

@@ -2,10 +2,8 @@
 #![tactic(auto)]
 
 mod asking;
-mod configurations;
 mod declaring;
 mod explaining;
-mod flags;
 mod graphs;
 mod levels;
 mod limits;
@@ -14,7 +12,6 @@ mod named;
 mod other_rustc;
 mod roots;
 mod styles;
-mod tables;
 mod words;
 
 use anyhow::Result;

@@ -139,6 +139,12 @@ pub fn text_in<'a>(table: &'a Table, key: &str) -> Option<&'a str> {
     }
 }
 
+/// Puts a value at a key of a table, in place of the one that is there.
+pub fn put(alloc: Global, table: &mut Table, key: &str, value: Value) -> Result<(), AllocError> {
+    let _before = table.insert(String::from_str(alloc, key)?, value)?;
+    Ok(())
+}
+
 /// The texts of an array at a key of a table.
 pub fn texts_in<'a>(
     alloc: Global,

@@ -1,15 +1,16 @@
-//! Cargo's own configuration, as far as its keys of `target` are those of a manifest.
+//! The table `target` of a configuration, whose keys are those of a manifest, by Cargo's reference ("Configuration":
+//! `target`).
 
-use crate::tables::put;
-use manifest_lints::{Code, Report};
+use manifest_lints_findings::{Code, Finding};
 use std::alloc::{AllocError, Global};
 use toml::{Table, Value};
+use workspaces::put;
 
-/// What is told of facts that are unsupported. Cargo itself warns of them in manifests alone.
+/// The message on an unsupported fact in a configuration. Cargo itself warns of these facts in manifests alone.
 const UNSUPPORTED: &str =
     "Cargo asks this key by what `rustc --print cfg` prints, which knows no feature, test or profile";
 
-/// The keys of a table, each with an empty table in place of one.
+/// Returns the keys of a table, each table among their values empty.
 fn without_fields(alloc: Global, targets: &Table) -> Result<Table, AllocError> {
     let mut keys = Table::new(alloc);
     for (key, value) in targets.iter() {
@@ -22,8 +23,10 @@ fn without_fields(alloc: Global, targets: &Table) -> Result<Table, AllocError> {
     Ok(keys)
 }
 
-/// A manifest with the keys of `target` of a configuration, whose fields are left out, and with these lints.
-pub fn as_manifest(
+/// Returns a manifest that has the keys of `target` of a configuration, without their fields, and these lints.
+///
+/// Fails only where memory runs out.
+pub fn manifest_with_targets(
     alloc: Global,
     configuration: &Table,
     lints: Option<Value>,
@@ -43,9 +46,11 @@ pub fn as_manifest(
     Ok(manifest)
 }
 
-/// Puts what is true of a configuration in place of what is said of dependencies.
-pub fn reword(alloc: Global, report: &mut Report<'_>) -> Result<(), AllocError> {
-    for finding in &mut report.findings {
+/// Replaces the messages on unsupported facts, which speak of dependencies, by the one for a configuration.
+///
+/// Fails only where memory runs out.
+pub fn explain_unsupported(alloc: Global, findings: &mut [Finding]) -> Result<(), AllocError> {
+    for finding in findings {
         if finding.code == Code::Unsupported {
             finding.message = String::from_str(alloc, UNSUPPORTED)?;
         }

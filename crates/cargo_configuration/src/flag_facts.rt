@@ -1,0 +1,173 @@
+//! The `cfg` facts that flags of rustc add to a target.
+
+use crate::flags::{Flags, all_flags};
+use crate::sources::{Source, used_source};
+use cargo_platform::shown_start;
+use key_answers::answer::{Refusal, Status};
+use manifest_answers::given_targets::FactsFrom;
+use manifest_answers::questions::applies;
+use std::alloc::{AllocError, Global};
+use std::rt::{Env, Files};
+
+/// A target to which flags may add facts.
+#[derive(Clone, Copy, Drop)]
+pub struct FlaggedTarget<'a> {
+    pub name: &'a str,
+    /// The source of the target's own facts.
+    pub facts_from: FactsFrom<'a>,
+    /// Facts that arguments add.
+    pub added: &'a [&'a str],
+}
+
+/// Facts that flags set.
+#[derive(Drop)]
+pub struct FlagFacts {
+    /// The facts, as the flags spell them, each once.
+    pub facts: Vec<String>,
+    /// A note on each fact, which names the place of its flag.
+    pub notes: String,
+}
+
+impl FlagFacts {
+    /// Returns no facts.
+    pub fn none(alloc: Global) -> FlagFacts {
+        FlagFacts {
+            facts: Vec::new(alloc),
+            notes: String::new(alloc),
+        }
+    }
+
+    /// Returns the facts `added`, followed by these.
+    ///
+    /// Fails only where memory runs out.
+    pub fn behind<'a>(
+        &'a self,
+        alloc: Global,
+        added: &[&'a str],
+    ) -> Result<Vec<&'a str>, AllocError> {
+        let mut facts = Vec::new(alloc);
+        for fact in added {
+            facts.push(*fact)?;
+        }
+        for fact in &self.facts {
+            facts.push(fact.as_str())?;
+        }
+        Ok(facts)
+    }
+
+    /// Adds a fact that a flag of this place sets, unless it is present.
+    fn add(&mut self, alloc: Global, fact: &str, place: &str) -> Result<(), AllocError> {
+        if self.facts.iter().any(|it| it.as_str() == fact) {
+            return Ok(());
+        }
+        self.facts.push(String::from_str(alloc, fact)?)?;
+        let fact = shown_start(alloc, fact)?;
+        let place = shown_start(alloc, place)?;
+        let note = format!(in alloc; "note: {place} sets `{fact}`; --no-config leaves it out\n")?;
+        self.notes.push_str(note.as_str())
+    }
+
+    /// Adds the facts that flags set: the flag after each `--cfg`, and what follows `--cfg=` in a flag.
+    fn add_all(&mut self, alloc: Global, flags: &Flags) -> Result<(), AllocError> {
+        let mut is_fact = false;
+        for flag in &flags.flags {
+            let flag = flag.as_str();
+            if is_fact {
+                self.add(alloc, flag, flags.place.as_str())?;
+                is_fact = false;
+            } else if flag == "--cfg" {
+                is_fact = true;
+            } else if let Some(fact) = flag.strip_prefix("--cfg=") {
+                self.add(alloc, fact, flags.place.as_str())?;
+            }
+        }
+        Ok(())
+    }
+}
+
+/// Returns whether flags are those of a target: of a key of `target` that is its name or, once the facts of flags are
+/// known, a condition that is true with these facts. Flags of another source are those of every target.
+fn are_of(
+    alloc: Global,
+    flags: &Flags,
+    target: &FlaggedTarget<'_>,
+    known: Option<&FlagFacts>,
+) -> Result<bool, AllocError> {
+    let Some(key) = &flags.key else {
+        return Ok(true);
+    };
+    let Some(known) = known else {
+        return Ok(key.as_str() == target.name);
+    };
+    let added = known.behind(alloc, target.added)?;
+    match applies(alloc, key.as_str(), target.name, target.facts_from, &added) {
+        Ok(answer) => Ok(answer.status == Status::Fine),
+        Err(Refusal::Unusable(_)) => Ok(false),
+        Err(Refusal::Memory(refused)) => Err(refused),
+    }
+}
+
+/// Returns whether some of the flags come from a source.
+fn have_source(flags: &[&Flags], source: Source) -> bool {
+    flags.iter().any(|it| it.source == source)
+}
+
+/// Returns those of all flags that Cargo uses for a target. Keys of `target` are evaluated with the known facts.
+fn used_flags<'a>(
+    alloc: Global,
+    all: &'a [Flags],
+    target: &FlaggedTarget<'_>,
+    known: Option<&FlagFacts>,
+) -> Result<Vec<&'a Flags>, AllocError> {
+    let mut found: Vec<&'a Flags> = Vec::new(alloc);
+    for flags in all {
+        let is_present = flags.source != Source::Target || !flags.flags.is_empty();
+        if is_present && are_of(alloc, flags, target, known)? {
+            found.push(flags)?;
+        }
+    }
+    let used = used_source(
+        have_source(&found, Source::EncodedVariable),
+        have_source(&found, Source::Variable),
+        have_source(&found, Source::Target),
+    );
+    found.retain(|it| it.source == used);
+    Ok(found)
+}
+
+/// Returns the facts of those of all flags that Cargo uses for a target.
+fn facts_of(
+    alloc: Global,
+    all: &[Flags],
+    target: &FlaggedTarget<'_>,
+    known: Option<&FlagFacts>,
+) -> Result<FlagFacts, AllocError> {
+    let mut facts = FlagFacts::none(alloc);
+    for flags in &used_flags(alloc, all, target, known)? {
+        facts.add_all(alloc, flags)?;
+    }
+    Ok(facts)
+}
+
+/// Returns the facts that flags of rustc set for a target, by Cargo's reference ("Configuration": `build.rustflags`).
+/// The sources of flags exclude each other; the first that has flags is used:
+///
+/// 1. the variable `CARGO_ENCODED_RUSTFLAGS`, if it is set;
+/// 2. the variable `RUSTFLAGS`, if it is set;
+/// 3. `rustflags` of all keys of `target` in the configuration that match, and `CARGO_TARGET_<triple>_RUSTFLAGS`;
+/// 4. `build.rustflags`, and `CARGO_BUILD_RUSTFLAGS`.
+///
+/// As Cargo does, the keys of `target` are evaluated twice: first only those that are the target's name count, and then
+/// all, with the facts that the first set. A configuration file has at most `limit` bytes.
+///
+/// Fails where a configuration file can't be used, or includes files that Cargo rejects.
+pub fn flag_facts<R: Files + Input + Env + AllocGlobal>(
+    rt: &R,
+    target: &FlaggedTarget<'_>,
+    limit: u64,
+) -> Result<FlagFacts, Refusal> {
+    let alloc = rt.alloc();
+    let all = all_flags(rt, target.name, limit)?;
+    let first = facts_of(alloc, &all, target, None)?;
+    Ok(facts_of(alloc, &all, target, Some(&first))?)
+}

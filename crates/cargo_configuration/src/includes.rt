@@ -1,0 +1,150 @@
+//! Configuration files in the order in which they are read, with those that they include, by Cargo's reference
+//! ("Configuration": `include`).
+
+use crate::files::configurations_at_hand;
+use cargo_platform::shown_text;
+use key_answers::answer::Refusal;
+use manifests::reading::{Manifest, ReadError, read_manifest};
+use std::alloc::{AllocError, Global};
+use std::rt::{Env, Files};
+use toml::{Table, Value};
+use workspaces::{folder_of, inside, is_file, text_in};
+
+/// How many configuration files are read at most.
+pub const MOST_FILES: usize = 1024;
+
+/// Configuration files that are not read yet.
+#[derive(Drop)]
+pub struct UnreadFiles {
+    /// Their paths, the next one last.
+    paths: Vec<String>,
+}
+
+/// A file that a configuration includes.
+#[derive(Clone, Copy, Drop)]
+struct Inclusion<'a> {
+    path: &'a str,
+    /// The file may be missing.
+    is_optional: bool,
+}
+
+impl UnreadFiles {
+    /// Returns the configurations that Cargo reads in the current folder.
+    ///
+    /// Fails only where memory runs out.
+    pub fn at_hand<R: Files + Env + AllocGlobal>(rt: &R) -> Result<UnreadFiles, AllocError> {
+        let mut paths = configurations_at_hand(rt)?;
+        paths.reverse();
+        Ok(UnreadFiles { paths })
+    }
+
+    /// Reads the next file, of at most `limit` bytes, and puts the files that it includes in its place: what is in a
+    /// file has precedence over what it includes, and there a later file over an earlier one. Returns none where every
+    /// file has been read.
+    ///
+    /// Fails where the file can't be read, is no TOML, or has an `include` that Cargo rejects.
+    pub fn read_next<R: Files + Input + AllocGlobal>(
+        &mut self,
+        rt: &R,
+        limit: u64,
+    ) -> Result<Option<Manifest>, Refusal> {
+        let Some(path) = self.paths.pop() else {
+            return Ok(None);
+        };
+        let configuration = read_configuration(rt, path.as_str(), limit)?;
+        self.push_included(rt, path.as_str(), &configuration.document.table)?;
+        Ok(Some(configuration))
+    }
+
+    /// Returns an error if a file has not been read yet: so many files include each other.
+    pub fn reject_rest(&mut self, alloc: Global) -> Result<(), Refusal> {
+        match self.paths.pop() {
+            Some(path) => Err(rejected_include(alloc, path.as_str(), "files include each other")?),
+            None => Ok(()),
+        }
+    }
+
+    /// Adds the files that the configuration at `path` includes, in their order.
+    fn push_included<R: Files + AllocGlobal>(
+        &mut self,
+        rt: &R,
+        path: &str,
+        configuration: &Table,
+    ) -> Result<(), Refusal> {
+        let alloc = rt.alloc();
+        let Some(value) = configuration.get("include") else {
+            return Ok(());
+        };
+        let Some(members) = value.as_array() else {
+            return Err(rejected_include(alloc, path, "it is no array")?);
+        };
+        for member in members {
+            match inclusion(member) {
+                Some(it) if it.path.ends_with(".toml") => self.push(rt, path, it)?,
+                _ => return Err(rejected_include(alloc, path, "a member names no file `.toml`")?),
+            }
+        }
+        Ok(())
+    }
+
+    /// Adds a file that the configuration at `path` includes, unless it is optional and missing.
+    fn push<R: Files + AllocGlobal>(
+        &mut self,
+        rt: &R,
+        path: &str,
+        inclusion: Inclusion<'_>,
+    ) -> Result<(), AllocError> {
+        let folder = if inclusion.path.starts_with('/') {
+            ""
+        } else {
+            folder_of(path)
+        };
+        let file = inside(rt.alloc(), folder, inclusion.path)?;
+        if !inclusion.is_optional || is_file(rt, file.as_str())? {
+            self.paths.push(file)?;
+        }
+        Ok(())
+    }
+}
+
+/// Reads the configuration at a path, of at most `limit` bytes.
+fn read_configuration<R: Files + Input + AllocGlobal>(
+    rt: &R,
+    path: &str,
+    limit: u64,
+) -> Result<Manifest, Refusal> {
+    match read_manifest(rt, path, limit) {
+        Ok(configuration) => Ok(configuration),
+        Err(ReadError::Unusable(unusable)) => Err(Refusal::Unusable(unusable.line(rt.alloc())?)),
+        Err(ReadError::Memory(refused)) => Err(Refusal::Memory(refused)),
+    }
+}
+
+/// Returns the error for a configuration whose `include` Cargo rejects.
+fn rejected_include(alloc: Global, path: &str, reason: &str) -> Result<Refusal, AllocError> {
+    let path = shown_text(alloc, path)?;
+    Ok(Refusal::Unusable(format!(in alloc; "{path}: error: include: {reason}\n")?))
+}
+
+/// Returns the file that a member of `include` names, if it names one.
+fn inclusion(member: &Value) -> Option<Inclusion<'_>> {
+    match member {
+        Value::String(path) => Some(Inclusion {
+            path: path.as_str(),
+            is_optional: false,
+        }),
+        Value::Table(fields) => Some(Inclusion {
+            path: text_in(fields, "path")?,
+            is_optional: is_optional(fields),
+        }),
+        _ => None,
+    }
+}
+
+/// Returns whether the fields of a member of `include` say that the file may be missing.
+fn is_optional(fields: &Table) -> bool {
+    match fields.get("optional") {
+        Some(value) => value.as_bool().unwrap_or(false),
+        None => false,
+    }
+}
