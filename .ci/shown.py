@@ -1,7 +1,7 @@
 """Which characters the program prints as they are, as crates/cargo_platform/specs/Snippets.antt has them."""
 import unicodedata
 
-# What of the other characters turns a line, ends it, joins its characters or has no width.
+# Some of the others: they end or turn a line, or have no width.
 FORGING = (
     "\r\n\t\x00\x1b\x7f\x85\u061c\u200b\u200e\u200f\u202a\u202b\u202d\u202e\u2028\u2029\u2066\u2067\u2069\ufeff"
     "\U000e0001")

@@ -137,10 +137,10 @@ fn followed(graph: &Graph<'_>, edge: &Edge<'_>, asked: &Asked<'_>) -> TargetSet 
 }
 
 /// The answer to `--show edges`.
-pub fn show_edges(
+pub fn show_edges<'a>(
     alloc: Global,
-    graph: &Graph<'_>,
-    asked: &Asked<'_>,
+    graph: &Graph<'a>,
+    asked: &Asked<'a>,
 ) -> Result<Answer, AllocError> {
     let mut answer = Answer::of(alloc, String::new(alloc), Status::Fine);
     let finder = Finder::of(alloc, asked, Vec::new(alloc))?;

@@ -129,15 +129,15 @@ fn push_line(
 }
 
 /// Appends the line of JSON of a feature.
-fn push_object(
+fn push_object<'a>(
     text: &mut String,
     alloc: Global,
-    graph: &Graph<'_>,
+    graph: &Graph<'a>,
     index: usize,
-    name: &str,
+    name: &'a str,
     side: Side,
     targets: TargetSet,
-    asked: &Asked<'_>,
+    asked: &Asked<'a>,
 ) -> Result<(), AllocError> {
     let Some(described) = graph.described(index) else {
         return Ok(());

@@ -325,13 +325,13 @@ fn fault_of(alloc: Global, finding: &Finding) -> Result<Fault, AllocError> {
 }
 
 /// Appends the line of JSON of a package that is told.
-fn push_object(
+fn push_object<'a>(
     text: &mut String,
     alloc: Global,
-    graph: &Graph<'_>,
+    graph: &Graph<'a>,
     index: usize,
     finding: &Finding,
-    asked: &Asked<'_>,
+    asked: &Asked<'a>,
 ) -> Result<(), AllocError> {
     let Some(described) = graph.described(index) else {
         return Ok(());

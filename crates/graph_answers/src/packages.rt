@@ -201,13 +201,13 @@ fn push_objects(
 }
 
 /// Appends the line of JSON of a package.
-fn push_object(
+fn push_object<'a>(
     text: &mut String,
     alloc: Global,
-    graph: &Graph<'_>,
+    graph: &Graph<'a>,
     index: usize,
     reached: Reached,
-    asked: &Asked<'_>,
+    asked: &Asked<'a>,
     reasons: &Option<Reasons>,
 ) -> Result<(), AllocError> {
     let Some(described) = graph.described(index) else {

@@ -226,13 +226,13 @@ fn ids_at<'a>(
 }
 
 /// Appends the line of JSON of a class.
-fn push_object(
+fn push_object<'a>(
     text: &mut String,
     alloc: Global,
-    graph: &Graph<'_>,
+    graph: &Graph<'a>,
     number: usize,
-    class: &Class,
-    asked: &Asked<'_>,
+    class: &'a Class,
+    asked: &Asked<'a>,
 ) -> Result<(), AllocError> {
     let targets = class.targets.intersection(asked.targets);
     let line = ClassLine {

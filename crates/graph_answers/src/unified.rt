@@ -149,13 +149,13 @@ fn push_line(
 }
 
 /// Appends the line of JSON of a package with some features.
-fn push_object(
+fn push_object<'a>(
     text: &mut String,
     alloc: Global,
-    graph: &Graph<'_>,
+    graph: &Graph<'a>,
     index: usize,
-    built: &Built<'_>,
-    asked: &Asked<'_>,
+    built: &'a Built<'a>,
+    asked: &Asked<'a>,
 ) -> Result<(), AllocError> {
     let Some(described) = graph.described(index) else {
         return Ok(());

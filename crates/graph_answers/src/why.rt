@@ -208,13 +208,13 @@ impl<'a> PathLine<'a> {
 }
 
 /// Appends the lines of JSON of the ways to a package; one without a path where there is no way.
-fn push_objects(
+fn push_objects<'a>(
     text: &mut String,
     alloc: Global,
-    graph: &Graph<'_>,
+    graph: &Graph<'a>,
     index: usize,
     ways: &[Way],
-    asked: &Asked<'_>,
+    asked: &Asked<'a>,
 ) -> Result<(), AllocError> {
     let Some(described) = graph.described(index) else {
         return Ok(());

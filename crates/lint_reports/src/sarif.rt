@@ -151,13 +151,25 @@ fn level_word(weight: Weight) -> &'static str {
     }
 }
 
-/// The place of a finding.
+/// The place of a finding in the manifest at this reference of a URI.
 fn location_of<'a>(told: &Told<'_>, uri: &'a str) -> Location<'a> {
-    Location {
-        physical_location: PhysicalLocation {
-            artifact_location: ArtifactLocation { uri },
-            region: told.place.line.map(|start_line| Region { start_line }),
-        },
+    let artifact_location = ArtifactLocation { uri };
+    let physical_location = PhysicalLocation {
+        artifact_location,
+        region: told.place.line.map(|start_line| Region { start_line }),
+    };
+    Location { physical_location }
+}
+
+/// The result of a finding with this sentence.
+fn result_of<'a>(told: &Told<'a>, uri: &'a str, sentence: &'a str) -> SarifResult<'a> {
+    let location = location_of(told, uri);
+    let message = Message { text: sentence };
+    SarifResult {
+        level: level_word(told.weight),
+        locations: [location],
+        message,
+        rule_id: told.code,
     }
 }
 
@@ -169,15 +181,8 @@ pub fn push_result(
     is_first: bool,
 ) -> Result<(), AllocError> {
     let uri = uri_of(alloc, told.place.path)?;
-    let message = sentence_of(alloc, told)?;
-    let result = SarifResult {
-        level: level_word(told.weight),
-        locations: [location_of(told, uri.as_str())],
-        message: Message {
-            text: message.as_str(),
-        },
-        rule_id: told.code,
-    };
+    let sentence = sentence_of(alloc, told)?;
+    let result = result_of(told, uri.as_str(), sentence.as_str());
     text.push_str(if is_first { "" } else { "," })?;
     json_lines::push_line(text, alloc, &result)
 }

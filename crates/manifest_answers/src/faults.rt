@@ -73,14 +73,15 @@ struct SelectionError<'a> {
 
 impl<'a> Asking<'a> {
     /// The line of JSON that tells a fault.
-    fn told(&self, alloc: Global, fault: &Fault<'_, '_>) -> Result<String, AllocError> {
+    fn told(&self, alloc: Global, fault: &Fault<'a, 'a>) -> Result<String, AllocError> {
+        let error = Cause {
+            key: fault.key,
+            line: fault.line,
+            message: fault.message,
+            span: fault.span,
+        };
         let line = SelectionError {
-            error: Cause {
-                key: fault.key,
-                line: fault.line,
-                message: fault.message,
-                span: fault.span,
-            },
+            error,
             manifest: fault.manifest,
             target: self.target,
         };

@@ -166,7 +166,7 @@ fn name_lines(alloc: Global, names: &[&str]) -> Result<String, AllocError> {
 struct TargetNames<'a>(&'a [&'a str]);
 
 /// The names, as one array.
-fn name_array(alloc: Global, names: &[&str]) -> Result<String, AllocError> {
+fn name_array<'a>(alloc: Global, names: &'a [&'a str]) -> Result<String, AllocError> {
     let mut text = String::new(alloc);
     json_lines::push_line(&mut text, alloc, &TargetNames(names))?;
     Ok(text)

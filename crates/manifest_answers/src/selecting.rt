@@ -171,12 +171,12 @@ struct SelectedDependency<'a> {
 }
 
 /// Appends the line of JSON of a dependency.
-fn push_object(
+fn push_object<'a>(
     text: &mut String,
     alloc: Global,
-    manifest: &Manifest,
-    target: &str,
-    row: &Row<'_>,
+    manifest: &'a Manifest,
+    target: &'a str,
+    row: &'a Row<'a>,
 ) -> Result<(), AllocError> {
     let dependency = &row.dependency;
     let described = Described::of(alloc, &manifest.document, dependency)?;
