@@ -79,7 +79,7 @@ impl UnreadFiles {
             return Err(rejected_include(alloc, path, "it is no array")?);
         };
         for member in members {
-            match inclusion(member) {
+            match read_inclusion(member) {
                 Some(it) if it.path.ends_with(".toml") => self.push(rt, path, it)?,
                 _ => return Err(rejected_include(alloc, path, "a member names no file `.toml`")?),
             }
@@ -127,7 +127,7 @@ fn rejected_include(alloc: Global, path: &str, reason: &str) -> Result<Refusal, 
 }
 
 /// Returns the file that a member of `include` names, if it names one.
-fn inclusion(member: &Value) -> Option<Inclusion<'_>> {
+fn read_inclusion(member: &Value) -> Option<Inclusion<'_>> {
     match member {
         Value::String(path) => Some(Inclusion {
             path: path.as_str(),

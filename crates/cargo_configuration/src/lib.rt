@@ -4,12 +4,12 @@
 
 mod environment;
 mod files;
-mod flag_facts;
+mod flagged_facts;
 mod flags;
 mod includes;
 mod sources;
 mod target_table;
 
 pub use files::{configuration_beside, configurations_at_hand, is_configuration, manifest_beside};
-pub use flag_facts::{FlagFacts, FlaggedTarget, flag_facts};
+pub use flagged_facts::{FlagFacts, FlaggedTarget, flag_facts};
 pub use target_table::{explain_unsupported, manifest_with_targets};

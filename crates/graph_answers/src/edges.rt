@@ -44,12 +44,12 @@ pub struct PathStep<'a> {
 
 /// A line of `graph --show edges --json`.
 #[derive(Drop, Serialize)]
-struct EdgeLine<'a> {
+struct EdgeLine<'g, 'c, 'a> {
     /// The id of the package that depends.
-    from: Option<&'a str>,
+    from: Option<&'g str>,
     /// The id of the package that it depends on.
-    to: Option<&'a str>,
-    name: Option<&'a str>,
+    to: Option<&'g str>,
+    name: Option<&'g str>,
     /// One of `normal`, `build` and `dev`.
     kind: &'static str,
     /// The condition in canonical form.
@@ -61,7 +61,7 @@ struct EdgeLine<'a> {
     /// A shorter condition that holds at the same targets: one fact, or a name.
     simple: Option<String>,
     /// The condition of all edges between the two packages by this kind.
-    group: Option<&'a Group>,
+    group: Option<&'c Group>,
 }
 
 /// The condition of several edges.
@@ -137,10 +137,10 @@ fn followed(graph: &Graph<'_>, edge: &Edge<'_>, asked: &Asked<'_>) -> TargetSet 
 }
 
 /// The answer to `--show edges`.
-pub fn show_edges<'a>(
+pub fn show_edges(
     alloc: Global,
-    graph: &Graph<'a>,
-    asked: &Asked<'a>,
+    graph: &Graph<'_>,
+    asked: &Asked<'_>,
 ) -> Result<Answer, AllocError> {
     let mut answer = Answer::of(alloc, String::new(alloc), Status::Fine);
     let finder = Finder::of(alloc, asked, Vec::new(alloc))?;
@@ -222,14 +222,14 @@ pub fn step_of<'a>(
 }
 
 /// The line of JSON of an edge.
-fn line_of<'a>(
+fn line_of<'g, 'c, 'a>(
     alloc: Global,
-    graph: &Graph<'a>,
-    edge: &Edge<'a>,
-    group: Option<&'a Group>,
+    graph: &Graph<'g>,
+    edge: &Edge<'g>,
+    group: Option<&'c Group>,
     finder: &Finder<'_>,
     asked: &Asked<'a>,
-) -> Result<EdgeLine<'a>, AllocError> {
+) -> Result<EdgeLine<'g, 'c, 'a>, AllocError> {
     let targets = followed(graph, edge, asked);
     let step = step_of(alloc, graph, edge)?;
     Ok(EdgeLine {

@@ -15,12 +15,12 @@ use std::alloc::{AllocError, Global};
 
 /// A line of `graph --show features --json`: a feature that is on.
 #[derive(Drop, Serialize)]
-struct FeatureLine<'a> {
+struct FeatureLine<'g, 'f, 'a> {
     /// The name and the version of the package.
     package: String,
     /// The id of the package.
-    id: &'a str,
-    feature: &'a str,
+    id: &'g str,
+    feature: &'f str,
     /// One of `target` and `host`.
     side: &'static str,
     /// How many targets are in `at`.
@@ -129,15 +129,15 @@ fn push_line(
 }
 
 /// Appends the line of JSON of a feature.
-fn push_object<'a>(
+fn push_object(
     text: &mut String,
     alloc: Global,
-    graph: &Graph<'a>,
+    graph: &Graph<'_>,
     index: usize,
-    name: &'a str,
+    name: &str,
     side: Side,
     targets: TargetSet,
-    asked: &Asked<'a>,
+    asked: &Asked<'_>,
 ) -> Result<(), AllocError> {
     let Some(described) = graph.described(index) else {
         return Ok(());

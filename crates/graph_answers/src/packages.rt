@@ -62,12 +62,12 @@ fn push_word(
 
 /// A line of `graph --json`: a package.
 #[derive(Drop, Serialize)]
-struct PackageLine<'a> {
+struct PackageLine<'g, 'a> {
     /// Its name and version.
     package: String,
-    id: &'a str,
+    id: &'g str,
     /// The expression of its licence.
-    license: Option<&'a str>,
+    license: Option<&'g str>,
     /// How many targets are in `at`.
     targets: usize,
     /// The selected targets at which it is in the build.
@@ -201,13 +201,13 @@ fn push_objects(
 }
 
 /// Appends the line of JSON of a package.
-fn push_object<'a>(
+fn push_object(
     text: &mut String,
     alloc: Global,
-    graph: &Graph<'a>,
+    graph: &Graph<'_>,
     index: usize,
     reached: Reached,
-    asked: &Asked<'a>,
+    asked: &Asked<'_>,
     reasons: &Option<Reasons>,
 ) -> Result<(), AllocError> {
     let Some(described) = graph.described(index) else {

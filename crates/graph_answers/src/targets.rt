@@ -23,17 +23,17 @@ pub struct Class {
 
 /// A line of `graph --show targets --json`: a class of targets that no package tells apart.
 #[derive(Drop, Serialize)]
-struct ClassLine<'a> {
+struct ClassLine<'g, 'c, 'a> {
     /// Its number, from 1 on.
     class: usize,
     /// A condition that holds at exactly its targets, selected or not.
-    condition: Option<&'a str>,
+    condition: Option<&'c str>,
     /// How many targets are in `at`.
     targets: usize,
     /// Its selected targets.
     at: At<'a>,
     /// The ids of the packages that are in the build there.
-    packages: Vec<&'a str>,
+    packages: Vec<&'g str>,
 }
 
 /// The targets of each package, without those that are alike.
@@ -226,13 +226,13 @@ fn ids_at<'a>(
 }
 
 /// Appends the line of JSON of a class.
-fn push_object<'a>(
+fn push_object(
     text: &mut String,
     alloc: Global,
-    graph: &Graph<'a>,
+    graph: &Graph<'_>,
     number: usize,
-    class: &'a Class,
-    asked: &Asked<'a>,
+    class: &Class,
+    asked: &Asked<'_>,
 ) -> Result<(), AllocError> {
     let targets = class.targets.intersection(asked.targets);
     let line = ClassLine {

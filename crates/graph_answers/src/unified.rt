@@ -25,15 +25,15 @@ struct Built<'a> {
 
 /// A line of `graph --show unified --json`: a package that is built with different features, with some of them.
 #[derive(Drop, Serialize)]
-struct UnifiedLine<'a> {
+struct UnifiedLine<'g, 'l, 'f, 'a> {
     /// The name and the version of the package.
     package: String,
     /// The id of the package.
-    id: &'a str,
+    id: &'g str,
     /// One of `target` and `host`.
     side: &'static str,
     /// The features that are on.
-    features: &'a [&'a str],
+    features: &'l [&'f str],
     /// How many targets are in `at`.
     targets: usize,
     /// The selected targets at which it is built with these features.
@@ -149,13 +149,13 @@ fn push_line(
 }
 
 /// Appends the line of JSON of a package with some features.
-fn push_object<'a>(
+fn push_object(
     text: &mut String,
     alloc: Global,
-    graph: &Graph<'a>,
+    graph: &Graph<'_>,
     index: usize,
-    built: &'a Built<'a>,
-    asked: &Asked<'a>,
+    built: &Built<'_>,
+    asked: &Asked<'_>,
 ) -> Result<(), AllocError> {
     let Some(described) = graph.described(index) else {
         return Ok(());

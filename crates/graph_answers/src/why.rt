@@ -25,17 +25,17 @@ struct Way {
 
 /// A line of `graph --show why --json`: a shortest path to a package.
 #[derive(Drop, Serialize)]
-struct PathLine<'a> {
+struct PathLine<'g, 'a> {
     /// The name and the version of the package.
     package: String,
     /// The id of the package.
-    id: &'a str,
+    id: &'g str,
     /// How many targets are in `at`.
     targets: usize,
     /// The selected targets at which this path is a shortest one.
     at: At<'a>,
     /// The steps of the path, from a root on. Null where no path leads to the package.
-    path: Option<Vec<PathStep<'a>>>,
+    path: Option<Vec<PathStep<'g>>>,
 }
 
 /// The ways to a package, in the order of their first targets.
@@ -188,15 +188,15 @@ fn path_of<'a>(
     Ok(path)
 }
 
-impl<'a> PathLine<'a> {
+impl<'g, 'a> PathLine<'g, 'a> {
     /// The line of a package with a path to it at these targets, if one leads there.
     fn of(
         alloc: Global,
-        described: &Described<'a>,
+        described: &Described<'g>,
         targets: TargetSet,
-        path: Option<Vec<PathStep<'a>>>,
+        path: Option<Vec<PathStep<'g>>>,
         asked: &Asked<'a>,
-    ) -> Result<PathLine<'a>, AllocError> {
+    ) -> Result<PathLine<'g, 'a>, AllocError> {
         Ok(PathLine {
             package: name_and_version(alloc, described)?,
             id: described.id,
@@ -208,13 +208,13 @@ impl<'a> PathLine<'a> {
 }
 
 /// Appends the lines of JSON of the ways to a package; one without a path where there is no way.
-fn push_objects<'a>(
+fn push_objects(
     text: &mut String,
     alloc: Global,
-    graph: &Graph<'a>,
+    graph: &Graph<'_>,
     index: usize,
     ways: &[Way],
-    asked: &Asked<'a>,
+    asked: &Asked<'_>,
 ) -> Result<(), AllocError> {
     let Some(described) = graph.described(index) else {
         return Ok(());
