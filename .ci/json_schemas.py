@@ -183,7 +183,7 @@ def names_of(words):
             "features": "FeatureLine", "unified": "UnifiedLine"}.get(shown)]}[words[0]]
 
 
-def misfits(words, output, most=200):
+def misfits(words, output, most=20):
     """What is wrong with the first lines that a command printed, by the schemas of their types."""
     names = names_of(words)
     if not names or not output:

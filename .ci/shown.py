@@ -9,4 +9,4 @@ FORGING = (
 
 def is_shown(text):
     """Whether each character of lines is the space, a letter, a number, a punctuation mark or a symbol."""
-    return all(it in " \n" or unicodedata.category(it)[0] in "LNPS" for it in text)
+    return all(it in " \n" or unicodedata.category(it)[0] in "LNPS" for it in {*text})
