@@ -88,8 +88,9 @@ class Trial:
         lie there then, and the processor seconds that it took."""
         with tempfile.TemporaryDirectory(dir=self.room) as room:
             folder, said = pathlib.Path(room) / self.crate, pathlib.Path(room) / "said"
-            left_out = [*LEFT_OUT, *([] if has_answers else ["Answers.antt"])]
-            shutil.copytree(self.source, folder, ignore=shutil.ignore_patterns(*left_out))
+            shutil.copytree(self.source, folder, ignore=shutil.ignore_patterns(*LEFT_OUT))
+            for file in [] if has_answers else folder.glob("proofs/**/Answers.antt"):
+                file.unlink()
             for path, text in texts.items():
                 (folder / path).write_text(text, encoding="utf-8")
             words = [kit() / "bin" / "rattle", "check", *self.words, *given]
