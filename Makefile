@@ -6,8 +6,8 @@
 # make mutants    judges all mutants, and writes the record of them; ONLY=".." judges those of some crates
 # make build  proves and builds both programs, and says where they are
 # make install PREFIX=..  proves and installs both programs, manifest_check as cargo-manifest-check too, with a man page
-#             and completions; where a C compiler is, it does what `make install-c` does too. UNPROVED=yes proves nothing,
-#             and installs the programs alone, marked as unproved builds
+#             and completions; where a C compiler is, it does what `make install-c` does too. UNPROVED=yes proves
+#             nothing, and installs the programs alone, marked as unproved builds
 # make c-library  proves and builds the library for C, and says where it is
 # make install-c PREFIX=..  puts the library for C, its header, a file for pkg-config and the Python package in place
 # make wheel  builds a wheel of the Python package, with the shared library in it, into out/wheel

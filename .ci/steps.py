@@ -9,7 +9,6 @@ committed in .ci/earlier-runs.json.
 """
 import json
 import os
-import pathlib
 import re
 import subprocess
 import threading
@@ -17,9 +16,10 @@ import time
 from typing import NamedTuple
 
 from crates import ROOT
+from kept import folder_of_judgements
 
 LOGS = ROOT / "out" / "log"
-CACHE = pathlib.Path(os.environ.get("XDG_CACHE_HOME") or pathlib.Path.home() / ".cache") / "nevgrasi"
+CACHE = folder_of_judgements().parent
 EARLIER = (CACHE / "runs.json", ROOT / ".ci" / "earlier-runs.json")
 
 # After so many seconds in which nothing was printed, a line says what is running.
@@ -163,7 +163,8 @@ class Run:
             self.processors += usage.ru_utime + usage.ru_stime
             log.write(f"the step ended with status {process.returncode}\n")
         seconds = time.monotonic() - self.running.pop(step.name)
-        self.times[step.name] = {"seconds": round(seconds), "marks": {k: round(v) for k, v in self.marks[step.name].items()}}
+        marks = {mark: round(at) for mark, at in self.marks[step.name].items()}
+        self.times[step.name] = {"seconds": round(seconds), "marks": marks}
         self.end(step, process.returncode, count if step.counts else last, told, usage.ru_utime + usage.ru_stime)
 
     def end(self, step, status, last, told, used=0):
