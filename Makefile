@@ -29,9 +29,9 @@
 # make try-c      the library for C, Python and Rust, called from each; it needs a C compiler
 # make pages      what the pages say, beside what it is said of; `.ci/promises --write` makes their lists anew
 # make depths     the programs on the deepest conditions that their inputs hold
-.PHONY: try lint run test prove mutants build install install-programs c-library install-c wheel dist take measure \
-	targets fmt fits refusals second-reader statuses manifests workspaces graphs relations cargo-select try-c pages \
-	depths rt
+.PHONY: try lint run test prove mutants build install install-programs say-how-long c-library install-c \
+	wheel dist take measure targets fmt fits refusals second-reader statuses manifests workspaces graphs \
+	relations cargo-select try-c pages depths rt
 
 PROGRAM := crates/platform_check
 CHECK := crates/manifest_check
@@ -76,11 +76,15 @@ install-programs:
 	install -d "$(DESTDIR)$(PREFIX)/share"
 	cp -R share/. "$(DESTDIR)$(PREFIX)/share"
 
+say-how-long:
+	@echo "proving both programs and every crate below them: the first time, this takes nearly as long as \`make prove\`"
+	@echo "\`make install UNPROVED=yes\` takes minutes and proves nothing"
+
 ifdef UNPROVED
 install: try install-programs
 	@echo "installed unproved builds: \`manifest_check --version\` says so"
 else
-install: build install-programs
+install: say-how-long build install-programs
 	@! command -v $(CC) > /dev/null || $(MAKE) --no-print-directory install-c
 endif
 

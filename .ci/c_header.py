@@ -2,12 +2,13 @@
 for Rust.
 
 `include/nevgrasi.h` and `rust/nevgrasi/src/raw.rs` have to be these texts: `.ci/c-library` compares them, and
-`.ci/c-library --header` writes them anew.
+`.ci/c-library --header` writes them anew. What stands before the declarations is written by hand, in the files.
 """
 import re
 import textwrap
 
 from crates import ROOT
+from sources import documented
 
 HEADER = ROOT / "include" / "nevgrasi.h"
 RAW = ROOT / "rust" / "nevgrasi" / "src" / "raw.rs"
@@ -16,78 +17,27 @@ OUTCOME = ROOT / "crates" / "byte_answers" / "src" / "outcome.rt"
 DEPTH = ROOT / "crates" / "byte_answers" / "src" / "depth.rt"
 TABLE = ROOT / "crates" / "known_targets" / "src" / "table.rt"
 
-# What each type of a parameter is for C, where NAME is the parameter's name.
+# What each type of a parameter is for C, and for Rust, where NAME is the parameter's name.
 PARAMETERS = {
-    "&[u8]": ["const uint8_t *NAME", "size_t NAME_length"],
-    "&mut [u8]": ["uint8_t *NAME", "size_t NAME_length"],
-    "&mut [u64; WORDS]": ["uint64_t NAME[NEVGRASI_WORDS]"],
-    "&mut Outcome": ["nevgrasi_outcome *NAME"],
-    "usize": ["size_t NAME"],
-    "u64": ["uint64_t NAME"],
-    "Global": [],
+    "&[u8]": (["const uint8_t *NAME", "size_t NAME_length"], ["NAME: *const u8", "NAME_length: usize"]),
+    "&mut [u8]": (["uint8_t *NAME", "size_t NAME_length"], ["NAME: *mut u8", "NAME_length: usize"]),
+    "&mut [u64; WORDS]": (["uint64_t NAME[NEVGRASI_WORDS]"], ["NAME: *mut [u64; WORDS]"]),
+    "&mut Outcome": (["nevgrasi_outcome *NAME"], ["NAME: *mut Outcome"]),
+    "usize": (["size_t NAME"], ["NAME: usize"]),
+    "u64": (["uint64_t NAME"], ["NAME: u64"]),
+    "Global": ([], []),
 }
+FOR_C, FOR_RUST = 0, 1
 FIELDS = {"u32": "uint32_t", "bool": "bool", "usize": "size_t"}
 
-# The same for Rust.
-RUST_PARAMETERS = {
-    "&[u8]": ["NAME: *const u8", "NAME_length: usize"],
-    "&mut [u8]": ["NAME: *mut u8", "NAME_length: usize"],
-    "&mut [u64; WORDS]": ["NAME: *mut [u64; WORDS]"],
-    "&mut Outcome": ["NAME: *mut Outcome"],
-    "usize": ["NAME: usize"],
-    "u64": ["NAME: u64"],
-    "Global": [],
-}
-RUST_FRONT = """\
-//! The calls of the library, as its header has them: made by `.ci/c-library --header` of the exports.
-#![allow(dead_code)]
-
-/// How a call ended.
-#[repr(C)]
-#[derive(Clone, Copy, Default)]
-pub struct Outcome {"""
-
-FRONT = """\
-/* Target conditions of Cargo manifests: read, printed, matched and compared by proved code.
-
-   This file is made of crates/nevgrasi_c/src/lib.rt by .ci/c-library --header.
-
-   What a caller owes, and nothing checks:
-   - A pointer with a length names so many bytes that may be read, or for `out` be written, through the call. Null is
-     fine with the length 0. `out`, `words` and `outcome` overlap nothing else of the call.
-   - `out` and `words` hold bytes that were written once, as zeros.
-   - malloc, realloc and free are of one allocator. No call is made from a signal handler.
-   - Some stack: the tests make calls at NEVGRASI_MOST_OPEN and NEVGRASI_MOST_FLAT_BYTES with 8 MiB of it.
-   Calls share nothing: they may be made from many threads at once.
-
-   A call answers a code, which stands in `outcome` too. An answer in `out` has `needed` bytes: where `out` is as long,
-   it begins with them, and where it is shorter, none is written, and the call may be made again with more room.
-
-   With NEVGRASI_REFUSED, `out` has the message, and the bytes from `start` to `end` of the text are the fault. The text
-   is the one of the call's texts that `argument` counts from 0.
-
-   An example is texts, one after the other, each behind its length: 8 bytes, the low one first. With `is_named` the
-   first is the name of the target, and each other one is a fact. */
-#ifndef NEVGRASI_H
-#define NEVGRASI_H
-#include <stdbool.h>
-#include <stddef.h>
-#include <stdint.h>
-#ifdef __cplusplus
-extern "C" {
-#endif
-"""
-END = """
-#ifdef __cplusplus
-}
-#endif
-#endif
-"""
+# What begins and ends the generated part of each file; around it the file is written by hand.
+FRONT, END = 'extern "C" {\n#endif\n', "\n#ifdef __cplusplus\n}"
+RUST_FRONT = "pub struct Outcome {"
 
 
-def comment(lines, indent=""):
+def comment(text, indent=""):
     """A comment of C that says what a doc comment says. The calls and constants in it get their names of C."""
-    text = re.sub(r"`(?:NEVGRASI_)?([A-Z][A-Z_]+\d*)`", r"NEVGRASI_\1", " ".join(lines))
+    text = re.sub(r"`(?:NEVGRASI_)?([A-Z][A-Z_]+\d*)`", r"NEVGRASI_\1", text)
     return wrapped(f"/* {text}\N{NO-BREAK SPACE}*/", indent, f"{indent}   ")
 
 
@@ -97,69 +47,60 @@ def wrapped(text, first, others):
     return "\n".join(lines).replace("\N{NO-BREAK SPACE}", " ")
 
 
-def documented(text, pattern):
-    """Each match of the pattern below a doc comment, with the comment's lines."""
-    found = re.finditer(rf"((?:^ *///.*\n)+)(?:^ *#\[.*\n)*^ *{pattern}", text, re.M)
-    return [([line.strip()[3:].strip() for line in it[1].splitlines()], it) for it in found]
-
-
 def stated():
-    """The codes and limits: the lines of their comments, their names and types, and what they are."""
+    """The codes and limits: their comments, their names and types, and what they are."""
     for file in (OUTCOME, DEPTH, EXPORTS, TABLE):
-        for lines, it in documented(file.read_text(), r"pub const (\w+): (u32|usize) = ([\d_]+);"):
-            yield lines, "TARGETS" if it[2] == "COUNT" else it[2], it[3], it[4].replace("_", "")
+        for text, _, (name, kind, value) in documented(file.read_text(), r"pub const (\w+): (u32|usize) = ([\d_]+);"):
+            yield text, "TARGETS" if name == "COUNT" else name, kind, value.replace("_", "")
 
 
 def constants():
     """The codes and limits, with their comments, as lines."""
-    for lines, name, _, value in stated():
-        yield comment(lines)
+    for text, name, _, value in stated():
+        yield comment(text)
         yield f"#define NEVGRASI_{name} {value}"
 
 
 def fields():
-    """The fields of an outcome."""
-    body = OUTCOME.read_text().partition("pub struct Outcome {")[2].partition("\n}")[0]
-    for lines, it in documented(body, r"pub (\w+): (\w+),"):
-        yield comment(lines, "    ")
-        yield f"    {FIELDS[it[3]]} {it[2]};"
+    """The fields of an outcome: their comments, names and types."""
+    body = OUTCOME.read_text().partition("pub struct Outcome {\n")[2].partition("\n}")[0]
+    return [(text, name, kind) for text, _, (name, kind) in documented(body, r"pub (\w+): (\w+),")]
 
 
-def exports(kinds):
-    """Each export: the lines of its comment, its name, and its parameters, by what each type is."""
+def exports(language):
+    """Each export: its comment, its name, and its parameters in a language."""
     pattern = r'pub extern "C" fn (\w+)\(([^)]*)\) -> u32'
-    for lines, it in documented(EXPORTS.read_text(), pattern):
-        words = [word.strip().partition(": ") for word in it[3].split(",") if word.strip()]
-        parameters = [part.replace("NAME", name) for name, _, kind in words for part in kinds[kind]]
-        yield lines, it[2], parameters
+    for text, _, (name, listed) in documented(EXPORTS.read_text(), pattern):
+        words = [word.strip().partition(": ") for word in listed.split(",") if word.strip()]
+        yield text, name, [part.replace("NAME", it) for it, _, kind in words for part in PARAMETERS[kind][language]]
 
 
 def header():
     """The text of the header."""
-    parts = [FRONT, *constants(), "\n/* How a call ended. */\ntypedef struct {", *fields(), "} nevgrasi_outcome;"]
-    for lines, name, parameters in exports(PARAMETERS):
+    front, _, made = HEADER.read_text().partition(FRONT)
+    parts = [front + FRONT, *constants(), "\n/* How a call ended. */\ntypedef struct {"]
+    parts += [f"{comment(text, '    ')}\n    {FIELDS[kind]} {name};" for text, name, kind in fields()]
+    parts += ["} nevgrasi_outcome;"]
+    for text, name, parameters in exports(FOR_C):
         listed = ", ".join(part.replace(" ", "\N{NO-BREAK SPACE}") for part in parameters) or "void"
-        parts.append(f"\n{comment(lines)}\n{wrapped(f'uint32_t {name}({listed});', '', '    ')}")
-    return "\n".join(parts) + "\n" + END
+        parts.append(f"\n{comment(text)}\n{wrapped(f'uint32_t {name}({listed});', '', '    ')}")
+    return "\n".join(parts) + "\n" + END + made.rpartition(END)[2]
 
 
-def documented_in_rust(lines, indent):
+def comment_in_rust(text, indent=""):
     """A doc comment of Rust."""
-    return textwrap.fill(" ".join(lines), 120, initial_indent=f"{indent}/// ", subsequent_indent=f"{indent}/// ")
+    return textwrap.fill(text, 120, initial_indent=f"{indent}/// ", subsequent_indent=f"{indent}/// ")
 
 
 def raw():
     """The text of the declarations for Rust."""
-    body = OUTCOME.read_text().partition("pub struct Outcome {")[2].partition("\n}")[0]
-    parts = [RUST_FRONT]
-    for lines, it in documented(body, r"pub (\w+): (\w+),"):
-        parts += [documented_in_rust(lines, "    "), f"    pub {it[2]}: {it[3]},"]
-    parts.append("}\n")
-    for lines, name, kind, value in stated():
-        parts += [documented_in_rust(lines, ""), f"pub const {name}: {kind} = {value};"]
-    parts.append('\nextern "C" {')
-    for lines, name, parameters in exports(RUST_PARAMETERS):
+    parts = [RAW.read_text().partition(RUST_FRONT)[0] + RUST_FRONT]
+    parts += [f"{comment_in_rust(text, '    ')}\n    pub {name}: {kind}," for text, name, kind in fields()]
+    parts += ["}\n"]
+    parts += [f"{comment_in_rust(text)}\npub const {name}: {kind} = {value};" for text, name, kind, value in stated()]
+    parts += ['\nextern "C" {']
+    for text, name, parameters in exports(FOR_RUST):
         listed = "".join(f"        {it},\n" for it in parameters)
         listed = f"\n{listed}    " if listed else ""
-        parts += [documented_in_rust(lines, "    "), f"    pub fn {name}({listed}) -> u32;"]
+        parts += [comment_in_rust(text, "    "), f"    pub fn {name}({listed}) -> u32;"]
     return "\n".join(parts) + "\n}\n"

@@ -34,46 +34,31 @@ typedef uint32_t call(const question *, uint8_t *, size_t, nevgrasi_outcome *);
 /* How many splits a comparison may make. */
 static _Thread_local uint64_t splits = 1000;
 
-#define ONE(export) \
+#define TEXT(k) q->texts[k], q->lengths[k]
+#define CALL(export, ...) \
     static uint32_t export(const question *q, uint8_t *out, size_t size, nevgrasi_outcome *o) { \
-        return nevgrasi_##export(q->texts[0], q->lengths[0], out, size, o); \
+        return nevgrasi_##export(__VA_ARGS__, out, size, o); \
     }
-#define TWO(export) \
-    static uint32_t export(const question *q, uint8_t *out, size_t size, nevgrasi_outcome *o) { \
-        return nevgrasi_##export(q->texts[0], q->lengths[0], q->texts[1], q->lengths[1], splits, out, size, o); \
-    }
+CALL(canonical, TEXT(0))
+CALL(fault, TEXT(0))
+CALL(facts, TEXT(0))
+CALL(read_key, TEXT(0))
+CALL(flat_print, TEXT(0))
+CALL(implies, TEXT(0), TEXT(1), splits)
+CALL(equivalent, TEXT(0), TEXT(1), splits)
+CALL(excludes, TEXT(0), TEXT(1), splits)
+CALL(can_hold, TEXT(0), splits)
+CALL(matches, TEXT(0), TEXT(1), TEXT(2))
+CALL(targets, TEXT(0), (uint64_t[NEVGRASI_WORDS]){0})
+CALL(graph, TEXT(0), TEXT(1))
+CALL(target_name, q->lengths[1])
 static uint32_t version(const question *q, uint8_t *out, size_t size, nevgrasi_outcome *o) {
     (void)q;
     return nevgrasi_version(out, size, o);
 }
-ONE(canonical)
-ONE(fault)
-ONE(facts)
-ONE(read_key)
-ONE(flat_print)
-TWO(implies)
-TWO(equivalent)
-TWO(excludes)
-static uint32_t can_hold(const question *q, uint8_t *out, size_t size, nevgrasi_outcome *o) {
-    return nevgrasi_can_hold(q->texts[0], q->lengths[0], splits, out, size, o);
-}
-static uint32_t matches(const question *q, uint8_t *out, size_t size, nevgrasi_outcome *o) {
-    return nevgrasi_matches(q->texts[0], q->lengths[0], q->texts[1], q->lengths[1], q->texts[2], q->lengths[2], out,
-                            size, o);
-}
-static uint32_t targets(const question *q, uint8_t *out, size_t size, nevgrasi_outcome *o) {
-    uint64_t words[NEVGRASI_WORDS] = {0};
-    return nevgrasi_targets(q->texts[0], q->lengths[0], words, out, size, o);
-}
-static uint32_t graph(const question *q, uint8_t *out, size_t size, nevgrasi_outcome *o) {
-    return nevgrasi_graph(q->texts[0], q->lengths[0], q->texts[1], q->lengths[1], out, size, o);
-}
-static uint32_t target_name(const question *q, uint8_t *out, size_t size, nevgrasi_outcome *o) {
-    return nevgrasi_target_name(q->lengths[1], out, size, o);
-}
 static uint32_t flat_matches(const question *q, uint8_t *out, size_t size, nevgrasi_outcome *o) {
     (void)out, (void)size;
-    return nevgrasi_flat_matches(q->texts[0], q->lengths[0], q->texts[1], q->lengths[1], q->texts[2], q->lengths[2], o);
+    return nevgrasi_flat_matches(TEXT(0), TEXT(1), TEXT(2), o);
 }
 
 /* Bytes of their own block, so that AddressSanitizer sees a read past them. */
@@ -83,11 +68,12 @@ static const uint8_t *copied(const void *bytes, size_t size) {
     return copy;
 }
 
-static question asked(const char *name, const char *first, const char *second, const char *third) {
-    const char *texts[3] = {first, second, third};
+/* A question of up to three texts; those that are left out are empty. */
+#define ASKED(name, ...) asked(name, (const char *[3]){__VA_ARGS__})
+static question asked(const char *name, const char **texts) {
     question q = {name, {0}, {0}};
     for (int k = 0; k < 3; k++) {
-        q.lengths[k] = strlen(texts[k]);
+        q.lengths[k] = texts[k] ? strlen(texts[k]) : 0;
         q.texts[k] = copied(texts[k], q.lengths[k]);
     }
     return q;
@@ -197,14 +183,21 @@ static const char PACKAGES[] =
     "{\"package\": \"b 0.1.0\", \"id\": \"b\", \"license\": null, \"targets\": 1, "
     "\"at\": [\"x86_64-apple-darwin\"], \"kinds\": [\"normal\"]}\n";
 
+/* A key of so many levels: `not(`, or groups that a member follows. */
+static char *nested(size_t levels, const char *before, const char *after) {
+    size_t size = levels * (strlen(before) + strlen(after)) + 8, at = 4;
+    char *key = malloc(size);
+    memcpy(key, "cfg(", 4);
+    for (size_t k = 0; k < levels; k++, at += strlen(before)) memcpy(key + at, before, strlen(before));
+    key[at++] = 'a';
+    for (size_t k = 0; k < levels; k++, at += strlen(after)) memcpy(key + at, after, strlen(after));
+    memcpy(key + at, ")", 2);
+    return key;
+}
+
 /* A document whose one condition has so many levels. */
 static void try_deep_graph(size_t levels, uint32_t code) {
-    char *key = malloc(levels * 5 + 7), *document = malloc(levels * 5 + 400);
-    size_t at = (size_t)sprintf(key, "cfg(");
-    for (size_t k = 0; k < levels; k++) at += (size_t)sprintf(key + at, "not(");
-    key[at++] = 'a';
-    memset(key + at, ')', levels + 1);
-    key[at + levels + 1] = 0;
+    char *key = nested(levels, "not(", ")"), *document = malloc(levels * 5 + 400);
     sprintf(document, "{\"version\": 1, \"workspace_members\": [\"a\"], \"packages\": [{\"id\": \"a\", \"name\": "
             "\"a\", \"version\": \"1.0.0\", \"targets\": []}], \"resolve\": {\"nodes\": [{\"id\": \"a\", \"deps\": "
             "[{\"pkg\": \"a\", \"dep_kinds\": [{\"kind\": null, \"target\": \"%s\"}]}]}]}}", key);
@@ -216,13 +209,13 @@ static void try_deep_graph(size_t levels, uint32_t code) {
 }
 
 static void try_graph(void) {
-    try_call(graph, asked("graph", DOCUMENT, "", ""), NEVGRASI_DONE, PACKAGES);
-    try_call(graph, asked("graph on a host", DOCUMENT, "x86_64-unknown-linux-gnu", ""), NEVGRASI_DONE, PACKAGES);
-    try_call(graph, asked("graph on no target", DOCUMENT, "x", ""), NEVGRASI_UNKNOWN_TARGET, "");
-    try_call(graph, asked("graph of no text", "\xFF", "", ""), NEVGRASI_NOT_UTF8, "");
-    try_call(graph, asked("graph of no JSON", "[", "", ""), NEVGRASI_REFUSED, NULL);
-    try_call(graph, asked("graph of nothing", "", "", ""), NEVGRASI_REFUSED, NULL);
-    try_call(graph, asked("graph of another document", "{\"version\": 1}", "", ""), NEVGRASI_REFUSED,
+    try_call(graph, ASKED("graph", DOCUMENT), NEVGRASI_DONE, PACKAGES);
+    try_call(graph, ASKED("graph on a host", DOCUMENT, "x86_64-unknown-linux-gnu"), NEVGRASI_DONE, PACKAGES);
+    try_call(graph, ASKED("graph on no target", DOCUMENT, "x"), NEVGRASI_UNKNOWN_TARGET, "");
+    try_call(graph, ASKED("graph of no text", "\xFF"), NEVGRASI_NOT_UTF8, "");
+    try_call(graph, ASKED("graph of no JSON", "["), NEVGRASI_REFUSED, NULL);
+    try_call(graph, ASKED("graph of nothing", ""), NEVGRASI_REFUSED, NULL);
+    try_call(graph, ASKED("graph of another document", "{\"version\": 1}"), NEVGRASI_REFUSED,
              "packages: a list is wanted");
     try_deep_graph(NEVGRASI_MOST_OPEN - 1, NEVGRASI_DONE);
     try_deep_graph(NEVGRASI_MOST_OPEN, NEVGRASI_TOO_DEEP);
@@ -232,44 +225,44 @@ static void try_graph(void) {
 /* What hangs on the fact `a`, of which nothing is known, takes a split at least. */
 static void try_budget(void) {
     splits = 0;
-    try_call(implies, asked("implies without splits", "cfg(a)", "cfg(b)", ""), NEVGRASI_UNDECIDED, "");
-    try_call(equivalent, asked("equivalent without splits", "cfg(a)", "cfg(b)", ""), NEVGRASI_UNDECIDED, "");
-    try_call(excludes, asked("excludes without splits", "cfg(a)", "cfg(b)", ""), NEVGRASI_UNDECIDED, "");
-    try_call(can_hold, asked("can_hold without splits", "cfg(a)", "", ""), NEVGRASI_UNDECIDED, "");
+    try_call(implies, ASKED("implies without splits", "cfg(a)", "cfg(b)"), NEVGRASI_UNDECIDED, "");
+    try_call(equivalent, ASKED("equivalent without splits", "cfg(a)", "cfg(b)"), NEVGRASI_UNDECIDED, "");
+    try_call(excludes, ASKED("excludes without splits", "cfg(a)", "cfg(b)"), NEVGRASI_UNDECIDED, "");
+    try_call(can_hold, ASKED("can_hold without splits", "cfg(a)"), NEVGRASI_UNDECIDED, "");
     splits = 1000;
 }
 
 static void try_answers(void) {
-    try_call(version, asked("version", "", "", ""), NEVGRASI_DONE, NULL);
-    try_call(canonical, asked("canonical", KEY, "", ""), NEVGRASI_DONE, "cfg(all(unix, not(target_os = \"macos\")))");
-    try_call(canonical, asked("canonical of nothing", "", "", ""), NEVGRASI_DONE, "");
-    try_call(canonical, asked("canonical, refused", "cfg(all(a b))", "", ""), NEVGRASI_REFUSED,
+    try_call(version, ASKED("version", ""), NEVGRASI_DONE, NULL);
+    try_call(canonical, ASKED("canonical", KEY), NEVGRASI_DONE, "cfg(all(unix, not(target_os = \"macos\")))");
+    try_call(canonical, ASKED("canonical of nothing", ""), NEVGRASI_DONE, "");
+    try_call(canonical, ASKED("canonical, refused", "cfg(all(a b))"), NEVGRASI_REFUSED,
              "failed to parse `all(a b)` as a cfg expression: expected `)`, found an identifier");
-    try_call(canonical, asked("canonical of no text", "cfg(\xFF)", "", ""), NEVGRASI_NOT_UTF8, "");
-    try_call(fault, asked("fault", "cfg(all(a b))", "", ""), NEVGRASI_REFUSED,
+    try_call(canonical, ASKED("canonical of no text", "cfg(\xFF)"), NEVGRASI_NOT_UTF8, "");
+    try_call(fault, ASKED("fault", "cfg(all(a b))"), NEVGRASI_REFUSED,
              "cfg(all(a b))\n          ^ expected `)`, found an identifier");
-    try_call(fault, asked("fault of none", "cfg(a)", "", ""), NEVGRASI_DONE, "");
-    try_call(matches, asked("matches", KEY, "x", "unix\n"), NEVGRASI_DONE, "");
-    try_call(matches, asked("matches, a line refused", KEY, "x", "unix\n=\n"), NEVGRASI_REFUSED,
+    try_call(fault, ASKED("fault of none", "cfg(a)"), NEVGRASI_DONE, "");
+    try_call(matches, ASKED("matches", KEY, "x", "unix\n"), NEVGRASI_DONE, "");
+    try_call(matches, ASKED("matches, a line refused", KEY, "x", "unix\n=\n"), NEVGRASI_REFUSED,
              "line 2: failed to parse `=` as a cfg expression: expected identifier, found `=`");
-    try_call(matches, asked("matches, no text", KEY, "\xFF", ""), NEVGRASI_NOT_UTF8, "");
-    try_call(targets, asked("targets", KEY, "", ""), NEVGRASI_DONE, "");
-    try_call(target_name, asked("target_name", "", "", ""), NEVGRASI_DONE, "aarch64-apple-darwin");
-    try_call(facts, asked("facts", "x86_64-unknown-linux-gnu", "", ""), NEVGRASI_DONE, NULL);
-    try_call(facts, asked("facts of none", "x86", "", ""), NEVGRASI_UNKNOWN_TARGET, "");
-    try_call(implies, asked("implies", "cfg(all(a, b))", "cfg(a)", ""), NEVGRASI_DONE, "");
-    try_example(implies, asked("implies, an example", "cfg(a)", "cfg(b)", ""), 0, "a", NULL);
-    try_example(implies, asked("implies, a name", "x", "y", ""), 1, "x", NULL);
-    try_example(implies, asked("implies, a name and a fact", "x", "cfg(not(a))", ""), 1, "x", "a");
-    try_example(implies, asked("implies, a value of two lines", "cfg(a = \"\nb\n\")", "cfg(b)", ""), 0,
+    try_call(matches, ASKED("matches, no text", KEY, "\xFF"), NEVGRASI_NOT_UTF8, "");
+    try_call(targets, ASKED("targets", KEY), NEVGRASI_DONE, "");
+    try_call(target_name, ASKED("target_name", ""), NEVGRASI_DONE, "aarch64-apple-darwin");
+    try_call(facts, ASKED("facts", "x86_64-unknown-linux-gnu"), NEVGRASI_DONE, NULL);
+    try_call(facts, ASKED("facts of none", "x86"), NEVGRASI_UNKNOWN_TARGET, "");
+    try_call(implies, ASKED("implies", "cfg(all(a, b))", "cfg(a)"), NEVGRASI_DONE, "");
+    try_example(implies, ASKED("implies, an example", "cfg(a)", "cfg(b)"), 0, "a", NULL);
+    try_example(implies, ASKED("implies, a name", "x", "y"), 1, "x", NULL);
+    try_example(implies, ASKED("implies, a name and a fact", "x", "cfg(not(a))"), 1, "x", "a");
+    try_example(implies, ASKED("implies, a value of two lines", "cfg(a = \"\nb\n\")", "cfg(b)"), 0,
                 "a = \"\nb\n\"", NULL);
-    try_call(implies, asked("implies, the second refused", "cfg(a)", "cfg(", ""), NEVGRASI_REFUSED, NULL);
-    try_call(equivalent, asked("equivalent", "cfg(a)", "cfg(all(a))", ""), NEVGRASI_DONE, "");
-    try_call(excludes, asked("excludes", "cfg(a)", "cfg(not(a))", ""), NEVGRASI_DONE, "");
-    try_example(can_hold, asked("can_hold", "cfg(a)", "", ""), 0, "a", NULL);
-    try_example(can_hold, asked("can_hold, no name", "cfg(not(a))", "", ""), 0, NULL, NULL);
-    try_call(read_key, asked("read_key", KEY, "", ""), NEVGRASI_DONE, NULL);
-    try_call(flat_print, asked("flat_print of no tree", "x", "", ""), NEVGRASI_NOT_FLAT, "");
+    try_call(implies, ASKED("implies, the second refused", "cfg(a)", "cfg("), NEVGRASI_REFUSED, NULL);
+    try_call(equivalent, ASKED("equivalent", "cfg(a)", "cfg(all(a))"), NEVGRASI_DONE, "");
+    try_call(excludes, ASKED("excludes", "cfg(a)", "cfg(not(a))"), NEVGRASI_DONE, "");
+    try_example(can_hold, ASKED("can_hold", "cfg(a)"), 0, "a", NULL);
+    try_example(can_hold, ASKED("can_hold, no name", "cfg(not(a))"), 0, NULL, NULL);
+    try_call(read_key, ASKED("read_key", KEY), NEVGRASI_DONE, NULL);
+    try_call(flat_print, ASKED("flat_print of no tree", "x"), NEVGRASI_NOT_FLAT, "");
 }
 
 /* Where a call has several texts, it tells of which one is refused, and where in it. */
@@ -281,18 +274,18 @@ static void try_place(call *made, question q, uint32_t code, uint32_t argument, 
 }
 
 static void try_places(void) {
-    try_place(canonical, asked("a key", "cfg(all(a b))", "", ""), NEVGRASI_REFUSED, 0, 10, 11);
-    try_place(fault, asked("a key, shown", "cfg(all(a b))", "", ""), NEVGRASI_REFUSED, 0, 10, 11);
-    try_place(matches, asked("a key of matches", "a b", "", ""), NEVGRASI_REFUSED, 0, 1, 2);
-    try_place(matches, asked("a name", "a", "\xFF", ""), NEVGRASI_NOT_UTF8, 1, 0, 0);
-    try_place(matches, asked("lines", "a", "", "\xFF"), NEVGRASI_NOT_UTF8, 2, 0, 0);
-    try_place(matches, asked("a line", "a", "", "unix\n=\n"), NEVGRASI_REFUSED, 2, 5, 6);
-    try_place(implies, asked("a first key", "a b", "a b", ""), NEVGRASI_REFUSED, 0, 1, 2);
-    try_place(implies, asked("a second key", "a", "cfg(a b)", ""), NEVGRASI_REFUSED, 1, 6, 7);
-    try_place(excludes, asked("a second key, no text", "a", "\xC3", ""), NEVGRASI_NOT_UTF8, 1, 0, 0);
-    try_place(graph, asked("a host", DOCUMENT, "\xFF", ""), NEVGRASI_NOT_UTF8, 1, 0, 0);
-    try_place(graph, asked("a host, unknown", DOCUMENT, "x", ""), NEVGRASI_UNKNOWN_TARGET, 1, 0, 0);
-    try_place(flat_matches, asked("flat bytes", "x", "", ""), NEVGRASI_NOT_FLAT, 0, 0, 0);
+    try_place(canonical, ASKED("a key", "cfg(all(a b))"), NEVGRASI_REFUSED, 0, 10, 11);
+    try_place(fault, ASKED("a key, shown", "cfg(all(a b))"), NEVGRASI_REFUSED, 0, 10, 11);
+    try_place(matches, ASKED("a key of matches", "a b"), NEVGRASI_REFUSED, 0, 1, 2);
+    try_place(matches, ASKED("a name", "a", "\xFF"), NEVGRASI_NOT_UTF8, 1, 0, 0);
+    try_place(matches, ASKED("lines", "a", "", "\xFF"), NEVGRASI_NOT_UTF8, 2, 0, 0);
+    try_place(matches, ASKED("a line", "a", "", "unix\n=\n"), NEVGRASI_REFUSED, 2, 5, 6);
+    try_place(implies, ASKED("a first key", "a b", "a b"), NEVGRASI_REFUSED, 0, 1, 2);
+    try_place(implies, ASKED("a second key", "a", "cfg(a b)"), NEVGRASI_REFUSED, 1, 6, 7);
+    try_place(excludes, ASKED("a second key, no text", "a", "\xC3"), NEVGRASI_NOT_UTF8, 1, 0, 0);
+    try_place(graph, ASKED("a host", DOCUMENT, "\xFF"), NEVGRASI_NOT_UTF8, 1, 0, 0);
+    try_place(graph, ASKED("a host, unknown", DOCUMENT, "x"), NEVGRASI_UNKNOWN_TARGET, 1, 0, 0);
+    try_place(flat_matches, ASKED("flat bytes", "x"), NEVGRASI_NOT_FLAT, 0, 0, 0);
 }
 
 /* The flat form of a key, in a block of its own length. */
@@ -350,18 +343,6 @@ static void try_flat_forms(void) {
         expect(code == NEVGRASI_DONE && !strcmp((char *)text, keys[k]), "a flat form", keys[k]);
         free(flat);
     }
-}
-
-/* A key of so many levels: `not(`, or groups that a member follows. */
-static char *nested(size_t levels, const char *before, const char *after) {
-    size_t size = levels * (strlen(before) + strlen(after)) + 8, at = 4;
-    char *key = malloc(size);
-    memcpy(key, "cfg(", 4);
-    for (size_t k = 0; k < levels; k++, at += strlen(before)) memcpy(key + at, before, strlen(before));
-    key[at++] = 'a';
-    for (size_t k = 0; k < levels; k++, at += strlen(after)) memcpy(key + at, after, strlen(after));
-    memcpy(key + at, ")", 2);
-    return key;
 }
 
 /* As many levels as a text may have, and one more. The `cfg(` is one of them. */
@@ -496,7 +477,7 @@ int main(int count, char **words) {
     try_budget();
     try_graph();
     try_places();
-    question flat = asked("flat_matches", "", "x", "");
+    question flat = ASKED("flat_matches", "", "x");
     size_t size;
     free((void *)flat.texts[0]);
     flat.texts[0] = flat_of(KEY, &size);

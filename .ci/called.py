@@ -42,6 +42,12 @@ def words_given(told):
     return words
 
 
+def start(main, told):
+    """Runs a script with this docstring, which ends with the status that `main` returns."""
+    words_given(told)
+    sys.exit(main())
+
+
 class Options(argparse.ArgumentParser):
     """Options in any order, of a script with this docstring."""
 

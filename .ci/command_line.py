@@ -1,6 +1,7 @@
 """The command line of manifest_check, as crates/command_line states it: its subcommands with their arguments.
 
-The rows there are constants of Rust: structs, lists, strings, and names of other constants.
+The rows there are constants of Rust: structs, lists, strings, and names of other constants. As expressions of Python
+these are calls with named arguments.
 """
 import re
 from typing import NamedTuple
@@ -9,11 +10,14 @@ from crates import ROOT
 
 SOURCE = ROOT / "crates" / "command_line" / "src" / "arguments.rt"
 
-# A string, a letter, a name with its path, or one mark.
-PIECE = re.compile(
-    r"""\s*(?:"(?P<text>(?:[^"\\]|\\.)*)"|'(?P<letter>\w)'|(?P<name>[A-Za-z_][\w:]*)|(?P<mark>[^\s\w"]))""", re.S
-)
-ESCAPED = {"n": "\n", '"': '"', "\\": "\\"}
+CONSTANT = re.compile(r"^const (\w+): [^=]+ =\s+(.*?);\n\n", re.S | re.M)
+
+# A string, and what Python writes otherwise: the name of a field, the braces of a struct, a reference, and a path.
+PIECE = re.compile(r'(?P<text>"(?:[^"\\]|\\.)*")|(?P<field>\w+):(?!:)|(?P<open>\{)|(?P<close>\})|&|Given::', re.S)
+
+# What may be given to an argument.
+KINDS = ("Flag", "ShortFlag", "Value", "ValueWithout", "OneOf", "Number", "Positive", "Values", "ShortValues", "Place",
+         "Places", "Needed")
 
 
 class Argument(NamedTuple):
@@ -49,72 +53,24 @@ class Subcommand(NamedTuple):
     arguments: list
 
 
-def without_escapes(text):
-    """The value of a string, of which a line that ends in `\\` goes on at the next one's first character."""
-    return re.sub(r"\\(\n\s*|.)", lambda it: ESCAPED.get(it[1], ""), text)
+def argument(name, given, help):
+    kind, *parts = given() if callable(given) else given
+    letter = parts.pop(0) if kind.startswith("Short") else ""
+    return Argument(name, letter, kind, parts[0] if parts else "", parts[1] if kind == "OneOf" else [], help)
 
 
-class Letter(str):
-    """A character of Rust."""
-
-
-class Reader:
-    """Reads the value of a constant."""
-
-    def __init__(self, text, constants):
-        self.pieces, self.at, self.constants = [*PIECE.finditer(text)], 0, constants
-
-    def take(self, mark):
-        """Whether this mark is next. It is passed over then."""
-        found = self.at < len(self.pieces) and self.pieces[self.at]["mark"] == mark
-        self.at += found
-        return found
-
-    def all_until(self, mark):
-        found = []
-        while not self.take(mark):
-            found.append(self.value())
-            self.take(",")
-        return found
-
-    def value(self):
-        if self.take("&"):
-            return self.value()
-        if self.take("["):
-            return self.all_until("]")
-        piece = self.pieces[self.at]
-        self.at += 1
-        if piece["text"] is not None:
-            return without_escapes(piece["text"])
-        if piece["letter"]:
-            return Letter(piece["letter"])
-        if self.take("("):
-            return (piece["name"].rpartition(":")[2], *self.all_until(")"))
-        if self.take("{"):
-            fields = {}
-            while not self.take("}"):
-                field, self.at = self.pieces[self.at]["name"].rstrip(":"), self.at + 1
-                self.take(":")
-                fields[field] = self.value()
-                self.take(",")
-            return made(piece["name"], fields)
-        return self.constants.get(piece["name"]) or (piece["name"].rpartition(":")[2],)
-
-
-def made(kind, fields):
-    if kind == "Subcommand":
-        return Subcommand(*(fields[it] for it in Subcommand._fields))
-    how, *given = fields["given"]
-    letter = next((it for it in given if isinstance(it, Letter)), "")
-    value = next((it for it in given if isinstance(it, str) and not isinstance(it, Letter)), "")
-    words = [word for it in given if isinstance(it, list) for word in it]
-    return Argument(fields["name"], letter, how, value, words, fields["help"])
+def in_python(value):
+    """A constant's value as an expression of Python. A line of a string that ends in `\\` goes on at the next one's
+    first character."""
+    marks = {"text": lambda it: it["text"], "field": lambda it: f"{it['field']}=", "open": lambda _: "(",
+             "close": lambda _: ")", None: lambda _: ""}
+    return PIECE.sub(lambda it: marks[it.lastgroup](it), re.sub(r"\\\n\s*", "", value))
 
 
 def subcommands():
     """The subcommands, in the order of the help."""
-    constants = {}
-    text = SOURCE.read_text(encoding="utf-8")
-    for name, value in re.findall(r"^const (\w+): [^=]+ =\s+(.*?);\n\n", text, re.S | re.M):
-        constants[name] = Reader(value, constants).value()
-    return [*constants["ON_MANIFESTS"], *constants["ON_KEYS"], *constants["ON_GRAPHS"]]
+    names = {kind: lambda *parts, kind=kind: (kind, *parts) for kind in KINDS}
+    names |= {"Argument": argument, "Subcommand": Subcommand}
+    for name, value in CONSTANT.findall(SOURCE.read_text(encoding="utf-8")):
+        names[name] = eval(f"({in_python(value)})", names)
+    return [*names["ON_MANIFESTS"], *names["ON_KEYS"], *names["ON_GRAPHS"]]

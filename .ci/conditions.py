@@ -1,66 +1,127 @@
-"""Conditions that are hard to compare, as trees.
+"""Conditions as trees: how they are read, what they print, and where they are true.
 
-A tree is a fact as text, or an operator with the trees inside.
+A tree is a fact or a truth as it prints, as `unix`, `r#all`, `k = "v"` or `true`, or an operator with the trees inside.
+The reader goes by recursive descent, as crates/cargo_platform/GRAMMAR.md says it. It asks no program.
 """
-import itertools
-import random
+import re
 
-# Keys that have one value for a target, of those that are asked.
-ONE_VALUED = ["target_os", "target_env", "target_arch", "target_vendor"]
-
-
-def shown(e):
-    return e if isinstance(e, str) else e[0] + "(" + ", ".join(map(shown, e[1:])) + ")"
+CALLED = {"(": "`(`", ")": "`)`", ",": "`,`", "=": "`=`", "string": "a string", "name": "an identifier"}
+UNTERMINATED = "unterminated string in cfg"
+TOKEN = re.compile(
+    r'(?P<mark>[(),=])|"(?P<string>[^"]*)"|(?:(?P<raw>r#)|(?!r#))(?P<name>[A-Za-z_][A-Za-z0-9_]*)')
 
 
-def parity(names, odd=True):
-    """Whether an odd or an even number of the names holds, each half apart."""
-    if len(names) == 1:
-        return names[0] if odd else ("not", names[0])
-    a, b = names[:len(names) // 2], names[len(names) // 2:]
-    return ("any", ("all", parity(a), parity(b, not odd)), ("all", parity(a, False), parity(b, odd)))
+# A token is its kind, its value, where it begins, and where its own or its fault's span begins and ends. The value of a
+# fault is its message, and the character that is unexpected.
+def token_at(text, at):
+    while text.startswith(" ", at):
+        at += 1
+    if it := TOKEN.match(text, at):
+        value = (bool(it["raw"]), it["name"]) if it["name"] else it["string"]
+        return it["mark"] or ("name" if it["name"] else "string"), value, at, at, it.end()
+    if at == len(text):
+        return "end", None, at, at, at
+    if text[at] == '"':
+        return "fault", (UNTERMINATED, None), at, at, len(text)
+    first = at + 2 if text.startswith("r#", at) else at
+    if first == len(text):
+        return "fault", ("expected identifier, but cfg expression ended", None), at, first, first
+    expected = "expected parens, a comma, an identifier, or a string"
+    message = f"unexpected character `{text[first]}` in cfg, {expected}"
+    return "fault", (message, text[first]), at, first, first + 1
 
 
-def pigeonholes(pigeons, holes):
-    """Each pigeon sits in a hole, and no two in one."""
-    sits = [[f"p{i}h{j}" for j in range(holes)] for i in range(pigeons)]
-    apart = [("not", ("all", a[j], b[j])) for a, b in itertools.combinations(sits, 2) for j in range(holes)]
-    return ("all", *(("any", *row) for row in sits), *apart)
+def cut(text):
+    """The tokens of a text up to its end or its fault, which is the last one."""
+    tokens = [token_at(text, 0)]
+    while tokens[-1][0] not in ("end", "fault"):
+        tokens.append(token_at(text, tokens[-1][4]))
+    return tokens
 
 
-def literal(chance, names):
-    name = chance.choice(names)
-    return name if chance.random() < 0.5 else ("not", name)
+class Refused(Exception):
+    """A message, and where the fault begins and ends, in characters."""
 
 
-def nest(chance, names, depth):
-    if depth == 0:
-        return literal(chance, names)
-    members = [nest(chance, names, depth - 1) for _ in range(chance.randint(2, 4))]
-    return (chance.choice(["all", "any"]), *members)
+class Reader:
+    """Reads a tree from tokens."""
+
+    def __init__(self, tokens):
+        self.tokens, self.at = tokens, 0
+
+    def next(self):
+        return self.tokens[self.at][0]
+
+    def want(self, kind, expected=None, at_end=None):
+        found, value, _, start, end = self.tokens[self.at]
+        if found == kind:
+            self.at += 1
+            return value
+        expected = expected or CALLED[kind]
+        if found == "fault":
+            raise Refused(value[0], start, end)
+        if found == "end":
+            raise Refused(f"expected {at_end or expected}, but cfg expression ended", start, end)
+        raise Refused(f"expected {expected}, found {CALLED[found]}", start, end)
+
+    def fact_of(self, raw, name):
+        word = f"r#{name}" if raw else name
+        if self.next() != "=":
+            return word
+        self.at += 1
+        return f'{word} = "{self.want("string")}"'
+
+    def fact(self):
+        return self.fact_of(*self.want("name", "identifier"))
+
+    def expression(self):
+        raw, name = self.want("name", "identifier", "start of a cfg expression")
+        if raw or name not in ("all", "any", "not", "true", "false"):
+            return self.fact_of(raw, name)
+        if name in ("true", "false"):
+            return name
+        self.want("(")
+        members = [self.expression()] if name == "not" else self.members()
+        self.want(")")
+        return (name, *members)
+
+    def members(self):
+        members = []
+        while self.next() != ")":
+            members.append(self.expression())
+            if self.next() != ",":
+                break
+            self.at += 1
+        return members
 
 
-def clauses(chance, names, count):
-    return ("all", *(("any", *(literal(chance, names) for _ in range(3))) for _ in range(count)))
+def read(text, rule=Reader.expression, tokens=None):
+    """What the whole text is, or why it is refused."""
+    reader = Reader(tokens or cut(text))
+    try:
+        found = rule(reader)
+    except Refused as refused:
+        return refused
+    kind, _, at, _, _ = reader.tokens[reader.at]
+    if kind == "end":
+        return found
+    return Refused(f"unexpected content `{text[at:]}` found after cfg expression", at, len(text))
 
 
-def hard_pair(chance, kind):
-    count = chance.randint(21, 24)
-    names = [f"n{i}" for i in range(count)]
-    if kind == "parities":
-        return parity(names), parity(chance.sample(names, count))
-    if kind == "pigeonholes":
-        pigeons = chance.choice([5, 6])
-        return pigeonholes(pigeons, 4), ("all", nest(chance, names[:3], 2), pigeonholes(pigeons, 4))
-    if kind == "nests":
-        return nest(chance, names, 5), nest(chance, names, 5)
-    if kind == "one value":
-        values = [f'{ONE_VALUED[i % 4]} = "v{i // 4}"' for i in range(count)]
-        return clauses(chance, values, 4 * count), parity(values)
-    return clauses(chance, names, 4 * count), nest(chance, names, 4)
+def shown(tree):
+    """A tree as it prints."""
+    return tree if isinstance(tree, str) else f"{tree[0]}({', '.join(map(shown, tree[1:]))})"
 
 
-def hard_pairs(count, seed):
-    chance = random.Random(seed)
-    kinds = itertools.cycle(["parities", "pigeonholes", "nests", "one value", "clauses"])
-    return [hard_pair(chance, kind) for kind in itertools.islice(kinds, count)]
+def truth(tree, true, false, of_fact, invert):
+    """The value of a tree in an algebra of sets: those that are true everywhere and nowhere, the set of a fact, and
+    the complement of a set."""
+    if isinstance(tree, str):
+        return true if tree == "true" else false if tree == "false" else of_fact(tree)
+    parts = [truth(it, true, false, of_fact, invert) for it in tree[1:]]
+    if tree[0] == "not":
+        return invert(parts[0])
+    found = true if tree[0] == "all" else false
+    for it in parts:
+        found = found & it if tree[0] == "all" else found | it
+    return found

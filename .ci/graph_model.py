@@ -1,8 +1,7 @@
 """Graphs of packages whose answers are known, and a model that tells such answers by itself, target by target.
 
-The graphs stand in crates/manifest_check/graphs, as `cargo metadata` printed them with paths replaced. The model has a
-reader of conditions of its own, over the facts that rustc printed, and the relations that the page of the program
-states. It asks no program.
+The graphs stand in crates/manifest_check/graphs, as `cargo metadata` printed them with paths replaced. The model goes
+by the facts that rustc printed, and the relations that the page of the program states. It asks no program.
 """
 import collections
 import gzip
@@ -10,6 +9,7 @@ import hashlib
 import json
 import re
 
+from conditions import read, truth
 from crates import ROOT
 from features import Build
 from targets import known_targets
@@ -44,41 +44,24 @@ def sets_of(table):
 
 # The facts of each target. Who asks of other targets changes what this holds.
 TARGETS = sets_of(known_targets())
-TOKENS = re.compile(r'\s*(?:((?:r#)?[A-Za-z_][A-Za-z0-9_]*)|"([^"]*)"|([(),=]))')
 
 
 def holds_at(text):
-    """The known targets at which a condition holds."""
+    """The known targets at which a condition is true, or where there is none, all of them."""
     if text is None:
         return frozenset(TARGETS)
-    if not text.startswith("cfg("):
-        return frozenset(name for name in TARGETS if name == text)
-    tokens = [match.groups() for match in TOKENS.finditer(text[4:-1])]
+    return at_tree(read(text[4:-1])) if text.startswith("cfg(") else frozenset({text} & TARGETS.keys())
 
-    def one(at):
-        name = tokens[at][0]
-        if at + 1 < len(tokens) and tokens[at + 1][2] == "=":
-            name, value = name.removeprefix("r#"), tokens[at + 2][1]
-            return at + 3, frozenset(t for t, facts in TARGETS.items() if f'{name}="{value}"' in facts)
-        if name in ("all", "any", "not") and at + 1 < len(tokens) and tokens[at + 1][2] == "(":
-            at, members = at + 2, []
-            while tokens[at][2] != ")":
-                at, member = one(at)
-                members.append(member)
-                at += tokens[at][2] == ","
-            everywhere = frozenset(TARGETS)
-            if name == "not":
-                return at + 1, everywhere - members[0]
-            if name == "all":
-                return at + 1, everywhere.intersection(*members)
-            return at + 1, frozenset().union(*members)
-        if name in ("true", "false"):
-            return at + 1, frozenset(TARGETS) if name == "true" else frozenset()
-        return at + 1, frozenset(t for t, facts in TARGETS.items() if name.removeprefix("r#") in facts)
 
-    at, found = one(0)
-    assert at == len(tokens), text
-    return found
+def at_tree(tree):
+    """The known targets at which a tree is true."""
+    everywhere = frozenset(TARGETS)
+    return truth(tree, everywhere, frozenset(), at_fact, lambda it: everywhere - it)
+
+
+def at_fact(fact):
+    fact = fact.removeprefix("r#").replace(" = ", "=", 1)
+    return frozenset(name for name, facts in TARGETS.items() if fact in facts)
 
 
 Edge = collections.namedtuple("Edge", "on name kind text holds")

@@ -9,25 +9,17 @@ import json
 import re
 
 from crates import ROOT
+from sources import documented
 
 FOLDER = ROOT / "docs" / "json-schemas"
 DIALECT = "https://json-schema.org/draft/2020-12/schema"
 
-COMMENT = r"((?: *///[^\n]*\n)*)"
-ITEM = re.compile(
-    rf"^{COMMENT}#\[derive\([^\n]*\bSerialize\b[^\n]*\n((?:#\[[^\n]*\n)*)"
-    r"(?:pub )?(struct|enum) (\w+)(?:<[^>\n]*>)?(?: \{\n((?:[ \n][^\n]*\n?)*?)\}|\(([^\n]*)\);)\n", re.M)
-MEMBER = re.compile(
-    rf"^{COMMENT}((?: *#\[serde[^\n]*\n)*) *(?:pub )?(?:(\w+)(?:\(([^\n]*)\))?|(\w+): ([^\n]*)),$", re.M)
+ITEM = r"(?:pub )?(struct|enum) (\w+)(?:<[^>\n]*>)?(?: \{\n((?:[ \n][^\n]*\n?)*?)\}|\(([^\n]*)\);)\n"
+MEMBER = r"(?:pub )?(?:(\w+)(?:\(([^\n]*)\))?|(\w+): ([^\n]*)),$"
 WORDS = re.compile(r"\b[Oo]ne of ((?:`[^`]*`(?:, | and )?)+)\.")
 
 TEXT = {"type": "string"}
 PLAIN = {"str": TEXT, "String": TEXT, "usize": {"type": "integer", "minimum": 0}, "bool": {"type": "boolean"}}
-
-
-def comment(lines):
-    """The text of a comment."""
-    return " ".join(line.strip().removeprefix("///").strip() for line in lines.splitlines())
 
 
 def sources():
@@ -35,9 +27,10 @@ def sources():
     found = {}
     for file in sorted((ROOT / "crates").glob("*/src/**/*.rt")):
         if file.name != "tests.rt" and "Serialize" in (text := file.read_text()):
-            for told, attributes, kind, name, members, only in ITEM.findall(text):
-                assert name not in found, f"two types are named {name}"
-                found[name] = (comment(told), attributes, kind, MEMBER.findall(members), only)
+            for told, attributes, (kind, name, members, only) in documented(text, ITEM):
+                if re.search(r"derive\(.*\bSerialize\b", attributes):
+                    assert name not in found, f"two types are named {name}"
+                    found[name] = (told, attributes, kind, [*documented(members or "", MEMBER)], only)
     return found
 
 
@@ -100,11 +93,11 @@ def of_item(name, found):
     if only:
         return told(of_type(only, found), text)
     if kind == "enum" and "untagged" in attributes:
-        return {"anyOf": [told(of_type(held, found), comment(lines)) for lines, _, _, held, _, _ in members]}
+        return {"anyOf": [told(of_type(held, found), text) for text, _, (_, held, _, _) in members]}
     if kind == "enum":
-        return {"enum": [cased(variant, attributes) for _, _, variant, _, _, _ in members]}
+        return {"enum": [cased(variant, attributes) for _, _, (variant, _, _, _) in members]}
     properties, required = {}, []
-    for lines, options, _, _, field, written in members:
+    for lines, options, (_, _, field, written) in members:
         if "flatten" in options:
             inner = of_type(written, found)
             properties.update(inner["properties"])
@@ -116,7 +109,7 @@ def of_item(name, found):
             written = re.fullmatch(r"Option<(.*)>", written)[1]
         else:
             required.append(key)
-        properties[key] = told(of_type(written, found), comment(lines))
+        properties[key] = told(of_type(written, found), lines)
     return told({"type": "object", "properties": properties, "required": required, "additionalProperties": False}, text)
 
 
@@ -124,7 +117,8 @@ def of_item(name, found):
 def schemas():
     """The schema of each line, by the name of its type."""
     found = sources()
-    held = {name for it in found.values() for member in it[3] for name in re.findall(r"\w+", member[3] + member[5])}
+    written = {part or "" for it in found.values() for _, _, groups in it[3] for part in groups[1::2]}
+    held = {name for part in written for name in re.findall(r"\w+", part)}
     return {name: {"$schema": DIALECT, "title": name, **of_item(name, found)} for name in found if name not in held}
 
 

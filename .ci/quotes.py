@@ -1,6 +1,8 @@
 """The contracts that pages quote in blocks of text, and those of the source."""
 import re
 
+from sources import parts
+
 # The line before a block whose clauses are those of the source, written by `.ci/promises`.
 MARK = "<!-- clauses as in the source -->"
 
@@ -8,20 +10,6 @@ WIDTH = 120
 
 # A clause that a page tells in words.
 PROSE = re.compile(r"\bas above|\bas `|\bthe same\b")
-
-TYPE = re.compile(r"^(?:pub )?(?:impl\b.*?|trait\s+)(\w+)(?:<[^{]*>)?\s*(?::[^{]*)?\{", re.M)
-FUNCTION = re.compile(r"\bfn (\w+)")
-CLAUSE = re.compile(r"\bensures\s*(\w+)?\s*\{")
-
-
-def block(text, start):
-    """What stands between the brace after `start` and its partner."""
-    depth = 1
-    for place in range(start, len(text)):
-        depth += {"{": 1, "}": -1}.get(text[place], 0)
-        if depth == 0:
-            return text[start:place]
-    return text[start:]
 
 
 def contracts(crate):
@@ -33,18 +21,15 @@ def contracts(crate):
     for file in sorted(crate.parent.glob(f"{crate.name}*/src/**/*.rt")):
         if not re.fullmatch(rf"{crate.name}(_\w+)?", file.relative_to(crate.parent).parts[0]):
             continue
-        text = file.read_text()
-        starts = [(it.start(), it[1]) for it in TYPE.finditer(text)]
-        functions = [*FUNCTION.finditer(text)]
-        for this, after in zip(functions, [*functions[1:], None]):
-            piece = text[this.end() : after.start() if after else len(text)]
-            clauses = [(it[1], block(piece, it.end())) for it in CLAUSE.finditer(piece)]
-            own = [name for start, name in starts if start < this.start()]
-            line_start = text.rfind("\n", 0, this.start()) + 1
-            if own and text[line_start].isspace():
-                found.setdefault(f"{own[-1]}::{this[1]}", clauses)
-            else:
-                found.setdefault(this[1], clauses)
+        type, clauses = "", []
+        for kind, it, _, body in parts(file.read_text()):
+            if kind == "type":
+                type = it["type"]
+            elif kind == "function":
+                clauses = []
+                found.setdefault(f"{type}::{it['name']}" if type and it["indent"] else it["name"], clauses)
+            elif kind == "clause" and not it["ghost"]:
+                clauses.append((it["name"] or None, body))
     return found
 
 

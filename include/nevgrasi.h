@@ -1,6 +1,6 @@
 /* Target conditions of Cargo manifests: read, printed, matched and compared by proved code.
 
-   This file is made of crates/nevgrasi_c/src/lib.rt by .ci/c-library --header.
+   The declarations are made of crates/nevgrasi_c/src/lib.rt by .ci/c-library --header.
 
    What a caller owes, and nothing checks:
    - A pointer with a length names so many bytes that may be read, or for `out` be written, through the call. Null is

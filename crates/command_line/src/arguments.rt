@@ -3,53 +3,53 @@
 use clap::{Arg, ArgAction, Command, value_parser};
 use std::alloc::{AllocError, Global};
 
-/// How many steps of work each line of `compare` may take, unless `--budget` says another number. So many take less
-/// than two seconds for all lines.
+/// The default of `--budget`: the steps that each line of `compare` may take. All lines together take less than two
+/// seconds.
 const BUDGET: &str = "75000000";
 
-/// How many bytes of an input are read at most, unless `--limit` says another number: 64 MiB.
+/// The default of `--limit`: 64 MiB.
 const LIMIT_BYTES: &str = "67108864";
 
-/// What Cargo hands over as the first argument of `cargo manifest-check ..`.
+/// The first argument that Cargo passes for `cargo manifest-check ..`.
 const CARGO_NAME: &str = "manifest-check";
 
-/// What is given to an argument.
+/// The kind of an argument, with the name of its value for the help.
 #[derive(Clone, Copy)]
 enum Given {
-    /// Nothing: it is there or not.
+    /// A flag.
     Flag,
-    /// Nothing, and a letter is enough.
+    /// A flag with a short form.
     ShortFlag(char),
-    /// One value, of any text.
+    /// An option with any value.
     Value(&'static str),
-    /// The same, where the argument of this name is not there.
+    /// An option with any value, which conflicts with the option of the second name.
     ValueWithout(&'static str, &'static str),
-    /// One of these words.
+    /// An option with one of these values.
     OneOf(&'static str, &'static [&'static str]),
-    /// A number, and what it is where none is given.
+    /// An option with a number, and its default.
     Number(&'static str, &'static str),
-    /// The same of a number that is not 0.
+    /// An option with a number that is not 0, and its default.
     Positive(&'static str, &'static str),
-    /// A value each time that it is repeated.
+    /// An option that can be repeated.
     Values(&'static str),
-    /// The same, and a letter is enough.
+    /// An option that can be repeated, with a short form.
     ShortValues(char, &'static str),
-    /// A value at its place, which has to be there.
+    /// A required positional argument.
     Place(&'static str),
-    /// Any number of values at its place.
+    /// Any number of positional arguments.
     Places(&'static str),
-    /// One value, which has to be there.
+    /// A required option.
     Needed(&'static str),
 }
 
-/// An argument: its name, what is given to it, and its help.
+/// An argument of a subcommand.
 struct Argument {
     name: &'static str,
     given: Given,
     help: &'static str,
 }
 
-/// A subcommand: its name, what it does, what its help ends in, and its arguments.
+/// A subcommand. Its help begins with `about` and ends with `end`.
 struct Subcommand {
     name: &'static str,
     about: &'static str,
@@ -60,25 +60,25 @@ struct Subcommand {
 const JSON: Argument = Argument {
     name: "json",
     given: Given::Flag,
-    help: "Prints JSON",
+    help: "Print JSON",
 };
 
 const TARGET: Argument = Argument {
     name: "target",
     given: Given::Needed("NAME"),
-    help: "The name of the target; of a specification that of its file, without .json and with --facts",
+    help: "The target: a known one, or with --facts the name of a target specification, without .json",
 };
 
 const FACTS: Argument = Argument {
     name: "facts",
     given: Given::Value("FILE"),
-    help: "The facts of the target, as `rustc --print cfg` prints them, in place of rustc's; - for standard input",
+    help: "Read the facts of the target from FILE or -, as `rustc --print cfg` prints them",
 };
 
-/// What a table of another rustc is, for the help.
+/// The help of `--facts-of`.
 const TABLE: &str =
-    "Targets and facts of another rustc from this file, or - for standard input, which this writes: for t in \
-     $(rustc --print target-list); do echo $t; rustc --print cfg --target $t; echo; done > FILE";
+    "Use targets and facts of another rustc, from FILE or -, written by: for t in $(rustc --print target-list); do \
+     echo $t; rustc --print cfg --target $t; echo; done > FILE";
 
 const FACTS_OF: Argument = Argument {
     name: "facts-of",
@@ -95,105 +95,104 @@ const FACTS_OF_ALONE: Argument = Argument {
 const ADDED_FACTS: Argument = Argument {
     name: "cfg",
     given: Given::Values("FACT"),
-    help: "One more fact of the target, as unix or key=\"value\"",
+    help: "Add a fact to those of the target: unix or key=\"value\"",
 };
 
 const MANIFEST_PATH: Argument = Argument {
     name: "manifest-path",
     given: Given::Values("PATH"),
-    help: "One more MANIFEST",
+    help: "Add a MANIFEST",
 };
 
 const PACKAGE: Argument = Argument {
     name: "package",
     given: Given::ShortValues('p', "NAME"),
-    help: "The package of this name in the workspace alone",
+    help: "Only the package of this name in the workspace",
 };
 
 const EXCLUDE: Argument = Argument {
     name: "exclude",
     given: Given::Values("NAME"),
-    help: "Leaves out the package of this name",
+    help: "Leave out the package of this name",
 };
 
 const WORKSPACE: Argument = Argument {
     name: "workspace",
     given: Given::Flag,
-    help: "All members of the workspace, from a member too",
+    help: "All members of the workspace, also if the manifest is that of a member",
 };
 
 const LIMIT: Argument = Argument {
     name: "limit",
     given: Given::Positive("N", LIMIT_BYTES),
-    help: "How many bytes an input may have; 64 MiB without it",
+    help: "Reject inputs of more than N bytes, by default 64 MiB",
 };
 
 const MANIFESTS: Argument = Argument {
     name: "manifest",
     given: Given::Places("MANIFEST"),
-    help: "A manifest, a folder that holds Cargo.toml, or - for standard input; without any the Cargo.toml here or \
-           in the nearest folder above",
+    help: "A manifest, a folder that contains Cargo.toml, or - for standard input; by default the Cargo.toml in \
+           the current folder or in the nearest folder above",
 };
 
-/// What a key is, for the help.
-const KEY: &str =
-    "The key of a table under `target`: the name of a target, or cfg(..), with 100,000 groups in one another \
-                   at most";
+/// The help of a key.
+const KEY: &str = "The key of a table under `target`: the name of a target, or cfg(..)";
 
 const LINT: Subcommand = Subcommand {
     name: "lint",
-    about: "Tells what is wrong or odd about the keys of `target` in manifests",
+    about: "Check the target conditions of Cargo manifests",
     end: "Example: manifest_check lint Cargo.toml\n\n\
-          The root of a workspace stands for its members too. The status is 0 where nothing is found but notes, 1 \
-          where an error or a warning is, and 2 where the input can't be used, as a manifest with a key that has \
-          more than 100,000 groups in one another. Tables `manifest-check` in the metadata of the package and of the \
-          workspace have lists `allow`, `warn` and `deny` too; the options win.",
+          With the root of a workspace, its members are checked too. The metadata of the package and of the \
+          workspace can have tables `manifest-check` with lists `allow`, `warn` and `deny`; the options override \
+          them.\n\n\
+          Exit status: 0 if there is no error or warning, 1 if there is one, 2 if an argument or a manifest is \
+          invalid. A key with more than 100,000 nested groups is invalid.",
     arguments: &[
         JSON,
         Argument {
             name: "message-format",
             given: Given::OneOf("FORMAT", &["human", "short", "json", "github", "sarif"]),
-            help: "How findings are printed; human without it",
+            help: "Print diagnostics in this format, by default human",
         },
         Argument {
             name: "color",
             given: Given::OneOf("WHEN", &["auto", "always", "never"]),
-            help: "Whether words have colours; auto, where a terminal shows them, without it",
+            help: "Print levels in colour; by default auto, if standard output is a terminal",
         },
         Argument {
             name: "allow",
-            given: Given::Values("CODE"),
-            help: "Does not tell findings of this code, or of warnings or notes; the last option that fits counts",
+            given: Given::Values("LINT"),
+            help: "Do not report this lint, or all warnings or notes; the last option that matches wins",
         },
         Argument {
             name: "warn",
-            given: Given::Values("CODE"),
-            help: "Makes these findings warnings",
+            given: Given::Values("LINT"),
+            help: "Report this lint as a warning",
         },
         Argument {
             name: "deny",
-            given: Given::Values("CODE"),
-            help: "Makes these findings errors",
+            given: Given::Values("LINT"),
+            help: "Report this lint as an error",
         },
         Argument {
             name: "list-codes",
             given: Given::Flag,
-            help: "Prints the codes of findings",
+            help: "List the names of all lints",
         },
         Argument {
             name: "explain",
-            given: Given::Value("CODE"),
-            help: "Says what findings of this code mean",
+            given: Given::Value("LINT"),
+            help: "Explain this lint, with an example",
         },
         Argument {
             name: "quiet",
             given: Given::ShortFlag('q'),
-            help: "Leaves out the last line, which sums up",
+            help: "Do not print the summary line",
         },
         Argument {
             name: "verbose",
             given: Given::ShortFlag('v'),
-            help: "Names each manifest without a key of `target`",
+            help: "Name each manifest that has no key under `target`",
         },
         FACTS_OF,
         MANIFEST_PATH,
@@ -207,16 +206,16 @@ const LINT: Subcommand = Subcommand {
 
 const SELECT: Subcommand = Subcommand {
     name: "select",
-    about: "Tells which dependencies of manifests are selected for a target",
+    about: "List the dependencies that a target selects from manifests",
     end: "Example: manifest_check select --target x86_64-pc-windows-msvc Cargo.toml\n\n\
-          The root of a workspace stands for its members too. Features are not resolved: an optional dependency is \
-          told as optional. A manifest with a key that has more than 100,000 groups in one another is refused.",
+          With the root of a workspace, the manifests of its members are read too. Features are not resolved: an \
+          optional dependency is reported as optional. A key with more than 100,000 nested groups is invalid.",
     arguments: &[
         TARGET,
         Argument {
             name: "host",
             given: Given::Value("NAME"),
-            help: "The target of build-dependencies; without it those under a key are open",
+            help: "The target for build-dependencies; without it, those under a key are open",
         },
         FACTS,
         FACTS_OF_ALONE,
@@ -224,12 +223,12 @@ const SELECT: Subcommand = Subcommand {
         Argument {
             name: "open",
             given: Given::Values("NAME"),
-            help: "Leaves each fact of this name or key open",
+            help: "Leave each fact of this name or key open",
         },
         Argument {
             name: "no-config",
             given: Given::Flag,
-            help: "Leaves out what flags in the environment, as RUSTFLAGS, and in Cargo's configuration set",
+            help: "Ignore flags in the environment, such as RUSTFLAGS, and in Cargo's configuration",
         },
         JSON,
         MANIFEST_PATH,
@@ -243,9 +242,10 @@ const SELECT: Subcommand = Subcommand {
 
 const MATCH: Subcommand = Subcommand {
     name: "match",
-    about: "Says whether a key applies to a target",
+    about: "Check whether a key is true on a target",
     end: "Example: manifest_check match 'cfg(unix)' --target x86_64-unknown-linux-gnu\n\n\
-          The status is 0 where it applies, 1 where it does not, and 2 where the input can't be used.",
+          Exit status: 0 if the key is true on the target, 1 if it is not, 2 if an argument is invalid. A key with \
+          more than 100,000 nested groups is invalid.",
     arguments: &[
         Argument {
             name: "key",
@@ -262,8 +262,9 @@ const MATCH: Subcommand = Subcommand {
 
 const TARGETS: Subcommand = Subcommand {
     name: "targets",
-    about: "Lists the known targets at which a key holds",
-    end: "Example: manifest_check targets 'cfg(all(unix, target_pointer_width = \"16\"))'",
+    about: "List the known targets on which a key is true",
+    end: "Example: manifest_check targets 'cfg(all(unix, target_pointer_width = \"16\"))'\n\n\
+          A key with more than 100,000 nested groups is invalid.",
     arguments: &[
         JSON,
         FACTS_OF,
@@ -278,7 +279,7 @@ const TARGETS: Subcommand = Subcommand {
 
 const FACTS_OF_TARGET: Subcommand = Subcommand {
     name: "facts",
-    about: "Prints the facts of a known target, as `rustc --print cfg` does",
+    about: "Print the facts of a known target, as `rustc --print cfg` does",
     end: "Example: manifest_check facts x86_64-unknown-linux-gnu",
     arguments: &[
         FACTS_OF,
@@ -286,21 +287,22 @@ const FACTS_OF_TARGET: Subcommand = Subcommand {
         Argument {
             name: "name",
             given: Given::Place("NAME"),
-            help: "The name of a target that rustc knows",
+            help: "The name of a known target",
         },
     ],
 };
 
 const COMPARE: Subcommand = Subcommand {
     name: "compare",
-    about: "Says how two keys stand to each other, at the known targets and at those of any specification",
-    end: "Example: manifest_check compare 'cfg(target_os = \"linux\")' 'cfg(unix)'",
+    about: "Compare two keys on the known targets, and on all targets that a specification can define",
+    end: "Example: manifest_check compare 'cfg(target_os = \"linux\")' 'cfg(unix)'\n\n\
+          A key with more than 100,000 nested groups is invalid.",
     arguments: &[
         JSON,
         Argument {
             name: "budget",
             given: Given::Number("N", BUDGET),
-            help: "How many steps of work each line may take",
+            help: "How many steps each line may take",
         },
         Argument {
             name: "first",
@@ -317,39 +319,39 @@ const COMPARE: Subcommand = Subcommand {
 
 const GRAPH: Subcommand = Subcommand {
     name: "graph",
-    about: "Tells which packages are in a build at which targets, and why",
+    about: "List the packages of a build, the targets on which they are in it, and why",
     end: "Example: cargo metadata --format-version 1 | manifest_check graph --show why --of libc\n\n\
-          Without --metadata standard input is read. A file that was made with --filter-platform can't be told from \
-          a whole one. What `cargo metadata` turned on is on, unless features are resolved: with --resolver or any \
-          word on features, for a host.\n\n\
-          With --allow or --allow-file the status is 1 where something is told. A document with a condition that has \
-          more than 100,000 groups in one another is refused.",
+          A file that was made with --filter-platform can't be told from a whole one. The features that `cargo \
+          metadata` turned on are on, unless you resolve features for a --host, with --resolver or any other option \
+          on features.\n\n\
+          Exit status: 0 if no package is reported by --allow or --allow-file, 1 if one is, 2 if an argument or the \
+          document is invalid. A condition with more than 100,000 nested groups is invalid.",
     arguments: &[
         Argument {
             name: "metadata",
             given: Given::Value("FILE"),
-            help: "The file that `cargo metadata --format-version 1` printed, without --filter-platform",
+            help: "Read what `cargo metadata --format-version 1` printed from FILE, by default from standard input",
         },
         Argument {
             name: "target",
             given: Given::Values("NAME"),
-            help: "Tells of this target alone; all known ones without it",
+            help: "Only this target, by default all known targets",
         },
         Argument {
             name: "edges",
             given: Given::Value("KINDS"),
-            help: "Follows these kinds, joined by commas: normal,build,dev",
+            help: "Follow only these dependency kinds, joined by commas: normal,build,dev",
         },
         Argument {
             name: "host",
             given: Given::Value("NAME"),
-            help: "Asks what build scripts and procedural macros need of this target",
+            help: "Evaluate what build scripts and procedural macros need on this target",
         },
         FACTS_OF,
         Argument {
             name: "package",
             given: Given::Values("NAME"),
-            help: "Takes the members of this name as roots; all members without it",
+            help: "Start from the members of this name, by default from all members",
         },
         Argument {
             name: "show",
@@ -357,52 +359,52 @@ const GRAPH: Subcommand = Subcommand {
                 "WHAT",
                 &["packages", "edges", "targets", "why", "features", "unified"],
             ),
-            help: "What is told; packages without it",
+            help: "What to print, by default packages",
         },
         Argument {
             name: "resolver",
             given: Given::OneOf("WHICH", &["1", "2", "3", "edition"]),
-            help: "Resolves features as this resolver of Cargo, or as that of the root package's edition",
+            help: "Resolve features like this resolver of Cargo, or like that of the root package's edition",
         },
         Argument {
             name: "features",
             given: Given::Values("NAMES"),
-            help: "Asks these features of the roots, joined by commas",
+            help: "Turn on these features of the roots, joined by commas",
         },
         Argument {
             name: "no-default-features",
             given: Given::Flag,
-            help: "Does not ask the feature `default` of the roots",
+            help: "Do not turn on the feature `default` of the roots",
         },
         Argument {
             name: "all-features",
             given: Given::Flag,
-            help: "Asks all features of the roots",
+            help: "Turn on all features of the roots",
         },
         Argument {
             name: "of",
             given: Given::Value("NAME"),
-            help: "With `--show why`: of the packages of this name",
+            help: "With `--show why`: the packages of this name",
         },
         Argument {
             name: "allow",
             given: Given::Value("LIST"),
-            help: "Tells the packages whose licence these do not satisfy, joined by commas: MIT,ISC",
+            help: "Report packages whose licence this list does not satisfy: MIT,ISC",
         },
         Argument {
             name: "allow-file",
             given: Given::Value("FILE"),
-            help: "Reads allowed licences from this file, one a line",
+            help: "Read allowed licences from this file, one per line",
         },
         Argument {
             name: "except",
             given: Given::Values("PACKAGE"),
-            help: "Tells nothing of this package: NAME@VERSION",
+            help: "Do not report this package: NAME@VERSION",
         },
         Argument {
             name: "html",
             given: Given::Value("FILE"),
-            help: "Writes a page of the packages by classes of targets to this file too",
+            help: "Also write an HTML page of the packages to this file",
         },
         LIMIT,
         JSON,
@@ -416,11 +418,11 @@ const ON_KEYS: &[Subcommand] = &[MATCH, TARGETS, FACTS_OF_TARGET, COMPARE];
 
 const ON_GRAPHS: &[Subcommand] = &[GRAPH];
 
-/// How its users call the program as a command of Cargo's.
+/// The name of the program in lines of usage, if Cargo has started it.
 const CARGO_COMMAND: &str = "cargo manifest-check";
 
-/// Lets go of the name that Cargo hands over before the words of its user, and takes what they typed for the name of
-/// the program, which lines of usage have.
+/// Removes the argument that Cargo puts before those of the user, and sets the program's name to what the user typed,
+/// for lines of usage. Leaves the arguments of a direct call as they are.
 pub fn without_cargo_name(alloc: Global, words: &mut Vec<String>) -> Result<(), AllocError> {
     if words.len() > 1 && words[1].as_str() == CARGO_NAME {
         let _name = words.remove(1);
@@ -429,10 +431,10 @@ pub fn without_cargo_name(alloc: Global, words: &mut Vec<String>) -> Result<(), 
     Ok(())
 }
 
-/// The program's command, of which `version` is the version.
+/// Returns the program's command, with this version.
 pub fn command<'a>(alloc: Global, version: &'a str) -> Result<Command<'a>, AllocError> {
     let made = Command::new(alloc, "manifest_check")
-        .about("Answers what the target conditions of Cargo manifests mean")
+        .about("Check and query the target conditions of Cargo manifests")
         .version(version)
         .subcommand_required(true)
         .arg_required_else_help(true);
@@ -441,7 +443,7 @@ pub fn command<'a>(alloc: Global, version: &'a str) -> Result<Command<'a>, Alloc
     on_graphs(alloc, made)
 }
 
-// The prover goes through a table where it stands by name. So each has a function of its own.
+// The prover goes through a table wherever it is named, so that each table is named in a function of its own.
 
 fn on_manifests<'a>(alloc: Global, command: Command<'a>) -> Result<Command<'a>, AllocError> {
     with_subcommands(alloc, command, ON_MANIFESTS)
@@ -455,7 +457,7 @@ fn on_graphs<'a>(alloc: Global, command: Command<'a>) -> Result<Command<'a>, All
     with_subcommands(alloc, command, ON_GRAPHS)
 }
 
-/// The command with these subcommands.
+/// Returns the command with these subcommands.
 fn with_subcommands<'a>(
     alloc: Global,
     command: Command<'a>,
@@ -486,7 +488,7 @@ fn to_argument<'a>(alloc: Global, told: &Argument) -> Result<Arg<'a>, AllocError
     Ok(given_to(made, told))
 }
 
-/// The argument, with what is given to it.
+/// Returns the argument with its kind.
 fn given_to<'a>(made: Arg<'a>, told: &Argument) -> Arg<'a> {
     match told.given {
         Given::Flag => made.long(told.name).action(ArgAction::SetTrue),

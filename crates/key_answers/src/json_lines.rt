@@ -1,9 +1,10 @@
 //! Lines of JSON: one value a line, of any type that derives `Serialize`. No text in it can end or disguise the line.
 
-ghost use Rattle.std.specs.Prelude.{◌≡◌, IfOk, OnOk, string_bytes};
+ghost use Rattle.std.specs.Prelude.{◌≡◌, true, IfOk, OnOk, string_bytes};
 ghost use Rattle.std.specs.List.{list_all};
 ghost use Rattle.key_answers.specs.JsonLines.{is_printable, IsShownText, AppendsShown, AppendsLine};
 
+use crate::line_writer::LineWriter;
 use cargo_platform::shown_text;
 use serde::Serialize;
 use std::alloc::{AllocError, Global};
@@ -66,28 +67,31 @@ fn are_printable(bytes: &[u8]) -> bool
     bytes.iter().all(|byte| is_printable(*byte))
 }
 
+/// Appends printable ASCII.
+fn push_printable(text: &mut String, json: &str) -> Result<(), AllocError>
+    requires { list_all is_printable json.now ≡ true }
+    ensures { OnOk result (AppendsShown (string_bytes text.old) (string_bytes text.new)) }
+{
+    text.push_str(json)
+}
+
+/// Appends what [`shown_text`] returned.
+fn push_shown_text(text: &mut String, shown: &str) -> Result<(), AllocError>
+    requires { IsShownText shown.now }
+    ensures { OnOk result (AppendsShown (string_bytes text.old) (string_bytes text.new)) }
+{
+    text.push_str(shown)
+}
+
 /// Appends printed JSON, with an escape for each character that is hidden where texts are shown.
 fn push_shown(text: &mut String, alloc: Global, json: &str) -> Result<(), AllocError>
     ensures { OnOk result (AppendsShown (string_bytes text.old) (string_bytes text.new)) }
 {
     if are_printable(json.as_bytes()) {
-        return text.push_str(json);
+        return push_printable(text, json);
     }
     let shown = with_escapes(alloc, json)?;
-    text.push_str(shown.as_str())
-}
-
-/// Returns JSON of several lines on one line: a space follows each comma and each colon.
-fn joined(alloc: Global, json: &str) -> Result<String, AllocError> {
-    let mut text = String::new(alloc);
-    for line in json.lines() {
-        let part = line.trim_start_matches(' ');
-        text.push_str(part)?;
-        if part.ends_with(',') {
-            text.push_str(" ")?;
-        }
-    }
-    Ok(text)
+    push_shown_text(text, shown.as_str())
 }
 
 /// Appends printed JSON as a line.
@@ -107,10 +111,7 @@ pub fn push_line<T: Serialize>(
     // Each character of the line is shown.
     ensures { OnOk result (AppendsLine (string_bytes text.old) (string_bytes text.new)) }
 {
-    // A derived type is refused for want of memory alone.
-    let Ok(json) = serde_json::to_string(alloc, value) else {
-        return Err(AllocError);
-    };
+    let json = LineWriter::new(alloc, false).json_of(value)?;
     push_json(text, alloc, json.as_str())
 }
 
@@ -123,9 +124,6 @@ pub fn push_spaced_line<T: Serialize>(
     // Each character of the line is shown.
     ensures { OnOk result (AppendsLine (string_bytes text.old) (string_bytes text.new)) }
 {
-    let Ok(json) = serde_json::to_string_pretty(alloc, value) else {
-        return Err(AllocError);
-    };
-    let json = joined(alloc, json.as_str())?;
+    let json = LineWriter::new(alloc, true).json_of(value)?;
     push_json(text, alloc, json.as_str())
 }

@@ -6,6 +6,7 @@ pub mod comparing;
 mod comparison;
 pub mod conditions;
 pub mod json_lines;
+mod line_writer;
 pub mod printing;
 pub mod targets;
 #[cfg(test)]

@@ -1,0 +1,12 @@
+"""Texts of pages, for what prints them elsewhere."""
+import re
+
+from crates import ROOT
+
+
+def section(page, heading):
+    """What stands below this heading of a page, up to the next one of its level, without links, which lead nowhere from
+    elsewhere."""
+    text = (ROOT / page).read_text(encoding="utf-8")
+    found = re.search(rf"^## {re.escape(heading)}\n(.*?)(?=^## |\Z)", text, re.M | re.S)
+    return re.sub(r"\[([^\]]*)\]\([^)]*\)", r"\1", found[1])
