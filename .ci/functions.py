@@ -62,7 +62,8 @@ def printed(impl):
     """The type and the trait of an `impl`, as a check prints them: a parameter is `Any`, and the trait's arguments are
     behind it, but for parameters."""
     parameters = re.findall(r"[<,] ?(\w+)", impl["parameters"] or "")
-    arguments = [it for it in re.findall(r"\b[A-Z]\w*", impl["of"] or "") if it not in parameters]
+    words = [it for it in re.findall(r"(?<!')\b\w+", impl["of"] or "") if it not in parameters]
+    arguments = [it[0].upper() + it[1:] for it in words]
     return "Any" if impl["type"] in parameters else impl["type"], "".join([impl["trait"] or "", *arguments])
 
 

@@ -14,9 +14,8 @@ from proved import RT
 
 HERE = pathlib.Path(__file__).resolve().parent
 
-# The scripts by which an edit is judged.
-MODULES = ("crates", "edits", "functions", "judge", "kept", "proved", "record", "trial")
-SCRIPTS = ("mutants", *(f"{name}.py" for name in MODULES))
+# The scripts by which an edit is judged. Those that choose edits and keep judgements decide none.
+SCRIPTS = tuple(f"{name}.py" for name in ("crates", "edits", "functions", "judge", "proved", "trial"))
 
 
 def folder_of_judgements():

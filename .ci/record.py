@@ -149,11 +149,12 @@ class Record:
         return None
 
     def differences(self, run):
-        """Where the run judged other than the lines say."""
-        for crate in sorted(self.edits):
-            counts = self.counts(run, crate)
-            if counts and crate in self.lines and counts != self.lines[crate].counts:
-                yield f"{FILE} says {self.lines[crate].counts} of {crate}, but there are {counts}"
+        """Where the run judged other than the lines say. Of some edits of a crate, only those that show nothing tell."""
+        for crate in sorted(self.edits.keys() & self.lines.keys()):
+            said, counts = self.lines[crate].counts, self.counts(run, crate)
+            found = counts_of(it.kind for edit, it in run.judgements.items() if edit.crate == crate)
+            if counts and counts != said or found.silent > said.silent:
+                yield f"{FILE} says {said} of {crate}, but there are {found}"
 
     def write(self, run):
         """Writes the lines of crates that the run judged whole. Returns their names."""

@@ -2,7 +2,7 @@
 
 use crate::told::own_weight;
 use crate::weight_rules::Weight;
-use manifest_lints_findings::{CODES, Code};
+use manifest_lints_findings::{CODES, Code, MISPLACED, UNDERSCORED};
 use std::alloc::{AllocError, Global};
 
 /// The code of what can't be used in a table of rules.
@@ -10,12 +10,6 @@ pub const SETTINGS: &str = "settings";
 
 /// The code of a rule that allows what is not found any more.
 pub const UNNEEDED_ALLOW: &str = "unneeded-allow";
-
-/// The code of a table that is meant for targets and stands elsewhere.
-pub const MISPLACED: &str = "misplaced";
-
-/// The code of a table with an underscore in its name.
-pub const UNDERSCORED: &str = "underscored";
 
 /// The code of a field that Cargo does not read at a key of its own configuration.
 pub const UNREAD_FIELD: &str = "unread-field";

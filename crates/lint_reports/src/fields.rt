@@ -1,10 +1,8 @@
 //! What Cargo does not read at the keys of `target` in its own configuration.
 
 use crate::codes::UNREAD_FIELD;
-use crate::places::{WrongPlace, add_at_top};
-use crate::weight_rules::Weight;
 use cargo_platform::shown_start;
-use manifest_lints_findings::near;
+use manifest_lints_findings::{Level, WrongPlace, add_at_top, near};
 use std::alloc::{AllocError, Global};
 use toml::{Table, Value};
 
@@ -17,15 +15,15 @@ const OF_NAMES: &str = "rustdocflags";
 /// The fields of a key. At the name of a target other members are tables for libraries of `links`.
 const FIELDS: [&str; 4] = ["linker", "runner", "rustflags", OF_NAMES];
 
-/// What is told of a field that Cargo reads at some key, and how much it weighs; nothing where it is read at this one.
+/// Returns the level and the message for a field that Cargo reads at some keys, or `None` if it reads it at this one.
 fn misplaced(
     alloc: Global,
     name: &str,
     is_condition: bool,
-) -> Result<Option<(Weight, String)>, AllocError> {
+) -> Result<Option<(Level, String)>, AllocError> {
     if name == OF_NAMES && is_condition {
         let message = format!(in alloc; "Cargo reads `{name}` at the name of a target alone")?;
-        return Ok(Some((Weight::Warning, message)));
+        return Ok(Some((Level::Warning, message)));
     }
     Ok(None)
 }
@@ -46,13 +44,14 @@ fn reason_of(
     }
 }
 
-/// What is told of a field, and how much it weighs; nothing of one that Cargo reads, or that is near to no such one.
+/// Returns the level and the message for a field that Cargo does not read, or `None` if Cargo reads it or its name is not
+/// similar to that of a field that Cargo reads.
 fn unread(
     alloc: Global,
     key: &str,
     name: &str,
     value: &Value,
-) -> Result<Option<(Weight, String)>, AllocError> {
+) -> Result<Option<(Level, String)>, AllocError> {
     let is_condition = key.starts_with("cfg(");
     if FIELDS.iter().any(|field| *field == name) {
         return misplaced(alloc, name, is_condition);
@@ -61,27 +60,27 @@ fn unread(
         return Ok(None);
     };
     let is_table = value.as_table().is_some();
-    let weight = if is_condition || is_table {
-        Weight::Warning
+    let level = if is_condition || is_table {
+        Level::Warning
     } else {
-        Weight::Error
+        Level::Error
     };
     let name = shown_start(alloc, name)?;
     let reason = reason_of(alloc, name.as_str(), is_condition, is_table)?;
     let message = format!(in alloc; "{reason}; perhaps `{meant}` is meant")?;
-    Ok(Some((weight, message)))
+    Ok(Some((level, message)))
 }
 
 /// A field of a key that is not read, with what is told of it.
 fn field_of(
     alloc: Global,
     key: &str,
-    weight: Weight,
+    level: Level,
     message: String,
 ) -> Result<WrongPlace, AllocError> {
     Ok(WrongPlace {
         code: UNREAD_FIELD,
-        weight,
+        level,
         subject: String::from_str(alloc, TARGET)?,
         key: Some(String::from_str(alloc, key)?),
         message,
@@ -97,8 +96,8 @@ fn add_of_key(
     found: &mut Vec<WrongPlace>,
 ) -> Result<(), AllocError> {
     for (name, value) in fields.iter() {
-        if let Some((weight, message)) = unread(alloc, key, name.as_str(), value)? {
-            found.push(field_of(alloc, key, weight, message)?)?;
+        if let Some((level, message)) = unread(alloc, key, name.as_str(), value)? {
+            found.push(field_of(alloc, key, level, message)?)?;
         }
     }
     Ok(())

@@ -1,13 +1,12 @@
 //! What is told of names that rustc knew before.
 
 use crate::codes::FORMER;
-use crate::places::WrongPlace;
 use crate::settings::Settings;
-use crate::weight_rules::Weight;
 use cargo_platform::{Cfg, Platform, ReadError, values_of};
 use former_names::{
     Bounds, Release, Verdict, former_fact, former_target, has_former_value, name_now,
 };
+use manifest_lints_findings::{Level, WrongPlace};
 use manifests::{Declared, Targets, target_keys};
 use std::alloc::{AllocError, Global};
 use toml::Table;
@@ -89,14 +88,14 @@ fn former(
         return Ok(None);
     }
     let mut message = until(alloc, name, bounds)?;
-    let mut weight = Weight::Note;
+    let mut level = Level::Note;
     if verdict == Verdict::GoneForAll {
-        weight = Weight::Warning;
+        level = Level::Warning;
         message.push_str(project.reason(alloc, bounds)?.as_str())?;
     }
     Ok(Some(WrongPlace {
         code: FORMER,
-        weight,
+        level,
         subject: String::from_str(alloc, "target")?,
         key: Some(String::from_str(alloc, key)?),
         message,

@@ -11,7 +11,6 @@ mod escapes;
 mod fields;
 mod formats;
 mod formers;
-mod places;
 mod rules_told;
 mod sarif;
 mod settings;
@@ -23,7 +22,6 @@ pub use counts::Counts;
 pub use fields::wrong_fields;
 pub use formats::{Format, Printed, Style};
 pub use formers::{Formers, Project};
-pub use places::{WrongPlace, shown_table, wrong_places};
 pub use rules_told::{
     fault_message, told_of_fault, told_of_unneeded, told_of_wrong, unneeded_message,
 };

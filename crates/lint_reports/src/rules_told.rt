@@ -1,11 +1,11 @@
 //! What is told of tables that are no keys: rules that can't be used or that nothing needs, and wrong places.
 
 use crate::codes::{SETTINGS, UNNEEDED_ALLOW};
-use crate::places::WrongPlace;
 use crate::settings::{Fault, TOOL};
-use crate::told::{Place, Told, place_of_key};
+use crate::told::{Place, Told, place_of_key, weight_of};
 use crate::weight_rules::{Rule, Subject, Weight};
 use cargo_platform::shown_start;
+use manifest_lints_findings::WrongPlace;
 use manifests::reading::Manifest;
 use std::alloc::{AllocError, Global};
 
@@ -88,7 +88,7 @@ pub fn told_of_wrong<'a>(manifest: &'a Manifest, wrong: &'a WrongPlace) -> Told<
         manifest.path.as_str(),
         wrong.subject.as_str(),
         wrong.code,
-        wrong.weight,
+        weight_of(wrong.level),
         wrong.message.as_str(),
     );
     match &wrong.key {

@@ -67,13 +67,21 @@ pub fn place_of<'a>(manifest: &'a Manifest, report: &Report<'a>, finding: &Findi
     }
 }
 
-/// How much a finding of this code and level weighs where no rule is heard: `not-canonical` is not told then.
+/// Returns the weight of a diagnostic with this level where no rule sets another one.
+pub fn weight_of(level: Level) -> Weight {
+    match level {
+        Level::Error => Weight::Error,
+        Level::Warning => Weight::Warning,
+        Level::Note => Weight::Note,
+    }
+}
+
+/// Returns the weight of a finding with this code and level where no rule sets another one. `not-canonical` is allowed
+/// then.
 pub fn own_weight(code: Code, level: Level) -> Weight {
-    match (code, level) {
-        (Code::NotCanonical, _) => Weight::Allowed,
-        (_, Level::Error) => Weight::Error,
-        (_, Level::Warning) => Weight::Warning,
-        (_, Level::Note) => Weight::Note,
+    match code {
+        Code::NotCanonical => Weight::Allowed,
+        _ => weight_of(level),
     }
 }
 

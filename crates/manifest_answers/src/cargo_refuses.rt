@@ -1,7 +1,7 @@
 //! What Cargo refuses of the tables of dependencies of a manifest, beside keys.
 
 use cargo_platform::shown_start;
-use lint_reports::{Weight, shown_table, wrong_places};
+use manifest_lints_findings::{Level, shown_table, wrong_places};
 use manifests::{Kind, table_of};
 use std::alloc::{AllocError, Global};
 use toml::{Table, Value};
@@ -88,7 +88,7 @@ fn refused_below(alloc: Global, manifest: &Table) -> Result<Option<String>, Allo
 /// What is said of the first table or package whose name Cargo does not take where it stands.
 fn refused_place(alloc: Global, manifest: &Table) -> Result<Option<String>, AllocError> {
     for it in &wrong_places(alloc, manifest)? {
-        if it.weight == Weight::Error {
+        if it.level == Level::Error {
             let subject = it.subject.as_str();
             let message = it.message.as_str();
             return Ok(Some(format!(in alloc; "{subject}: {message}")?));

@@ -12,7 +12,7 @@ use key_answers::answer::{Answer, Refusal, Status};
 use key_answers::json_lines;
 use key_answers::printing::refused_key;
 use known_targets::KnownTarget;
-use lint_reports::shown_table;
+use manifest_lints_findings::shown_table;
 use manifests::reading::Manifest;
 use manifests::{Asked, Choice, Dependency, Kind, Row, SelectError, choose, select};
 use serde::Serialize;

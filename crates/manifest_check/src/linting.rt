@@ -10,12 +10,13 @@ use cargo_configuration::{
 use cargo_platform::{shown_start, shown_text};
 use key_answers::answer::{Answer, Status};
 use lint_reports::{
-    Counts, Formers, Printed, Project, Rule, Settings, Style, Told, Weighed, Weight, WrongPlace,
-    fault_message, own_weight, place_of, settings_at, status_of, told_of, told_of_fault,
-    told_of_unneeded, told_of_wrong, unneeded_message, weight_by_each, wrong_fields, wrong_places,
+    Counts, Formers, Printed, Project, Rule, Settings, Style, Told, Weighed, Weight, fault_message,
+    own_weight, place_of, settings_at, status_of, told_of, told_of_fault, told_of_unneeded,
+    told_of_wrong, unneeded_message, weight_by_each, wrong_fields,
 };
 use manifest_answers::deep::first_deep;
 use manifest_lints::{Code, Finding, Report, Words, lint};
+use manifest_lints_findings::{WrongPlace, wrong_places};
 use manifests::reading::{Manifest, ReadError, read_manifest};
 use std::alloc::{AllocError, Global};
 use std::rt::{Env, Files};

@@ -1,23 +1,29 @@
-//! Tables that are meant for targets, and that Cargo reads otherwise or not at all.
+//! Tables that are meant for targets, and that Cargo reads as something else or not at all.
 
-use crate::codes::{MISPLACED, UNDERSCORED};
-use crate::weight_rules::Weight;
+use crate::codes::Level;
 use cargo_platform::shown_start;
 use known_targets::KnownTarget;
 use std::alloc::{AllocError, Global};
 use toml::{Table, Value};
 
-/// A table that stands elsewhere than its writer may mean.
+/// The lint for a table that is meant for targets and is in the wrong place.
+pub const MISPLACED: &str = "misplaced";
+
+/// The lint for a table with an underscore in its name.
+pub const UNDERSCORED: &str = "underscored";
+
+/// A diagnostic on a table or a field that Cargo does not read as its author may expect.
 #[derive(Drop)]
 pub struct WrongPlace {
+    /// The name of the lint.
     pub code: &'static str,
-    pub weight: Weight,
-    /// The table, as its header has it.
+    pub level: Level,
+    /// The table, as in its header.
     pub subject: String,
-    /// The key of `target` that it is on, if it is on one. The subject is then what stands before that.
+    /// The key of `target` below `subject` that the diagnostic is about, if it is about one.
     pub key: Option<String>,
     pub message: String,
-    /// A text that may stand in place of the whole key.
+    /// A replacement for the whole key.
     pub suggestion: Option<&'static str>,
 }
 
@@ -50,7 +56,7 @@ fn unread(alloc: Global, name: &str, meant: &str) -> Result<WrongPlace, AllocErr
     let meant = meant.as_str();
     Ok(WrongPlace {
         code: MISPLACED,
-        weight: Weight::Warning,
+        level: Level::Warning,
         subject: name,
         key: None,
         message: format!(in alloc; "Cargo does not read this table; perhaps `{meant}` is meant")?,
@@ -114,7 +120,7 @@ fn among_packages(alloc: Global, name: &str, key: &str) -> Result<WrongPlace, Al
     let key = shown_start(alloc, key)?;
     Ok(WrongPlace {
         code: MISPLACED,
-        weight: Weight::Error,
+        level: Level::Error,
         subject: format!(in alloc; "{name}.'{key}'")?,
         key: None,
         message: format!(in alloc;
@@ -184,10 +190,10 @@ fn underscored(
 ) -> Result<WrongPlace, AllocError> {
     Ok(WrongPlace {
         code: UNDERSCORED,
-        weight: if is_refused {
-            Weight::Error
+        level: if is_refused {
+            Level::Error
         } else {
-            Weight::Warning
+            Level::Warning
         },
         subject: shown_table(alloc, key, name)?,
         key: None,
