@@ -146,7 +146,7 @@ const LINT: Subcommand = Subcommand {
           workspace can have tables `manifest-check` with lists `allow`, `warn` and `deny`; the options override \
           them.\n\n\
           Exit status: 0 if there is no error or warning, 1 if there is one, 2 if an argument or a manifest is \
-          invalid. A key with more than 100,000 nested groups is invalid.",
+          invalid. A manifest with a key of more than 100,000 nested groups is invalid.",
     arguments: &[
         JSON,
         Argument {
@@ -173,6 +173,16 @@ const LINT: Subcommand = Subcommand {
             name: "deny",
             given: Given::Values("LINT"),
             help: "Report this lint as an error",
+        },
+        Argument {
+            name: "fail-on",
+            given: Given::OneOf("LEVEL", &["error", "warning", "note"]),
+            help: "Exit with status 1 if there is a diagnostic of this or a more severe level, by default warning",
+        },
+        Argument {
+            name: "exit-zero",
+            given: Given::Flag,
+            help: "Exit with status 0 whatever is reported; invalid arguments and manifests still give 2",
         },
         Argument {
             name: "list-codes",

@@ -1,5 +1,5 @@
 -- What rules make of the weight of a finding.
-use Rattle.std.specs.Prelude.{◌≡◌, ◌≢◌, ◌⊎◌, ℕ, List, [], ◌∷◌, Option, Some, None, option_map, Contains, string_bytes}
+use Rattle.std.specs.Prelude.{◌≡◌, ◌≢◌, ◌≤◌, ◌⊎◌, ℕ, List, [], ◌∷◌, Option, Some, None, option_map, Contains, string_bytes}
 use Rattle.std.specs.declared.string.String.{String}
 use Rattle.std.specs.declared.alloc.Global.{Global}
 use Rattle.lint_reports.specs.declared.weight_rules.Weight.{Weight}
@@ -39,6 +39,18 @@ Makes code key w [] v = v ≡ w
 Makes code key w (rule ∷ rules) v =
     (Hears rule code key w × Makes code key (weight_set rule.setting) rules v)
     ⊎ ((Hears rule code key w → ⊥) × Makes code key w rules v)
+
+-- how severe a weight is
+abbrev pub severity : Weight → ℕ
+severity weight.Allowed = 0
+severity weight.Note = 1
+severity weight.Warning = 2
+severity weight.Error = 3
+
+-- a diagnostic of the second weight fails a run that diagnostics from the first weight on fail
+abbrev pub Fails : Option Weight → Weight → Type 0
+Fails None w = ⊥
+Fails (Some least) w = severity least ≤ severity w
 
 -- a finding hears the rule, and would be told without any rule
 abbrev pub IsNeeded : Rule → List Weighed → Type 0

@@ -1,5 +1,9 @@
 //! What is told of a manifest: where, how much it weighs, and the text.
 
+ghost use Rattle.std.specs.Prelude.{◌↔◌, ◌≡◌};
+ghost use Rattle.key_answers.specs.declared.answer.Status.TheVariants.{Fine, Found};
+ghost use Rattle.lint_reports.specs.Weights.{Fails};
+
 use crate::weight_rules::Weight;
 use cargo_platform::shown_start;
 use key_answers::answer::Status;
@@ -146,10 +150,14 @@ pub fn weight_word(weight: Weight) -> &'static str {
     }
 }
 
-/// How a run ends with a finding of this weight.
-pub fn status_of(weight: Weight) -> Status {
-    match weight {
-        Weight::Error | Weight::Warning => Status::Found,
-        Weight::Note | Weight::Allowed => Status::Fine,
+/// Returns the exit status for a diagnostic of this weight: `Found` if the weight is `fails_from` or a more severe one,
+/// and else `Fine`. If `fails_from` is `None`, no diagnostic makes the run fail.
+pub fn status_of(weight: Weight, fails_from: Option<Weight>) -> Status
+    ensures found { (result ≡ Found) ↔ Fails fails_from weight }
+    ensures fine { (result ≡ Fine) ↔ (Fails fails_from weight → ⊥) }
+{
+    match fails_from {
+        Some(least) if least.severity() <= weight.severity() => Status::Found,
+        _ => Status::Fine,
     }
 }

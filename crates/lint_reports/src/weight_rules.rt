@@ -1,7 +1,7 @@
 //! Rules on findings, and what they come to.
 
 ghost use Rattle.std.specs.Prelude.{◌≡◌, ◌↔◌, ◌++◌, IsTrue, option_map};
-ghost use Rattle.lint_reports.specs.Weights.{weight_set, IsAbout, IsMeant, Hears, Makes, IsNeeded};
+ghost use Rattle.lint_reports.specs.Weights.{weight_set, severity, IsAbout, IsMeant, Hears, Makes, IsNeeded};
 
 /// How much a finding weighs.
 #[derive(Clone, Copy, Debug, PartialEq, Eq, Drop)]
@@ -14,6 +14,20 @@ pub enum Weight {
     Warning,
     /// Something is refused or left out.
     Error,
+}
+
+impl Weight {
+    /// Returns how severe the weight is, from 0 for what is not reported to 3 for an error.
+    pub fn severity(self) -> u8
+        ensures { result ≡ severity self }
+    {
+        match self {
+            Weight::Allowed => 0,
+            Weight::Note => 1,
+            Weight::Warning => 2,
+            Weight::Error => 3,
+        }
+    }
 }
 
 /// What a rule makes of a finding that hears it.

@@ -2,7 +2,7 @@
 
 use crate::explaining::{explained_code, listed_codes};
 use crate::graphs::graph_answer;
-use crate::levels::command_rules;
+use crate::levels::{command_rules, fails_from};
 use crate::limits::{limit_of, text_of};
 use crate::linting::{Asked, lint_each};
 use crate::named::{Named, named_manifests};
@@ -180,6 +180,7 @@ fn lint_answer<R: Files + Input + Env + AllocGlobal + Clone + Drop>(
         codes,
         is_verbose: matches.get_flag("verbose"),
         is_quiet: matches.get_flag("quiet"),
+        fails_from: fails_from(matches),
         limit: limit_of(matches),
         is_whole: !matches.contains_id("package") && !matches.contains_id("exclude"),
         other,

@@ -3,11 +3,23 @@
 use anyhow::{Result, bail};
 use cargo_platform::shown_text;
 use clap::ArgMatches;
-use lint_reports::{Rule, Setting, Subject};
+use lint_reports::{Rule, Setting, Subject, Weight};
 use std::alloc::Global;
 
 /// The options by which a command line has rules.
 const OPTIONS: [Setting; 3] = [Setting::Allow, Setting::Warn, Setting::Deny];
+
+/// Returns the least weight of diagnostics that make `lint` fail, or `None` if none does.
+pub fn fails_from(matches: &ArgMatches<'_>) -> Option<Weight> {
+    if matches.get_flag("exit-zero") {
+        return None;
+    }
+    match matches.get_str("fail-on") {
+        Some("error") => Some(Weight::Error),
+        Some("note") => Some(Weight::Note),
+        _ => Some(Weight::Warning),
+    }
+}
 
 /// A rule of a command line, and the place of its word.
 #[derive(Drop)]

@@ -37,6 +37,8 @@ pub struct Asked {
     pub is_verbose: bool,
     /// No last line sums up.
     pub is_quiet: bool,
+    /// The least weight of diagnostics that make the run fail. With `None`, none does.
+    pub fails_from: Option<Weight>,
     /// How many bytes a manifest may have.
     pub limit: u64,
     /// No package is left out.
@@ -87,7 +89,7 @@ impl<'a> Telling<'a> {
         let told = Told { weight, ..*told };
         self.printed.push(&mut self.answer.output, alloc, &told)?;
         self.counts.add(weight);
-        self.answer.raise(status_of(weight));
+        self.answer.raise(status_of(weight, self.asked.fails_from));
         Ok(())
     }
 
