@@ -2,7 +2,8 @@
 
 use crate::told::own_weight;
 use crate::weight_rules::Weight;
-use manifest_lints_findings::{CODES, Code, MISPLACED, UNDERSCORED};
+use cargo_platform::shown_start;
+use manifest_lints_findings::{CODES, Code, MISPLACED, UNDERSCORED, near};
 use std::alloc::{AllocError, Global};
 
 /// The code of what can't be used in a table of rules.
@@ -35,54 +36,55 @@ const OTHERS: [Explained; 6] = [
     Explained {
         word: FORMER,
         weight: Weight::Note,
-        short: "rustc knew a name or value until some release; a warning where no rustc of the project knows it",
-        text: "The key is the name of a target, or asks for a value, that rustc knew until some release, so that Cargo \
-               selects the dependencies with older compilers alone. It is a warning where `rust-version`, or \
-               `rustc` in a table `manifest-check` of the metadata, is a release that does not know it, and is not \
-               told where that `rustc` knows it.\n\n\
-               Example: [target.wasm32-wasi.dependencies]\nwhich rustc knew until 1.83.0.",
+        short: "a name or value that rustc knew only until some release",
+        text: "The key is the name of a target, or its condition contains a value, that rustc knew until some \
+               release. Cargo selects the dependencies only with older compilers. This is a warning if \
+               `rust-version`, or `rustc` in the table `manifest-check` of the metadata, is a release that does not \
+               know the name. It is not reported if that `rustc` knows the name.\n\n\
+               Example: [target.wasm32-wasi.dependencies]\nrustc knew this target until 1.83.0.",
     },
     Explained {
         word: MISPLACED,
         weight: Weight::Warning,
-        short: "a table that is meant for targets stands where Cargo does not read it",
-        text: "A key of `target` stands at the top of the manifest, in `targets`, in `workspace.target`, or in a table \
-               of dependencies, where Cargo takes it for the name of a package and refuses the manifest.\n\n\
-               Example: [targets.'cfg(unix)'.dependencies]\nwhere `[target.'cfg(unix)'.dependencies]` is meant.",
+        short: "a table for targets that is defined where Cargo does not read it",
+        text: "A key of `target` is defined at the top of the manifest, in `targets` or in `workspace.target`, where \
+               Cargo ignores it. In a table of dependencies, Cargo takes it for the name of a package and rejects the \
+               manifest.\n\n\
+               Example: [targets.'cfg(unix)'.dependencies]\nWrite `[target.'cfg(unix)'.dependencies]`.",
     },
     Explained {
         word: UNDERSCORED,
         weight: Weight::Warning,
-        short: "`dev_dependencies` or `build_dependencies`, which Cargo warns of, or refuses",
-        text: "Cargo warns of these names, and refuses them in packages of the edition of 2024. The names have a \
-               dash.\n\n\
-               Example: [target.'cfg(unix)'.dev_dependencies]\nwhere `dev-dependencies` is the name.",
+        short: "a table named `dev_dependencies` or `build_dependencies`",
+        text: "Cargo warns about these names, and rejects them in packages of edition 2024.\n\n\
+               Example: [target.'cfg(unix)'.dev_dependencies]\nWrite `dev-dependencies`.",
     },
     Explained {
         word: UNREAD_FIELD,
         weight: Weight::Warning,
-        short: "in Cargo's configuration a field of a key is not read there, or is one edit from one that is",
-        text: "At a key of `target` in `.cargo/config.toml` Cargo reads `linker`, `runner` and `rustflags`, and \
-               `rustdocflags` and tables for `links` at the name of a target alone. Of another field it warns, or \
-               refuses the file where it builds for that target. Told is what one edit mends.\n\n\
-               Example: [target.'cfg(unix)']\n         linkr = \"clang\"\nwhere `linker` is meant.",
+        short: "a field in Cargo's configuration that Cargo does not read, similar to one that it reads",
+        text: "In `.cargo/config.toml`, Cargo reads `linker`, `runner` and `rustflags` below each key of `target`, \
+               and `rustdocflags` and tables for `links` only below the name of a target. Cargo warns about another \
+               field, or rejects the file when it builds for that target. A field is reported if it is one edit away \
+               from a field that Cargo reads there.\n\n\
+               Example: [target.'cfg(unix)']\n         linkr = \"clang\"\nWrite `linker`.",
     },
     Explained {
         word: SETTINGS,
         weight: Weight::Warning,
-        short: "something in a table `manifest-check` of the metadata can't be used",
-        text: "A table `manifest-check` in `package.metadata` or `workspace.metadata` has a word that is no setting, \
-               a code that does not exist, or something else in place of a list. What can be used of it counts.\n\n\
-               Example: [package.metadata.manifest-check]\n         allow = [\"nowere\"]\nwhere `nowhere` is meant.",
+        short: "an invalid setting of `manifest-check` in the metadata",
+        text: "The table `manifest-check` in `package.metadata` or `workspace.metadata` contains an unknown setting, \
+               an unknown lint, or something else in place of a list. The rest of the table is used.\n\n\
+               Example: [package.metadata.manifest-check]\n         allow = [\"nowere\"]\nWrite `nowhere`.",
     },
     Explained {
         word: UNNEEDED_ALLOW,
         weight: Weight::Note,
-        short: "an `allow` of the metadata is about nothing that is found",
-        text: "A rule in the metadata allows a code, and nothing with that code is found: the manifest was mended, or \
-               a newer rustc knows the name. The rule can go.\n\n\
-               Example: [package.metadata.manifest-check]\n         allow = [\"custom\"]\nwhere no key has a custom \
-               fact.",
+        short: "an `allow` in the metadata that no diagnostic needs",
+        text: "A rule in the metadata allows a lint, and nothing would be reported without the rule: the manifest was \
+               corrected, or a newer rustc knows the name. Delete the rule, since it would hide the next mistake.\n\n\
+               Example: [package.metadata.manifest-check]\n         allow = [\"custom\"]\nNo condition contains a \
+               name or value of the project's own.",
     },
 ];
 
@@ -96,102 +98,106 @@ struct Said {
 }
 
 const REFUSED: Said = Said {
-    short: "the key spells no condition",
-    text: "The key is neither the name of a target nor an expression `cfg(..)` that can be read, so Cargo refuses \
-           the whole manifest; in its own configuration it passes over the key. The two lines below the finding \
-           show where the fault lies.\n\n\
-           Example: [target.'cfg(all(unix windows))'.dependencies]\nhas no comma between the two names.",
+    short: "a key that is neither the name of a target nor a valid `cfg(..)` expression",
+    text: "The key is neither the name of a target nor a valid `cfg(..)` expression, so Cargo rejects the whole \
+           manifest. In its own configuration, Cargo ignores the key. The two lines below the diagnostic show the \
+           position of the error.\n\n\
+           Example: [target.'cfg(all(unix windows))'.dependencies]\nWrite a comma between the two names.",
 };
 
 const NO_TABLE: Said = Said {
-    short: "`target`, a key or something under it is no table",
-    text: "`target`, a key below it, or what stands under a key is no table where Cargo expects one. Cargo refuses \
-           the manifest, or leaves out what stands there.\n\n\
-           Example: [target]\n         'cfg(unix)' = \"1\"",
+    short: "a value that is not a table where Cargo expects one",
+    text: "`target`, a key below it, or a member of such a key is not a table where Cargo expects one. Cargo rejects \
+           the manifest, or ignores the value.\n\n\
+           Example: [target]\n         'cfg(unix)' = \"1\"\nWrite `[target.'cfg(unix)'.dependencies]`.",
 };
 
 const READ_OTHERWISE: Said = Said {
-    short: "Cargo of today reads the key otherwise than it is spelled",
-    text: "Cargo of today drops the raw mark `r#`, or takes `true` and `false` for names, and so asks for something \
-           else than the key spells.\n\n\
-           Example: [target.'cfg(true = \"x\")'.dependencies]\nwhich newer rules take for a literal.",
+    short: "a key that current Cargo reads differently from how it is spelled",
+    text: "Current Cargo drops the raw mark of `r#true` and `r#false`, and takes `true` and `false` for names in a \
+           pair. Newer rules take `true` and `false` for literals, so the key will mean something else or be \
+           rejected.\n\n\
+           Example: [target.'cfg(true = \"x\")'.dependencies]\nUse another name.",
 };
 
 const UNSUPPORTED: Said = Said {
-    short: "Cargo warns of a name or pair, which selects no dependencies",
-    text: "Cargo knows the fact, and never sets it where it selects dependencies: features, profiles and tests are \
-           chosen later. The dependency is never selected, or always where it stands under `not`.\n\n\
-           Example: [target.'cfg(feature = \"std\")'.dependencies]\nwhere an optional dependency of the feature is \
-           meant.",
+    short: "a name or pair that never selects a dependency, and that Cargo warns about",
+    text: "Cargo knows features, profiles and tests, but they are not set when Cargo selects dependencies. The \
+           dependency is never selected, or always if the name or pair is below `not`.\n\n\
+           Example: [target.'cfg(feature = \"std\")'.dependencies]\nMake the dependency optional, and enable it by \
+           the feature.",
 };
 
 const NEVER: Said = Said {
-    short: "no set of facts makes the condition true",
-    text: "The condition contradicts itself, so the dependencies are never selected. It is a note where the key has \
-           no names at all, as `cfg(false)`, since it may be meant.\n\n\
+    short: "a condition that no set of facts makes true",
+    text: "The condition contradicts itself, so the dependencies are never selected. This is a note if the condition \
+           contains no name, as `cfg(false)`, since that may be intended.\n\n\
            Example: [target.'cfg(all(unix, not(unix)))'.dependencies]",
 };
 
 const UNKNOWN_TARGET: Said = Said {
-    short: "no known target has the name",
-    text: "The key is the name of a target that the rustc of the table does not know. A file with a target of one's \
-           own may have it; else Cargo selects the dependencies nowhere, and says nothing.\n\n\
-           Example: [target.x86_64-apple-macos.dependencies]\nwhere `x86_64-apple-darwin` is meant.",
+    short: "the name of a target that rustc does not know",
+    text: "The key is the name of a target that rustc does not know. A custom target specification may have this \
+           name. If there is none, Cargo selects the dependencies on no target, without a warning.\n\n\
+           Example: [target.x86_64-apple-macos.dependencies]\nWrite `x86_64-apple-darwin`.",
 };
 
 const UNKNOWN_FACT: Said = Said {
-    short: "a name or pair is taken for one of rustc's that no known target has",
-    text: "The condition asks for a name or value that looks like one of rustc's, and no known target has it. So it \
-           is false at all of them, and Cargo says nothing.\n\n\
-           Example: [target.'cfg(target_os = \"darwin\")'.dependencies]\nwhere `target_os = \"macos\"` is meant.",
+    short: "a name or pair that looks like one of rustc's, and that no known target sets",
+    text: "The condition contains a name or pair that looks like one of rustc's, and no known target sets it. It is \
+           false on all of them, and Cargo does not warn.\n\n\
+           Example: [target.'cfg(target_os = \"darwin\")'.dependencies]\nWrite `target_os = \"macos\"`.",
 };
 
 const NOWHERE: Said = Said {
-    short: "the condition holds at no known target",
-    text: "Facts may make the condition true, and no target that rustc knows has them. A target of one's own may.\n\n\
+    short: "a condition that is true on no known target",
+    text: "Some set of facts makes the condition true, but no target that rustc knows has these facts. A custom \
+           target specification may have them.\n\n\
            Example: [target.'cfg(all(target_os = \"windows\", target_arch = \"s390x\"))'.dependencies]",
 };
 
 const SAME: Said = Said {
-    short: "the same condition as that of an earlier key",
-    text: "Two keys spell the same condition, with other spaces, commas or raw marks. What stands under both \
-           is selected together, so one table can hold it.\n\n\
+    short: "a condition that is the same as that of an earlier key",
+    text: "Two keys contain the same condition with different spaces, commas or raw marks. The dependencies of both \
+           tables are selected together, so one table is enough.\n\n\
            Example: [target.'cfg( unix )'.dependencies]\nafter [target.'cfg(unix)'.dependencies]",
 };
 
 const EQUIVALENT: Said = Said {
-    short: "as true as an earlier key over every set of facts",
-    text: "Two keys are true over the same sets of facts, though they are spelled in other words.\n\n\
+    short: "a condition that is equivalent to that of an earlier key",
+    text: "Two conditions are true for the same sets of facts, although they are spelled differently. One table is \
+           enough for the dependencies of both.\n\n\
            Example: [target.'cfg(target_family = \"unix\")'.dependencies]\nafter [target.'cfg(unix)'.dependencies]",
 };
 
 const ALWAYS: Said = Said {
-    short: "every set of facts makes the condition true",
-    text: "The condition can't be false, so the table may as well be `dependencies` itself.\n\n\
+    short: "a condition that every set of facts makes true",
+    text: "The condition can't be false, so the table means the same as `dependencies` without a condition.\n\n\
            Example: [target.'cfg(any(not(unix), unix))'.dependencies]",
 };
 
 const EVERYWHERE: Said = Said {
-    short: "the condition holds at every known target",
-    text: "Each target that rustc knows makes the condition true. A target of one's own may make it false.\n\n\
+    short: "a condition that is true on every known target",
+    text: "The condition is true on each target that rustc knows. A custom target specification may make it \
+           false.\n\n\
            Example: [target.'cfg(any(target_endian = \"little\", target_endian = \"big\"))'.dependencies]",
 };
 
 const CUSTOM: Said = Said {
-    short: "only `--cfg` or an unstable feature sets a name or pair, and the manifest does not declare it",
-    text: "The condition asks for a name or pair that no known target has. Only `--cfg` in RUSTFLAGS sets it for \
-           dependencies: what a build script prints comes too late. Or rustc prints it only with unstable features, \
-           as `overflow_checks`. A name that the manifest declares in `lints.rust.unexpected_cfgs.check-cfg` is not \
-           told.\n\n\
+    short: "a name or pair that only `--cfg` or an unstable feature sets, and that is not declared",
+    text: "The condition contains a name or pair that no known target sets. For dependencies, only `--cfg` in \
+           RUSTFLAGS sets it, since the output of a build script comes too late; or rustc prints it only with \
+           unstable features, as `overflow_checks`. A name in `lints.rust.unexpected_cfgs.check-cfg` of the manifest \
+           is declared and not reported.\n\n\
            Example: [target.'cfg(loom)'.dependencies]",
 };
 
 const NOT_CANONICAL: Said = Said {
-    short: "the canonical form is another text; not told unless it is asked for",
-    text: "The condition can be spelled in the one form that all tools print. This is told where \
-           `--warn not-canonical` or a rule of the metadata asks for it, and never beside a finding that changes \
-           the key.\n\n\
-           Example: [target.'cfg( unix )'.dependencies]\nwhose canonical form is `cfg(unix)`.",
+    short: "a condition that is not in canonical form; allowed by default",
+    text: "The condition is not spelled in the canonical form, in which all tools print it. This is reported only \
+           with `--warn not-canonical` or a rule in the metadata, and never beside a diagnostic that changes the \
+           key.\n\n\
+           Example: [target.'cfg( unix )'.dependencies]\nWrite `cfg(unix)`.",
 };
 
 /// What is said of the code.
@@ -244,4 +250,15 @@ pub fn words(alloc: Global) -> Result<Vec<&'static str>, AllocError> {
         words.push(explained.word)?;
     }
     Ok(words)
+}
+
+/// Returns the message for a name that no lint has. If the name of a lint is one edit away, the message suggests it.
+pub fn unknown_lint(alloc: Global, name: &str) -> Result<String, AllocError> {
+    let shown = shown_start(alloc, name)?;
+    match near(name, &words(alloc)?) {
+        Some(lint) => format!(in alloc; "unknown lint: `{shown}`; did you mean `{lint}`?"),
+        None => {
+            format!(in alloc; "unknown lint: `{shown}`; `lint --list-codes` lists all lints")
+        }
+    }
 }

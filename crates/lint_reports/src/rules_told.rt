@@ -1,6 +1,6 @@
 //! What is told of tables that are no keys: rules that can't be used or that nothing needs, and wrong places.
 
-use crate::codes::{SETTINGS, UNNEEDED_ALLOW};
+use crate::codes::{SETTINGS, UNNEEDED_ALLOW, unknown_lint};
 use crate::settings::{Fault, TOOL};
 use crate::told::{Place, Told, place_of_key, weight_of};
 use crate::weight_rules::{Rule, Subject, Weight};
@@ -21,10 +21,7 @@ pub fn fault_message(alloc: Global, fault: &Fault) -> Result<String, AllocError>
         Fault::NoRelease(word) => {
             format!(in alloc; "`{word}` is no release, as `1.84` and `1.84.1` are")
         }
-        Fault::UnknownCode(word) => {
-            let word = shown_start(alloc, word.as_str())?;
-            format!(in alloc; "no code is named `{word}`; `lint --list-codes` prints all")
-        }
+        Fault::UnknownCode(word) => unknown_lint(alloc, word.as_str()),
         Fault::UnknownWord(word) => {
             let word = shown_start(alloc, word.as_str())?;
             format!(in alloc; "nothing is set by `{word}`")

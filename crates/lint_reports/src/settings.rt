@@ -11,10 +11,8 @@ pub const TOOL: &str = "manifest-check";
 /// The settings in the order in which their rules stand: where a code is in several lists, the last one counts.
 const SETTINGS: [Setting; 3] = [Setting::Allow, Setting::Warn, Setting::Deny];
 
-/// The list of targets that a project has beside those of rustc, and the code of a name that none has.
+/// The list of targets that a project has in addition to those of rustc.
 const KNOWN_TARGETS: &str = "known-targets";
-
-const UNKNOWN_TARGET: &str = "unknown-target";
 
 /// The list of facts that a project sets by flags of its own.
 const KNOWN_FACTS: &str = "known-facts";
@@ -44,9 +42,10 @@ pub enum Fault {
 /// What a table of rules says.
 #[derive(Drop)]
 pub struct Settings {
-    /// The rules of targets that are known, those of all keys, and behind them those of one key: of each those of
-    /// `allow`, of `warn` and of `deny`.
+    /// The rules of all keys, and behind them those of one key: of each those of `allow`, of `warn` and of `deny`.
     pub rules: Vec<Rule>,
+    /// The names of known targets, in addition to those of rustc.
+    pub targets: Vec<String>,
     /// The facts that are known, as `rustc --print cfg` prints them.
     pub facts: Vec<String>,
     /// The release of rustc that builds the project.
@@ -116,21 +115,6 @@ pub fn release_of(value: &Value) -> Option<Release> {
     Release::of(value.as_str()?)
 }
 
-impl Rule {
-    /// Whether it allows that no known target has this name.
-    fn is_of_target(&self, name: &str) -> bool {
-        let is_unknown = match &self.subject {
-            Subject::Code(code) => code.as_str() == UNKNOWN_TARGET,
-            _ => false,
-        };
-        let is_named = match &self.key {
-            Some(key) => key.as_str() == name,
-            None => false,
-        };
-        self.setting == Setting::Allow && is_unknown && is_named
-    }
-}
-
 impl Settings {
     /// Adds the rule of an entry, where it is one of a key, or of all, as is asked for.
     fn add_entry(
@@ -193,18 +177,6 @@ impl Settings {
         Ok(())
     }
 
-    /// Adds the rules of the targets that are known: their names as keys are allowed.
-    fn add_targets(&mut self, alloc: Global, table: &Table) -> Result<(), AllocError> {
-        for name in self.texts(alloc, table, KNOWN_TARGETS)? {
-            self.rules.push(Rule {
-                setting: Setting::Allow,
-                subject: Subject::Code(String::from_str(alloc, UNKNOWN_TARGET)?),
-                key: Some(name),
-            })?;
-        }
-        Ok(())
-    }
-
     /// The texts of a list.
     fn texts(
         &mut self,
@@ -244,14 +216,9 @@ impl Settings {
         Ok(release)
     }
 
-    /// Whether a target with this name is among those that are known.
+    /// Returns whether a target with this name is among those that the table makes known.
     pub fn knows_target(&self, name: &str) -> bool {
-        for rule in &self.rules {
-            if rule.is_of_target(name) {
-                return true;
-            }
-        }
-        false
+        self.targets.iter().any(|it| it.as_str() == name)
     }
 
     /// What stands at a place for rules, whose codes are these.
@@ -262,13 +229,14 @@ impl Settings {
     ) -> Result<Settings, AllocError> {
         let mut settings = Settings {
             rules: Vec::new(alloc),
+            targets: Vec::new(alloc),
             facts: Vec::new(alloc),
             rustc: None,
             faults: Vec::new(alloc),
         };
         match value {
             Some(Value::Table(table)) => {
-                settings.add_targets(alloc, table)?;
+                settings.targets = settings.texts(alloc, table, KNOWN_TARGETS)?;
                 settings.facts = settings.texts(alloc, table, KNOWN_FACTS)?;
                 settings.rustc = settings.release(table, RUSTC)?;
                 settings.add_lists(alloc, table, false, codes)?;

@@ -1,9 +1,8 @@
 //! What the codes of findings mean.
 
 use anyhow::{Result, bail};
-use cargo_platform::shown_text;
 use key_answers::answer::{Answer, Status};
-use lint_reports::codes::all_explained;
+use lint_reports::codes::{all_explained, unknown_lint};
 use lint_reports::weight_word;
 use std::alloc::{AllocError, Global};
 
@@ -30,6 +29,6 @@ pub fn explained_code(alloc: Global, word: &str) -> Result<Answer> {
             return Ok(Answer::of(alloc, text, Status::Fine));
         }
     }
-    let word = shown_text(alloc, word)?;
-    bail!("no code is named `{word}`; `lint --list-codes` prints all")
+    let message = unknown_lint(alloc, word)?;
+    bail!("{message}")
 }

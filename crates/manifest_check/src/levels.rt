@@ -1,8 +1,8 @@
 //! The rules on findings that stand in a command line and in manifests.
 
 use anyhow::{Result, bail};
-use cargo_platform::shown_text;
 use clap::ArgMatches;
+use lint_reports::codes::unknown_lint;
 use lint_reports::{Rule, Setting, Subject, Weight};
 use std::alloc::Global;
 
@@ -37,8 +37,8 @@ fn rule_of(alloc: Global, setting: Setting, word: &str, codes: &[&str]) -> Resul
             key: None,
         }),
         None => {
-            let word = shown_text(alloc, word)?;
-            bail!("no code is named `{word}`; `lint --list-codes` prints all");
+            let message = unknown_lint(alloc, word)?;
+            bail!("{message}");
         }
     }
 }

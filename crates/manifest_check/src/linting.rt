@@ -178,9 +178,10 @@ impl<'a> Telling<'a> {
     }
 }
 
-/// What is found of a manifest beside its report.
+/// The settings of a package, and the diagnostics on its manifest that are not in the report.
 #[derive(Drop)]
-struct Beside {
+struct Beside<'s> {
+    settings: &'s Settings,
     /// Names that rustc knew before.
     formers: Formers,
     /// What stands at wrong places.
@@ -193,13 +194,12 @@ impl<'a> Telling<'a> {
         &mut self,
         alloc: Global,
         root: &mut Root,
-        settings: &Settings,
         manifest: &Manifest,
         report: &Report<'_>,
-        beside: &Beside,
+        beside: &Beside<'_>,
     ) -> Result<(), AllocError> {
         let told = told_in(alloc, root, manifest, report, beside)?;
-        self.tell_of(alloc, root, settings, manifest, &told)
+        self.tell_of(alloc, root, beside.settings, manifest, &told)
     }
 }
 
@@ -221,14 +221,22 @@ fn weighed_in<'a>(alloc: Global, found: &[Told<'a>]) -> Result<Vec<Weighed<'a>>,
     Ok(weighed)
 }
 
-/// Whether a finding is left out: lints that can't be read hide what a manifest declares, and of a name that rustc knew
-/// before that is told.
-fn is_left_out(root: &Root, report: &Report<'_>, formers: &Formers, finding: &Finding) -> bool {
+/// Returns whether the settings of a package or of its workspace make a target known, or whether rustc knew it before,
+/// which is another diagnostic.
+fn is_known(root: &Root, beside: &Beside<'_>, name: &str) -> bool {
+    root.settings.knows_target(name)
+        || beside.settings.knows_target(name)
+        || beside.formers.has_target(name)
+}
+
+/// Returns whether a finding is not reported. If the lints of a manifest can't be read, nobody can tell which facts it
+/// declares.
+fn is_left_out(root: &Root, report: &Report<'_>, beside: &Beside<'_>, finding: &Finding) -> bool {
     match finding.code {
         Code::Custom => root.hides_lints,
         Code::UnknownTarget => match finding.key {
             Some(place) => match report.keys.get(place) {
-                Some(key) => formers.has_target(key.text),
+                Some(key) => is_known(root, beside, key.text),
                 None => false,
             },
             None => false,
@@ -243,11 +251,11 @@ fn told_in<'a>(
     root: &Root,
     manifest: &'a Manifest,
     report: &'a Report<'a>,
-    beside: &'a Beside,
+    beside: &'a Beside<'a>,
 ) -> Result<Vec<Told<'a>>, AllocError> {
     let mut told = Vec::new(alloc);
     for finding in &report.findings {
-        if is_left_out(root, report, &beside.formers, finding) {
+        if is_left_out(root, report, beside, finding) {
             continue;
         }
         let weight = own_weight(finding.code, finding.level);
@@ -300,12 +308,11 @@ fn tell_report(
     alloc: Global,
     root: &mut Root,
     telling: &mut Telling<'_>,
-    settings: &Settings,
     manifest: &Manifest,
     report: &Report<'_>,
-    beside: &Beside,
+    beside: &Beside<'_>,
 ) -> Result<(), AllocError> {
-    telling.tell_found(alloc, root, settings, manifest, report, beside)?;
+    telling.tell_found(alloc, root, manifest, report, beside)?;
     if telling.asked.is_verbose && report.keys.is_empty() {
         let path = manifest.path.as_str();
         let line = format!(in alloc; "{path}: no key of `target` to check\n")?;
@@ -391,8 +398,12 @@ fn lint_configuration<R: Files + Input + AllocGlobal>(
     let mut report = report_on(alloc, &manifest, words, &telling.asked.other)?;
     explain_unsupported(alloc, &mut report.findings)?;
     telling.counts.add_configuration(report.keys.len());
-    let beside = Beside { formers, wrong };
-    tell_report(alloc, root, telling, &settings, &manifest, &report, &beside)
+    let beside = Beside {
+        settings: &settings,
+        formers,
+        wrong,
+    };
+    tell_report(alloc, root, telling, &manifest, &report, &beside)
 }
 
 /// Tells what is found of the manifest at a path, or that it can't be used.
@@ -423,8 +434,12 @@ fn lint_at<R: Files + Input + AllocGlobal>(
     let report = report_on(alloc, &manifest, words, &telling.asked.other)?;
     let wrong = wrong_places(alloc, &manifest.document.table)?;
     telling.counts.add_manifest(report.keys.len());
-    let beside = Beside { formers, wrong };
-    tell_report(alloc, root, telling, &settings, &manifest, &report, &beside)
+    let beside = Beside {
+        settings: &settings,
+        formers,
+        wrong,
+    };
+    tell_report(alloc, root, telling, &manifest, &report, &beside)
 }
 
 /// Whether one of the paths leads to the file.
