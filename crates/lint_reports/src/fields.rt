@@ -1,4 +1,4 @@
-//! What Cargo does not read at the keys of `target` in its own configuration.
+//! Fields under the keys of `target` that Cargo does not read in its own configuration.
 
 use crate::codes::UNREAD_FIELD;
 use crate::places::{WrongPlace, add_at_top};
@@ -8,16 +8,17 @@ use manifest_lints_findings::near;
 use std::alloc::{AllocError, Global};
 use toml::{Table, Value};
 
-/// The table of the keys.
+/// The name of the table that contains the keys.
 const TARGET: &str = "target";
 
-/// The field that Cargo reads at the name of a target alone.
+/// The field that Cargo reads only under the name of a target.
 const OF_NAMES: &str = "rustdocflags";
 
-/// The fields of a key. At the name of a target other members are tables for libraries of `links`.
+/// The fields of a key. Under the name of a target, other members are tables for libraries of `links`.
 const FIELDS: [&str; 4] = ["linker", "runner", "rustflags", OF_NAMES];
 
-/// What is told of a field that Cargo reads at some key, and how much it weighs; nothing where it is read at this one.
+/// Returns the level and the message for a field that Cargo reads under some keys, or `None` if Cargo reads it under
+/// this one.
 fn misplaced(
     alloc: Global,
     name: &str,
@@ -30,7 +31,7 @@ fn misplaced(
     Ok(None)
 }
 
-/// What Cargo makes of a field that it reads at no key. `name` is the field as it is shown.
+/// Formats what Cargo does with a field that it reads under no key. `name` is the field as it is displayed.
 fn reason_of(
     alloc: Global,
     name: &str,
@@ -46,7 +47,8 @@ fn reason_of(
     }
 }
 
-/// What is told of a field, and how much it weighs; nothing of one that Cargo reads, or that is near to no such one.
+/// Returns the level and the message for a field. Returns `None` if Cargo reads the field, or if no field that Cargo
+/// reads has a similar name.
 fn unread(
     alloc: Global,
     key: &str,
@@ -72,7 +74,7 @@ fn unread(
     Ok(Some((weight, message)))
 }
 
-/// A field of a key that is not read, with what is told of it.
+/// Returns the diagnostic on a field of a key that is not read.
 fn field_of(
     alloc: Global,
     key: &str,
@@ -89,7 +91,7 @@ fn field_of(
     })
 }
 
-/// Adds the fields of a key that are not read.
+/// Adds the diagnostics on the fields of a key that are not read.
 fn add_of_key(
     alloc: Global,
     key: &str,
@@ -104,7 +106,9 @@ fn add_of_key(
     Ok(())
 }
 
-/// What Cargo does not read of a configuration: tables that are meant for targets and stand elsewhere, and fields.
+/// Returns the diagnostics on what Cargo does not read of a
+/// [configuration](https://doc.rust-lang.org/cargo/reference/config.html#target): tables that are meant for targets but
+/// are defined elsewhere, and fields of keys. Fails if memory is refused.
 pub fn wrong_fields(alloc: Global, configuration: &Table) -> Result<Vec<WrongPlace>, AllocError> {
     let mut found = Vec::new(alloc);
     add_at_top(alloc, configuration, &mut found)?;
