@@ -88,8 +88,8 @@ fn fact(alloc: Global, text: &str) -> Result<String, Fault> {
     }
 }
 
-/// Returns the target or the condition. For a rejected key, also returns the span of the error in the key if the error
-/// is in another text, a part of the key.
+/// Returns the target or the condition. If a key is rejected with an error whose text is only a part of the key, also
+/// returns the span of the error in the key.
 fn key(alloc: Global, text: &str) -> Result<String, Fault> {
     match Platform::from_str(alloc, text) {
         Ok(p) => Ok(read_key(alloc, &p, text)?),
@@ -186,7 +186,7 @@ fn bounds(alloc: Global, text: &str) -> Result<String, Fault> {
     Ok(out)
 }
 
-/// Returns the text that is the JSON of a condition, from which the same condition has to be read.
+/// Returns the text that is the JSON of a condition. Reading the JSON has to have the same result as parsing that text.
 fn json(alloc: Global, text: &str) -> Result<String, Fault> {
     let value = platform(alloc, text)?.to_json(alloc)?;
     match value.as_str() {
