@@ -27,28 +27,29 @@
 extern "C" {
 #endif
 
-/* The answer is there. */
+/* The call has an answer. */
 #define NEVGRASI_DONE 0
-/* A text is refused: the buffer has the message, and `start` and `end` are the bytes of the fault in the text. */
+/* A text is rejected: the buffer has the message, and the bytes from `start` to `end` of the text are the error. */
 #define NEVGRASI_REFUSED 1
-/* A text is no UTF-8. */
+/* A text is not UTF-8. */
 #define NEVGRASI_NOT_UTF8 2
-/* The bytes are no flat condition, or no flat facts. */
+/* The bytes are not a flat condition, or not flat facts. */
 #define NEVGRASI_NOT_FLAT 3
 /* Memory was refused. */
 #define NEVGRASI_NO_MEMORY 4
 /* The budget is used up. */
 #define NEVGRASI_UNDECIDED 5
-/* More parentheses than NEVGRASI_MOST_OPEN are open at once, or more groups of a flat condition. */
+/* More than NEVGRASI_MOST_OPEN parentheses are open at once, or a flat condition has more than
+   NEVGRASI_MOST_FLAT_BYTES bytes. */
 #define NEVGRASI_TOO_DEEP 6
-/* No known target has this name or place. */
+/* No known target has this name or index. */
 #define NEVGRASI_UNKNOWN_TARGET 7
-/* How many parentheses of a text may be open at once. Matching, printing and comparing take stack for a group that
-   others follow: some 100 bytes for each of so many. */
+/* The maximum number of parentheses of a text that can be open at once. Matching, printing and comparing use some 100
+   bytes of stack for each open group that others follow. */
 #define NEVGRASI_MOST_OPEN 10000
-/* How many bytes a flat condition may have, since it may hold one group for each 17 of them. */
+/* The maximum number of bytes of a flat condition, which can contain one group for each 17 of them. */
 #define NEVGRASI_MOST_FLAT_BYTES 680000
-/* The version of the interface: it rises whenever a caller of an earlier one may break. */
+/* The version of the interface. It rises whenever a caller of an earlier version may break. */
 #define NEVGRASI_ABI 2
 /* How many targets there are. */
 #define NEVGRASI_TARGETS 320
@@ -59,71 +60,75 @@ extern "C" {
 typedef struct {
     /* One of the constants above. */
     uint32_t code;
-    /* Which text of the call is refused, no UTF-8 or too deep: 0 is its first. */
+    /* The index, from 0 on, of the text of the call that is rejected, not UTF-8 or too deep. */
     uint32_t argument;
     /* The answer of a call that answers yes or no. */
     bool holds;
-    /* Whether the first text of an example is its name. */
+    /* True if the first text of an example is its name. */
     bool is_named;
-    /* How many bytes the answer or the message has. The buffer is written where it has as many. */
+    /* The number of bytes of the answer or the message. They are written if the buffer has as many. */
     size_t needed;
-    /* The first byte of a fault, in the text that is refused. */
+    /* The first byte of the error, in the text that is rejected. */
     size_t start;
-    /* The byte after the fault. */
+    /* The byte after the error. */
     size_t end;
 } nevgrasi_outcome;
 
-/* Answers the version of the interface. A caller that was compiled with another NEVGRASI_ABI should not go on. */
+/* Returns the version of the interface. A caller that was compiled with another NEVGRASI_ABI should not go on. */
 uint32_t nevgrasi_abi(void);
 
-/* Writes the version of the library, as three numbers with dots between them. */
+/* Writes the version of the library: three numbers with dots between them. */
 uint32_t nevgrasi_version(uint8_t *out, size_t out_length, nevgrasi_outcome *outcome);
 
-/* Writes the canonical text of the condition that a key spells: its print, which spells the same condition. */
+/* Writes the canonical text of a key's condition, which spells the same condition. */
 uint32_t nevgrasi_canonical(const uint8_t *key, size_t key_length, uint8_t *out, size_t out_length,
     nevgrasi_outcome *outcome);
 
-/* Shows where a key is refused: with NEVGRASI_REFUSED it writes two lines, the key and carets under its fault.
-   NEVGRASI_DONE, with no bytes, where the key spells a condition. */
+/* Shows the error of a rejected key: with NEVGRASI_REFUSED, writes two lines, the key and carets under the error.
+   Returns NEVGRASI_DONE, with no bytes, if the key is a condition. */
 uint32_t nevgrasi_fault(const uint8_t *key, size_t key_length, uint8_t *out, size_t out_length,
     nevgrasi_outcome *outcome);
 
-/* Answers by `holds` whether a key applies to the target of this name, with the facts of these lines, as `rustc
-   --print cfg` prints them. `argument` 2 tells that a line is refused. */
+/* Decides whether a key is true on the target with this name and the facts in these lines, which are as `rustc
+   --print cfg` prints them. `holds` is the answer. With NEVGRASI_REFUSED, `argument` 2 means that a line is not a
+   fact. */
 uint32_t nevgrasi_matches(const uint8_t *key, size_t key_length, const uint8_t *name, size_t name_length,
     const uint8_t *lines, size_t lines_length, uint8_t *out, size_t out_length, nevgrasi_outcome *outcome);
 
-/* Answers the known targets at which a key holds: the target at place `k` is bit `k % 64` of word `k / 64`. */
+/* Sets `words` to the known targets on which a key is true: bit `k % 64` of word `k / 64` is the target at index
+   `k`. */
 uint32_t nevgrasi_targets(const uint8_t *key, size_t key_length, uint64_t words[NEVGRASI_WORDS], uint8_t *out,
     size_t out_length, nevgrasi_outcome *outcome);
 
-/* Writes the name of the known target at this place, or answers NEVGRASI_UNKNOWN_TARGET. The names are sorted. */
+/* Writes the name of the known target at an index, or returns NEVGRASI_UNKNOWN_TARGET. The names are sorted. */
 uint32_t nevgrasi_target_name(size_t place, uint8_t *out, size_t out_length, nevgrasi_outcome *outcome);
 
-/* Writes the facts of the known target of this name, one a line, as `nevgrasi_matches` reads them; or answers
+/* Writes the facts of the known target with this name, one per line, as `nevgrasi_matches` reads them, or returns
    NEVGRASI_UNKNOWN_TARGET. */
 uint32_t nevgrasi_facts(const uint8_t *name, size_t name_length, uint8_t *out, size_t out_length,
     nevgrasi_outcome *outcome);
 
-/* Answers by `holds` whether the second key holds wherever the first does, over every set of facts that rustc's rules
-   allow. Of a no it writes an example. */
+/* Decides whether the second key is true wherever the first is, over every set of facts that rustc's rules allow.
+   `holds` is the answer. If it is false, writes a counterexample. */
 uint32_t nevgrasi_implies(const uint8_t *first, size_t first_length, const uint8_t *second, size_t second_length,
     uint64_t budget, uint8_t *out, size_t out_length, nevgrasi_outcome *outcome);
 
-/* The same of whether both keys hold at the same targets. */
+/* Decides whether both keys are true on the same targets, over every set of facts that rustc's rules allow. `holds`
+   is the answer. If it is false, writes a counterexample. */
 uint32_t nevgrasi_equivalent(const uint8_t *first, size_t first_length, const uint8_t *second, size_t second_length,
     uint64_t budget, uint8_t *out, size_t out_length, nevgrasi_outcome *outcome);
 
-/* The same of whether the keys hold together nowhere. */
+/* Decides whether the keys are true together on no target, over every set of facts that rustc's rules allow. `holds`
+   is the answer. If it is false, writes a counterexample. */
 uint32_t nevgrasi_excludes(const uint8_t *first, size_t first_length, const uint8_t *second, size_t second_length,
     uint64_t budget, uint8_t *out, size_t out_length, nevgrasi_outcome *outcome);
 
-/* Answers by `holds` whether a key can hold, over some set of facts that rustc's rules allow. Of a yes it writes an
-   example. */
+/* Decides whether a key can be true, over some set of facts that rustc's rules allow. `holds` is the answer. If it is
+   true, writes an example. */
 uint32_t nevgrasi_can_hold(const uint8_t *key, size_t key_length, uint64_t budget, uint8_t *out, size_t out_length,
     nevgrasi_outcome *outcome);
 
-/* Writes the flat condition that a key spells: bytes that the caller keeps in its place. */
+/* Writes the flat form of a key's condition: bytes that the caller can keep in place of the key. */
 uint32_t nevgrasi_read_key(const uint8_t *key, size_t key_length, uint8_t *out, size_t out_length,
     nevgrasi_outcome *outcome);
 
@@ -131,14 +136,15 @@ uint32_t nevgrasi_read_key(const uint8_t *key, size_t key_length, uint8_t *out, 
 uint32_t nevgrasi_flat_print(const uint8_t *flat, size_t flat_length, uint8_t *out, size_t out_length,
     nevgrasi_outcome *outcome);
 
-/* Answers by `holds` whether a flat condition holds for the target of this name, with these flat facts. */
+/* Decides whether a flat condition is true on the target with this name and these flat facts. `holds` is the
+   answer. */
 uint32_t nevgrasi_flat_matches(const uint8_t *flat, size_t flat_length, const uint8_t *name, size_t name_length,
     const uint8_t *flat_facts, size_t flat_facts_length, nevgrasi_outcome *outcome);
 
-/* Writes at which known targets each package of a graph is in the build: a line of JSON for each package, as the
-   program `manifest_check graph --json` prints them. The document is what `cargo metadata --format-version 1`
-   printed. Builds run on the host, a known target of this name, and with an empty name on the target itself. With
-   NEVGRASI_REFUSED it writes why the document can't be used, and tells no span. */
+/* Writes a line of JSON for each package of a graph, with the known targets on which it is in the build, as the
+   program `manifest_check graph --json` prints them. The document is the output of `cargo metadata --format-version
+   1`. Builds run on the host, a known target with this name, or on the target itself if the name is empty. With
+   NEVGRASI_REFUSED, writes why the document cannot be used, and sets no span. */
 uint32_t nevgrasi_graph(const uint8_t *document, size_t document_length, const uint8_t *host, size_t host_length,
     uint8_t *out, size_t out_length, nevgrasi_outcome *outcome);
 

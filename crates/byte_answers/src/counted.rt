@@ -1,4 +1,4 @@
-//! Texts behind their lengths, so that any text may be one.
+//! Texts preceded by their lengths, so that any text is possible.
 
 ghost use Rattle.std.specs.Prelude.{◌≡◌, ◌++◌, OnOk, map};
 ghost use Rattle.cargo_platform.specs.Trees.{value_of};
@@ -7,7 +7,7 @@ ghost use Rattle.byte_answers.specs.Counted.{counted, counted_facts};
 use cargo_platform::Cfg;
 use std::alloc::{AllocError, Global};
 
-/// Appends a text behind its length.
+/// Appends the length of a text, followed by the text.
 #[tactic(auto, unfolding(crate::specs::Counted::counted))]
 pub(crate) fn push_counted(out: &mut Vec<u8>, text: &str) -> Result<(), AllocError>
     ensures { OnOk result (out.new.items ≡ out.old.items ++ counted text.now) }
@@ -16,7 +16,7 @@ pub(crate) fn push_counted(out: &mut Vec<u8>, text: &str) -> Result<(), AllocErr
     out.extend_from_slice(text.as_bytes())
 }
 
-/// Appends each fact as `Cfg` prints it, behind its length.
+/// Appends each fact as `Cfg` prints it, preceded by its length.
 pub(crate) fn push_facts(alloc: Global, out: &mut Vec<u8>, facts: &[Cfg]) -> Result<(), AllocError>
     ensures { OnOk result
         (out.new.items ≡ out.old.items ++ counted_facts (map value_of facts.now)) }

@@ -1,17 +1,17 @@
-//! How deep a text is.
+//! The nesting depth of a text.
 
 ghost use Rattle.std.specs.Prelude.{◌≡◌, true, false};
 ghost use Rattle.byte_answers.specs.Depths.{IsTooDeep};
 
 use cargo_platform::nesting_beyond;
 
-/// How many parentheses of a text may be open at once. Matching, printing and comparing take stack for a group that
-/// others follow: some 100 bytes for each of so many.
+/// The maximum number of parentheses of a text that can be open at once. Matching, printing and comparing use some 100
+/// bytes of stack for each open group that others follow.
 pub const MOST_OPEN: usize = 10_000;
 
-/// Whether more parentheses than `MOST_OPEN` are open at once. Those within quotes do not count.
+/// Returns whether more than `MOST_OPEN` parentheses are open at once. Parentheses within quotes do not count.
 pub fn is_too_deep(text: &str) -> bool
-    // It is yes exactly if more than `MOST_OPEN` parentheses are open at once.
+    // The result is true exactly if more than `MOST_OPEN` parentheses are open at once.
     ensures deep { result ≡ true → IsTooDeep text.now }
     ensures shallow { result ≡ false → IsTooDeep text.now → ⊥ }
 {
@@ -21,5 +21,5 @@ pub fn is_too_deep(text: &str) -> bool
     }
 }
 
-/// How many bytes a flat condition may have, since it may hold one group for each 17 of them.
+/// The maximum number of bytes of a flat condition, which can contain one group for each 17 of them.
 pub const MOST_FLAT_BYTES: usize = 680_000;

@@ -64,7 +64,7 @@ pub(crate) fn push_value(out: &mut Vec<u8>, c: &Cfg) -> Result<(), AllocError>
     }
 }
 
-/// Appends what stands before the members of an expression, and answers these.
+/// Appends what precedes the members of an expression, and returns these members.
 fn push_node<'a>(out: &mut Vec<u8>, e: &'a CfgExpr) -> Result<&'a [CfgExpr], AllocError>
     ensures flat { IfOk result (λ members. out.new.items ++ flats (trees_of (map tree_of members.now))
         ≡ out.old.items ++ flat (tree_of e.now)) }
@@ -99,7 +99,7 @@ fn push_node<'a>(out: &mut Vec<u8>, e: &'a CfgExpr) -> Result<&'a [CfgExpr], All
     }
 }
 
-/// Appends an expression, with no stack for its depth.
+/// Appends an expression, without using stack for its depth.
 pub(crate) fn push_expression(
     alloc: Global,
     out: &mut Vec<u8>,
@@ -122,7 +122,7 @@ pub(crate) fn push_expression(
     }
 }
 
-/// The bytes of a condition.
+/// Returns the bytes of a condition.
 pub(crate) fn flatten(alloc: Global, platform: &Platform) -> Result<Vec<u8>, AllocError>
     ensures { IfOk result (λ bytes. bytes.items ≡ flat_condition (condition_of platform.now)) }
 {

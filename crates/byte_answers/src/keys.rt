@@ -1,4 +1,4 @@
-//! Questions on one key.
+//! Calls on one key.
 
 ghost use Rattle.std.specs.Prelude.{◌≡◌, ◌≢◌, ◌↔◌, ℕ, IsTrue, ◌||◌, ◌==◌};
 ghost use Rattle.std.specs.Str.{IsUtf8};
@@ -17,23 +17,25 @@ use crate::reading::{read_condition, read_text, span_of};
 use cargo_platform::{ParseError, Platform, ReadError};
 use std::alloc::Global;
 
-/// Writes the canonical text of the condition that a key spells: its print, which spells the same condition.
+/// Writes the canonical text of a key's condition, which spells the same condition.
 ///
-/// `REFUSED` where the key spells none, with the message in the buffer and the span of the fault in the key. `TOO_DEEP`
-/// where more than `MOST_OPEN` parentheses are open at once.
+/// Returns `REFUSED` if the key is not a condition, with the message in the buffer and the span of the error in the
+/// key, in bytes. Returns `NOT_UTF8` if the key is not UTF-8, and `TOO_DEEP` if more than `MOST_OPEN` parentheses are
+/// open at once.
 pub fn canonical(alloc: Global, key: &[u8], out: &mut [u8]) -> Outcome
-    // `DONE` comes with the print of the condition that the key spells.
+    // `DONE` is returned with the canonical text of the key's condition.
     ensures done { result.code ≡ DONE → IsCanonical key.now result.needed out.old out.new }
-    // `REFUSED` comes only of a key that spells no condition, with the message and where the fault lies in the key.
+    // `REFUSED` is returned only for a key that is not a condition, with the message and the span of the error in the
+    // key.
     ensures refused { result.code ≡ REFUSED → IsRefusal key.now result out.old out.new }
     ensures spelled { result.code ≡ REFUSED → (p : Condition) → IsConditionText key.now p → ⊥ }
-    // `NOT_UTF8` comes exactly of a key that is no UTF-8, and `TOO_DEEP` of any other with more than `MOST_OPEN`
-    // parentheses open at once.
+    // `NOT_UTF8` is returned exactly for a key that is not UTF-8, and `TOO_DEEP` exactly for any other key with more
+    // than `MOST_OPEN` parentheses open at once.
     ensures not_utf8 { result.code ≡ NOT_UTF8 ↔ (IsUtf8 key.now → ⊥) }
     ensures too_deep { result.code ≡ TOO_DEEP ↔ (IsUtf8 key.now × IsTooDeep key.now) }
-    // But for promised texts, nothing is written.
+    // Nothing other than the promised texts is written.
     ensures silent { result.code ≢ DONE → result.code ≢ REFUSED → IsSilent result out.old out.new }
-    // No other code comes but `NO_MEMORY`, and `argument` is 0.
+    // The only other code is `NO_MEMORY`, and `argument` is 0.
     ensures argument { result.argument ≡ 0 }
     ensures codes { IsTrue (ends_key_call result.code) }
 {
@@ -46,22 +48,23 @@ pub fn canonical(alloc: Global, key: &[u8], out: &mut [u8]) -> Outcome
     }
 }
 
-/// Writes the flat condition that a key spells: bytes that `flat_print` and `flat_matches` take in its place.
+/// Writes the flat form of a key's condition: bytes that `flat_print` and `flat_matches` take in place of the key.
 ///
-/// It refuses as `canonical` does.
+/// Rejects the same keys as `canonical`, with the same codes.
 pub fn read_key(alloc: Global, key: &[u8], out: &mut [u8]) -> Outcome
-    // `DONE` comes with the flat form of the condition that the key spells.
+    // `DONE` is returned with the flat form of the key's condition.
     ensures done { result.code ≡ DONE → IsFlatOf key.now result.needed out.old out.new }
-    // `REFUSED` comes only of a key that spells no condition, with the message and where the fault lies in the key.
+    // `REFUSED` is returned only for a key that is not a condition, with the message and the span of the error in the
+    // key.
     ensures refused { result.code ≡ REFUSED → IsRefusal key.now result out.old out.new }
     ensures spelled { result.code ≡ REFUSED → (p : Condition) → IsConditionText key.now p → ⊥ }
-    // `NOT_UTF8` comes exactly of a key that is no UTF-8, and `TOO_DEEP` of any other with more than `MOST_OPEN`
-    // parentheses open at once.
+    // `NOT_UTF8` is returned exactly for a key that is not UTF-8, and `TOO_DEEP` exactly for any other key with more
+    // than `MOST_OPEN` parentheses open at once.
     ensures not_utf8 { result.code ≡ NOT_UTF8 ↔ (IsUtf8 key.now → ⊥) }
     ensures too_deep { result.code ≡ TOO_DEEP ↔ (IsUtf8 key.now × IsTooDeep key.now) }
-    // But for promised texts, nothing is written.
+    // Nothing other than the promised texts is written.
     ensures silent { result.code ≢ DONE → result.code ≢ REFUSED → IsSilent result out.old out.new }
-    // No other code comes but `NO_MEMORY`, and `argument` is 0.
+    // The only other code is `NO_MEMORY`, and `argument` is 0.
     ensures argument { result.argument ≡ 0 }
     ensures codes { IsTrue (ends_key_call result.code) }
 {
@@ -74,7 +77,7 @@ pub fn read_key(alloc: Global, key: &[u8], out: &mut [u8]) -> Outcome
     }
 }
 
-/// The snippet of a refused key, and where its fault lies in the key.
+/// Returns the outcome of a rejected key, with its snippet in the buffer and the span of the error in the key.
 fn shown(alloc: Global, error: &ParseError, key: &str, out: &mut [u8]) -> Outcome
     requires { IsRefusedConditionAt key.now (orig_of error.now) (fault_in error.now) (span_in error.now) }
     ensures refused { result.code ≡ REFUSED → IsShownRefusal key.now result out.old out.new }
@@ -99,23 +102,24 @@ fn shown(alloc: Global, error: &ParseError, key: &str, out: &mut [u8]) -> Outcom
     }
 }
 
-/// Shows where a key is refused: writes two lines, the key and carets under its fault with what is wrong there.
+/// Shows the error of a rejected key: writes two lines, the key, and carets under the error with what is wrong there.
 ///
-/// `REFUSED` where the key spells no condition; the span is that of the fault in the key. `DONE`, with no bytes, where
-/// it spells one. `canonical` writes the fault's message.
+/// Returns `REFUSED` if the key is not a condition, with the span of the error in the key, in bytes, and `DONE` with no
+/// bytes if it is one. `canonical` writes the message of the error.
 pub fn fault(alloc: Global, key: &[u8], out: &mut [u8]) -> Outcome
-    // `DONE` comes only of a key that spells a condition.
+    // `DONE` is returned only for a key that is a condition.
     ensures done { result.code ≡ DONE → (p : Condition) × IsConditionText key.now p }
-    // `REFUSED` comes only of a key that spells no condition, with the snippet and where the fault lies in the key.
+    // `REFUSED` is returned only for a key that is not a condition, with the snippet and the span of the error in the
+    // key.
     ensures refused { result.code ≡ REFUSED → IsShownRefusal key.now result out.old out.new }
     ensures spelled { result.code ≡ REFUSED → (p : Condition) → IsConditionText key.now p → ⊥ }
-    // `NOT_UTF8` comes exactly of a key that is no UTF-8, and `TOO_DEEP` of any other with more than `MOST_OPEN`
-    // parentheses open at once.
+    // `NOT_UTF8` is returned exactly for a key that is not UTF-8, and `TOO_DEEP` exactly for any other key with more
+    // than `MOST_OPEN` parentheses open at once.
     ensures not_utf8 { result.code ≡ NOT_UTF8 ↔ (IsUtf8 key.now → ⊥) }
     ensures too_deep { result.code ≡ TOO_DEEP ↔ (IsUtf8 key.now × IsTooDeep key.now) }
-    // But for promised texts, nothing is written.
+    // Nothing other than the promised texts is written.
     ensures silent { result.code ≢ REFUSED → IsSilent result out.old out.new }
-    // No other code comes but `NO_MEMORY`, and `argument` is 0.
+    // The only other code is `NO_MEMORY`, and `argument` is 0.
     ensures argument { result.argument ≡ 0 }
     ensures codes { IsTrue (ends_key_call result.code) }
 {

@@ -1,4 +1,4 @@
-//! Known targets.
+//! Calls on known targets.
 
 ghost use Rattle.std.specs.Prelude.{◌≡◌, ◌↔◌, ◌≢◌, ◌≤◌, ◌<◌, ℕ, IfOk, IsTrue, string_bytes};
 ghost use Rattle.std.specs.Str.{IsUtf8};
@@ -20,24 +20,25 @@ use crate::reading::{read_condition, read_text};
 use known_targets::{COUNT, KnownTarget, WORDS, matching, names};
 use std::alloc::{AllocError, Global};
 
-/// Answers the known targets at which a key holds: the target at place `k` is bit `k % 64` of word `k / 64`.
+/// Sets `words` to the known targets on which a key is true: bit `k % 64` of word `k / 64` is the target at index `k`.
 ///
-/// It refuses as `canonical` does, and then leaves the words as they are.
+/// Rejects the same keys as `canonical`, with the same codes, and then leaves the words unchanged.
 pub fn targets(alloc: Global, key: &[u8], words: &mut [u64; WORDS], out: &mut [u8]) -> Outcome
-    // `DONE` comes with exactly the known targets at which the condition that the key spells holds.
+    // `DONE` is returned with exactly the known targets on which the key's condition is true.
     ensures done { result.code ≡ DONE → AreTargets key.now words.new }
-    // `REFUSED` comes only of a key that spells no condition, with the message and where the fault lies in the key.
+    // `REFUSED` is returned only for a key that is not a condition, with the message and the span of the error in the
+    // key.
     ensures refused { result.code ≡ REFUSED → IsRefusal key.now result out.old out.new }
     ensures spelled { result.code ≡ REFUSED → (p : Condition) → IsConditionText key.now p → ⊥ }
-    // `NOT_UTF8` comes exactly of a key that is no UTF-8, and `TOO_DEEP` of any other with more than `MOST_OPEN`
-    // parentheses open at once.
+    // `NOT_UTF8` is returned exactly for a key that is not UTF-8, and `TOO_DEEP` exactly for any other key with more
+    // than `MOST_OPEN` parentheses open at once.
     ensures not_utf8 { result.code ≡ NOT_UTF8 ↔ (IsUtf8 key.now → ⊥) }
     ensures too_deep { result.code ≡ TOO_DEEP ↔ (IsUtf8 key.now × IsTooDeep key.now) }
-    // But for promised texts, nothing is written.
+    // Nothing other than the promised texts is written.
     ensures silent { result.code ≢ REFUSED → IsSilent result out.old out.new }
-    // But for `DONE`, the words stay as they were.
+    // Unless the code is `DONE`, the words are unchanged.
     ensures words_kept { result.code ≢ DONE → words.new ≡ words.old }
-    // No other code comes but `NO_MEMORY`, and `argument` is 0.
+    // The only other code is `NO_MEMORY`, and `argument` is 0.
     ensures argument { result.argument ≡ 0 }
     ensures codes { IsTrue (ends_key_call result.code) }
 {
@@ -53,14 +54,14 @@ pub fn targets(alloc: Global, key: &[u8], words: &mut [u64; WORDS], out: &mut [u
     }
 }
 
-/// Writes the name of the known target at this place. The names are sorted, and `COUNT` of them.
+/// Writes the name of the known target at an index. The names are sorted, and there are `COUNT` of them.
 ///
-/// `UNKNOWN_TARGET` where the place is no less than `COUNT`.
+/// Returns `UNKNOWN_TARGET` if the index is not less than `COUNT`.
 pub fn target_name(place: usize, out: &mut [u8]) -> Outcome
-    // Each place below `COUNT` has `DONE`, and with it comes the name of the target there.
+    // For each index below `COUNT`, `DONE` is returned with the name of the target there.
     ensures done { result.code ≡ DONE → IsWritten (target_name place) result.needed out.old out.new }
     ensures known { place < COUNT → result.code ≡ DONE }
-    // `UNKNOWN_TARGET` comes of each other place, and writes nothing.
+    // For each other index, `UNKNOWN_TARGET` is returned, and nothing is written.
     ensures unknown { COUNT ≤ place → result.code ≡ UNKNOWN_TARGET }
     ensures silent { COUNT ≤ place → IsSilent result out.old out.new }
     // `argument` is 0.
@@ -74,7 +75,7 @@ pub fn target_name(place: usize, out: &mut [u8]) -> Outcome
     }
 }
 
-/// The lines of a target's facts.
+/// Returns the lines of a target's facts.
 fn facts_text(alloc: Global, target: KnownTarget) -> Result<String, AllocError>
     ensures { IfOk result (λ text. string_bytes text ≡ fact_lines (facts_in (place target) table_keys)) }
 {
@@ -84,19 +85,19 @@ fn facts_text(alloc: Global, target: KnownTarget) -> Result<String, AllocError>
     Ok(text)
 }
 
-/// Writes the facts of the known target of this name, one a line, in a form that `matches` reads.
+/// Writes the facts of the known target with this name, one per line, in a form that `matches` reads.
 ///
-/// `UNKNOWN_TARGET` where no known target has the name.
+/// Returns `UNKNOWN_TARGET` if no known target has the name.
 pub fn facts(alloc: Global, name: &[u8], out: &mut [u8]) -> Outcome
-    // `DONE` comes with the facts of the known target of this name, one a line.
+    // `DONE` is returned with the facts of the known target with this name, one per line.
     ensures done { result.code ≡ DONE → AreFactsOf name.now result.needed out.old out.new }
-    // `UNKNOWN_TARGET` comes only where no known target has the name.
+    // `UNKNOWN_TARGET` is returned only if no known target has the name.
     ensures unknown { result.code ≡ UNKNOWN_TARGET → (k : ℕ) → k < COUNT → target_name k ≢ name.now }
-    // `NOT_UTF8` comes exactly of a name that is no UTF-8.
+    // `NOT_UTF8` is returned exactly for a name that is not UTF-8.
     ensures not_utf8 { result.code ≡ NOT_UTF8 ↔ (IsUtf8 name.now → ⊥) }
-    // But for promised texts, nothing is written.
+    // Nothing other than the promised texts is written.
     ensures silent { result.code ≢ DONE → IsSilent result out.old out.new }
-    // No other code comes but `NO_MEMORY`, and `argument` is 0.
+    // The only other code is `NO_MEMORY`, and `argument` is 0.
     ensures argument { result.argument ≡ 0 }
     ensures codes { IsTrue (ends_target_call result.code) }
 {

@@ -1,7 +1,7 @@
-//! Answers on bytes, into buffers of the caller: for callers that are not written in Rattle.
+//! The calls of the library on bytes, with buffers of the caller, for callers that are not written in Rattle.
 //!
-//! A key, a name or the lines of facts come as bytes. A call answers an `Outcome`, and writes what has a length of its
-//! own to the start of a buffer, where it fits. Nothing that a call makes is left to be released.
+//! Keys, names and lines of facts are passed as bytes. A call returns an `Outcome`, and writes a result that has a
+//! length of its own to the beginning of a buffer, if it fits. Calls leave nothing to be released.
 #![tactic(auto)]
 
 mod counted;

@@ -1,4 +1,4 @@
-//! Whether a key applies to a target.
+//! Calls that decide whether a key is true on a target.
 
 ghost use Rattle.std.specs.Prelude.{◌≡◌, ◌↔◌, ◌≢◌, ℕ, List, Option, IsTrue, map, ◌||◌, ◌==◌};
 ghost use Rattle.std.specs.declared.ops.Range.{Range};
@@ -19,10 +19,10 @@ use cargo_platform::{FactsError, Platform, read_facts};
 use std::alloc::Global;
 use std::ops::Range;
 
-/// The place of the lines of facts among the texts of `matches`.
+/// The index of the lines of facts among the texts of `matches`.
 const LINES: u32 = 2;
 
-/// Where the fault of refused facts lies in their lines, and the empty span where it lies nowhere.
+/// Returns the span of an error in lines of facts, or the empty span if it has none.
 fn span_in_lines(error: &FactsError, lines: &str) -> Range<usize>
     ensures { (at : Option (Range ℕ)) × IsSpanInFacts lines.now error.now at × AreEnds at result.start result.end }
 {
@@ -32,7 +32,7 @@ fn span_in_lines(error: &FactsError, lines: &str) -> Range<usize>
     }
 }
 
-/// The message of refused facts, and where the fault lies in their text.
+/// Returns the outcome of rejected facts, with the message in the buffer and the span of the error in their text.
 fn refused_facts(alloc: Global, error: &FactsError, lines: &str, out: &mut [u8]) -> Outcome
     requires { IsErrorOfLines lines.now error.now }
     ensures refused { result.code ≡ REFUSED → IsRefusedLine lines.now result out.old out.new }
@@ -58,7 +58,7 @@ fn refused_facts(alloc: Global, error: &FactsError, lines: &str, out: &mut [u8])
     }
 }
 
-/// Whether a condition applies to a target of this name, with the facts of these lines.
+/// Decides whether a condition is true on a target with this name and the facts in these lines.
 fn match_lines(
     alloc: Global,
     platform: &Platform,
@@ -80,40 +80,39 @@ fn match_lines(
     }
 }
 
-/// Answers whether a key applies to the target of this name, with the facts of these lines.
+/// Decides whether a key is true on the target with this name and the facts in these lines.
 ///
-/// The lines are as `rustc --print cfg` prints them, one fact a line. The outcome's `holds` is the answer. `REFUSED`,
-/// with the message in the buffer, where the key spells no condition (`argument` 0), or a line spells no fact
-/// (`argument` 2). `NOT_UTF8` tells by `argument` which text is none.
+/// The lines are as `rustc --print cfg` prints them, one fact per line. The outcome's `holds` is the answer. Returns
+/// `REFUSED`, with the message in the buffer, if the key is not a condition (`argument` 0) or a line is not a fact
+/// (`argument` 2). With `NOT_UTF8`, `argument` is the index of the text that is not UTF-8.
 pub fn matches(alloc: Global, key: &[u8], name: &[u8], lines: &[u8], out: &mut [u8]) -> Outcome
-    // `DONE` comes with whether the condition that the key spells holds for the name and the facts that the lines
-    // spell.
+    // `DONE` is returned with whether the key's condition is true for the name and the facts in the lines.
     ensures done { result.code ≡ DONE → IsMatch key.now name.now lines.now result.holds }
-    // `REFUSED` with `argument` 0 comes only of a key that spells no condition, with the message and where the fault
-    // lies in the key.
+    // `REFUSED` with `argument` 0 is returned only for a key that is not a condition, with the message and the span of
+    // the error in the key.
     ensures refused { result.code ≡ REFUSED → result.argument ≡ 0 → IsRefusal key.now result out.old out.new }
     ensures spelled { result.code ≡ REFUSED → result.argument ≡ 0
         → (p : Condition) → IsConditionText key.now p → ⊥ }
-    // `REFUSED` with `argument` 2 comes only of lines of which one spells no fact, with the message and where the first
-    // one's fault lies.
+    // `REFUSED` with `argument` 2 is returned only for lines of which one is not a fact, with the message and the span
+    // of the error in the first such line.
     ensures line { result.code ≡ REFUSED → result.argument ≡ 2 → IsRefusedLine lines.now result out.old out.new }
-    // No other text is refused.
+    // No other text is rejected.
     ensures refused_text { result.code ≡ REFUSED → IsTrue (result.argument == 0 || result.argument == 2) }
-    // `NOT_UTF8` comes only where some text is none, and `DONE` only where all are UTF-8.
+    // `NOT_UTF8` is returned only if some text is not UTF-8, and `DONE` only if all texts are.
     ensures not_utf8 { result.code ≡ NOT_UTF8 → IsUtf8 key.now → IsUtf8 name.now → IsUtf8 lines.now → ⊥ }
     ensures utf8 { result.code ≡ DONE → IsUtf8 key.now × IsUtf8 name.now × IsUtf8 lines.now }
-    // `argument` is 0, 1 or 2, and with `NOT_UTF8` tells a text that is none.
+    // `argument` is 0, 1 or 2, and with `NOT_UTF8` the index of a text that is not UTF-8.
     ensures argument { IsTrue (result.argument == 0 || result.argument == 1 || result.argument == 2) }
     ensures not_utf8_key { result.code ≡ NOT_UTF8 → result.argument ≡ 0 → IsUtf8 key.now → ⊥ }
     ensures not_utf8_name { result.code ≡ NOT_UTF8 → result.argument ≡ 1 → IsUtf8 name.now → ⊥ }
     ensures not_utf8_lines { result.code ≡ NOT_UTF8 → result.argument ≡ 2 → IsUtf8 lines.now → ⊥ }
-    // `TOO_DEEP` comes exactly of a key that is UTF-8 with more than `MOST_OPEN` parentheses open at once; `argument`
-    // is 0.
+    // `TOO_DEEP` is returned exactly for a key that is UTF-8 with more than `MOST_OPEN` parentheses open at once;
+    // `argument` is 0.
     ensures too_deep { result.code ≡ TOO_DEEP ↔ (IsUtf8 key.now × IsTooDeep key.now) }
     ensures too_deep_key { result.code ≡ TOO_DEEP → result.argument ≡ 0 }
-    // But for a refusal, nothing is written.
+    // Nothing is written unless a text is rejected.
     ensures silent { result.code ≢ REFUSED → IsSilent result out.old out.new }
-    // No other code comes but `NO_MEMORY`.
+    // The only other code is `NO_MEMORY`.
     ensures codes { IsTrue (ends_key_call result.code) }
 {
     let platform = match read_condition(alloc, 0, key, out) {

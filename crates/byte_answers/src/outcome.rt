@@ -1,49 +1,49 @@
-//! How calls end, and what they write into a buffer.
+//! The outcomes of calls, and the texts that they write into a buffer.
 
 ghost use Rattle.std.specs.Prelude.{◌≡◌, false};
 ghost use Rattle.byte_answers.specs.Outcomes.{IsWritten};
 
-/// The answer is there.
+/// The call has an answer.
 pub const DONE: u32 = 0;
-/// A text is refused: the buffer has the message, and `start` and `end` are the bytes of the fault in the text.
+/// A text is rejected: the buffer has the message, and the bytes from `start` to `end` of the text are the error.
 pub const REFUSED: u32 = 1;
-/// A text is no UTF-8.
+/// A text is not UTF-8.
 pub const NOT_UTF8: u32 = 2;
-/// The bytes are no flat condition, or no flat facts.
+/// The bytes are not a flat condition, or not flat facts.
 pub const NOT_FLAT: u32 = 3;
 /// Memory was refused.
 pub const NO_MEMORY: u32 = 4;
 /// The budget is used up.
 pub const UNDECIDED: u32 = 5;
-/// More parentheses than `MOST_OPEN` are open at once, or more groups of a flat condition.
+/// More than `MOST_OPEN` parentheses are open at once, or a flat condition has more than `MOST_FLAT_BYTES` bytes.
 pub const TOO_DEEP: u32 = 6;
-/// No known target has this name or place.
+/// No known target has this name or index.
 pub const UNKNOWN_TARGET: u32 = 7;
 
-/// How a call ended. C sees its fields in this order.
+/// The outcome of a call. C sees its fields in this order.
 #[repr(C)]
 #[derive(Drop)]
 pub struct Outcome {
     /// One of the constants above.
     pub code: u32,
-    /// Which text of the call is refused, no UTF-8 or too deep: 0 is its first.
+    /// The index, from 0 on, of the text of the call that is rejected, not UTF-8 or too deep.
     pub argument: u32,
     /// The answer of a call that answers yes or no.
     pub holds: bool,
-    /// Whether the first text of an example is its name.
+    /// True if the first text of an example is its name.
     pub is_named: bool,
-    /// How many bytes the answer or the message has. The buffer is written where it has as many.
+    /// The number of bytes of the answer or the message. They are written if the buffer has as many.
     pub needed: usize,
-    /// The first byte of a fault, in the text that is refused.
+    /// The first byte of the error, in the text that is rejected.
     pub start: usize,
-    /// The byte after the fault.
+    /// The byte after the error.
     pub end: usize,
 }
 
 impl Outcome {
-    /// A call that ends with no answer, because of this text.
+    /// Returns the outcome of a call without an answer, because of the text at index `argument`.
     pub fn ended(code: u32, argument: u32) -> Outcome
-        // It has this code and this text, and nothing else.
+        // It has this code and this `argument`, and nothing else.
         ensures { result ≡ record {
           code = code;
           argument = argument;
@@ -65,9 +65,9 @@ impl Outcome {
         }
     }
 
-    /// An answer of so many bytes.
+    /// Returns the outcome of a call whose answer has `needed` bytes.
     pub fn done(needed: usize) -> Outcome
-        // It has `DONE` and so many bytes, and nothing else.
+        // It has `DONE` and this number of bytes, and nothing else.
         ensures { result ≡ record {
           code = DONE;
           argument = 0;
@@ -89,7 +89,7 @@ impl Outcome {
         }
     }
 
-    /// A yes or a no.
+    /// Returns the outcome of a call that answers yes or no.
     pub(crate) fn answered(holds: bool) -> Outcome
         ensures { result ≡ record {
           code = DONE;
@@ -113,9 +113,10 @@ impl Outcome {
     }
 }
 
-/// Writes the text to the start of the buffer, where it fits. Answers how many bytes it has.
+/// Writes a text to the beginning of the buffer if it fits. Returns the number of its bytes.
 pub fn write(text: &[u8], out: &mut [u8]) -> usize
-    // The answer is the text's length. A buffer that has as many bytes begins with the text, and is else as it was.
+    // The result is the length of the text. A buffer that has as many bytes begins with the text; all other bytes are
+    // unchanged.
     ensures { IsWritten text.now result out.old out.new }
 {
     let needed = text.len();

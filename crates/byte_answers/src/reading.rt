@@ -1,4 +1,4 @@
-//! Keys as bytes, and what is said of those that spell no condition.
+//! Keys as bytes, and the outcomes of keys that are not conditions.
 
 ghost use Rattle.std.specs.Prelude.{◌≡◌, ◌≢◌, ◌↔◌, ℕ, Option, IfOk, IfErr, IsTrue};
 ghost use Rattle.std.specs.Str.{IsUtf8};
@@ -18,7 +18,7 @@ use std::alloc::Global;
 use std::ops::Range;
 use std::str;
 
-/// The text that bytes are, or how a call ends that is given others.
+/// Returns bytes as a text, or the outcome of a call on bytes that are not UTF-8.
 pub(crate) fn read_text(argument: u32, bytes: &[u8]) -> Result<&str, Outcome>
     ensures text { IfOk result (λ text. text.now ≡ bytes.now) }
     ensures code { IfErr result (λ o. o.code ≡ NOT_UTF8) }
@@ -33,7 +33,7 @@ pub(crate) fn read_text(argument: u32, bytes: &[u8]) -> Result<&str, Outcome>
     }
 }
 
-/// Where the fault of an error lies in the key, and the empty span where it lies nowhere.
+/// Returns the span of an error in the key, or the empty span if it has none.
 pub(crate) fn span_of(error: &ParseError, key: &str) -> Range<usize>
     ensures { (at : Option (Range ℕ))
         × IsSpanInKey key.now (orig_of error.now) (fault_in error.now) (span_in error.now) at
@@ -45,7 +45,7 @@ pub(crate) fn span_of(error: &ParseError, key: &str) -> Range<usize>
     }
 }
 
-/// The message of a refused key, and where its fault lies in the key.
+/// Returns the outcome of a rejected key, with the message in the buffer and the span of the error in the key.
 fn refused(alloc: Global, argument: u32, error: &ParseError, key: &str, out: &mut [u8]) -> Outcome
     requires { IsRefusedConditionAt key.now (orig_of error.now) (fault_in error.now) (span_in error.now) }
     ensures argument { result.argument ≡ argument }
@@ -70,7 +70,7 @@ fn refused(alloc: Global, argument: u32, error: &ParseError, key: &str, out: &mu
     }
 }
 
-/// The condition that a key spells, or how a call ends where it spells none.
+/// Parses a key, or returns the outcome of a call on a key that is not a condition.
 pub(crate) fn read_condition(
     alloc: Global,
     argument: u32,

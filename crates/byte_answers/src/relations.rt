@@ -1,4 +1,4 @@
-//! What a key says of another, and whether it can hold, over every set of facts that rustc's rules allow.
+//! Relations between two keys, and whether a key can be true, over every set of facts that rustc's rules allow.
 
 ghost use Rattle.std.specs.Prelude.{◌≡◌, ◌≢◌, ◌↔◌, ◌++◌, [], ◌∷◌, ℕ, IfOk, IsTrue, true, false, map, ◌||◌, ◌==◌};
 ghost use Rattle.std.specs.Str.{IsUtf8};
@@ -25,18 +25,18 @@ use exact_answers::{
 };
 use std::alloc::{AllocError, Global};
 
-/// How one condition may stand to another.
+/// A relation between two conditions.
 #[derive(Clone, Copy)]
 pub enum Relation {
-    /// The second holds wherever the first does.
+    /// The second is true wherever the first is.
     Implies,
-    /// Both hold at the same targets.
+    /// Both are true on the same targets.
     Equivalent,
-    /// They hold together nowhere.
+    /// They are true together on no target.
     Excludes,
 }
 
-/// The texts of an example, each behind its length: its name, where it has one, and its facts.
+/// Returns the texts of an example, each preceded by its length: its name, if it has one, and its facts.
 fn example_texts(alloc: Global, target: &PossibleTarget) -> Result<Vec<u8>, AllocError>
     ensures { IfOk result (λ texts. texts.items
         ≡ counted_name target.now.name ++ counted_facts (map value_of target.now.facts.items)) }
@@ -49,7 +49,7 @@ fn example_texts(alloc: Global, target: &PossibleTarget) -> Result<Vec<u8>, Allo
     Ok(texts)
 }
 
-/// An answer with an example.
+/// Returns an answer with an example.
 fn with_example(alloc: Global, holds: bool, target: &PossibleTarget, out: &mut [u8]) -> Outcome
     ensures example { result.code ≡ DONE → IsWrittenExample target.now result out.old out.new }
     ensures holds { result.code ≡ DONE → result.holds ≡ holds }
@@ -71,7 +71,7 @@ fn with_example(alloc: Global, holds: bool, target: &PossibleTarget, out: &mut [
     }
 }
 
-/// Asks whether the relation holds at each possible target.
+/// Decides whether the relation holds on each possible target.
 fn ask<'a>(
     alloc: Global,
     relation: Relation,
@@ -93,7 +93,7 @@ fn ask<'a>(
     }
 }
 
-/// Whether the relation holds at each target that is possible by what is known.
+/// Decides whether the relation holds on each target that is possible by what is known.
 fn related_by<'a>(
     alloc: Global,
     relation: Relation,
@@ -125,7 +125,7 @@ fn related_by<'a>(
     }
 }
 
-/// Whether the relation holds between two conditions.
+/// Decides whether the relation holds between two conditions.
 fn related(
     alloc: Global,
     relation: Relation,
@@ -150,7 +150,7 @@ fn related(
     related_by(alloc, relation, a, b, &known, budget, out)
 }
 
-/// What is known where only rustc's rules are.
+/// Returns what is known if only rustc's rules are.
 fn rules_alone(rule: &CfgExpr) -> Known<'_>
     ensures facts { result.facts.now ≡ [] }
     ensures complete { result.complete.now ≡ [] }
@@ -165,11 +165,12 @@ fn rules_alone(rule: &CfgExpr) -> Known<'_>
     }
 }
 
-/// Answers whether two keys stand so to each other, over every set of facts that rustc's rules allow.
+/// Decides whether a relation holds between two keys, over every set of facts that rustc's rules allow.
 ///
-/// `holds` is the answer. Of a no the buffer is given an example, as texts behind their lengths of 8 bytes, the low one
-/// first: with `is_named` the first is its name, and each other one a fact. `UNDECIDED` where the search took more
-/// splits than the budget. `REFUSED`, `NOT_UTF8` and `TOO_DEEP` tell by `argument` of which key.
+/// `holds` is the answer. If it is false, the buffer has a counterexample: texts, each preceded by its length in 8
+/// bytes, little-endian. With `is_named`, the first text is the name of the target, and each other text is a fact.
+/// Returns `UNDECIDED` if the search takes more case splits than the budget. With `REFUSED`, `NOT_UTF8` and `TOO_DEEP`,
+/// `argument` is the index of the key.
 pub fn relates(
     alloc: Global,
     relation: Relation,
@@ -178,32 +179,33 @@ pub fn relates(
     budget: u64,
     out: &mut [u8],
 ) -> Outcome
-    // `DONE` tells whether the relation holds, over every set of facts that rustc's rules allow. A no comes with an
-    // example, which is possible.
+    // `DONE` is returned with whether the relation holds, over every set of facts that rustc's rules allow. If it does
+    // not, there is a counterexample, which is possible.
     ensures done { result.code ≡ DONE → AreRelated relation a.now b.now result out.old out.new }
-    // `REFUSED` comes with the message on the key that `argument` tells, and where its fault lies in that key.
+    // `REFUSED` is returned with the message on the key at index `argument`, and the span of the error in that key.
     ensures first { result.code ≡ REFUSED → result.argument ≡ 0 → IsRefusal a.now result out.old out.new }
     ensures second { result.code ≡ REFUSED → result.argument ≡ 1 → IsRefusal b.now result out.old out.new }
-    // `UNDECIDED` comes only where the budget is too small.
+    // `UNDECIDED` is returned only if the budget is too small.
     ensures undecided { result.code ≡ UNDECIDED → AreUndecided a.now b.now budget }
-    // `REFUSED`, `NOT_UTF8` and `TOO_DEEP` come only where some key spells no condition, is no UTF-8 or is too deep.
+    // `REFUSED`, `NOT_UTF8` and `TOO_DEEP` are returned only if some key is not a condition, is not UTF-8 or is too
+    // deep.
     ensures spelled { result.code ≡ REFUSED
         → (p q : Condition) → IsConditionText a.now p → IsConditionText b.now q → ⊥ }
     ensures not_utf8 { result.code ≡ NOT_UTF8 → IsUtf8 a.now → IsUtf8 b.now → ⊥ }
     ensures too_deep { result.code ≡ TOO_DEEP → (IsTooDeep a.now → ⊥) → IsTooDeep b.now }
-    // `argument` is 0 or 1, and with `NOT_UTF8` or `TOO_DEEP` tells a key that is such.
+    // `argument` is 0 or 1, and with `NOT_UTF8` or `TOO_DEEP` the index of such a key.
     ensures argument { IsTrue (result.argument == 0 || result.argument == 1) }
     ensures not_utf8_first { result.code ≡ NOT_UTF8 → result.argument ≡ 0 → IsUtf8 a.now → ⊥ }
     ensures not_utf8_second { result.code ≡ NOT_UTF8 → result.argument ≡ 1 → IsUtf8 b.now → ⊥ }
     ensures too_deep_first { result.code ≡ TOO_DEEP → result.argument ≡ 0 → IsTooDeep a.now }
     ensures too_deep_second { result.code ≡ TOO_DEEP → result.argument ≡ 1 → IsTooDeep b.now }
-    // `DONE` and `UNDECIDED` come only where both keys are UTF-8 and not too deep.
+    // `DONE` and `UNDECIDED` are returned only if both keys are UTF-8 and not too deep.
     ensures read { result.code ≡ DONE → IsReadable a.now × IsReadable b.now }
     ensures read_undecided { result.code ≡ UNDECIDED → IsReadable a.now × IsReadable b.now }
-    // But for a no and a refusal, nothing is written.
+    // Nothing is written unless the relation does not hold, or a key is rejected.
     ensures silent { result.code ≢ DONE → result.code ≢ REFUSED → IsSilent result out.old out.new }
     ensures silent_yes { result.code ≡ DONE → result.holds ≡ true → IsSilent result out.old out.new }
-    // No other code comes but `NO_MEMORY`.
+    // The only other code is `NO_MEMORY`.
     ensures codes { IsTrue (ends_comparison result.code) }
 {
     let first = match read_condition(alloc, 0, a, out) {
@@ -216,7 +218,7 @@ pub fn relates(
     }
 }
 
-/// Whether a condition holds at some target that is possible by what is known.
+/// Decides whether a condition is true on some target that is possible by what is known.
 fn possible_by<'a>(
     alloc: Global,
     platform: &'a Platform,
@@ -244,7 +246,7 @@ fn possible_by<'a>(
     }
 }
 
-/// Whether a condition can hold.
+/// Decides whether a condition can be true.
 fn possible(alloc: Global, platform: &Platform, budget: u64, out: &mut [u8]) -> Outcome
     ensures done { result.code ≡ DONE → SaysPossible (condition_of platform.now) result out.old out.new }
     ensures undecided { result.code ≡ UNDECIDED → NeedsLarger (condition_of platform.now ∷ []) budget }
@@ -261,28 +263,30 @@ fn possible(alloc: Global, platform: &Platform, budget: u64, out: &mut [u8]) -> 
     possible_by(alloc, platform, &known, budget, out)
 }
 
-/// Answers whether a key can hold, over some set of facts that rustc's rules allow.
+/// Decides whether a key can be true, over some set of facts that rustc's rules allow.
 ///
-/// `holds` is the answer. Of a yes the buffer is given an example, as texts behind their lengths of 8 bytes, the low
-/// one first: with `is_named` the first is its name, and each other one a fact. `UNDECIDED` where the search took more
-/// splits than the budget. It refuses as `canonical` does.
+/// `holds` is the answer. If it is true, the buffer has an example: texts, each preceded by its length in 8 bytes,
+/// little-endian. With `is_named`, the first text is the name of the target, and each other text is a fact. Returns
+/// `UNDECIDED` if the search takes more case splits than the budget. Rejects the same keys as `canonical`, with the
+/// same codes.
 pub fn can_hold(alloc: Global, key: &[u8], budget: u64, out: &mut [u8]) -> Outcome
-    // `DONE` tells whether the key holds over some set of facts that rustc's rules allow. A yes comes with an example,
-    // which is possible.
+    // `DONE` is returned with whether the key is true over some set of facts that rustc's rules allow. If it is, there
+    // is an example, which is possible.
     ensures done { result.code ≡ DONE → IsPossibleKey key.now result out.old out.new }
-    // `UNDECIDED` comes only where the budget is too small.
+    // `UNDECIDED` is returned only if the budget is too small.
     ensures undecided { result.code ≡ UNDECIDED → IsUndecided key.now budget }
-    // `REFUSED` comes only of a key that spells no condition, with the message and where the fault lies in the key.
+    // `REFUSED` is returned only for a key that is not a condition, with the message and the span of the error in the
+    // key.
     ensures refused { result.code ≡ REFUSED → IsRefusal key.now result out.old out.new }
     ensures spelled { result.code ≡ REFUSED → (p : Condition) → IsConditionText key.now p → ⊥ }
-    // `NOT_UTF8` comes exactly of a key that is no UTF-8, and `TOO_DEEP` of any other with more than `MOST_OPEN`
-    // parentheses open at once.
+    // `NOT_UTF8` is returned exactly for a key that is not UTF-8, and `TOO_DEEP` exactly for any other key with more
+    // than `MOST_OPEN` parentheses open at once.
     ensures not_utf8 { result.code ≡ NOT_UTF8 ↔ (IsUtf8 key.now → ⊥) }
     ensures too_deep { result.code ≡ TOO_DEEP ↔ (IsUtf8 key.now × IsTooDeep key.now) }
-    // But for promised texts, nothing is written.
+    // Nothing other than the promised texts is written.
     ensures silent { result.code ≢ DONE → result.code ≢ REFUSED → IsSilent result out.old out.new }
     ensures silent_no { result.code ≡ DONE → result.holds ≡ false → IsSilent result out.old out.new }
-    // No other code comes but `NO_MEMORY`, and `argument` is 0.
+    // The only other code is `NO_MEMORY`, and `argument` is 0.
     ensures argument { result.argument ≡ 0 }
     ensures codes { IsTrue (ends_comparison result.code) }
 {

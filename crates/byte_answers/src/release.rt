@@ -5,12 +5,12 @@ ghost use Rattle.byte_answers.specs.Outcomes.{IsWritten};
 
 use crate::outcome::{DONE, Outcome, write};
 
-/// The version, which is one for all crates and programs of this repository.
+/// The version, which all crates and programs of this repository share.
 pub const VERSION: &str = "0.1.0";
 
-/// Writes the version of the library, as three numbers with dots between them.
+/// Writes the version of the library: three numbers with dots between them.
 pub fn version(out: &mut [u8]) -> Outcome
-    // `DONE` comes with the version, always.
+    // `DONE` is always returned, with the version.
     ensures written { IsWritten VERSION.now result.needed out.old out.new }
     ensures done { result.code ≡ DONE }
 {

@@ -1,4 +1,4 @@
-//! Questions on flat conditions.
+//! Calls on flat conditions.
 
 ghost use Rattle.std.specs.Prelude.{◌≡◌, ◌≢◌, ◌↔◌, ◌≤◌, ◌<◌, length, IfOk, IfErr, IsTrue, ◌||◌, ◌==◌};
 ghost use Rattle.std.specs.Str.{IsUtf8};
@@ -14,7 +14,7 @@ use crate::unflat::{unflat, unflat_facts};
 use cargo_platform::Platform;
 use std::alloc::Global;
 
-/// The condition of flat bytes, or how a call ends that is given others.
+/// Returns the condition of flat bytes, or the outcome of a call on bytes that are not a flat condition.
 fn read_flat(alloc: Global, flat: &[u8]) -> Result<Platform, Outcome>
     ensures condition { IfOk result (λ p. flat_condition (condition_of p) ≡ flat.now) }
     ensures not_flat { IfErr result (λ o. o.code ≡ NOT_FLAT → IsFlatForm flat.now → ⊥) }
@@ -37,17 +37,18 @@ fn read_flat(alloc: Global, flat: &[u8]) -> Result<Platform, Outcome>
 
 /// Writes the canonical text of a flat condition.
 ///
-/// `NOT_FLAT` where the bytes are the flat form of no condition. `TOO_DEEP` where they are more than `MOST_FLAT_BYTES`.
+/// Returns `NOT_FLAT` if the bytes are the flat form of no condition, and `TOO_DEEP` if there are more than
+/// `MOST_FLAT_BYTES`.
 pub fn flat_print(alloc: Global, flat: &[u8], out: &mut [u8]) -> Outcome
-    // `DONE` comes with the print of the condition whose flat form the bytes are.
+    // `DONE` is returned with the canonical text of the condition whose flat form the bytes are.
     ensures done { result.code ≡ DONE → IsPrint flat.now result.needed out.old out.new }
-    // `NOT_FLAT` comes only of bytes that are the flat form of no condition.
+    // `NOT_FLAT` is returned only for bytes that are the flat form of no condition.
     ensures not_flat { result.code ≡ NOT_FLAT → IsFlatForm flat.now → ⊥ }
-    // `TOO_DEEP` comes exactly of a flat condition with more bytes than `MOST_FLAT_BYTES`.
+    // `TOO_DEEP` is returned exactly for a flat condition of more than `MOST_FLAT_BYTES` bytes.
     ensures too_deep { result.code ≡ TOO_DEEP ↔ MOST_FLAT_BYTES < length flat.now }
-    // But for promised texts, nothing is written.
+    // Nothing other than the promised texts is written.
     ensures silent { result.code ≢ DONE → IsSilent result out.old out.new }
-    // No other code comes but `NO_MEMORY`, and `argument` is 0.
+    // The only other code is `NO_MEMORY`, and `argument` is 0.
     ensures argument { result.argument ≡ 0 }
     ensures codes { IsTrue (ends_flat_print result.code) }
 {
@@ -60,30 +61,31 @@ pub fn flat_print(alloc: Global, flat: &[u8], out: &mut [u8]) -> Outcome
     }
 }
 
-/// Answers whether a flat condition holds for a target of this name, with these flat facts.
+/// Decides whether a flat condition is true on a target with this name and these flat facts.
 ///
-/// `holds` is the answer. `NOT_FLAT` where the bytes are the flat form of no condition (`argument` 0) or of no facts
-/// (`argument` 2). `TOO_DEEP` where the condition has more bytes than `MOST_FLAT_BYTES`.
+/// `holds` is the answer. Returns `NOT_FLAT` if the bytes are the flat form of no condition (`argument` 0) or of no
+/// facts (`argument` 2), and `TOO_DEEP` if the condition has more than `MOST_FLAT_BYTES` bytes.
 pub fn flat_matches(alloc: Global, flat: &[u8], name: &[u8], flat_facts: &[u8]) -> Outcome
-    // `DONE` comes with whether the condition whose flat form the bytes are holds for the name and the flat facts.
+    // `DONE` is returned with whether the condition whose flat form the bytes are is true for the name and the flat
+    // facts.
     ensures done { result.code ≡ DONE → IsFlatMatch flat.now name.now flat_facts.now result.holds }
-    // `NOT_FLAT` comes only of bytes that are the flat form of no condition (`argument` 0), or of no facts (`argument`
-    // 2).
+    // `NOT_FLAT` is returned only for bytes that are the flat form of no condition (`argument` 0), or of no facts
+    // (`argument` 2).
     ensures not_flat { result.code ≡ NOT_FLAT → result.argument ≡ 0 → IsFlatForm flat.now → ⊥ }
     ensures not_flat_facts { result.code ≡ NOT_FLAT → result.argument ≡ 2 → AreFlatFacts flat_facts.now → ⊥ }
     ensures refused_bytes { result.code ≡ NOT_FLAT → IsTrue (result.argument == 0 || result.argument == 2) }
-    // `NOT_UTF8` comes only of a name that is no UTF-8 (`argument` 1).
+    // `NOT_UTF8` is returned only for a name that is not UTF-8 (`argument` 1).
     ensures not_utf8 { result.code ≡ NOT_UTF8 → IsUtf8 name.now → ⊥ }
     ensures not_utf8_name { result.code ≡ NOT_UTF8 → result.argument ≡ 1 }
     // `TOO_DEEP` has `argument` 0.
     ensures too_deep_flat { result.code ≡ TOO_DEEP → result.argument ≡ 0 }
-    // No bytes are needed.
+    // `needed` is 0.
     ensures silent { result.needed ≡ 0 }
-    // `DONE` comes only with a name that is UTF-8.
+    // `DONE` is returned only for a name that is UTF-8.
     ensures utf8 { result.code ≡ DONE → IsUtf8 name.now }
-    // `TOO_DEEP` comes exactly of a flat condition with more bytes than `MOST_FLAT_BYTES`.
+    // `TOO_DEEP` is returned exactly for a flat condition of more than `MOST_FLAT_BYTES` bytes.
     ensures too_deep { result.code ≡ TOO_DEEP ↔ MOST_FLAT_BYTES < length flat.now }
-    // No other code comes but `NO_MEMORY`.
+    // The only other code is `NO_MEMORY`.
     ensures codes { IsTrue (ends_flat_call result.code) }
 {
     let platform = match read_flat(alloc, flat) {

@@ -1,4 +1,4 @@
-//! Conditions and facts read back from bytes, record by record from the last one on.
+//! Parses conditions and facts from bytes, record by record from the last one on.
 
 ghost use Rattle.std.specs.Prelude.{◌≡◌, ◌≤◌, ◌<◌, ◌^◌, ◌++◌, ℕ, List, [], true, false, IfOk, MatchOption, map};
 ghost use Rattle.std.specs.Prelude.{length, reverse};
@@ -17,7 +17,7 @@ use cargo_platform::{Cfg, CfgExpr, Ident, Platform};
 use std::alloc::{AllocError, Global};
 use std::str;
 
-/// The numbers at the end of bytes, and what stands before.
+/// The numbers at the end of bytes, and the bytes before them.
 #[derive(Clone, Copy, Drop)]
 struct Numbers<'a> {
     before: &'a [u8],
@@ -26,7 +26,7 @@ struct Numbers<'a> {
     tag: u8,
 }
 
-/// Takes a number off the end.
+/// Splits off the last number.
 fn last_number(bytes: &[u8]) -> Option<(&[u8], usize)>
     ensures { MatchOption result (length bytes.now < 8)
         (λ p. (bytes.now ≡ p.0.now ++ to_le_bytes w64 p.1) × (p.1 < 2 ^ 64)) }
@@ -35,7 +35,7 @@ fn last_number(bytes: &[u8]) -> Option<(&[u8], usize)>
     Some((before, usize::from_le_bytes(*number)))
 }
 
-/// Takes the numbers off the end.
+/// Splits off the numbers and the tag at the end.
 fn last_numbers(bytes: &[u8]) -> Option<Numbers<'_>>
     ensures { MatchOption result (length bytes.now < 17)
         (λ n. (bytes.now ≡ n.before.now ++ numbers n.a n.b n.tag) × (n.a < 2 ^ 64) × (n.b < 2 ^ 64)) }
@@ -51,7 +51,7 @@ fn last_numbers(bytes: &[u8]) -> Option<Numbers<'_>>
     })
 }
 
-/// The last so many bytes, and what stands before.
+/// Splits off the last `size` bytes.
 fn last_bytes(bytes: &[u8], size: usize) -> Option<(&[u8], &[u8])>
     ensures { MatchOption result (length bytes.now < size)
         (λ p. (bytes.now ≡ p.0.now ++ p.1.now) × (length p.1.now ≡ size)) }
@@ -62,7 +62,7 @@ fn last_bytes(bytes: &[u8], size: usize) -> Option<(&[u8], &[u8])>
     Some(bytes.split_at(bytes.len() - size))
 }
 
-/// The text of the last so many bytes, and what stands before.
+/// Splits off the text of the last `size` bytes.
 fn last_text(bytes: &[u8], size: usize) -> Option<(&[u8], &str)>
     ensures { MatchOption result
         ((front text : List ℕ) → IsUtf8 text → length text ≡ size → bytes.now ≡ front ++ text → ⊥)
@@ -75,7 +75,7 @@ fn last_text(bytes: &[u8], size: usize) -> Option<(&[u8], &str)>
     }
 }
 
-/// Two texts, and what stands before them.
+/// Two texts, and the bytes before them.
 #[derive(Clone, Copy, Drop)]
 struct Texts<'a> {
     before: &'a [u8],
@@ -83,7 +83,7 @@ struct Texts<'a> {
     second: &'a str,
 }
 
-/// The last two texts of these lengths.
+/// Splits off the last two texts, which have these lengths.
 fn last_texts(bytes: &[u8], a: usize, b: usize) -> Option<Texts<'_>>
     ensures { MatchOption result
         ((front first second : List ℕ) → IsUtf8 first → IsUtf8 second → length first ≡ a → length second ≡ b
@@ -104,7 +104,7 @@ fn last_texts(bytes: &[u8], a: usize, b: usize) -> Option<Texts<'_>>
     })
 }
 
-/// An identifier.
+/// Returns an identifier.
 fn ident(alloc: Global, name: &str, raw: bool) -> Result<Ident, AllocError>
     ensures { IfOk result (λ i. name_of i ≡ record { raw = raw; name = name.now }) }
 {
@@ -114,7 +114,7 @@ fn ident(alloc: Global, name: &str, raw: bool) -> Result<Ident, AllocError>
     })
 }
 
-/// The name or pair of two texts and a tag.
+/// Returns the name or pair of two texts and a tag.
 fn value_tagged(
     alloc: Global,
     first: &str,
@@ -143,14 +143,14 @@ fn value_tagged(
     }
 }
 
-/// A value, and what stands before it.
+/// A value, and the bytes before it.
 #[derive(Drop)]
 struct LastValue<'a> {
     before: &'a [u8],
     value: Cfg,
 }
 
-/// The name or pair that these numbers end.
+/// Returns the name or pair that these numbers end.
 fn last_value<'a>(alloc: Global, ending: Numbers<'a>) -> Result<Option<LastValue<'a>>, AllocError>
     ensures { IfOk result (λ o. MatchOption o
         ((front : List ℕ) (c : CfgValue) → IsValueOfTexts c
@@ -182,7 +182,7 @@ enum Record {
     Any(usize),
 }
 
-/// The record of these numbers that has no texts.
+/// Returns the record of these numbers, if it is one without texts.
 fn group_of(tag: u8, a: usize, b: usize) -> Option<Record>
     ensures { MatchOption result (is_group tag a b ≡ false)
         (λ r. (piece_bytes (piece_of r) ≡ numbers a b tag) × (first_number (piece_of r) ≡ a)) }
@@ -200,14 +200,14 @@ fn group_of(tag: u8, a: usize, b: usize) -> Option<Record>
     }
 }
 
-/// A record, and what stands before it.
+/// A record, and the bytes before it.
 #[derive(Drop)]
 struct LastRecord<'a> {
     before: &'a [u8],
     found: Record,
 }
 
-/// The last record of bytes.
+/// Returns the last record of the bytes.
 fn last_record<'a>(alloc: Global, bytes: &'a [u8]) -> Result<Option<LastRecord<'a>>, AllocError>
     ensures { IfOk result (λ o. MatchOption o
         ((front : List ℕ) (p : Piece) → IsPieceOfTexts p → first_number p < 2 ^ 64
@@ -236,7 +236,7 @@ fn last_record<'a>(alloc: Global, bytes: &'a [u8]) -> Result<Option<LastRecord<'
     }
 }
 
-/// Takes so many expressions off the top of a stack.
+/// Takes `count` expressions off the top of a stack.
 fn take_members(
     alloc: Global,
     count: usize,
@@ -259,8 +259,8 @@ fn take_members(
     Ok(Some(members))
 }
 
-/// Puts the expression that a record begins onto the stack, in the place of its members. Answers whether these are
-/// there.
+/// Replaces the members of a record on the stack by the expression that the record begins. Returns whether the stack
+/// had these members.
 fn put(alloc: Global, found: Record, built: &mut Vec<CfgExpr>) -> Result<bool, AllocError>
     ensures put { IfOk result (λ is_put. is_put ≡ true
         → Leaves (piece_of found) (stack_of built.old.items) (stack_of built.new.items)) }
@@ -293,7 +293,7 @@ fn put(alloc: Global, found: Record, built: &mut Vec<CfgExpr>) -> Result<bool, A
     Ok(true)
 }
 
-/// The expression of these bytes, with no stack for its depth.
+/// Returns the expression of these bytes, without using stack for its depth.
 fn unflat_expression(alloc: Global, bytes: &[u8]) -> Result<Option<CfgExpr>, AllocError>
     ensures { IfOk result (λ o. MatchOption o
         ((e : Tree) → IsTreeOfTexts e → flat e ≡ bytes.now → ⊥)
@@ -319,7 +319,7 @@ fn unflat_expression(alloc: Global, bytes: &[u8]) -> Result<Option<CfgExpr>, All
     Ok(Some(whole))
 }
 
-/// The target name that these numbers end.
+/// Returns the target name that these numbers end.
 fn target_of(alloc: Global, ending: Numbers<'_>) -> Result<Option<Platform>, AllocError>
     ensures { IfOk result (λ o. MatchOption o
         ((name : List ℕ) → IsUtf8 name
@@ -340,7 +340,7 @@ fn target_of(alloc: Global, ending: Numbers<'_>) -> Result<Option<Platform>, All
     Ok(Some(Platform::Name(String::from_str(alloc, name)?)))
 }
 
-/// The condition of these bytes.
+/// Returns the condition of these bytes.
 pub(crate) fn unflat(alloc: Global, bytes: &[u8]) -> Result<Option<Platform>, AllocError>
     ensures { IfOk result (λ o. MatchOption o (IsFlatForm bytes.now → ⊥)
         (λ p. flat_condition (condition_of p) ≡ bytes.now)) }
@@ -357,7 +357,7 @@ pub(crate) fn unflat(alloc: Global, bytes: &[u8]) -> Result<Option<Platform>, Al
     }
 }
 
-/// The facts of these bytes.
+/// Returns the facts of these bytes.
 pub(crate) fn unflat_facts(alloc: Global, bytes: &[u8]) -> Result<Option<Vec<Cfg>>, AllocError>
     ensures { IfOk result (λ o. MatchOption o (AreFlatFacts bytes.now → ⊥)
         (λ facts. flat_values (map value_of facts.items) ≡ bytes.now)) }

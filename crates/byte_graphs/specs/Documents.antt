@@ -1,4 +1,5 @@
--- What `cargo metadata` printed, as a call may find it: a graph, a graph with a condition that is too deep, or neither.
+-- The output of `cargo metadata`, as a call may find it: a graph, a graph with a condition that is too deep, or
+-- neither.
 use Rattle.std.specs.Prelude.{◌≡◌, ◌⊎◌, ℕ, false, List, Any, Option, Some, None}
 use Rattle.std.specs.Borrow.{Bor}
 use Rattle.serde_json.specs.Data.{Data}
@@ -35,20 +36,20 @@ HasDeepCondition m = Any HasDeepDependency m.nodes.items
 
 -- ---- JSON
 
--- it says what a graph needs, no condition is too deep, and ids and conditions make a graph
+-- it has what a graph needs, no condition is too deep, and ids and conditions form a graph
 abbrev pub IsGraphData : Data → Type 0
 IsGraphData d =
     (m : Metadata) × (linked : Linked) × (IsMetadata d m × (HasDeepCondition m → ⊥) × IsLinked m linked)
 
--- it says what a graph needs, and a condition is too deep
+-- it has what a graph needs, and a condition is too deep
 abbrev pub IsDeepData : Data → Type 0
 IsDeepData d = (m : Metadata) × (IsMetadata d m × HasDeepCondition m)
 
--- it does not say what a graph needs, for a fault other than want of memory
+-- it does not have what a graph needs, for a reason other than a lack of memory
 abbrev pub IsNoMetadata : Data → Type 0
 IsNoMetadata d = (r : Refusal) × (IsRefused d r × (is_memory r ≡ false))
 
--- no condition is too deep, and ids or conditions make no graph, for a fault other than want of memory
+-- no condition is too deep, and ids or conditions form no graph, for a reason other than a lack of memory
 abbrev pub IsNoGraph : Data → Type 0
 IsNoGraph d =
     (m : Metadata) × (r : Unlinked)
@@ -68,6 +69,6 @@ IsGraph text = IsJsonOf IsGraphData text
 abbrev pub IsDeepGraph : List ℕ → Type 0
 IsDeepGraph text = IsJsonOf IsDeepData text
 
--- it is no JSON, or JSON of no graph
+-- it is not JSON, or JSON of no graph
 abbrev pub IsUnusable : List ℕ → Type 0
 IsUnusable text = (read_text text ≡ None) ⊎ IsJsonOf IsUnusableData text

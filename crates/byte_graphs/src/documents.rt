@@ -1,4 +1,4 @@
-//! What a document tells: the lines of its packages, or why it has none.
+//! The result for a document: the lines of its packages, or why it has none.
 
 ghost use Rattle.std.specs.Prelude.{◌≡◌, true, false, IfOk};
 ghost use Rattle.serde_json.specs.View.{view};
@@ -13,17 +13,17 @@ use known_targets::KnownTarget;
 use serde_json::Value;
 use std::alloc::{AllocError, Global};
 
-/// What is told of a document.
+/// The result for a document.
 #[derive(Drop)]
 pub enum Told {
     /// A line of JSON for each package.
     Lines(String),
-    /// Why the document can't be used.
+    /// The reason why the document cannot be used.
     Reason(String),
     TooDeep,
 }
 
-/// Whether a condition of a dependency is too deep.
+/// Returns whether a condition of a dependency is too deep.
 fn has_deep_kind(dependency: &Dependency<'_>) -> bool
     ensures deep { result ≡ true → HasDeepKind dependency.now }
     ensures shallow { result ≡ false → HasDeepKind dependency.now → ⊥ }
@@ -38,7 +38,7 @@ fn has_deep_kind(dependency: &Dependency<'_>) -> bool
     false
 }
 
-/// Whether a condition of a node is too deep.
+/// Returns whether a condition of a node is too deep.
 fn has_deep_dependency(node: &Node<'_>) -> bool
     ensures deep { result ≡ true → HasDeepDependency node.now }
     ensures shallow { result ≡ false → HasDeepDependency node.now → ⊥ }
@@ -51,7 +51,7 @@ fn has_deep_dependency(node: &Node<'_>) -> bool
     false
 }
 
-/// Whether a condition of the document is too deep.
+/// Returns whether a condition of the document is too deep.
 fn has_deep_condition(metadata: &Metadata<'_>) -> bool
     ensures deep { result ≡ true → HasDeepCondition metadata.now }
     ensures shallow { result ≡ false → HasDeepCondition metadata.now → ⊥ }
@@ -64,7 +64,7 @@ fn has_deep_condition(metadata: &Metadata<'_>) -> bool
     false
 }
 
-/// What is told of a document that is JSON.
+/// Returns the result for a document that was parsed as JSON.
 fn told_of_json(
     alloc: Global,
     document: &Value,
@@ -94,7 +94,7 @@ fn told_of_json(
     }
 }
 
-/// What is told of the text of a document.
+/// Returns the result for the text of a document. Fails if memory is refused.
 pub fn told_of(alloc: Global, text: &str, host: Option<KnownTarget>) -> Result<Told, AllocError>
     ensures { IfOk result (λ told. IsTold text.now told) }
 {

@@ -1,4 +1,4 @@
-//! The packages of a graph from bytes, into a buffer of the caller: for callers that are not written in Rattle.
+//! The packages of a graph from bytes, written into a buffer of the caller, for callers that are not written in Rattle.
 #![tactic(auto)]
 
 ghost use Rattle.std.specs.Prelude.{◌≡◌, ◌≢◌, ◌<◌, ◌↔◌, ℕ, List, [], IsTrue, ◌||◌, ◌==◌, IfOk, IfErr, IfSome};
@@ -17,8 +17,8 @@ use known_targets::{COUNT, KnownTarget};
 use std::alloc::Global;
 use std::str;
 
-/// The host of this name, and none for the empty one: builds then run on the target itself. An `Err` is a name that no
-/// known target has.
+/// Returns the host with this name, or `None` for the empty name: builds then run on the target itself. Fails with a
+/// name that no known target has.
 fn host_of(name: &str) -> Result<Option<KnownTarget>, &str>
     ensures known { IfOk result (λ _. name.now ≢ [] → (k : ℕ) × ((k < COUNT) × (target_name k ≡ name.now))) }
     ensures unknown { IfErr result (λ _. (k : ℕ) → k < COUNT → target_name k ≢ name.now) }
@@ -35,7 +35,7 @@ fn host_of(name: &str) -> Result<Option<KnownTarget>, &str>
     }
 }
 
-/// The outcome of a refused document, whose reason is written.
+/// Returns the outcome of a rejected document, and writes the reason.
 fn refused(reason: &str, out: &mut [u8]) -> Outcome
     ensures written { (text : List ℕ) × IsWritten text result.needed out.old out.new }
     ensures code { result.code ≡ REFUSED }
@@ -52,37 +52,38 @@ fn refused(reason: &str, out: &mut [u8]) -> Outcome
     }
 }
 
-/// Writes at which known targets each package of a graph is in the build: a line of JSON for each package, as
+/// Writes a line of JSON for each package of a graph, with the known targets on which it is in the build, as
 /// `manifest_check graph --json` prints them.
 ///
-/// The document is what `cargo metadata --format-version 1` printed. Builds run on the host, a known target of this
-/// name; with an empty name they run on the target itself. `REFUSED` where the document can't be used, with the reason
-/// in the buffer. `UNKNOWN_TARGET` where no known target has the host's name. `NOT_UTF8` tells by `argument` which text
-/// is none. `TOO_DEEP` where a condition has more than `MOST_OPEN` parentheses open at once.
+/// The document is the output of `cargo metadata --format-version 1`. Builds run on the host, a known target with this
+/// name, or on the target itself if the name is empty. Returns `REFUSED` if the document cannot be used, with the
+/// reason in the buffer, and `UNKNOWN_TARGET` if no known target has the host's name. With `NOT_UTF8`, `argument` is
+/// the index of the text that is not UTF-8. Returns `TOO_DEEP` if a condition has more than `MOST_OPEN` parentheses
+/// open at once.
 pub fn graph(alloc: Global, document: &[u8], host: &[u8], out: &mut [u8]) -> Outcome
-    // With `DONE` the document is a graph, and no condition is too deep.
+    // With `DONE`, the document is a graph, and no condition is too deep.
     ensures done { result.code ≡ DONE → IsGraph document.now }
-    // With `REFUSED` it is no JSON, or makes no graph, for a fault other than want of memory.
+    // With `REFUSED`, the document is not JSON, or forms no graph, for a reason other than a lack of memory.
     ensures refused { result.code ≡ REFUSED → IsUnusable document.now }
-    // With `TOO_DEEP` it says what a graph needs, and a condition is too deep.
+    // With `TOO_DEEP`, the document has what a graph needs, and a condition is too deep.
     ensures too_deep { result.code ≡ TOO_DEEP → IsDeepGraph document.now }
-    // With `DONE` and `REFUSED` a text is written, where the buffer is long enough.
+    // With `DONE` and `REFUSED`, a text is written if the buffer is long enough.
     ensures written { IsTrue (result.code == DONE || result.code == REFUSED)
         → (text : List ℕ) × IsWritten text result.needed out.old out.new }
-    // With other codes nothing is written.
+    // With other codes, nothing is written.
     ensures silent { result.code ≢ DONE → result.code ≢ REFUSED → IsSilent result out.old out.new }
-    // With `NOT_UTF8` the text that `argument` counts is none of UTF-8; with other codes both are UTF-8.
+    // With `NOT_UTF8`, the text at index `argument` is not UTF-8; with other codes, both texts are.
     ensures not_utf8_document { result.code ≡ NOT_UTF8 → result.argument ≡ 0 → IsUtf8 document.now → ⊥ }
     ensures not_utf8_host { result.code ≡ NOT_UTF8 → result.argument ≡ 1 → IsUtf8 host.now → ⊥ }
     ensures utf8 { result.code ≢ NOT_UTF8 → IsUtf8 document.now × IsUtf8 host.now }
-    // With `UNKNOWN_TARGET` the host has a name, and no known target has it.
+    // With `UNKNOWN_TARGET`, the host has a name, and no known target has it.
     ensures unknown { result.code ≡ UNKNOWN_TARGET → (k : ℕ) → k < COUNT → target_name k ≢ host.now }
     ensures empty { result.code ≡ UNKNOWN_TARGET → host.now ≢ [] }
     ensures host { result.code ≡ UNKNOWN_TARGET → result.argument ≡ 1 }
-    // With `DONE` and `REFUSED` the host is a known target, or has no name.
+    // With `DONE` and `REFUSED`, the host is a known target, or has no name.
     ensures known { IsTrue (result.code == DONE || result.code == REFUSED) → host.now ≢ []
         → (k : ℕ) × ((k < COUNT) × (target_name k ≡ host.now)) }
-    // It ends with one of these codes, `NO_MEMORY` among them.
+    // The code is one of these, or `NO_MEMORY`.
     ensures argument { IsTrue (result.argument == 0 || result.argument == 1) }
     ensures codes { IsTrue (result.code == DONE || result.code == REFUSED || result.code == NOT_UTF8
         || result.code == NO_MEMORY || result.code == TOO_DEEP || result.code == UNKNOWN_TARGET) }

@@ -1,4 +1,4 @@
-//! Callers of `cargo_platform`, whose tests are rows of `test_texts`; and a recursive reader of expressions, with tests
+//! Callers of `cargo_platform`, whose tests are rows of `test_texts`, and a recursive reader of expressions, with tests
 //! that compare the library's reader with it.
 
 pub mod audit;

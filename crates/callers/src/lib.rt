@@ -1,5 +1,5 @@
-//! Callers of the library and of the crates above it, as their users write them, and tests over public calls. A module
-//! has the callers of one crate. `README.md` says what each shows.
+//! Callers of the library and of the crates above it, as their users write them, and tests over public calls. Each
+//! module has the callers of one crate. `README.md` says what each of them shows.
 #![tactic(auto)]
 
 pub mod conditions;

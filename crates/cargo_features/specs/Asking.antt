@@ -1,10 +1,10 @@
--- The same packages, of which more features are asked.
+-- The same packages, with more features requested.
 use Rattle.std.specs.Prelude.{◌≡◌, ◌<◌, ℕ, List, Vec, length, Contains}
 use Rattle.std.specs.Global.{Global}
 use Rattle.std.specs.List.{slice_index_or}
 use Rattle.cargo_features.specs.declared.packages.Package.{Package}
 
--- the package, where these features are asked of it
+-- the package, with these features requested of it
 abbrev pub asking : Package → Vec ℕ Global → Package
 asking unit asked = record {
   is_root = unit.is_root;
@@ -14,12 +14,12 @@ asking unit asked = record {
   asked = asked;
 }
 
--- the other is the same package, and what is asked of the first is asked of it too
+-- the other is the same package, and what is requested of the first is requested of it too
 pub record AsksMore (unit other : Package) : Type 0 where
   pub same : other ≡ asking unit other.asked
   pub asked : (f : ℕ) → Contains unit.asked.items f → Contains other.asked.items f
 
--- so it is with each of the packages, by their places
+-- this holds for each of the packages, by their indexes
 pub record AskMore (packages others : List Package) : Type 0 where
   pub count : length others ≡ length packages
   pub each : (p : ℕ) → p < length packages → (x : Package)

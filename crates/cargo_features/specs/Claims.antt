@@ -1,11 +1,11 @@
--- At which targets a condition holds.
+-- The targets on which a condition is true.
 use Rattle.std.specs.Prelude.{ℕ, Bool, true}
 use Rattle.known_targets.specs.Sets.{place, is_member}
 use Rattle.known_targets.specs.declared.known.KnownTarget.{KnownTarget}
 use Rattle.cargo_features.specs.declared.claims.Condition.{Condition}
 use Rattle.cargo_features.specs.declared.claims.Condition.TheVariants.{Always, OfTarget, OfHost}
 
--- for what is built for the target k, on this host
+-- for a build for the target k, on this host
 abbrev pub holds_at : KnownTarget → ℕ → Condition → Bool
 holds_at host k Always = true
 holds_at host k (OfTarget set) = is_member set k

@@ -1,4 +1,4 @@
--- Which facts follow at which target.
+-- The facts that follow on each target.
 use Rattle.std.specs.Prelude.{◌≡◌, ◌<◌, ◌≤◌, ℕ, IsTrue, List, Contains, length}
 use Rattle.known_targets.specs.Sets.{is_member}
 use Rattle.known_targets.specs.declared.target_set.TargetSet.{TargetSet}
@@ -13,7 +13,7 @@ Sets = List TargetSet
 abbrev pub Rules : Type 0
 Rules = List Rule
 
--- a rule leads from a and b to n, one of so many facts, and holds at the target k
+-- a rule leads from a and b to n, one of `count` facts, and applies on the target k
 pub record Applies (count : ℕ) (rules : List Rule) (k a b n : ℕ) : Type 0 where
   pub rule : Rule
   pub is : Contains rules rule
@@ -23,7 +23,7 @@ pub record Applies (count : ℕ) (rules : List Rule) (k a b n : ℕ) : Type 0 wh
   pub inside : n < count
   pub holds : IsTrue (is_member rule.holds k)
 
--- the fact n follows at the target k: it is given there, or a rule leads to it from what follows there
+-- the fact n follows on the target k: it is given there, or a rule leads to it from facts that follow there
 abbrev pub IsDerived : List TargetSet → List Rule → ℕ → ℕ → Type 0
 IsDerived given rules k n =
     Follows (λ n. IsTrue (is_in given n k)) (λ a b n. Applies (length given) rules k a b n) n

@@ -1,4 +1,4 @@
--- Graphs of packages that have what is declared, features left aside.
+-- Graphs of packages that have what is declared, without regard to features.
 use Rattle.std.specs.Prelude.{◌≡◌, ◌<◌, ℕ, true, false, List, length, Contains}
 use Rattle.std.specs.List.{slice_index_or}
 use Rattle.package_graphs.specs.Packages as graphs
@@ -39,7 +39,7 @@ pub record IsUnit (graph : List units.Package) (p : ℕ) (unit : Package) : Type
   pub edges : (i : ℕ) → i < length unit.dependencies.items → (x : Dependency)
       → HasEdge graph p (slice_index_or unit.dependencies.items i x)
 
--- the graph has each of the packages in its place
+-- the graph has each of the packages at its index
 pub record IsGraphOf (packages : List Package) (graph : List units.Package) : Type 0 where
   pub macros : (p : ℕ) → graphs.is_macro graph p ≡ is_macro packages p
   pub each : (p : ℕ) → p < length packages → (x : Package) → IsUnit graph p (slice_index_or packages p x)
@@ -54,7 +54,7 @@ abbrev pub resolver_2 : Kinds → KnownTarget → Build
 resolver_2 kinds host =
     record { kinds = kinds; host = host; by_target = true; by_side = true; with_dev = kinds.dev }
 
--- the claim where features are not told apart by side
+-- the claim if features are not kept apart by side
 abbrev pub joined : Claim → Claim
 joined claim.Asked = claim.Asked
 joined (claim.Active p from) = claim.Active p Target

@@ -1,4 +1,4 @@
--- Which claims on packages hold at which target.
+-- The claims about packages that hold on each target.
 use Rattle.std.specs.Prelude.{◌≡◌, ◌⊎◌, ℕ, Bool, true, IsTrue, List, [], map, length, nat_lt, Contains}
 use Rattle.std.specs.List.{slice_index_or}
 use Rattle.package_graphs.specs.declared.packages.Side.TheVariants.{Target, Host}
@@ -17,7 +17,7 @@ feature_count packages p = slice_index_or (map (λ p. length p.features.items) p
 abbrev pub dependency_count : List Package → ℕ → ℕ
 dependency_count packages p = slice_index_or (map (λ p. length p.dependencies.items) packages) p 0
 
--- whether a claim is on a package, feature or dependency that there is
+-- true if a claim is about a package, feature or dependency that exists
 abbrev pub is_known : List Package → Claim → Bool
 is_known packages claim.Asked = true
 is_known packages (claim.Active p from) = nat_lt p (length packages)
@@ -25,7 +25,7 @@ is_known packages (claim.Used p from) = nat_lt p (length packages)
 is_known packages (claim.Feature p from f) = nat_lt f (feature_count packages p)
 is_known packages (claim.Dependency p from d) = nat_lt d (dependency_count packages p)
 
--- a step leads from two claims to a third, which is known, and its condition holds at the target k
+-- a step leads from two claims to a third, which is known, and its condition is true on the target k
 pub record LeadsTo (build : Build) (packages : List Package) (k : ℕ) (a b c : Claim) : Type 0 where
   pub step : Step
   pub is : Contains (all_steps build packages) step
@@ -35,7 +35,7 @@ pub record LeadsTo (build : Build) (packages : List Package) (k : ℕ) (a b c : 
   pub known : is_known packages c ≡ true
   pub holds : holds_at build.host k step.condition ≡ true
 
--- the claim holds at the target k: the build is asked for, and steps lead from that to it
+-- the claim holds on the target k: the build is requested, and steps lead from that to it
 abbrev pub Holds : Build → List Package → ℕ → Claim → Type 0
 Holds build packages k c = Follows (λ c. c ≡ claim.Asked) (λ a b c. LeadsTo build packages k a b c) c
 

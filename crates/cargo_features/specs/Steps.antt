@@ -1,5 +1,6 @@
--- Cargo's rules: which claims lead to which. They are those of the pages "Features" and "Dependency Resolution" of the
--- Cargo book, as its feature resolver has them (`core/resolver/features.rs`), and then those of `cargo tree`.
+-- Cargo's rules: the steps from claims to claims. They are those of the pages "Features" and "Dependency Resolution" of
+-- the Cargo book, as its feature resolver implements them (`core/resolver/features.rs`), and then those of `cargo
+-- tree`.
 use Rattle.std.specs.Prelude.{ℕ, zero, suc, ◌+◌, Bool, true, false, not, ◌&&◌, cond, List, [], ◌∷◌, ◌++◌, Option}
 use Rattle.std.specs.Prelude.{Some, None, flat_map, slice_get}
 use Rattle.package_graphs.specs.Kinds.{is_followed}
@@ -26,16 +27,16 @@ one first to condition = record { first = first; second = first; to = to; condit
 abbrev pub both : Claim → Claim → Claim → Condition → Step
 both first second to condition = record { first = first; second = second; to = to; condition = condition }
 
--- a step, where it is one
+-- the step, if `is_there`
 abbrev pub when : Bool → Step → List Step
 when is_there step = cond is_there (step ∷ []) []
 
--- of each element of a list, by its place, counted from k on
+-- the steps of each element of a list, with its index, counted from k on
 abbrev pub at_each : {X : Type 0} → ℕ → (ℕ → X → List Step) → List X → List Step
 at_each k f [] = []
 at_each k f (x ∷ xs) = f k x ++ at_each (k + 1) f xs
 
--- an optional dependency is followed where it is on; another one wherever what follows it is
+-- an optional dependency is followed if it is on, and another one wherever what follows it is
 abbrev pub gate : Place → ℕ → Dependency → Claim → Claim
 gate at i d otherwise = cond d.is_optional (claim.Dependency at.index at.side i) otherwise
 
@@ -50,7 +51,7 @@ abbrev pub is_first_side : Side → Package → Bool
 is_first_side Target unit = unit.is_root && not unit.is_macro
 is_first_side Host unit = unit.is_root && unit.is_macro
 
--- is active, with the features that are asked of it, and is used
+-- it is active, with the features that are requested of it, and it is used
 abbrev pub root_steps : Build → Place → Package → List Step
 root_steps build at unit =
     when (begins_on build at.side unit) (one claim.Asked (claim.Active at.index at.side) Always)
@@ -59,14 +60,14 @@ root_steps build at unit =
 
 -- ---- a dependency
 
--- where it leads to for the feature resolver
+-- where it leads for the feature resolver
 abbrev pub led_to : Build → List Package → Place → Dependency → Place
 led_to build packages at d = record { index = d.to; side = (feature_way build packages at.side d).side }
 
 abbrev pub led_where : Build → List Package → Place → Dependency → Condition
 led_where build packages at d = (feature_way build packages at.side d).condition
 
--- makes its package active, with the features that it asks for
+-- it makes its package active, with the features that it requests
 abbrev pub active_steps : Build → List Package → Place → Package → ℕ → Dependency → List Step
 active_steps build packages at unit i d =
     when (is_counted build unit d)
@@ -76,7 +77,7 @@ active_steps build packages at unit i d =
     ++ flat_map (to_feature (is_counted build unit d) (gate at i d (claim.Active at.index at.side))
     (led_to build packages at d) (led_where build packages at d)) d.features.items
 
--- and its package is used; that it is on is told on the side of the features
+-- its package is used; whether the dependency is on is decided on the side of the features
 abbrev pub used_steps : Build → List Package → Place → Package → ℕ → Dependency → List Step
 used_steps build packages at unit i d =
     when (is_followed build.kinds unit.is_root d.kind)
@@ -90,7 +91,7 @@ dependency_steps build packages at unit =
     at_each 0 (λ i d. active_steps build packages at unit i d ++ used_steps build packages at unit i d)
     unit.dependencies.items
 
--- ---- what a feature lists
+-- ---- the list of a feature
 
 -- an optional dependency can be turned on
 abbrev pub turns_on : Build → Package → Dependency → Bool
@@ -101,7 +102,7 @@ abbrev pub named_steps : Bool → Place → Claim → Condition → Option ℕ �
 named_steps is_on at from condition None = []
 named_steps is_on at from condition (Some f) = to_feature is_on from at condition f
 
--- `d/g`: the feature g of the package of d; and where d is optional, d itself and the feature of its name
+-- `d/g`: the feature g of the package of d and, if d is optional, d itself and the feature of its name
 abbrev pub strong_at : Build → List Package → Place → Package → Claim → ℕ → ℕ → Option Dependency → List Step
 strong_at build packages at unit from i g None = []
 strong_at build packages at unit from i g (Some d) =
@@ -114,7 +115,7 @@ abbrev pub strong_steps : Build → List Package → Place → Package → Claim
 strong_steps build packages at unit from i g =
     strong_at build packages at unit from i g (slice_get unit.dependencies.items i)
 
--- `d?/g`: the feature g of the package of d, where d is on if it is optional
+-- `d?/g`: the feature g of the package of d, which has to be on if it is optional
 abbrev pub weak_at : Build → List Package → Place → Package → Claim → ℕ → ℕ → Option Dependency → List Step
 weak_at build packages at unit from i g None = []
 weak_at build packages at unit from i g (Some d) =

@@ -1,4 +1,4 @@
--- Where a dependency leads to, and which the feature resolver looks at.
+-- Where a dependency leads, and which dependencies the feature resolver considers.
 use Rattle.std.specs.Prelude.{ℕ, Bool, true, false, ◌&&◌, ◌||◌, cond, List, map}
 use Rattle.std.specs.List.{slice_index_or}
 use Rattle.known_targets.specs.declared.target_set.TargetSet.{TargetSet}
@@ -17,7 +17,7 @@ use Rattle.cargo_features.specs.declared.packages.Package.{Package}
 abbrev pub is_macro : List Package → ℕ → Bool
 is_macro packages p = slice_index_or (map (λ p. p.is_macro) packages) p false
 
--- what a build script and what the host needs is asked of the host
+-- the conditions of what a build script and what the host needs are decided for the host
 abbrev pub condition : Bool → TargetSet → Condition
 condition true set = OfHost set
 condition false set = OfTarget set
@@ -30,18 +30,18 @@ way packages from d = record {
   condition = condition (is_of_host from d.kind) d.holds;
 }
 
--- where features are not told apart by side, they are those of the target's side
+-- if features are not kept apart by side, they are those of the target's side
 abbrev pub feature_side : Build → Side → Side
 feature_side build from = cond build.by_side from Target
 
--- and where they are not told apart by target, no condition counts
+-- and if they are not kept apart by target, every condition counts as true
 abbrev pub feature_way : Build → List Package → Side → Dependency → Way
 feature_way build packages from d = record {
   side = feature_side build (way packages from d).side;
   condition = cond build.by_target (way packages from d).condition Always;
 }
 
--- dev-dependencies are those of roots alone
+-- dev-dependencies are those of roots only
 abbrev pub counts_kind : Build → Bool → Kind → Bool
 counts_kind build is_root kinds.Normal = true
 counts_kind build is_root kinds.Build = true
@@ -50,7 +50,7 @@ counts_kind build is_root kinds.Dev = build.with_dev && is_root
 abbrev pub is_counted : Build → Package → Dependency → Bool
 is_counted build unit d = counts_kind build unit.is_root d.kind
 
--- it begins with roots; with one that is a procedural macro on both sides
+-- the resolver starts with roots; with a root that is a procedural macro, on both sides
 abbrev pub begins_on : Build → Side → Package → Bool
 begins_on build Target unit = unit.is_root
 begins_on build Host unit = unit.is_root && (build.by_side && unit.is_macro)

@@ -1,4 +1,4 @@
-//! What is known of each fact while rules are applied.
+//! Applies rules to the target sets of facts.
 
 ghost use Rattle.std.specs.Prelude.{◌≡◌, ◌<◌, ◌+◌, ◌*◌, ◌≤◌, ◌⊎◌, ℕ, true, ◌&&◌, ◌||◌, ◌==◌, OnOk, Contains, All};
 ghost use Rattle.std.specs.Prelude.{length, vec_len, List};
@@ -15,7 +15,7 @@ use known_targets::TargetSet;
 use std::alloc::AllocError;
 use std::collections::VecDeque;
 
-/// Adds targets to the set of a fact. Where the set grows, the fact waits.
+/// Adds targets to the set of a fact. If the set grows, the fact is queued.
 fn add(
     sets: &mut Vec<TargetSet>,
     waiting: &mut VecDeque<usize>,
@@ -43,7 +43,7 @@ fn add(
     Ok(())
 }
 
-/// Applies the rules at these places to what `done` has, and adds what follows to the sets.
+/// Applies the rules at these indexes to the sets in `done`, and adds what follows to `sets`.
 pub fn apply(
     rules: &[Rule],
     places: &[usize],

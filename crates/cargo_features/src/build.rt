@@ -1,4 +1,4 @@
-//! What is built, and where a dependency leads to.
+//! The build for which features are resolved, and where a dependency leads.
 
 ghost use Rattle.std.specs.Prelude.{◌≡◌};
 ghost use Rattle.cargo_features.specs.Graphs.{resolver_1, resolver_2};
@@ -9,28 +9,28 @@ use crate::packages::{Dependency, Package};
 use known_targets::KnownTarget;
 use package_graphs::{Kind, Kinds, Side};
 
-/// What is built, and how far features are told apart.
+/// A build, and how far it keeps features apart.
 #[derive(Clone, Copy, Drop)]
 pub struct Build {
-    /// The kinds of dependencies that are followed.
+    /// The dependency kinds that are followed.
     pub kinds: Kinds,
     pub host: KnownTarget,
-    /// Whether a dependency asks for features only at the targets at which it holds.
+    /// True if a dependency requests features only on the targets on which its condition is true.
     pub by_target: bool,
-    /// Whether what is built for the host has features of its own.
+    /// True if packages that are built for the host have features of their own.
     pub by_side: bool,
-    /// Whether the dev-dependencies of roots ask for features.
+    /// True if the dev-dependencies of roots request features.
     pub with_dev: bool,
 }
 
-/// Where a dependency leads to: the side of its package, and under which condition.
+/// The end of a dependency: the side of its package, and the condition under which it leads there.
 #[derive(Clone, Copy, Drop)]
 pub struct Way {
     pub side: Side,
     pub condition: Condition,
 }
 
-/// Whether the package at this place is a procedural macro; there is none past the end.
+/// Returns whether the package at an index is a procedural macro. There is none past the end.
 fn is_macro(packages: &[Package], index: usize) -> bool
     ensures { result ≡ is_macro packages.now index }
 {
@@ -41,9 +41,9 @@ fn is_macro(packages: &[Package], index: usize) -> bool
 }
 
 impl Build {
-    /// What Cargo's resolver 1 builds: a package has the same features everywhere.
+    /// Returns the build of Cargo's resolver 1: a package has the same features everywhere.
     pub fn by_resolver_1(kinds: Kinds, host: KnownTarget) -> Build
-        // The build tells features apart as the resolver does.
+        // The build keeps features apart as the resolver does.
         ensures { result ≡ resolver_1 kinds host }
     {
         Build {
@@ -55,9 +55,10 @@ impl Build {
         }
     }
 
-    /// What Cargo's resolvers 2 and 3 build, which tell features apart alike.
+    /// Returns the build of Cargo's resolvers 2 and 3, which keep features apart in the same way (see [feature resolver
+    /// version 2](https://doc.rust-lang.org/cargo/reference/features.html#feature-resolver-version-2)).
     pub fn by_resolver_2(kinds: Kinds, host: KnownTarget) -> Build
-        // The build tells features apart as the resolver does.
+        // The build keeps features apart as the resolver does.
         ensures { result ≡ resolver_2 kinds host }
     {
         Build {
@@ -69,7 +70,7 @@ impl Build {
         }
     }
 
-    /// Where a dependency leads to from a package on a side that uses it.
+    /// Returns where a dependency leads from a package on a side that uses it.
     pub fn way(self, packages: &[Package], from: Side, dependency: &Dependency) -> Way
         ensures { result ≡ way packages.now from dependency.now }
     {
@@ -84,7 +85,7 @@ impl Build {
         }
     }
 
-    /// Where it leads to for the feature resolver.
+    /// Returns where a dependency leads for the feature resolver.
     pub fn feature_way(self, packages: &[Package], from: Side, dependency: &Dependency) -> Way
         ensures { result ≡ feature_way self packages.now from dependency.now }
     {
@@ -99,14 +100,14 @@ impl Build {
         }
     }
 
-    /// On which side the features of a package on a side are resolved.
+    /// Returns the side for which the features of a package on a side are resolved.
     pub fn feature_side(self, side: Side) -> Side
         ensures { result ≡ feature_side self side }
     {
         if self.by_side { side } else { Side::Target }
     }
 
-    /// Whether the feature resolver looks at a dependency of a package.
+    /// Returns whether the feature resolver considers a dependency of a package.
     pub fn counts(self, unit: &Package, dependency: &Dependency) -> bool
         ensures { result ≡ is_counted self unit.now dependency.now }
     {
@@ -117,7 +118,7 @@ impl Build {
         }
     }
 
-    /// Whether the feature resolver begins with a package on this side.
+    /// Returns whether the feature resolver starts with a package on this side.
     pub fn begins_on(self, side: Side, unit: &Package) -> bool
         ensures { result ≡ begins_on self side unit.now }
     {

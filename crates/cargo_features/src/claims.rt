@@ -1,4 +1,4 @@
-//! What is claimed of packages, and which claims lead to which.
+//! Claims about packages, and the steps from claims to other claims.
 
 ghost use Rattle.std.specs.Prelude.{◌≡◌, ◌<◌, ◌++◌, ℕ, OnOk, flat_map};
 ghost use Rattle.known_targets.specs.Sets.{is_member};
@@ -10,39 +10,39 @@ use known_targets::{KnownTarget, TargetSet};
 use package_graphs::Side;
 use std::alloc::AllocError;
 
-/// What is claimed of a package, by its place, on a side.
+/// A claim about a package, which is given by its index, on a side.
 #[derive(Clone, Copy, Drop)]
 pub enum Claim {
-    /// The build is asked for.
+    /// The build is requested.
     Asked,
-    /// The feature resolver comes to the package.
+    /// The package is active: the feature resolver reaches it.
     Active(usize, Side),
     /// The build uses the package.
     Used(usize, Side),
-    /// The package's feature at this place is on.
+    /// The package's feature at this index is on.
     Feature(usize, Side, usize),
-    /// The package's optional dependency at this place is on.
+    /// The package's optional dependency at this index is on.
     Dependency(usize, Side, usize),
 }
 
-/// A package at its place, on a side.
+/// A package by its index, on a side.
 #[derive(Clone, Copy, Drop)]
 pub struct Place {
     pub index: usize,
     pub side: Side,
 }
 
-/// At which targets a step leads on.
+/// The targets on which a step applies.
 #[derive(Clone, Copy, Drop)]
 pub enum Condition {
     Always,
-    /// At the targets of the set.
+    /// On the targets of the set.
     OfTarget(TargetSet),
-    /// Everywhere if the host is in the set, and else nowhere.
+    /// On every target if the host is in the set, and otherwise on none.
     OfHost(TargetSet),
 }
 
-/// Two claims lead to another, under a condition. A step from one claim names it twice.
+/// A step from two claims to another one, under a condition. A step from one claim names it twice.
 #[derive(Clone, Copy, Drop)]
 pub struct Step {
     pub first: Claim,
@@ -52,7 +52,7 @@ pub struct Step {
 }
 
 impl Step {
-    /// A step from one claim.
+    /// Returns a step from one claim.
     pub fn from_one(first: Claim, to: Claim, condition: Condition) -> Step
         ensures { result ≡ one first to condition }
     {
@@ -66,7 +66,7 @@ impl Step {
 }
 
 impl Condition {
-    /// The targets at which it leads on.
+    /// Returns the targets on which a step with this condition applies.
     pub fn targets(self, host: KnownTarget) -> TargetSet
         ensures { (k : ℕ) → k < COUNT → is_member result k ≡ holds_at host k self }
     {
@@ -84,7 +84,7 @@ impl Condition {
     }
 }
 
-/// Appends a step where it is one.
+/// Appends a step if `is_there`.
 pub fn add(steps: &mut Vec<Step>, is_there: bool, step: Step) -> Result<(), AllocError>
     ensures { OnOk result (steps.new.items ≡ steps.old.items ++ when is_there step) }
 {
@@ -94,7 +94,7 @@ pub fn add(steps: &mut Vec<Step>, is_there: bool, step: Step) -> Result<(), Allo
     Ok(())
 }
 
-/// Appends a step from a claim to each of some features of a package, where these are steps.
+/// Appends steps from a claim to each of some features of a package, if `is_there`.
 pub fn add_features(
     steps: &mut Vec<Step>,
     is_there: bool,

@@ -1,4 +1,4 @@
-//! The targets at which each fact follows.
+//! The targets on which each fact follows.
 
 ghost use Rattle.std.specs.Prelude.{◌≡◌, ◌<◌, ◌≤◌, ◌↔◌, ℕ, IsTrue, IfOk, vec_len, slice_index, All, Contains};
 ghost use Rattle.known_targets.specs.declared.table.TheConstants.{COUNT};
@@ -12,11 +12,11 @@ use known_targets::TargetSet;
 use std::alloc::{AllocError, Global};
 use std::collections::VecDeque;
 
-/// For each fact the targets at which it follows: it is given there, or a rule that holds there leads to it from facts
-/// that follow there.
+/// Returns for each fact the targets on which it follows: it is given there, or a rule that applies there leads to it
+/// from facts that follow there.
 ///
-/// There are as many facts as sets are given. It refuses only where memory is refused. A rule that names a number past
-/// these leads to no fact.
+/// There are as many facts as given sets. A rule that names a number past these leads to no fact. Fails only if memory
+/// is refused.
 pub fn derived(
     alloc: Global,
     given: Vec<TargetSet>,
@@ -32,15 +32,15 @@ pub fn derived(
     Ok(sets)
 }
 
-/// The targets at which each fact follows, and how often its rules were applied.
+/// The targets on which each fact follows, and how often its rules were applied.
 #[derive(Drop)]
 pub struct Counted {
     pub sets: Vec<TargetSet>,
     pub rounds: Vec<usize>,
 }
 
-/// What `derived` answers, and for each fact how often the rules in which it is a premise were applied: at most once
-/// for each known target.
+/// Returns what `derived` returns, and for each fact how often the rules in which it is a premise were applied: at most
+/// once for each known target. Fails only if memory is refused.
 pub fn derived_counted(
     alloc: Global,
     given: Vec<TargetSet>,
@@ -71,7 +71,7 @@ pub fn derived_counted(
     Ok(Counted { sets, rounds })
 }
 
-/// So many facts, each of which waits.
+/// Returns a queue of `count` facts.
 fn all_facts(alloc: Global, count: usize) -> Result<VecDeque<usize>, AllocError>
     ensures known { IfOk result (λ facts. All (λ n. n < count) facts.items) }
     ensures all { IfOk result (λ facts. (n : ℕ) → n < count → Contains facts.items n) }

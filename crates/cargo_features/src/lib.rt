@@ -1,5 +1,5 @@
-//! What the features of packages turn on, as Cargo resolves them, and which packages a build then uses: at which known
-//! targets.
+//! What the features of packages turn on, as Cargo resolves them, and the known targets on which a build then uses each
+//! package.
 #![tactic(auto)]
 
 mod applying_rules;

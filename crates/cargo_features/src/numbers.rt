@@ -9,14 +9,14 @@ use crate::packages::Package;
 use package_graphs::Side;
 use std::alloc::{AllocError, Global};
 
-/// The numbers of claims: of each package those from its first one on, two for each fact.
+/// The numbers of claims. Those about a package are consecutive, two for each fact.
 #[derive(Drop)]
 pub struct Numbers {
     firsts: Vec<usize>,
     count: usize,
 }
 
-/// The number after those of a package, if it is not too large.
+/// Returns the number after those of a package, or `None` if it is too large.
 fn after(first: usize, unit: &Package) -> Option<usize>
     ensures { IfSome result (λ n. n ≡ first + width unit.now) }
 {
@@ -24,7 +24,7 @@ fn after(first: usize, unit: &Package) -> Option<usize>
     named.checked_add(2)?.checked_mul(2)?.checked_add(first)
 }
 
-/// The place of a side's number.
+/// Returns the offset of a side's number.
 fn number_of(side: Side) -> usize
     ensures { result ≡ number_of side }
 {
@@ -35,7 +35,8 @@ fn number_of(side: Side) -> usize
 }
 
 impl Numbers {
-    /// Numbers for the claims on packages. It refuses only where memory is refused.
+    /// Returns numbers for the claims about packages. Fails if memory is refused, or if there are too many claims to
+    /// number.
     pub fn new(alloc: Global, packages: &[Package]) -> Result<Numbers, AllocError>
         ensures { IfOk result (λ numbers. AreNumbers packages.now numbers) }
     {
@@ -51,14 +52,14 @@ impl Numbers {
         Ok(Numbers { firsts, count })
     }
 
-    /// How many numbers there are.
+    /// Returns the number of claims.
     pub fn count(&self) -> usize
         ensures { result ≡ self.now.count }
     {
         self.count
     }
 
-    /// The number of a claim; the count of them all where it is on no package, feature or dependency.
+    /// Returns the number of a claim, or the number of all claims if it is about no package, feature or dependency.
     pub fn of(&self, packages: &[Package], claim: Claim) -> usize
         ensures { AreNumbers packages.now self.now → result ≡ number packages.now claim }
     {
@@ -82,7 +83,8 @@ impl Numbers {
         }
     }
 
-    /// The number of a package's fact at this place, on a side; the count of them all where there is no such package.
+    /// Returns the number of a package's fact at an index, on a side, or the number of all claims if there is no such
+    /// package.
     fn at(&self, index: usize, side: Side, fact: usize) -> usize
         ensures there { index < length self.now.firsts.items
             → slice_index self.now.firsts.items index + node_of fact side < self.now.count

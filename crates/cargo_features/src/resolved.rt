@@ -1,4 +1,4 @@
-//! The targets at which each claim holds.
+//! The targets on which each claim holds.
 
 ghost use Rattle.std.specs.Prelude.{◌≡◌, ◌<◌, ◌↔◌, ◌++◌, ℕ, true, IsTrue, IfOk, OnOk, List, length, vec_len};
 ghost use Rattle.known_targets.specs.Sets.{is_member};
@@ -22,14 +22,14 @@ use known_targets::TargetSet;
 use package_graphs::Side;
 use std::alloc::{AllocError, Global};
 
-/// The targets at which each claim holds, by its number.
+/// The targets on which each claim holds, by the number of the claim.
 #[derive(Drop)]
 pub struct Numbered {
     numbers: Numbers,
     sets: Vec<TargetSet>,
 }
 
-/// The rule of a step.
+/// Returns the rule of a step.
 fn rule_of(numbers: &Numbers, packages: &[Package], build: Build, step: Step) -> Rule
     requires { AreNumbers packages.now numbers.now }
     ensures { IsNumbered packages.now build.host step result }
@@ -60,7 +60,7 @@ fn add_rules(
     Ok(())
 }
 
-/// The rules of all steps.
+/// Returns the rules of all steps.
 fn all_rules(
     alloc: Global,
     numbers: &Numbers,
@@ -78,7 +78,7 @@ fn all_rules(
     Ok(rules)
 }
 
-/// The steps of the claims on a package.
+/// Returns the steps of the claims about a package.
 fn steps_on_both(
     alloc: Global,
     packages: &[Package],
@@ -102,7 +102,7 @@ fn steps_on_both(
     Ok(steps)
 }
 
-/// The targets at which each claim on the packages holds.
+/// Returns the targets on which each claim about the packages holds.
 fn exact_sets(alloc: Global, packages: &[Package], build: Build) -> Result<Numbered, AllocError>
     ensures { IfOk result (λ found. IsExact build packages.now found) }
 {
@@ -115,7 +115,7 @@ fn exact_sets(alloc: Global, packages: &[Package], build: Build) -> Result<Numbe
 }
 
 impl Numbered {
-    /// The targets at which a claim on the packages holds.
+    /// Returns the targets on which a claim about the packages holds.
     fn at(&self, packages: &[Package], claim: Claim) -> TargetSet
         ensures { AreNumbers packages.now self.now.numbers
             → (k : ℕ) → k < COUNT → is_member result k ≡ has packages.now self.now claim k }
@@ -127,7 +127,7 @@ impl Numbered {
         self.sets[number]
     }
 
-    /// The targets at which the build uses a package, for either side.
+    /// Returns the targets on which the build uses a package, for either side.
     fn used(&self, packages: &[Package], index: usize) -> TargetSet
         ensures { AreNumbers packages.now self.now.numbers → (k : ℕ) → k < COUNT
             → is_member result k ≡ is_used packages.now self.now index k }
@@ -137,8 +137,8 @@ impl Numbered {
     }
 }
 
-/// The targets at which a build uses each package, for the target or for the host. It refuses only where memory is
-/// refused. What is on no package, feature or dependency is passed over.
+/// Returns for each package the targets on which a build uses it, for the target or for the host. Whatever names no
+/// package, feature or dependency is ignored. Fails if memory is refused, or if there are too many claims to number.
 pub fn used_packages(
     alloc: Global,
     packages: &[Package],
@@ -158,7 +158,7 @@ pub fn used_packages(
     Ok(sets)
 }
 
-/// What is built of some packages, with the targets at which each claim on them holds.
+/// A build of some packages, with the targets on which each claim about them holds.
 #[derive(Drop)]
 pub struct Resolved {
     packages: Vec<Package>,
@@ -166,10 +166,10 @@ pub struct Resolved {
     found: Numbered,
 }
 
-/// The targets at which each claim on the packages holds. It refuses only where memory is refused. What is on no
-/// package, feature or dependency is passed over.
+/// Returns the targets on which each claim about the packages holds. Whatever names no package, feature or dependency
+/// is ignored. Fails if memory is refused, or if there are too many claims to number.
 pub fn resolve(alloc: Global, packages: Vec<Package>, build: Build) -> Result<Resolved, AllocError>
-    // What is resolved are these packages, for this build.
+    // The result has these packages and this build.
     ensures same { IfOk result (λ resolved. IsResolved packages.items build resolved) }
     // A target is in the set of a claim exactly if steps from the request for the build lead there.
     ensures exact { IfOk result (λ resolved. (c : Claim) (k : ℕ) → is_known packages.items c ≡ true → k < COUNT
@@ -184,30 +184,30 @@ pub fn resolve(alloc: Global, packages: Vec<Package>, build: Build) -> Result<Re
 }
 
 impl Resolved {
-    /// The packages, in their order.
+    /// Returns the packages, in their order.
     pub fn packages(&self) -> &[Package]
         ensures { result.now ≡ self.now.packages.items }
     {
         &self.packages
     }
 
-    /// What is built.
+    /// Returns the build.
     pub fn build(&self) -> Build
         ensures { result ≡ self.now.build }
     {
         self.build
     }
 
-    /// The targets at which a claim holds.
+    /// Returns the targets on which a claim holds.
     pub fn at(&self, claim: Claim) -> TargetSet
-        // The answer is the set of the claim.
+        // The result is the set of the claim.
         ensures { AreNumbers self.now.packages.items self.now.found.numbers
             → (k : ℕ) → k < COUNT → is_member result k ≡ holds_in self.now claim k }
     {
         self.found.at(&self.packages, claim)
     }
 
-    /// The targets at which the build uses a package, for either side.
+    /// Returns the targets on which the build uses a package, for either side.
     pub fn used(&self, index: usize) -> TargetSet
         // A target is in the set exactly if the package is used there, on one side or the other.
         ensures { AreNumbers self.now.packages.items self.now.found.numbers → (k : ℕ) → k < COUNT
@@ -216,7 +216,7 @@ impl Resolved {
         self.found.used(&self.packages, index)
     }
 
-    /// The targets at which a package that is used on a side is built with a feature of its own.
+    /// Returns the targets on which a package that is used on a side is built with one of its features.
     pub fn with_feature(&self, index: usize, side: Side, feature: usize) -> TargetSet
         // A target is in the set exactly if the package is used there on the side, and its feature is on.
         ensures { AreNumbers self.now.packages.items self.now.found.numbers → (k : ℕ) → k < COUNT
@@ -227,7 +227,7 @@ impl Resolved {
         used.intersection(self.at(on))
     }
 
-    /// The targets at which a package that is used on a side uses a dependency of its own.
+    /// Returns the targets on which a package that is used on a side uses one of its dependencies.
     fn using_on(&self, index: usize, side: Side, place: usize) -> TargetSet {
         let Some(unit) = self.packages.get(index) else {
             return TargetSet::none();
@@ -248,7 +248,7 @@ impl Resolved {
         targets.intersection(self.at(Claim::Dependency(index, side, place)))
     }
 
-    /// The targets at which a package uses a dependency of its own, built for either side.
+    /// Returns the targets on which a package uses one of its dependencies, built for either side.
     pub fn using(&self, index: usize, place: usize) -> TargetSet {
         let target = self.using_on(index, Side::Target, place);
         target.union(self.using_on(index, Side::Host, place))

@@ -7,14 +7,14 @@ ghost use Rattle.cargo_features.specs.Inside.Listing.{place_lists, IsListed, Are
 use crate::rules::Rule;
 use std::alloc::{AllocError, Global};
 
-/// For each fact the places of the rules in which it is a premise.
+/// For each fact, the indexes of the rules in which it is a premise.
 #[derive(Drop)]
 pub struct Premises {
     lists: Vec<Vec<usize>>,
 }
 
 impl Premises {
-    /// The premises of rules among so many facts. It refuses only where memory is refused.
+    /// Returns the premises of rules over `count` facts. Fails only if memory is refused.
     pub fn of(alloc: Global, count: usize, rules: &[Rule]) -> Result<Premises, AllocError>
         ensures count { IfOk result (λ premises. length (place_lists premises) ≡ count) }
         ensures all { IfOk result (λ premises. AreListed rules.now (place_lists premises)) }
@@ -31,7 +31,7 @@ impl Premises {
         Ok(premises)
     }
 
-    /// Lists a rule at a fact. A number past the end is no fact.
+    /// Lists a rule for a fact. A number past the end is ignored.
     fn add(&mut self, fact: usize, rule: usize) -> Result<(), AllocError>
         ensures count { length (place_lists self.new) ≡ length (place_lists self.old) }
         ensures listed { OnOk result (IsListed (place_lists self.new) fact rule) }
@@ -44,7 +44,7 @@ impl Premises {
         Ok(())
     }
 
-    /// The places of the rules in which a fact is a premise.
+    /// Returns the indexes of the rules in which a fact is a premise.
     pub fn at(&self, fact: usize) -> &[usize]
         requires { fact < length (place_lists self.now) }
         ensures { result.now ≡ slice_index_or (place_lists self.now) fact [] }

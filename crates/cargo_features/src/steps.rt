@@ -1,4 +1,5 @@
-//! The steps that lead from claim to claim: Cargo's rules.
+//! The steps from claim to claim, by Cargo's rules for
+//! [features](https://doc.rust-lang.org/cargo/reference/features.html).
 
 ghost use Rattle.std.specs.Prelude.{◌≡◌, ◌++◌, OnOk, Some};
 ghost use Rattle.cargo_features.specs.Steps.{gate, is_first_side, root_steps, active_steps, used_steps, turns_on};
@@ -12,7 +13,8 @@ use package_graphs::Side;
 use std::alloc::AllocError;
 
 impl Place {
-    /// What has to hold for a dependency to be followed, beside what follows it: an optional one has to be on.
+    /// Returns the claim that has to hold for a dependency to be followed, besides the claim that follows it: an
+    /// optional dependency has to be on.
     fn gate(self, place: usize, dependency: &Dependency, otherwise: Claim) -> Claim
         ensures { result ≡ gate self place dependency.now otherwise }
     {
@@ -24,7 +26,7 @@ impl Place {
     }
 }
 
-/// Whether a package is a root that is built for this side.
+/// Returns whether a package is a root that is built for this side.
 fn is_first_side(side: Side, unit: &Package) -> bool
     ensures { result ≡ is_first_side side unit.now }
 {
@@ -55,7 +57,7 @@ fn add_named(
 }
 
 impl Build {
-    /// A root is active, with the features that are asked of it, and is used.
+    /// Appends the steps of a root: it is active, with the features that are requested of it, and it is used.
     fn root(self, at: Place, unit: &Package, steps: &mut Vec<Step>) -> Result<(), AllocError>
         ensures { OnOk result (steps.new.items ≡ steps.old.items ++ root_steps self at unit.now) }
     {
@@ -80,7 +82,8 @@ impl Build {
         Ok(())
     }
 
-    /// An active package makes the packages of its dependencies active, with the features that these ask for.
+    /// Appends the steps by which an active package makes the package of a dependency active, with the features that
+    /// this requests.
     fn active(
         self,
         packages: &[Package],
@@ -106,7 +109,7 @@ impl Build {
         Ok(())
     }
 
-    /// A package that is used uses the packages of its dependencies.
+    /// Appends the step by which a package that is used uses the package of a dependency.
     fn used(
         self,
         packages: &[Package],
@@ -135,15 +138,15 @@ impl Build {
         add(steps, is_followed, step)
     }
 
-    /// Whether a dependency can be turned on.
+    /// Returns whether a dependency can be turned on.
     fn turns_on(self, unit: &Package, dependency: &Dependency) -> bool
         ensures { result ≡ turns_on self unit.now dependency.now }
     {
         self.counts(unit, dependency) && dependency.is_optional
     }
 
-    /// `d/g`, in the list of a feature, turns on the feature `g` of the dependency's package, and an optional
-    /// dependency itself, with the feature of its name.
+    /// Appends the steps of `d/g` in the list of a feature. It turns on the feature `g` of the dependency's package
+    /// and, if the dependency is optional, the dependency itself with the feature of its name.
     fn strong_at(
         self,
         packages: &[Package],
@@ -169,7 +172,7 @@ impl Build {
         Ok(())
     }
 
-    /// The same of the dependency at a place; nothing where there is none.
+    /// Appends the steps of `d/g` for the dependency at an index, or none if there is no such dependency.
     fn strong(
         self,
         packages: &[Package],
@@ -191,7 +194,8 @@ impl Build {
         Ok(())
     }
 
-    /// `d?/g` turns on the feature `g` of the dependency's package, where an optional dependency is on.
+    /// Appends the step of `d?/g` in the list of a feature. It turns on the feature `g` of the dependency's package if
+    /// an optional dependency is on.
     fn weak_at(
         self,
         packages: &[Package],
@@ -218,7 +222,7 @@ impl Build {
         Ok(())
     }
 
-    /// The same of the dependency at a place; nothing where there is none.
+    /// Appends the step of `d?/g` for the dependency at an index, or none if there is no such dependency.
     fn weak(
         self,
         packages: &[Package],
@@ -240,7 +244,7 @@ impl Build {
         Ok(())
     }
 
-    /// A feature that is on turns on what it lists.
+    /// Appends the steps by which a feature that is on turns on an entry of its list.
     fn member(
         self,
         packages: &[Package],
@@ -271,7 +275,7 @@ impl Build {
         }
     }
 
-    /// The steps of a package's dependencies.
+    /// Appends the steps of a package's dependencies.
     fn dependencies(
         self,
         packages: &[Package],
@@ -289,7 +293,7 @@ impl Build {
         Ok(())
     }
 
-    /// The steps of one feature, by its place and what it lists.
+    /// Appends the steps of one feature, which is given by its index and its list.
     fn feature(
         self,
         packages: &[Package],
@@ -309,7 +313,7 @@ impl Build {
         Ok(())
     }
 
-    /// The steps of all features of a package.
+    /// Appends the steps of all features of a package.
     fn features(
         self,
         packages: &[Package],
@@ -326,7 +330,7 @@ impl Build {
         Ok(())
     }
 
-    /// All steps of the claims on a package on a side.
+    /// Appends all steps of the claims about a package on a side.
     pub fn steps_of(
         self,
         packages: &[Package],

@@ -24,12 +24,12 @@ IsMember d id = as_str d ≡ Some id.now
 abbrev pub IsVersionOne : Data → Type 0
 IsVersionOne d = fits wanted.One (get (codes "version") d) ≡ true
 
--- an object stands at `resolve`
+-- the value of `resolve` is this object
 pub record IsResolve (d : Data) (resolve : Data) : Type 0 where
   pub stands : get (codes "resolve") d ≡ Some resolve
   pub is_object : is_some (as_object resolve) ≡ true
 
--- what stands at `resolve`, of which this holds
+-- this holds for the value of `resolve`
 abbrev pub InsideResolve : Data → (Data → Type 0) → Type 0
 InsideResolve d Is = (resolve : Data) × IsResolve d resolve × Is resolve
 
@@ -39,7 +39,7 @@ pub record IsMetadata (d : Data) (m : Metadata) : Type 0 where
   pub members : AreRowsAt IsMember (codes "workspace_members") d m.members.items
   pub nodes : InsideResolve d (λ resolve. AreRowsAt IsNode (codes "nodes") resolve m.nodes.items)
 
--- ---- why it is refused
+-- ---- why it is rejected
 
 abbrev pub IsInResolve : Data → InResolve → Type 0
 IsInResolve d (in_resolve.Field wrong) = IsWrongIn wanted_of_resolve d wrong
@@ -54,7 +54,7 @@ IsRefused d (refusals.Member i) = IsElementAt (λ e. is_some (as_str e) ≡ fals
 IsRefused d (refusals.Resolve wrong) = InsideResolve d (λ resolve. IsInResolve resolve wrong)
 IsRefused d (refusals.Memory error) = Unit {0}
 
--- ---- whether memory is why
+-- ---- whether memory is the reason
 
 abbrev pub is_memory_of_dependency : InDependency → Bool
 is_memory_of_dependency (in_dependency.Field wrong) = false

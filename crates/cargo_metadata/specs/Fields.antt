@@ -1,4 +1,4 @@
--- What stands at the fields of an object.
+-- The values of the fields of an object.
 use Rattle.std.specs.Prelude.{◌≡◌, ℕ, Bool, false, cond, ◌==◌, List, [], ◌∷◌, Option, Some, None, codes}
 use Rattle.std.specs.Prelude.{◌||◌, bytes_eq}
 use Rattle.std.specs.Prelude.{option_map, option_and_then, is_some}
@@ -26,7 +26,7 @@ list_at field d = option_map elements (option_and_then as_array (get field d))
 abbrev pub kind_named : List ℕ → Option Kind
 kind_named s = cond (bytes_eq s (codes "build")) (Some Build) (cond (bytes_eq s (codes "dev")) (Some Dev) None)
 
--- nothing or null is the normal kind
+-- a missing value or null is the normal kind
 abbrev pub kind_in : Option Data → Option Kind
 kind_in None = Some Normal
 kind_in (Some null) = Some Normal
@@ -36,7 +36,7 @@ kind_in (Some (string s)) = kind_named s
 kind_in (Some (array ds)) = None
 kind_in (Some (object ms)) = None
 
--- nothing or null is no condition
+-- a missing value or null is no condition
 abbrev pub condition_in : Option Data → Option (Option (List ℕ))
 condition_in None = Some None
 condition_in (Some null) = Some None
@@ -50,7 +50,7 @@ abbrev pub is_one : Option ℕ → Bool
 is_one None = false
 is_one (Some n) = n == 1
 
--- whether what stands at a field is what was wanted
+-- true if the value of a field is as expected
 abbrev pub fits : Wanted → Option Data → Bool
 fits wanted.Text found = is_some (option_and_then as_str found)
 fits wanted.List found = is_some (option_and_then as_array found)
@@ -62,11 +62,11 @@ fits wanted.Condition found = is_some (condition_in found)
 abbrev pub IsWrong : Data → Wrong → Type 0
 IsWrong d wrong = fits wrong.wanted (get wrong.field.now d) ≡ false
 
--- it is told of this field that this was wanted there
+-- the error is about this field, and expects this value
 abbrev pub IsAt : List ℕ → Wanted → Wrong → Type 0
 IsAt field what wrong = (wrong.field.now ≡ field) × (wrong.wanted ≡ what)
 
--- ---- what is wanted at which field
+-- ---- the expected values of the fields
 
 abbrev pub wanted_of_document : List ℕ → Option Wanted
 wanted_of_document field =
@@ -97,7 +97,7 @@ wanted_of_kind field =
     cond (bytes_eq field (codes "kind")) (Some wanted.Kind)
     (cond (bytes_eq field (codes "target")) (Some wanted.Condition) None)
 
--- at a field at which this is wanted stands something else, or nothing
+-- a field with this expected value has another one, or none
 pub record IsWrongIn (wanted_of : List ℕ → Option Wanted) (d : Data) (wrong : Wrong) : Type 0 where
   pub table : wanted_of wrong.field.now ≡ Some wrong.wanted
   pub misfits : IsWrong d wrong

@@ -17,11 +17,11 @@ member_ids members = map (λ m. m.now) members
 abbrev pub id_at : List (List ℕ) → ℕ → List ℕ
 id_at ids i = slice_index_or ids i []
 
--- none of the first n ids is there twice
+-- the first n ids are different
 pub record AreDistinct (ids : List (List ℕ)) (n : ℕ) : Type 0 where
   pub once : (i j : ℕ) → i < n → j < n → id_at ids i ≡ id_at ids j → i ≡ j
 
--- the first id that was there before: at the place `again`, and before at `first`
+-- the first id that occurred before: at the index `again`, and before at `first`
 pub record IsFirstRepeat (ids : List (List ℕ)) (first again : ℕ) : Type 0 where
   pub distinct : AreDistinct ids again
   pub before : first < again

@@ -1,4 +1,4 @@
--- What a graph has of a document.
+-- The graph of a document.
 use Rattle.std.specs.Prelude.{◌≡◌, ◌<◌, ◌↔◌, ℕ, true, List, [], ◌∷◌, ◌++◌, Option, Some, None, map, flat_map}
 use Rattle.std.specs.Prelude.{length, Contains, IsTrue, All}
 use Rattle.std.specs.List.{slice_index_or}
@@ -26,7 +26,7 @@ use Rattle.cargo_metadata.specs.declared.graphs.linking.Linked.{Linked}
 
 -- ---- ids that name something
 
--- the first n nodes: each names a package, and none is there twice
+-- the first n nodes: each names a package, and they are different
 pub record AreNodes (m : Metadata) (n : ℕ) : Type 0 where
   pub known : (i : ℕ) → i < n → Contains (package_ids m.packages.items) (id_at (node_ids m.nodes.items) i)
   pub distinct : AreDistinct (node_ids m.nodes.items) n
@@ -43,19 +43,19 @@ AreMembers m n =
 
 -- ---- conditions
 
--- it has no condition, or one that is spelled
+-- there is no condition, or one that parses
 abbrev pub IsSpelled : Option (Bor (List ℕ)) → Type 0
 IsSpelled None = Unit {0}
 IsSpelled (Some text) = (c : Condition) × IsConditionText text.now c
 
--- the targets at which it holds: all without a condition
+-- the targets on which it is true: all without a condition
 abbrev pub HoldsWhere : Option (Bor (List ℕ)) → TargetSet → Type 0
 HoldsWhere None set = (k : ℕ) → k < COUNT → is_member set k ≡ true
 HoldsWhere (Some text) set =
     (c : Condition) × IsConditionText text.now c
     × ((k : ℕ) → k < COUNT → IsTrue (is_member set k) ↔ IsTrueCondition (target_name k) (target_facts k) c)
 
--- a dependency names a node, and its conditions are spelled
+-- a dependency names a node, and its conditions parse
 pub record IsSound (nodes : List (List ℕ)) (d : Written) : Type 0 where
   pub names : Contains nodes d.on.now
   pub spelled : All (λ row. IsSpelled row.condition) d.kinds.items
@@ -95,7 +95,7 @@ pub data AreEach {X Y : Type 0} (Belongs : X → Y → Type 0) : List X → List
   of_more : (xs : List X) (x : X) (ys : List Y) (y : Y) → AreEach Belongs xs ys → Belongs x y
       → AreEach Belongs (xs ++ x ∷ []) (ys ++ y ∷ [])
 
--- the edges of a node, whose dependencies are sound
+-- the edges of a node, whose dependencies are valid
 pub record AreEdgesOf (nodes : List (List ℕ)) (n : Node) (edges : List Dependency) : Type 0 where
   pub sound : AreSound nodes n
   pub each : AreEach (IsEdge nodes) (asked_of n.dependencies.items) edges

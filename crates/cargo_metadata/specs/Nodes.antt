@@ -34,7 +34,7 @@ pub record IsNode (d : Data) (node : Node) : Type 0 where
   pub id : text_at (codes "id") d ≡ Some node.id.now
   pub dependencies : AreRowsAt IsDependency (codes "deps") d node.dependencies.items
 
--- ---- why they are refused
+-- ---- why they are rejected
 
 abbrev pub IsInDependency : Data → InDependency → Type 0
 IsInDependency d (in_dependency.Field wrong) = IsWrongIn wanted_of_dependency d wrong

@@ -1,4 +1,4 @@
--- The first fault of a document: of ids of packages, of nodes, of members, and then of dependencies.
+-- The first error of a document: in the ids of packages, of nodes, of members, and then in dependencies.
 use Rattle.std.specs.Prelude.{◌<◌, ℕ, Bool, true, false, List, Option, Some, None, length, Contains}
 use Rattle.std.specs.List.{slice_index_or}
 use Rattle.std.specs.Borrow.{Bor}
@@ -15,7 +15,7 @@ use Rattle.cargo_metadata.specs.declared.graphs.refusals.InDependency.TheVariant
 use Rattle.cargo_metadata.specs.declared.graphs.refusals.Refusal.{Refusal}
 use Rattle.cargo_metadata.specs.declared.graphs.refusals.Refusal.TheVariants as refusals
 
--- the one at place i has the fault, and those before it are sound
+-- the element at index i has the error, and those before it are valid
 pub record IsFirst {X : Type 0} (IsFine IsFault : X → Type 0) (xs : List X) (i : ℕ) : Type 0 where
   pub before : (k : ℕ) (x : X) → k < i → IsFine (slice_index_or xs k x)
   pub inside : i < length xs
@@ -38,7 +38,7 @@ pub record IsNoNode (m : Metadata) (i : ℕ) : Type 0 where
   pub inside : i < length m.members.items
   pub none : Contains (node_ids m.nodes.items) (id_at (member_ids m.members.items) i) → ⊥
 
--- a condition that is refused, with its fault
+-- a condition that is rejected, with its error
 abbrev pub IsRefusedBy : ParseError → Option (Bor (List ℕ)) → Type 0
 IsRefusedBy e None = ⊥
 IsRefusedBy e (Some text) = IsRefusedCondition text.now (orig_of e) (fault_in e)
@@ -52,7 +52,7 @@ IsInDependency nodes in_dependency.NoNode d = Contains nodes d.on.now → ⊥
 IsInDependency nodes (in_dependency.Condition i e) d = HasCondition nodes i e d
 IsInDependency nodes (in_dependency.Memory error) d = Unit {0}
 
--- the first dependency of a node that is not sound
+-- the first dependency of a node that is not valid
 abbrev pub IsWrongAt : List (List ℕ) → ℕ → InDependency → Node → Type 0
 IsWrongAt nodes j wrong n =
     IsFirst (λ d. IsSound nodes d) (λ d. IsInDependency nodes wrong d) n.dependencies.items j
@@ -71,7 +71,7 @@ IsUnlinked m (refusals.NoMember i) = IsNoNode m i
 IsUnlinked m (refusals.Dependency i j wrong) = HasDependency m i j wrong
 IsUnlinked m (refusals.Memory error) = Unit {0}
 
--- ---- whether memory is why
+-- ---- whether memory is the reason
 
 abbrev pub is_memory_of_dependency : InDependency → Bool
 is_memory_of_dependency in_dependency.NoNode = false

@@ -1,4 +1,4 @@
--- Rows that are read of the elements of a list.
+-- Rows that are read from the elements of a list.
 use Rattle.std.specs.Prelude.{◌≡◌, ◌<◌, ℕ, List, [], ◌∷◌, ◌++◌, Some, length}
 use Rattle.std.specs.List.{slice_index_or}
 use Rattle.serde_json.specs.Data.{Data, null}
@@ -10,13 +10,13 @@ pub data AreRows {X : Type 0} (IsRow : Data → X → Type 0) : List Data → Li
   of_more : (ds : List Data) (d : Data) (xs : List X) (x : X) → AreRows IsRow ds xs → IsRow d x
       → AreRows IsRow (ds ++ d ∷ []) (xs ++ x ∷ [])
 
--- a list stands at the field, and these are its rows
+-- the field has a list, and these are its rows
 pub record AreRowsAt {X : Type 0} (IsRow : Data → X → Type 0) (field : List ℕ) (d : Data) (xs : List X) : Type 0 where
   pub elements : List Data
   pub stand : list_at field d ≡ Some elements
   pub rows : AreRows IsRow elements xs
 
--- a list stands at the field, and it has such an element at the place
+-- the field has a list with such an element at the index
 pub record IsElementAt (Is : Data → Type 0) (field : List ℕ) (i : ℕ) (d : Data) : Type 0 where
   pub elements : List Data
   pub stand : list_at field d ≡ Some elements

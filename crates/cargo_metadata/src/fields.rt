@@ -1,4 +1,4 @@
-//! What stands at a field.
+//! The values of the fields of an object.
 
 ghost use Rattle.std.specs.Prelude.{◌≡◌, map, option_map, MatchResult, Some};
 ghost use Rattle.serde_json.specs.View.{view};
@@ -7,14 +7,14 @@ ghost use Rattle.cargo_metadata.specs.Fields.{field_at, text_at, list_at, IsWron
 use crate::refusals::{Wanted, Wrong};
 use serde_json::Value;
 
-/// What stands at a field.
+/// Returns the value of a field, or `None` if there is none.
 pub fn field_at<'a>(value: &'a Value, field: &str) -> Option<&'a Value>
     ensures { option_map (λ v. view v.now) result ≡ field_at field.now (view value.now) }
 {
     value.get(field)
 }
 
-/// The text at a field, if one stands there.
+/// Returns the text in a field, or `None` if it contains none.
 pub fn text_at<'a>(value: &'a Value, field: &str) -> Option<&'a str>
     ensures { option_map (λ s. s.now) result ≡ text_at field.now (view value.now) }
 {
@@ -24,7 +24,7 @@ pub fn text_at<'a>(value: &'a Value, field: &str) -> Option<&'a str>
     }
 }
 
-/// The list at a field, if one stands there.
+/// Returns the list in a field, or `None` if it contains none.
 pub fn list_at<'a>(value: &'a Value, field: &str) -> Option<&'a [Value]>
     ensures { option_map (λ vs. map view vs.now) result ≡ list_at field.now (view value.now) }
 {
@@ -37,7 +37,7 @@ pub fn list_at<'a>(value: &'a Value, field: &str) -> Option<&'a [Value]>
     }
 }
 
-/// The text at a field.
+/// Returns the text in a field. Fails if it contains none.
 pub fn wanted_text<'a>(value: &'a Value, field: &'static str) -> Result<&'a str, Wrong>
     ensures { MatchResult result (λ s. text_at field.now (view value.now) ≡ Some s.now)
         (λ wrong. IsWrong (view value.now) wrong × IsAt field.now Wanted.Text wrong) }
@@ -51,7 +51,7 @@ pub fn wanted_text<'a>(value: &'a Value, field: &'static str) -> Result<&'a str,
     }
 }
 
-/// The list at a field.
+/// Returns the list in a field. Fails if it contains none.
 pub fn wanted_list<'a>(value: &'a Value, field: &'static str) -> Result<&'a [Value], Wrong>
     ensures { MatchResult result (λ vs. list_at field.now (view value.now) ≡ Some (map view vs.now))
         (λ wrong. IsWrong (view value.now) wrong × IsAt field.now Wanted.List wrong) }

@@ -1,4 +1,5 @@
-//! What `cargo metadata` printed, as a graph of packages: nodes by their places, and where each condition holds.
+//! The output of `cargo metadata` as a graph of packages: nodes are given by their indexes, and conditions by the
+//! targets on which they are true.
 
 mod edges;
 mod linking;

@@ -1,4 +1,5 @@
-//! What `cargo metadata --format-version 1` prints, as far as a graph of packages needs it, and that as a graph.
+//! The output of [`cargo metadata`](https://doc.rust-lang.org/cargo/commands/cargo-metadata.html) with
+//! `--format-version 1`, as far as a graph of packages needs it, and that graph.
 #![tactic(auto)]
 
 mod fields;

@@ -17,7 +17,7 @@ use crate::refusals::{InResolve, Refusal, Wanted, Wrong};
 use serde_json::Value;
 use std::alloc::{AllocError, Global};
 
-/// What a document says of a graph of packages.
+/// The parts of a document that a graph of packages needs.
 #[derive(Drop)]
 pub struct Metadata<'a> {
     pub packages: Vec<Package<'a>>,
@@ -26,8 +26,8 @@ pub struct Metadata<'a> {
     pub nodes: Vec<Node<'a>>,
 }
 
-/// What a document says, or the first that is not as it has to be: the version, then the packages, the members and the
-/// nodes. Other fields are passed over. It refuses for memory too.
+/// Reads the parts of a document that a graph of packages needs: the version, then the packages, the members and the
+/// nodes. Other fields are ignored. Fails at the first part that is not as expected, and if memory is refused.
 pub fn read<'a>(alloc: Global, document: &'a Value) -> Result<Metadata<'a>, Refusal>
     ensures { MatchResult result (λ m. IsMetadata (view document.now) m)
         (λ refusal. IsRefused (view document.now) refusal) }
@@ -51,7 +51,7 @@ pub fn read<'a>(alloc: Global, document: &'a Value) -> Result<Metadata<'a>, Refu
     }
 }
 
-/// Whether the version is 1.
+/// Checks that the version is 1.
 fn check_version(document: &Value) -> Result<(), Wrong>
     ensures { MatchResult result (λ _. IsVersionOne (view document.now))
         (λ wrong. IsWrongIn wanted_of_document (view document.now) wrong) }
@@ -70,7 +70,7 @@ fn check_version(document: &Value) -> Result<(), Wrong>
     }
 }
 
-/// What stands at `resolve`.
+/// Returns the value of `resolve`.
 fn resolve_at<'a>(document: &'a Value) -> Result<&'a Value, Wrong>
     ensures { MatchResult result (λ resolve. IsResolve (view document.now) (view resolve.now))
         (λ wrong. IsWrongIn wanted_of_document (view document.now) wrong) }
@@ -90,7 +90,7 @@ fn resolve_at<'a>(document: &'a Value) -> Result<&'a Value, Wrong>
     }
 }
 
-/// The packages.
+/// Reads the packages.
 fn packages_at<'a>(alloc: Global, document: &'a Value) -> Result<Vec<Package<'a>>, Refusal>
     ensures { MatchResult result (λ ps. AreRowsAt IsPackage (codes "packages") (view document.now) ps.items)
         (λ refusal. IsRefused (view document.now) refusal) }
@@ -112,7 +112,7 @@ fn packages_at<'a>(alloc: Global, document: &'a Value) -> Result<Vec<Package<'a>
     Ok(packages)
 }
 
-/// The ids of the workspace's members.
+/// Reads the ids of the workspace's members.
 fn members_at<'a>(alloc: Global, document: &'a Value) -> Result<Vec<&'a str>, Refusal>
     ensures { MatchResult result (λ ms. AreRowsAt IsMember (codes "workspace_members") (view document.now) ms.items)
         (λ refusal. IsRefused (view document.now) refusal) }
@@ -134,7 +134,7 @@ fn members_at<'a>(alloc: Global, document: &'a Value) -> Result<Vec<&'a str>, Re
     Ok(members)
 }
 
-/// The nodes of the graph.
+/// Reads the nodes of the graph.
 fn nodes_at<'a>(alloc: Global, resolve: &'a Value) -> Result<Vec<Node<'a>>, InResolve>
     ensures { MatchResult result (λ ns. AreRowsAt IsNode (codes "nodes") (view resolve.now) ns.items)
         (λ refusal. IsInResolve (view resolve.now) refusal) }

@@ -1,4 +1,4 @@
-//! Nodes of a document's graph, and their dependencies.
+//! The nodes of a document's graph, and their dependencies.
 
 ghost use Rattle.std.specs.Prelude.{◌≡◌, MatchResult, Some};
 ghost use Rattle.std.specs.Option.{option_copied};
@@ -12,7 +12,7 @@ use crate::refusals::{InDependency, InNode, Wanted, Wrong};
 use serde_json::Value;
 use std::alloc::{AllocError, Global};
 
-/// What a dependency is for.
+/// The kind of a dependency.
 #[derive(Clone, Copy, Debug, PartialEq, Eq, Drop)]
 pub enum Kind {
     Normal,
@@ -20,7 +20,7 @@ pub enum Kind {
     Dev,
 }
 
-/// A kind of a dependency, and its condition as it is written, if it has one.
+/// A kind of a dependency, with its condition as it is written, if there is one.
 #[derive(Clone, Copy, Drop)]
 pub struct KindRow<'a> {
     pub kind: Kind,
@@ -31,19 +31,19 @@ pub struct KindRow<'a> {
 #[derive(Drop)]
 pub struct Dependency<'a> {
     pub on: &'a str,
-    /// The name by which the node's code calls it, if one is a text there.
+    /// The name by which the node's code refers to the dependency, if the field contains a text.
     pub name: Option<&'a str>,
     pub kinds: Vec<KindRow<'a>>,
 }
 
-/// A node, by the id of its package.
+/// A node, which is identified by the id of its package.
 #[derive(Drop)]
 pub struct Node<'a> {
     pub id: &'a str,
     pub dependencies: Vec<Dependency<'a>>,
 }
 
-/// The kind of a dependency: nothing or null is the normal one.
+/// Returns the kind of a dependency: normal if the field is missing or null.
 fn kind_of(value: &Value) -> Result<Kind, Wrong>
     ensures { MatchResult result (λ kind. kind_at (view value.now) ≡ Some kind)
         (λ wrong. IsWrongIn wanted_of_kind (view value.now) wrong) }
@@ -67,7 +67,7 @@ fn kind_of(value: &Value) -> Result<Kind, Wrong>
     }
 }
 
-/// The condition of a dependency: nothing or null is none.
+/// Returns the condition of a dependency: `None` if the field is missing or null.
 fn condition_of<'a>(value: &'a Value) -> Result<Option<&'a str>, Wrong>
     ensures { MatchResult result (λ text. condition_at (view value.now) ≡ Some (option_copied text))
         (λ wrong. IsWrongIn wanted_of_kind (view value.now) wrong) }
@@ -88,7 +88,7 @@ fn condition_of<'a>(value: &'a Value) -> Result<Option<&'a str>, Wrong>
     }
 }
 
-/// The kind and the condition that an object is.
+/// Reads a kind and its condition from an object.
 fn kind_row<'a>(value: &'a Value) -> Result<KindRow<'a>, Wrong>
     ensures { MatchResult result (λ row. IsKindRow (view value.now) row)
         (λ wrong. IsWrongIn wanted_of_kind (view value.now) wrong) }
@@ -98,7 +98,7 @@ fn kind_row<'a>(value: &'a Value) -> Result<KindRow<'a>, Wrong>
     Ok(KindRow { kind, condition })
 }
 
-/// The dependency that an object is.
+/// Reads a dependency from an object.
 fn dependency_of<'a>(alloc: Global, value: &'a Value) -> Result<Dependency<'a>, InDependency>
     ensures { MatchResult result (λ d. IsDependency (view value.now) d)
         (λ wrong. IsInDependency (view value.now) wrong) }
@@ -125,7 +125,7 @@ fn dependency_of<'a>(alloc: Global, value: &'a Value) -> Result<Dependency<'a>, 
     Ok(Dependency { on, name, kinds })
 }
 
-/// The node that an object is.
+/// Reads a node from an object. Fails at the first part that is not as expected, and if memory is refused.
 pub fn node_of<'a>(alloc: Global, value: &'a Value) -> Result<Node<'a>, InNode>
     ensures { MatchResult result (λ n. IsNode (view value.now) n) (λ wrong. IsInNode (view value.now) wrong) }
 {

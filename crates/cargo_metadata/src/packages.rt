@@ -1,4 +1,4 @@
-//! Packages of a document.
+//! The packages of a document.
 
 ghost use Rattle.std.specs.Prelude.{◌≡◌, MatchResult};
 ghost use Rattle.serde_json.specs.View.{view};
@@ -16,11 +16,11 @@ pub struct Package<'a> {
     pub name: &'a str,
     pub version: &'a str,
     pub license: Option<&'a str>,
-    /// Whether one of its targets is a procedural macro.
+    /// True if one of its targets is a procedural macro.
     pub is_macro: bool,
 }
 
-/// The package that an object is.
+/// Reads a package from an object. Fails if its id, name or version is not a text.
 pub fn package_of<'a>(value: &'a Value) -> Result<Package<'a>, Wrong>
     ensures { MatchResult result (λ p. IsPackage (view value.now) p)
         (λ wrong. IsWrongIn wanted_of_package (view value.now) wrong) }
@@ -39,7 +39,7 @@ pub fn package_of<'a>(value: &'a Value) -> Result<Package<'a>, Wrong>
     })
 }
 
-/// Whether one of a package's targets is a procedural macro.
+/// Returns whether one of a package's targets is a procedural macro.
 fn is_macro(value: &Value) -> bool
     ensures { result ≡ is_macro (view value.now) }
 {
@@ -55,7 +55,7 @@ fn is_macro(value: &Value) -> bool
     false
 }
 
-/// Whether one of a target's kinds is that of procedural macros.
+/// Returns whether one of a target's kinds is that of procedural macros.
 fn has_macro_kind(target: &Value) -> bool
     ensures { result ≡ has_macro_kind (view target.now) }
 {
@@ -71,7 +71,7 @@ fn has_macro_kind(target: &Value) -> bool
     false
 }
 
-/// Whether it is the text of procedural macros.
+/// Returns whether a value is the kind of procedural macros.
 fn is_macro_kind(kind: &Value) -> bool
     ensures { result ≡ is_macro_kind (view kind.now) }
 {

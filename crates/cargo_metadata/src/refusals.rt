@@ -1,18 +1,18 @@
-//! Why a document is refused, and where.
+//! The reasons why a document is rejected, with their positions.
 
 ghost use Rattle.std.specs.Prelude.{◌≡◌};
 ghost use Rattle.cargo_metadata.specs.Documents.{is_memory, is_memory_of_node};
 
 use std::alloc::AllocError;
 
-/// What was wanted at a field.
+/// The value that is expected in a field.
 #[derive(Clone, Copy, Debug, PartialEq, Eq, Drop)]
 pub enum Wanted {
     Text,
     List,
     /// The number 1.
     One,
-    /// An object; null says that the document was made with `--no-deps`.
+    /// An object. Null means that the document was made with `--no-deps`.
     Resolve,
     /// Null, `build` or `dev`.
     Kind,
@@ -20,56 +20,56 @@ pub enum Wanted {
     Condition,
 }
 
-/// A field that has not what was wanted.
+/// A field without the expected value.
 #[derive(Clone, Copy, Debug, PartialEq, Eq, Drop)]
 pub struct Wrong {
     pub field: &'static str,
     pub wanted: Wanted,
 }
 
-/// Why a dependency is refused.
+/// The reason why a dependency is rejected.
 #[derive(Debug, Drop)]
 pub enum InDependency {
     Field(Wrong),
-    /// A field of the kind at this place.
+    /// A field of the kind at this index.
     Kind(usize, Wrong),
     Memory(AllocError),
 }
 
-/// Why a node is refused.
+/// The reason why a node is rejected.
 #[derive(Debug, Drop)]
 pub enum InNode {
     Field(Wrong),
-    /// The dependency at this place is refused.
+    /// The dependency at this index is rejected.
     Dependency(usize, InDependency),
     Memory(AllocError),
 }
 
-/// Why what stands at `resolve` is refused.
+/// The reason why the value of `resolve` is rejected.
 #[derive(Debug, Drop)]
 pub enum InResolve {
     Field(Wrong),
-    /// The node at this place is refused.
+    /// The node at this index is rejected.
     Node(usize, InNode),
     Memory(AllocError),
 }
 
-/// Why a document is refused.
+/// The reason why a document is rejected.
 #[derive(Debug, Drop)]
 pub enum Refusal {
     /// A field of the document.
     Field(Wrong),
-    /// A field of the package at this place.
+    /// A field of the package at this index.
     Package(usize, Wrong),
-    /// The member of the workspace at this place is no text.
+    /// The member of the workspace at this index is not a text.
     Member(usize),
-    /// What stands at `resolve` is refused.
+    /// The value of `resolve` is rejected.
     Resolve(InResolve),
     Memory(AllocError),
 }
 
 impl Refusal {
-    /// Whether memory was refused, anywhere in the document.
+    /// Returns whether memory was refused, anywhere in the document.
     pub fn is_memory(&self) -> bool
         ensures { result ≡ is_memory self.now }
     {
@@ -82,7 +82,7 @@ impl Refusal {
 }
 
 impl InNode {
-    /// Whether memory was refused, anywhere in the node.
+    /// Returns whether memory was refused, anywhere in the node.
     fn is_memory(&self) -> bool
         ensures { result ≡ is_memory_of_node self.now }
     {

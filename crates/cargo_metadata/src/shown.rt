@@ -1,4 +1,4 @@
-//! Refusals, as people read them: the path in the document, and what was wanted there.
+//! The messages of refusals: the path in the document, and the value that is expected there.
 
 use crate::refusals::{InDependency, InNode, InResolve, Refusal, Wanted, Wrong};
 use std::fmt::{self, Display, Formatter, Write};

@@ -1,10 +1,10 @@
-//! What stands at a field of an object, and what was wanted there.
+//! The values of an object's fields, and the types that are expected there.
 
 use cargo_metadata::Kind;
 use serde_json::Value;
 use std::fmt::{self, Display, Formatter, Write};
 
-/// What was wanted at a field.
+/// The type that is expected of a field.
 #[derive(Clone, Copy, Debug, PartialEq, Eq, Drop)]
 pub enum Wanted {
     Text,
@@ -13,25 +13,25 @@ pub enum Wanted {
     Kind,
     /// A text or null.
     Condition,
-    /// True or false.
+    /// `true` or `false`.
     Flag,
     /// An object, each of whose members is a list of texts.
     Features,
 }
 
-/// A field that has not what was wanted.
+/// A field without a value of the expected type.
 #[derive(Clone, Copy, Debug, PartialEq, Eq, Drop)]
 pub struct Wrong {
     pub field: &'static str,
     pub wanted: Wanted,
 }
 
-/// The text at a field, if one stands there.
+/// Returns the text in a field, or `None` if it contains none.
 pub fn text_at<'a>(value: &'a Value, field: &str) -> Option<&'a str> {
     value.get(field)?.as_str()
 }
 
-/// The list at a field, if one stands there.
+/// Returns the list in a field, or `None` if it contains none.
 pub fn list_at<'a>(value: &'a Value, field: &str) -> Option<&'a [Value]> {
     match value.get(field)?.as_array() {
         Some(items) => Some(items.as_slice()),
@@ -39,19 +39,19 @@ pub fn list_at<'a>(value: &'a Value, field: &str) -> Option<&'a [Value]> {
     }
 }
 
-/// The text at a field.
+/// Returns the text in a field. Fails if it contains none.
 pub fn wanted_text<'a>(value: &'a Value, field: &'static str) -> Result<&'a str, Wrong> {
     let wanted = Wanted::Text;
     text_at(value, field).ok_or(Wrong { field, wanted })
 }
 
-/// The list at a field.
+/// Returns the list in a field. Fails if it contains none.
 pub fn wanted_list<'a>(value: &'a Value, field: &'static str) -> Result<&'a [Value], Wrong> {
     let wanted = Wanted::List;
     list_at(value, field).ok_or(Wrong { field, wanted })
 }
 
-/// The value at a field that is true or false.
+/// Returns the boolean in a field. Fails if it contains none.
 pub fn wanted_flag(value: &Value, field: &'static str) -> Result<bool, Wrong> {
     let wrong = Wrong {
         field,
@@ -63,7 +63,7 @@ pub fn wanted_flag(value: &Value, field: &'static str) -> Result<bool, Wrong> {
     }
 }
 
-/// The text at a field, or nothing where there is none or null; an `Err` is anything else.
+/// Returns the text in a field, or `None` if the field is missing or null. Fails if it contains anything else.
 fn text_or_null<'a>(value: &'a Value, field: &str) -> Result<Option<&'a str>, ()> {
     match value.get(field) {
         None => Ok(None),
@@ -75,7 +75,8 @@ fn text_or_null<'a>(value: &'a Value, field: &str) -> Result<Option<&'a str>, ()
     }
 }
 
-/// The kind of a dependency: nothing or null is the normal one.
+/// Returns the kind of a dependency: normal if the field is missing or null. Fails if it contains anything other than
+/// `build` or `dev`.
 pub fn kind_of(value: &Value) -> Result<Kind, Wrong> {
     match text_or_null(value, "kind") {
         Ok(None) => Ok(Kind::Normal),
@@ -88,7 +89,8 @@ pub fn kind_of(value: &Value) -> Result<Kind, Wrong> {
     }
 }
 
-/// The condition of a dependency: nothing or null is none.
+/// Returns the condition of a dependency: `None` if the field is missing or null. Fails if it contains anything other
+/// than a text.
 pub fn condition_of<'a>(value: &'a Value) -> Result<Option<&'a str>, Wrong> {
     match text_or_null(value, "target") {
         Ok(condition) => Ok(condition),

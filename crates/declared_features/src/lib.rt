@@ -1,5 +1,5 @@
-//! What packages declare of dependencies and features in what `cargo metadata` printed, and that with places in the
-//! place of names, as the feature resolver wants it.
+//! The dependencies and features that packages declare in the output of `cargo metadata`, and their translation into
+//! the input of the feature resolver, which has indexes in place of names.
 #![tactic(auto)]
 
 mod fields;

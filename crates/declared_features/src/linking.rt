@@ -1,4 +1,4 @@
-//! What packages declare, with places for names: as the feature resolver wants it.
+//! The declarations of packages, translated into the input of the feature resolver: names become indexes.
 
 use crate::manifests::{Declared, Manifest};
 use crate::places::Places;
@@ -8,45 +8,46 @@ use cargo_metadata::{Dependency as Edge, Metadata};
 use package_graphs::{Dependency as LinkedEdge, Package as Unit};
 use std::alloc::{AllocError, Global};
 
-/// Which features are asked of the roots.
+/// The features that are requested of the roots.
 #[derive(Clone, Copy, Drop)]
 pub struct Asked<'a> {
-    /// By their names, each of the roots that have it: `f`, of a root alone `root/f`, or of a dependency `d/f`.
+    /// The requested features by name: `f` of each root that has it, `root/f` of one root, or `d/f` of a dependency
+    /// `d`.
     pub names: &'a [&'a str],
-    /// Whether `default` is.
+    /// True if `default` is requested.
     pub default: bool,
-    /// Whether all of them are.
+    /// True if all features are requested.
     pub all: bool,
 }
 
-/// What is known of the packages of a graph by their names.
+/// The packages of a graph and their features, by name.
 #[derive(Drop)]
 struct Names<'a> {
-    /// For each node the place of its package among those of the document.
+    /// For each node, the index of its package among those of the document.
     packages: Vec<usize>,
-    /// For each node the places of its features' names.
+    /// For each node, the indexes of its features by name.
     features: Vec<Places<'a>>,
 }
 
-/// A declared dependency that the graph has, with the name that its package gives it.
+/// A declared dependency that is in the graph, with the name that its package gives it.
 #[derive(Drop)]
 struct Named<'a> {
     name: &'a str,
     dependency: Dependency,
-    /// Its place among the dependencies of the linked package.
+    /// The index of the dependency among those of the linked package.
     edge: usize,
 }
 
-/// The packages of a graph, as the feature resolver wants them.
+/// The packages of a graph, as input of the feature resolver.
 #[derive(Drop)]
 pub struct Described {
-    /// The last feature of each root has no name: it lists what is asked of the root.
+    /// The packages. The last feature of each root has no name: it lists what is requested of the root.
     pub packages: Vec<Package>,
-    /// For each dependency of each package its place among those of the linked package.
+    /// For each dependency of each package, the index among those of the linked package.
     pub edges: Vec<Vec<usize>>,
 }
 
-/// Whether two names are the same, as `-` is `_`.
+/// Returns whether two names are equal if `-` and `_` are taken as the same character.
 fn are_same(name: &str, other: &str) -> bool {
     name.len() == other.len()
         && name.bytes().zip(other.bytes()).all(|(a, b)| {
@@ -54,7 +55,7 @@ fn are_same(name: &str, other: &str) -> bool {
         })
 }
 
-/// The places of the packages' ids.
+/// Returns the indexes of the packages by id.
 fn places_of_ids<'a>(alloc: Global, metadata: &Metadata<'a>) -> Result<Places<'a>, AllocError> {
     let mut ids = Places::new(alloc);
     'packages: for i in 0..metadata.packages.len() {
@@ -63,7 +64,7 @@ fn places_of_ids<'a>(alloc: Global, metadata: &Metadata<'a>) -> Result<Places<'a
     Ok(ids)
 }
 
-/// The places of the names of a package's features. Of one that is not described there are none.
+/// Returns the indexes of a package's features by name. A package without declarations has none.
 fn places_of_features<'a>(
     alloc: Global,
     manifest: Option<&Manifest<'a>>,
@@ -77,7 +78,7 @@ fn places_of_features<'a>(
     Ok(features)
 }
 
-/// The names of a graph.
+/// Returns the packages and features of a graph by name.
 fn names_of<'a>(
     alloc: Global,
     metadata: &Metadata<'a>,
@@ -99,18 +100,18 @@ fn names_of<'a>(
 }
 
 impl<'a> Names<'a> {
-    /// What the package of a node declares.
+    /// Returns the declarations of the package of a node.
     fn manifest<'m>(&self, manifests: &'m [Manifest<'a>], node: usize) -> Option<&'m Manifest<'a>> {
         manifests.get(*self.packages.get(node)?)
     }
 
-    /// The place of a feature of the package of a node.
+    /// Returns the index of a feature of the package of a node.
     fn feature(&self, node: usize, name: &'a str) -> Option<usize> {
         self.features.get(node)?.find(name)
     }
 }
 
-/// The name of the package of a node.
+/// Returns the name of the package of a node, or the empty text if there is none.
 fn name_of<'a>(metadata: &Metadata<'a>, names: &Names<'a>, node: usize) -> &'a str {
     let Some(place) = names.packages.get(node) else {
         return "";
@@ -121,8 +122,9 @@ fn name_of<'a>(metadata: &Metadata<'a>, names: &Names<'a>, node: usize) -> &'a s
     }
 }
 
-/// Whether an edge from a node is one of a declared dependency, but for its kind and condition: it leads to a package
-/// of that name, and has the name that code calls it by. An edge from a package to itself has the library's name.
+/// Returns whether an edge belongs to a declared dependency, apart from its kind and condition: it leads to a package
+/// with the declared name, and has the name by which code refers to the dependency. An edge from a package to itself
+/// has the library's name.
 fn is_edge_of<'a>(
     metadata: &Metadata<'a>,
     manifests: &[Manifest<'a>],
@@ -150,7 +152,7 @@ fn is_edge_of<'a>(
     }
 }
 
-/// The places of the features that a declared dependency asks for, of those that the package has.
+/// Returns the indexes of the features that a declared dependency requests, as far as the package has them.
 fn features_asked<'a>(
     alloc: Global,
     names: &Names<'a>,
@@ -171,7 +173,7 @@ fn features_asked<'a>(
     Ok(features)
 }
 
-/// The dependency that a declared one is, along an edge of the graph.
+/// Returns the dependency for a declared one and its edge in the graph.
 fn dependency_of<'a>(
     alloc: Global,
     names: &Names<'a>,
@@ -189,12 +191,12 @@ fn dependency_of<'a>(
     })
 }
 
-/// The name that a package's manifest gives a dependency.
+/// Returns the name that a package's manifest gives a dependency.
 fn toml_name<'a>(declared: &Declared<'a>) -> &'a str {
     declared.rename.unwrap_or(declared.name)
 }
 
-/// The dependency that a declared one is, along the edge at a place, with its name.
+/// Returns the dependency for a declared one and the linked edge at index `edge`, with its name.
 fn named_of<'a>(
     alloc: Global,
     names: &Names<'a>,
@@ -210,7 +212,7 @@ fn named_of<'a>(
     })
 }
 
-/// The dependencies that the package of a node declares and that the graph has.
+/// Returns the dependencies that the package of a node declares and that are in the graph.
 fn dependencies_of<'a>(
     alloc: Global,
     metadata: &Metadata<'a>,
@@ -246,7 +248,7 @@ fn dependencies_of<'a>(
     Ok(found)
 }
 
-/// Appends what a feature lists by a text that names a feature of a dependency.
+/// Appends the members for a listed text that names a feature of a dependency.
 fn push_of<'a>(
     names: &Names<'a>,
     found: &[Named<'a>],
@@ -273,7 +275,7 @@ fn push_of<'a>(
     Ok(())
 }
 
-/// Appends what a text of a feature's list stands for.
+/// Appends the members for a text in the list of a feature.
 fn push_listed<'a>(
     names: &Names<'a>,
     found: &[Named<'a>],
@@ -298,7 +300,7 @@ fn push_listed<'a>(
     Ok(())
 }
 
-/// What a feature of the package of a node lists.
+/// Returns the members that a feature of the package of a node lists.
 fn listed_of<'a>(
     alloc: Global,
     names: &Names<'a>,
@@ -313,7 +315,8 @@ fn listed_of<'a>(
     Ok(members)
 }
 
-/// What each feature of the package of a node lists. Of a package that is not described there are none.
+/// Returns the members that each feature of the package of a node lists. A package without declarations has no
+/// features.
 fn features_of<'a>(
     alloc: Global,
     names: &Names<'a>,
@@ -330,7 +333,7 @@ fn features_of<'a>(
     Ok(features)
 }
 
-/// The text of a feature that is asked of a root: without the root's own name, where that stands before it.
+/// Returns a feature that is requested of a root, without the root's own name before it.
 fn text_asked<'a>(root: &str, text: &'a str) -> &'a str {
     match text.split_once('/') {
         Some((first, feature)) if first == root => feature,
@@ -338,7 +341,7 @@ fn text_asked<'a>(root: &str, text: &'a str) -> &'a str {
     }
 }
 
-/// What is asked of a root, as the list of a feature.
+/// Returns the features that are requested of a root, as the list of a feature.
 fn asked_of<'a>(
     alloc: Global,
     metadata: &Metadata<'a>,
@@ -364,7 +367,7 @@ fn asked_of<'a>(
     Ok(members)
 }
 
-/// For each dependency its place among those of the linked package.
+/// Returns for each dependency its index among those of the linked package.
 fn edges_of(alloc: Global, found: &[Named<'_>]) -> Result<Vec<usize>, AllocError> {
     let mut edges = Vec::new(alloc);
     for one in found {
@@ -373,7 +376,7 @@ fn edges_of(alloc: Global, found: &[Named<'_>]) -> Result<Vec<usize>, AllocError
     Ok(edges)
 }
 
-/// The dependencies without their names.
+/// Returns the dependencies without their names.
 fn unnamed(alloc: Global, found: Vec<Named<'_>>) -> Result<Vec<Dependency>, AllocError> {
     let mut dependencies = Vec::new(alloc);
     for one in found {
@@ -382,7 +385,7 @@ fn unnamed(alloc: Global, found: Vec<Named<'_>>) -> Result<Vec<Dependency>, Allo
     Ok(dependencies)
 }
 
-/// The package that a linked one is. The last feature of a root lists what is asked of it.
+/// Returns the package for a linked one. The last feature of a root lists what is requested of it.
 fn package_of(
     alloc: Global,
     unit: &Unit,
@@ -402,7 +405,7 @@ fn package_of(
     })
 }
 
-/// What the features of the package of a node list. The last of a root lists what is asked of it.
+/// Returns what the features of the package of a node list. The last feature of a root lists what is requested of it.
 fn lists_of<'a>(
     alloc: Global,
     metadata: &Metadata<'a>,
@@ -420,7 +423,7 @@ fn lists_of<'a>(
     Ok(features)
 }
 
-/// The package of a node, and for each of its dependencies its place among those of the linked package.
+/// Returns the package of a node, and for each of its dependencies the index among those of the linked package.
 fn described_of<'a>(
     alloc: Global,
     metadata: &Metadata<'a>,
@@ -437,7 +440,7 @@ fn described_of<'a>(
     Ok((package_of(alloc, unit, found, features)?, edges))
 }
 
-/// The packages of a graph, as the feature resolver wants them. It refuses only where memory is refused.
+/// Returns the packages of a graph, as input of the feature resolver. Fails only if memory is refused.
 pub fn described_features<'a>(
     alloc: Global,
     metadata: &Metadata<'a>,

@@ -1,4 +1,4 @@
-//! What packages of a document declare: their dependencies and features.
+//! The declarations of packages in a document: their dependencies and features.
 
 use crate::fields::{
     Wanted, Wrong, condition_of, kind_of, list_at, text_at, wanted_flag, wanted_list, wanted_text,
@@ -8,71 +8,71 @@ use serde_json::Value;
 use std::alloc::{AllocError, Global};
 use std::fmt::{self, Display, Formatter, Write};
 
-/// The kinds of libraries that other packages can use.
+/// The kinds of library targets that other packages can use.
 const LIBRARIES: [&str; 6] = ["lib", "rlib", "dylib", "cdylib", "staticlib", "proc-macro"];
 
 /// A dependency as a package declares it.
 #[derive(Drop)]
 pub struct Declared<'a> {
-    /// The name of the package that it is on.
+    /// The name of the package that is depended on.
     pub name: &'a str,
     /// The name that the declaring package gives it, if it gives one.
     pub rename: Option<&'a str>,
     pub kind: Kind,
     pub is_optional: bool,
     pub uses_default: bool,
-    /// The features that it asks for.
+    /// The features that the dependency requests.
     pub features: Vec<&'a str>,
-    /// Its condition as it is written, if it has one.
+    /// The condition as it is written, if there is one.
     pub condition: Option<&'a str>,
 }
 
-/// A feature, and what it lists.
+/// A feature, and the texts that it lists.
 #[derive(Drop)]
 pub struct Feature<'a> {
     pub name: &'a str,
     pub lists: Vec<&'a str>,
 }
 
-/// What a package declares.
+/// The declarations of a package.
 #[derive(Drop)]
 pub struct Manifest<'a> {
     pub edition: Option<&'a str>,
-    /// The name of its library, if it has one.
+    /// The name of the package's library, if it has one.
     pub library: Option<&'a str>,
     pub dependencies: Vec<Declared<'a>>,
-    /// In the order of their names.
+    /// The features, sorted by name.
     pub features: Vec<Feature<'a>>,
 }
 
-/// Why a declared dependency is refused.
+/// The reason why a declared dependency is refused.
 #[derive(Debug, Drop)]
 pub enum InDeclared {
     Field(Wrong),
-    /// The feature at this place is no text.
+    /// The feature at this index is not a text.
     Feature(usize),
     Memory(AllocError),
 }
 
-/// Why what a package declares is refused.
+/// The reason why the declarations of a package are refused.
 #[derive(Debug, Drop)]
 pub enum InManifest {
     Field(Wrong),
-    /// The dependency at this place is refused.
+    /// The dependency at this index is refused.
     Dependency(usize, InDeclared),
     Memory(AllocError),
 }
 
-/// Why what the packages declare is refused.
+/// The reason why the declarations of the packages are refused.
 #[derive(Debug, Drop)]
 pub enum Refusal {
     Field(Wrong),
-    /// What the package at this place declares is refused.
+    /// The declarations of the package at this index are refused.
     Package(usize, InManifest),
     Memory(AllocError),
 }
 
-/// The features that a declared dependency asks for.
+/// Returns the features that a declared dependency requests.
 fn asked_of<'a>(alloc: Global, value: &'a Value) -> Result<Vec<&'a str>, InDeclared> {
     let items = match wanted_list(value, "features") {
         Ok(items) => items,
@@ -90,14 +90,14 @@ fn asked_of<'a>(alloc: Global, value: &'a Value) -> Result<Vec<&'a str>, InDecla
     Ok(features)
 }
 
-/// The flags of a declared dependency: whether it is optional, and whether it uses the default features.
+/// Returns the flags of a declared dependency: whether it is optional, and whether it uses the default features.
 fn flags_of(value: &Value) -> Result<(bool, bool), Wrong> {
     let is_optional = wanted_flag(value, "optional")?;
     let uses_default = wanted_flag(value, "uses_default_features")?;
     Ok((is_optional, uses_default))
 }
 
-/// The name, the kind and the condition of a declared dependency.
+/// Returns the name, the kind and the condition of a declared dependency.
 fn subject_of<'a>(value: &'a Value) -> Result<(&'a str, Kind, Option<&'a str>), Wrong> {
     let name = wanted_text(value, "name")?;
     let kind = kind_of(value)?;
@@ -105,7 +105,7 @@ fn subject_of<'a>(value: &'a Value) -> Result<(&'a str, Kind, Option<&'a str>), 
     Ok((name, kind, condition))
 }
 
-/// The declared dependency that an object is.
+/// Reads a declared dependency from an object.
 fn declared_of<'a>(alloc: Global, value: &'a Value) -> Result<Declared<'a>, InDeclared> {
     let (name, kind, condition) = match subject_of(value) {
         Ok(subject) => subject,
@@ -127,7 +127,7 @@ fn declared_of<'a>(alloc: Global, value: &'a Value) -> Result<Declared<'a>, InDe
     })
 }
 
-/// Whether a target's kind is that of a library that other packages can use.
+/// Returns whether a target's kind is that of a library that other packages can use.
 fn is_of_library(kind: &Value) -> bool {
     match kind.as_str() {
         Some(kind) => LIBRARIES.iter().any(|library| *library == kind),
@@ -135,7 +135,7 @@ fn is_of_library(kind: &Value) -> bool {
     }
 }
 
-/// Whether one of a target's kinds is that of a library that other packages can use.
+/// Returns whether one of a target's kinds is that of a library that other packages can use.
 fn is_library(target: &Value) -> bool {
     match list_at(target, "kind") {
         Some(kinds) => kinds.iter().any(|kind| is_of_library(kind)),
@@ -143,7 +143,7 @@ fn is_library(target: &Value) -> bool {
     }
 }
 
-/// The name of a package's library.
+/// Returns the name of a package's library.
 fn library_of<'a>(value: &'a Value) -> Option<&'a str> {
     let targets = list_at(value, "targets")?;
     for target in targets {
@@ -154,7 +154,7 @@ fn library_of<'a>(value: &'a Value) -> Option<&'a str> {
     None
 }
 
-/// The texts of a list, or nothing where one is none.
+/// Returns the texts of a list, or `None` if the value is not a list of texts.
 fn texts_of<'a>(alloc: Global, value: &'a Value) -> Result<Option<Vec<&'a str>>, AllocError> {
     let Some(items) = value.as_array() else {
         return Ok(None);
@@ -169,7 +169,7 @@ fn texts_of<'a>(alloc: Global, value: &'a Value) -> Result<Option<Vec<&'a str>>,
     Ok(Some(texts))
 }
 
-/// The features of a package, or nothing where they are no lists of texts.
+/// Returns the features of a package, or `None` if they are not an object of lists of texts.
 fn features_of<'a>(
     alloc: Global,
     value: &'a Value,
@@ -193,7 +193,7 @@ fn features_of<'a>(
     Ok(Some(features))
 }
 
-/// The dependencies that a package declares.
+/// Returns the dependencies that a package declares.
 fn dependencies_of<'a>(alloc: Global, value: &'a Value) -> Result<Vec<Declared<'a>>, InManifest> {
     let items = match wanted_list(value, "dependencies") {
         Ok(items) => items,
@@ -213,7 +213,7 @@ fn dependencies_of<'a>(alloc: Global, value: &'a Value) -> Result<Vec<Declared<'
     Ok(dependencies)
 }
 
-/// What the package that an object is declares.
+/// Reads the declarations of a package from an object.
 fn manifest_of<'a>(alloc: Global, value: &'a Value) -> Result<Manifest<'a>, InManifest> {
     let dependencies = dependencies_of(alloc, value)?;
     let features = match features_of(alloc, value) {
@@ -234,8 +234,11 @@ fn manifest_of<'a>(alloc: Global, value: &'a Value) -> Result<Manifest<'a>, InMa
     })
 }
 
-/// What each package of a document declares, in their order, or the first that is not as it has to be. It refuses for
-/// memory too.
+/// Reads the declarations of each package of a document, the output of `cargo metadata`, in the order of the packages.
+///
+/// # Errors
+///
+/// Fails for the first field that lacks a value of the expected type, and if memory is refused.
 pub fn read_manifests<'a>(
     alloc: Global,
     document: &'a Value,

@@ -1,4 +1,4 @@
-//! The calls, and whether they answer what is known of a condition without them.
+//! The calls, and whether their results are what is known of a condition without them.
 
 use crate::nests::{Form, condition, is_condition, name, open_text};
 use cargo_platform::{Cfg, CfgExpr, FactIndex, Platform, ReadError};
@@ -7,13 +7,13 @@ use std::alloc::{AllocError, Global};
 use std::cmp::Ordering;
 use std::hash::{DefaultHasher, Hash, Hasher};
 
-/// The name inside, which the walk for attributes warns of.
+/// The innermost name, which the walk for attributes warns about.
 const LEAF: &str = "test";
 
-/// A name that comes after it.
+/// A name that is ordered after `LEAF`.
 const LATER: &str = "unix";
 
-/// A name that the walk for keywords warns of.
+/// A name that the walk for keywords warns about.
 const KEYWORD: &str = "true";
 
 #[derive(Clone, Copy)]
@@ -61,7 +61,7 @@ impl Call {
     }
 }
 
-/// An even number of levels, so that negations cancel, around a name.
+/// A nest: an even number of levels around a name, so that negations cancel.
 #[derive(Drop)]
 pub struct Nest {
     form: Form,
@@ -82,7 +82,7 @@ impl Nest {
         })
     }
 
-    /// Whether the call answers what is known of the nest.
+    /// Returns whether the result of the call is what is known of the nest.
     pub fn is_right(&self, alloc: Global, call: Call) -> Result<bool, AllocError> {
         match call {
             Call::Read => self.reads(alloc, ")", true),
@@ -109,7 +109,7 @@ impl Nest {
         Ok(text)
     }
 
-    /// Whether the text with this after it is read, or refused.
+    /// Returns whether the text, with `after` at its end, is accepted or rejected as `is_condition` says.
     fn reads(&self, alloc: Global, after: &str, is_condition: bool) -> Result<bool, AllocError> {
         match Platform::from_str(alloc, &self.text(alloc, after)?) {
             Ok(_) => Ok(is_condition),
@@ -129,7 +129,7 @@ impl Nest {
         Ok(text == self.text(alloc, ")")?)
     }
 
-    /// Whether the expression prints so too as `{:?}` has it.
+    /// Returns whether `{:?}` prints the same text for the expression.
     fn debugs(&self, alloc: Global) -> Result<bool, AllocError> {
         let Platform::Cfg(expression) = &self.platform else {
             return Ok(false);
@@ -155,7 +155,7 @@ impl Nest {
         Ok(warnings.len() == 1)
     }
 
-    /// The nest is as true as the name in it.
+    /// Returns whether the nest is true, as the name in it is.
     fn matches(&self, alloc: Global) -> Result<bool, AllocError> {
         let platform = &self.platform;
         Ok(platform.matches("", &facts(alloc)?) && !platform.matches("", &[]))
@@ -170,7 +170,7 @@ impl Nest {
         Ok(expression.matches_in(&all) && !expression.matches_in(&none))
     }
 
-    /// Whether this is decided of the nest where no name is a fact of these that are complete.
+    /// Returns whether this is decided for the nest if no fact has one of the names in `complete`.
     fn decides(&self, complete: &[&str], wanted: Option<bool>) -> bool {
         let known = Partial {
             facts: &[],
@@ -179,7 +179,7 @@ impl Nest {
         decide_platform(&self.platform, None, &known) == wanted
     }
 
-    /// What is left of the nest there.
+    /// Returns the residual of the nest if no fact has one of the names in `complete`.
     fn left(&self, alloc: Global, complete: &[&str]) -> Result<Platform, AllocError> {
         let known = Partial {
             facts: &[],
@@ -188,7 +188,7 @@ impl Nest {
         residual_platform(alloc, &self.platform, None, &known)
     }
 
-    /// Negations are left, and members that are true are not.
+    /// Returns whether the residual is right: it has the negations, and no members that are true.
     fn leaves_nest(&self, alloc: Global) -> Result<bool, AllocError> {
         let levels = match self.form {
             Form::Not => self.levels,
@@ -203,7 +203,7 @@ impl Nest {
         Ok(matches!(&left, Platform::Cfg(CfgExpr::False)))
     }
 
-    /// The nest is compared with itself, and with one around a later name.
+    /// Compares the nest with itself, and with one around a later name.
     fn compares(&self, alloc: Global, call: Call) -> Result<bool, AllocError> {
         let later = condition(alloc, self.form, self.levels, LATER)?;
         let platform = &self.platform;
@@ -217,7 +217,7 @@ impl Nest {
     }
 }
 
-/// The name inside, as a fact.
+/// Returns the innermost name, as a fact.
 fn facts(alloc: Global) -> Result<Vec<Cfg>, AllocError> {
     vec![in alloc; name(alloc, LEAF)?].map_err(AllocError::from)
 }

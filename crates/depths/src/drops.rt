@@ -1,11 +1,11 @@
-//! Where conditions are let go.
+//! The places at which conditions are dropped.
 
 use crate::shapes::Shape;
 use cargo_platform::{CfgExpr, Platform, ReadError};
 use std::alloc::{AllocError, Global};
 use std::collections::BTreeMap;
 
-/// Where a condition is let go.
+/// A place at which a condition is dropped.
 #[derive(Clone, Copy)]
 pub enum Place {
     Scope,
@@ -16,7 +16,7 @@ pub enum Place {
     Error,
 }
 
-/// Each of them.
+/// All places.
 pub const PLACES: &[Place] = &[
     Place::Scope,
     Place::Assignment,
@@ -26,7 +26,7 @@ pub const PLACES: &[Place] = &[
     Place::Error,
 ];
 
-/// Why something was not done, with the condition that it was not done to.
+/// The reason why something was not done, with the condition that it was not done to.
 #[derive(Drop)]
 enum Undone {
     Kept(Platform),
@@ -39,7 +39,7 @@ impl From<AllocError> for Undone {
     }
 }
 
-/// What is left of `Undone` where a caller wants no condition.
+/// The same reason without a condition, for a caller that does not need it.
 #[derive(Drop)]
 enum Told {
     Kept,
@@ -67,7 +67,7 @@ impl Place {
         }
     }
 
-    /// Lets two conditions go there. The answer is whether what is seen of it is right.
+    /// Drops two conditions at the place. Returns whether what is seen of that is right.
     pub fn lets_go(self, alloc: Global, a: Platform, b: Platform) -> Result<bool, AllocError> {
         match self {
             Place::Scope => {
@@ -108,7 +108,7 @@ impl Place {
     }
 }
 
-/// Whether the condition is a group or a negation.
+/// Returns whether the condition is a group or a negation.
 fn is_group(platform: &Platform) -> bool {
     match platform {
         Platform::Cfg(CfgExpr::Not(_) | CfgExpr::All(_) | CfgExpr::Any(_)) => true,
@@ -116,7 +116,7 @@ fn is_group(platform: &Platform) -> bool {
     }
 }
 
-/// An allocation failure, which a `?` passes on while two conditions are at hand.
+/// Passes on an allocation failure with `?`, while two conditions are held.
 fn passed_on(a: Platform, b: Platform) -> Result<(Platform, Platform), AllocError> {
     let held = a;
     refused()?;
@@ -127,7 +127,7 @@ fn refused() -> Result<(), AllocError> {
     Err(AllocError)
 }
 
-/// An error with a condition, of which a `?` makes one without.
+/// Returns an error with a condition, which `?` converts to one without.
 fn tell(alloc: Global, a: Platform, b: Platform) -> Result<(), Told> {
     let _held = b;
     kept(alloc, a)?;
@@ -139,7 +139,7 @@ fn kept(alloc: Global, a: Platform) -> Result<(), Undone> {
     Err(Undone::Kept(a))
 }
 
-/// The condition of so many levels, read from text. Nothing where the text is refused.
+/// Parses the condition of `levels` levels. Returns `None` if the text is rejected.
 fn read(alloc: Global, shape: Shape, levels: usize) -> Result<Option<Platform>, AllocError> {
     match Platform::from_str(alloc, &shape.key(alloc, levels)?) {
         Ok(platform) => Ok(Some(platform)),
@@ -148,7 +148,7 @@ fn read(alloc: Global, shape: Shape, levels: usize) -> Result<Option<Platform>, 
     }
 }
 
-/// Makes a condition by hand, reads it from text, and lets both go at this place.
+/// Makes a condition by hand, parses it from text, and drops both at this place.
 pub fn is_let_go(
     alloc: Global,
     shape: Shape,
@@ -162,8 +162,8 @@ pub fn is_let_go(
     }
 }
 
-/// Copies a condition until memory is refused, and lets the copies go, and the part of one that was made by then. The
-/// answer is how many copies were whole.
+/// Copies a condition until memory is refused, and drops the copies, including the part of one that was made by then.
+/// Returns the number of complete copies.
 pub fn copies(alloc: Global, shape: Shape, levels: usize) -> Result<usize, AllocError> {
     let original = shape.made(alloc, levels)?;
     let mut copies = Vec::with_capacity(alloc, 1_000)?;

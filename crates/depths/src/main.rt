@@ -1,13 +1,13 @@
-//! Makes each call of the library on conditions of many levels, and prints a line for each call that answered.
+//! Makes each call of the library on conditions of many levels, and prints a line for each call that returned.
 //!
-//! A call that took stack for each level of such a condition would end the program. The status is 0 where each call
-//! answered what is known of the condition without it, and 1 otherwise. Arguments ask for something else:
+//! A call that took stack for each level of such a condition would end the program. The status is 0 if the result of
+//! each call is what is known of the condition without it, and 1 otherwise. Arguments select something else:
 //!
-//! - `loops`: the calls are made on those conditions that they need no stack for;
-//! - `drops NUMBER LEVELS`: nests of this shape are let go at each place;
-//! - `again NUMBER LEVELS TIMES`: that is done so many times, so that what is not let go shows in the memory;
-//! - `copies NUMBER LEVELS`: a nest is copied until memory is refused;
-//! - `describe`, `is_selected` or `lint`: that caller is asked about a key from standard input.
+//! - `loops`: makes the calls on those conditions for which they need no stack;
+//! - `drops NUMBER LEVELS`: drops nests of this shape at each place;
+//! - `again NUMBER LEVELS TIMES`: does that so many times, so that what is not dropped shows in the memory;
+//! - `copies NUMBER LEVELS`: copies a nest until memory is refused;
+//! - `describe`, `is_selected` or `lint`: calls that caller with a key from standard input.
 #![tactic(auto)]
 
 mod calls;
@@ -25,13 +25,14 @@ use std::process::ExitCode;
 use std::rt::Env;
 use std::{env, io};
 
-/// The levels of calls that go down the last members in a loop, and of calls that keep the open groups in a list.
+/// The number of levels for calls that visit the last members in a loop, and for calls that keep the open groups in a
+/// list.
 const DEEP: u32 = 2_000_000;
 
-/// The levels of calls that go into members before the last by calling themselves.
+/// The number of levels for calls that visit the members before the last by recursion.
 const RECURSING: u32 = 20_000;
 
-/// Calls that keep the open groups in a list.
+/// The calls that keep the open groups in a list.
 const LISTING: &[Call] = &[
     Call::Read,
     Call::RefuseSurplus,
@@ -56,7 +57,7 @@ const OTHERS: &[Call] = &[
     Call::Decide,
 ];
 
-/// Makes the calls on a nest of this form, and drops it. The answer is whether each was right.
+/// Makes the calls on a nest of this form, and drops it. Returns whether each call was right.
 fn make(
     rt: &(impl Print + AllocGlobal),
     calls: &[Call],
@@ -78,7 +79,7 @@ fn make(
     Ok(are_right)
 }
 
-/// Makes the calls that need no stack for their nests.
+/// Makes the calls on nests for which they need no stack.
 fn make_loops(rt: &(impl Print + AllocGlobal)) -> io::Result<bool> {
     let mut are_right = true;
     for (calls, form) in [
@@ -101,7 +102,7 @@ fn make_each(rt: &(impl Print + AllocGlobal)) -> io::Result<bool> {
     Ok(are_right && is_right)
 }
 
-/// Lets nests of the shape go at each place, and prints a line for each.
+/// Drops nests of the shape at each place, and prints a line for each.
 fn drop_at_each(rt: &(impl Print + AllocGlobal), shape: Shape, levels: usize) -> io::Result<bool> {
     let pattern = shape.pattern(rt.alloc())?;
     let mut are_right = true;
@@ -115,7 +116,7 @@ fn drop_at_each(rt: &(impl Print + AllocGlobal), shape: Shape, levels: usize) ->
     Ok(are_right)
 }
 
-/// Lets nests of the shape go at each place, so many times.
+/// Drops nests of the shape at each place, `times` times.
 fn drop_again(
     rt: &(impl Print + AllocGlobal),
     shape: Shape,
@@ -146,7 +147,7 @@ fn copy_until_refused(
     Ok(true)
 }
 
-/// Does what the words ask for. Nothing where they ask for nothing that is known.
+/// Does what the arguments select. Returns `None` if they select nothing that is known.
 fn ask(rt: &(impl Print + Input + AllocGlobal), words: &[String]) -> io::Result<Option<bool>> {
     match words {
         [] => Ok(Some(make_each(rt)?)),
@@ -183,7 +184,7 @@ fn ask(rt: &(impl Print + Input + AllocGlobal), words: &[String]) -> io::Result<
     }
 }
 
-/// The shape of this number, and the number of levels.
+/// Returns the shape with this number, and the number of levels.
 fn asked(number: &str, levels: &str) -> Option<(Shape, usize)> {
     let number = number.parse::<usize>().ok()?;
     let shape = SHAPES.get(number)?;

@@ -3,7 +3,7 @@
 use cargo_platform::{Cfg, CfgExpr, Ident, Platform};
 use std::alloc::{AllocError, Global};
 
-/// How each level stands in the one around it.
+/// The position of each level in the one around it.
 #[derive(Clone, Copy)]
 pub enum Form {
     Not,
@@ -35,7 +35,7 @@ impl Form {
         }
     }
 
-    /// One level around an expression.
+    /// Returns one level around an expression.
     fn around(self, alloc: Global, inner: CfgExpr) -> Result<CfgExpr, AllocError> {
         match self {
             Form::Not => Ok(CfgExpr::Not(Box::new(alloc, inner).map_err(AllocError::from)?)),
@@ -44,7 +44,7 @@ impl Form {
         }
     }
 
-    /// The expression that stands in the outermost level.
+    /// Returns the expression in the outermost level.
     fn inside(self, e: &CfgExpr) -> Option<&CfgExpr> {
         match (e, self) {
             (CfgExpr::Not(inner), Form::Not) => Some(inner),
@@ -55,7 +55,7 @@ impl Form {
     }
 }
 
-/// A name without a mark.
+/// Returns a name without a mark.
 pub fn name(alloc: Global, name: &str) -> Result<Cfg, AllocError> {
     Ok(Cfg::Name(Ident {
         name: String::from_str(alloc, name)?,
@@ -63,7 +63,7 @@ pub fn name(alloc: Global, name: &str) -> Result<Cfg, AllocError> {
     }))
 }
 
-/// So many levels around a name.
+/// Returns `levels` levels around a name.
 pub fn condition(
     alloc: Global,
     form: Form,
@@ -77,7 +77,7 @@ pub fn condition(
     Ok(Platform::Cfg(expression))
 }
 
-/// Whether the condition is so many levels around a name, seen without a call of the library but for the name.
+/// Returns whether the condition is `levels` levels around a name, without a call of the library except for the name.
 pub fn is_condition(platform: &Platform, form: Form, levels: u32, leaf: &str) -> bool {
     let Platform::Cfg(expression) = platform else {
         return false;
@@ -95,7 +95,7 @@ pub fn is_condition(platform: &Platform, form: Form, levels: u32, leaf: &str) ->
     }
 }
 
-/// The text of so many levels around a name, after `cfg(` and without its last parenthesis.
+/// Returns the text of `levels` levels around a name, after `cfg(` and without its last parenthesis.
 pub fn open_text(alloc: Global, form: Form, levels: u32, leaf: &str) -> Result<String, AllocError> {
     let mut text = String::from_str(alloc, "cfg(")?;
     for _ in 0..levels {

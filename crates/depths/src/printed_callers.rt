@@ -1,4 +1,4 @@
-//! The callers that the documents print, over a key from standard input.
+//! The callers that the pages print, on a key from standard input.
 
 use crate::nests::name;
 use callers::conditions::describe::describe;
@@ -14,14 +14,14 @@ pub enum Caller {
     Lint,
 }
 
-/// The target that is asked for, which has the one fact `unix`.
+/// The target, which has `unix` as its only fact.
 const TARGET: &str = "x86_64-unknown-linux-gnu";
 
-/// The manifest that warnings name.
+/// The name of the manifest in warnings.
 const MANIFEST: &str = "Cargo.toml";
 
 impl Caller {
-    /// The caller of this name.
+    /// Returns the caller with this name.
     pub fn named(name: &str) -> Option<Caller> {
         match name {
             "describe" => Some(Caller::Describe),
@@ -31,7 +31,7 @@ impl Caller {
         }
     }
 
-    /// What it answers about a key.
+    /// Returns the caller's answer about a key.
     pub fn answer(self, alloc: Global, key: &str) -> Result<String, AllocError> {
         let facts = vec![in alloc; name(alloc, "unix")?]?;
         match self {

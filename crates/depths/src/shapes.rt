@@ -1,10 +1,10 @@
-//! Shapes of nests: how the levels stand in one another.
+//! Shapes of nests: how the levels are nested.
 
 use crate::nests::name;
 use cargo_platform::{CfgExpr, Platform};
 use std::alloc::{AllocError, Global};
 
-/// A level: a negation, or a group with a name before and after what it holds, or with none there.
+/// A level: a negation, or a group with a name before and after its content, or without these names.
 #[derive(Clone, Copy)]
 enum Level {
     Not,
@@ -12,7 +12,7 @@ enum Level {
     Any(bool, bool),
 }
 
-/// The levels of a shape, which go round from the innermost on.
+/// The levels of each shape, which repeat from the innermost one on.
 pub const SHAPES: &[Shape] = &[
     Shape(&[Level::Not]),
     Shape(&[Level::All(false, false)]),
@@ -34,13 +34,13 @@ pub const SHAPES: &[Shape] = &[
     ]),
 ];
 
-/// The name that stands before and after what a level holds.
+/// The name before and after the content of a level.
 const BESIDE: &str = "a";
 
-/// The name inside.
+/// The innermost name.
 const LEAF: &str = "unix";
 
-/// Some levels.
+/// A shape: some levels.
 #[derive(Clone, Copy)]
 pub struct Shape(&'static [Level]);
 
@@ -62,7 +62,7 @@ impl Level {
         }
     }
 
-    /// The level around an expression.
+    /// Returns the level around an expression.
     fn around(self, alloc: Global, inner: CfgExpr) -> Result<CfgExpr, AllocError> {
         match self {
             Level::Not => Ok(CfgExpr::Not(Box::new(alloc, inner)?)),
@@ -72,7 +72,7 @@ impl Level {
     }
 }
 
-/// The members of a group, with a name before and after the one that goes on where that is wanted.
+/// Returns the members of a group, with a name before and after the inner one if that is requested.
 fn members(
     alloc: Global,
     before: bool,
@@ -91,7 +91,7 @@ fn members(
 }
 
 impl Shape {
-    /// The level at this height over the innermost, if the shape has levels.
+    /// Returns the level at this height above the innermost one, if the shape has levels.
     fn level(self, height: usize) -> Option<Level> {
         if self.0.is_empty() {
             return None;
@@ -99,12 +99,12 @@ impl Shape {
         Some(self.0[height % self.0.len()])
     }
 
-    /// The levels, the outermost first, with `..` for what the innermost holds.
+    /// Returns the levels, the outermost first, with `..` for the content of the innermost one.
     pub fn pattern(self, alloc: Global) -> Result<String, AllocError> {
         self.text(alloc, self.0.len(), "..")
     }
 
-    /// So many levels, made by hand.
+    /// Returns a condition of `levels` levels, made by hand.
     pub fn made(self, alloc: Global, levels: usize) -> Result<Platform, AllocError> {
         let mut expression = CfgExpr::Value(name(alloc, LEAF)?);
         for height in 0..levels {
@@ -115,7 +115,7 @@ impl Shape {
         Ok(Platform::Cfg(expression))
     }
 
-    /// The text of so many levels.
+    /// Returns the text of `levels` levels.
     pub fn key(self, alloc: Global, levels: usize) -> Result<String, AllocError> {
         let mut text = String::from_str(alloc, "cfg(")?;
         text.push_str(&self.text(alloc, levels, LEAF)?)?;
@@ -123,7 +123,7 @@ impl Shape {
         Ok(text)
     }
 
-    /// The text of so many levels around another.
+    /// Returns the text of `levels` levels around another text.
     fn text(self, alloc: Global, levels: usize, inside: &str) -> Result<String, AllocError> {
         let mut text = String::new(alloc);
         for height in (0..levels).rev() {

@@ -1,4 +1,4 @@
-//! What is asked of a graph.
+//! The arguments of `graph`: as they are given, and as a checked query.
 
 use crate::groups::Groups;
 use key_answers::answer::Refusal;
@@ -9,7 +9,7 @@ use package_graphs::Kinds;
 use std::alloc::{AllocError, Global};
 use target_tables::TargetTable;
 
-/// What is printed.
+/// The output that `--show` selects.
 #[derive(Clone, Copy, Debug, PartialEq, Eq, Drop)]
 pub enum Show {
     Packages,
@@ -20,53 +20,52 @@ pub enum Show {
     Unified,
 }
 
-/// The words of the command line, as they are.
+/// The arguments of the command line, as they are given.
 #[derive(Clone, Copy, Drop)]
 pub struct Words<'a> {
-    /// Names of targets; none stands for all known ones.
+    /// The names of the selected targets. If there are none, all targets are selected.
     pub targets: &'a [&'a str],
-    /// The kinds of dependencies that are followed, joined by commas; nothing stands for all.
+    /// The dependency kinds to follow, separated by commas. `None` follows all kinds.
     pub edges: Option<&'a str>,
     pub host: Option<&'a str>,
-    /// The targets of another rustc, which are meant in place of the known ones, behind the name of their file as it is
-    /// shown.
+    /// The file of `--facts-of`: its name as it is displayed, and its targets, which replace the known ones.
     pub facts_of: Option<(&'a str, &'a TargetTable)>,
-    /// Names of the workspace's members that are roots; none stands for all members.
+    /// The names of the workspace members that are roots. If there are none, all members are roots.
     pub packages: &'a [&'a str],
     pub show: Option<&'a str>,
-    /// Of the packages with which name it is asked why they are there.
+    /// The name of the packages whose dependency paths are printed (`--of`).
     pub of: Option<&'a str>,
-    /// Allowed licences, joined by commas.
+    /// The allowed licences, separated by commas.
     pub allow: Option<&'a str>,
-    /// A file of allowed licences, one a line: its name, and its text.
+    /// A file of allowed licences, one per line: its name and its text.
     pub allow_file: Option<(&'a str, &'a str)>,
-    /// Packages that no audit tells of, each as its name, `@` and its version.
+    /// The packages that the audit skips, each as `NAME@VERSION`.
     pub except: &'a [&'a str],
-    /// The resolver of features: 1, 2, 3, or `edition` for the one that Cargo takes by the edition of the root package.
+    /// The feature resolver: `1`, `2`, `3`, or `edition` for the default of the root package's edition.
     pub resolver: Option<&'a str>,
-    /// Features that are asked of the roots, joined by commas or spaces.
+    /// The features that are requested of the roots, separated by commas or spaces.
     pub features: &'a [&'a str],
-    /// Whether `default` is not asked of them.
+    /// True if the `default` feature of the roots is not requested.
     pub no_default: bool,
-    /// Whether all features are asked of them.
+    /// True if all features of the roots are requested.
     pub all_features: bool,
     pub json: bool,
-    /// Whether a page is wanted too.
+    /// True if an HTML page is requested too.
     pub html: bool,
 }
 
-/// What is asked, as it is understood.
+/// A query of a graph: the arguments after they are checked.
 #[derive(Clone, Copy, Drop)]
 pub struct Asked<'a> {
-    /// The targets that are asked for.
+    /// The selected targets.
     pub targets: TargetSet,
-    /// How many these are.
+    /// The number of selected targets.
     pub count: usize,
-    /// Whether they were named.
+    /// True if the targets were selected by name.
     pub are_named: bool,
     pub kinds: Kinds,
     pub host: Option<KnownTarget>,
-    /// The targets of a file, where its targets are meant. Then a known target stands for a group of them.
+    /// The targets of a file, if `--facts-of` names one. Each known target then represents a group of them.
     pub groups: Option<&'a Groups<'a>>,
     pub packages: &'a [&'a str],
     pub show: Show,
@@ -75,14 +74,14 @@ pub struct Asked<'a> {
     pub html: bool,
 }
 
-/// All kinds of dependencies are followed.
+/// Follows all dependency kinds.
 const ALL_KINDS: Kinds = Kinds {
     normal: true,
     build: true,
     dev: true,
 };
 
-/// What is said of words that can't be used.
+/// Returns the refusal of invalid arguments with the message `text`, or the refusal of memory for that message.
 pub fn unusable_words(alloc: Global, text: &str) -> Refusal {
     match format!(in alloc; "error: {text}\n") {
         Ok(line) => Refusal::Unusable(line),
@@ -90,7 +89,7 @@ pub fn unusable_words(alloc: Global, text: &str) -> Refusal {
     }
 }
 
-/// What is said of a name that no known target has.
+/// Returns the message for a name that no known target has.
 fn no_target(alloc: Global, name: &str) -> Result<String, AllocError> {
     let shown = shown_name(alloc, name)?;
     let hint = if name.ends_with(".json") {
@@ -101,7 +100,7 @@ fn no_target(alloc: Global, name: &str) -> Result<String, AllocError> {
     format!(in alloc; "no target that rustc {RUSTC_VERSION} knows is named {shown}{hint}")
 }
 
-/// The target with this name.
+/// Returns the known target with this name, or refuses a name that no known target has.
 fn target_of(alloc: Global, name: &str) -> Result<KnownTarget, Refusal> {
     match KnownTarget::by_name(name) {
         Some(target) => Ok(target),
@@ -112,7 +111,8 @@ fn target_of(alloc: Global, name: &str) -> Result<KnownTarget, Refusal> {
     }
 }
 
-/// The targets with these names, or all known ones where there are none. Those of a file are found later.
+/// Returns the known targets with the given names, or all of them if no name or a file is given. Targets of a file are
+/// looked up later.
 fn targets_of(alloc: Global, words: &Words<'_>) -> Result<TargetSet, Refusal> {
     let names = words.targets;
     if names.is_empty() || words.facts_of.is_some() {
@@ -126,13 +126,13 @@ fn targets_of(alloc: Global, words: &Words<'_>) -> Result<TargetSet, Refusal> {
     Ok(targets)
 }
 
-/// What is said of a word that names no kind.
+/// Returns the message for a word that names no dependency kind.
 fn no_kind(alloc: Global, word: &str) -> Result<String, AllocError> {
     let shown = shown_name(alloc, word)?;
     format!(in alloc; "--edges names normal, build and dev, joined by commas, and not {shown}")
 }
 
-/// The kinds that these words name.
+/// Parses the dependency kinds of `--edges`. Without that option, all kinds are followed.
 fn kinds_of(alloc: Global, words: Option<&str>) -> Result<Kinds, Refusal> {
     let Some(words) = words else {
         return Ok(ALL_KINDS);
@@ -156,7 +156,7 @@ fn kinds_of(alloc: Global, words: Option<&str>) -> Result<Kinds, Refusal> {
     Ok(kinds)
 }
 
-/// The host, where one is named. One of a file is found later.
+/// Returns the known target that `--host` names, if any. A host in a file is looked up later.
 fn host_of(alloc: Global, words: &Words<'_>) -> Result<Option<KnownTarget>, Refusal> {
     match words.host {
         Some(name) if words.facts_of.is_none() => Ok(Some(target_of(alloc, name)?)),
@@ -164,7 +164,7 @@ fn host_of(alloc: Global, words: &Words<'_>) -> Result<Option<KnownTarget>, Refu
     }
 }
 
-/// What is printed by this word.
+/// Parses the argument of `--show`. Returns `None` if it is not one of the words that are allowed.
 fn show_of(word: Option<&str>) -> Option<Show> {
     match word {
         None | Some("packages") => Some(Show::Packages),
@@ -178,7 +178,7 @@ fn show_of(word: Option<&str>) -> Option<Show> {
 }
 
 impl<'a> Asked<'a> {
-    /// The packages are asked for, as lines of JSON, at all known targets, in builds on this host.
+    /// Returns the query for all packages, as lines of JSON, on all known targets, in builds on `host`.
     pub fn packages_on(host: Option<KnownTarget>) -> Asked<'a> {
         Asked {
             targets: TargetSet::all(),
@@ -195,7 +195,13 @@ impl<'a> Asked<'a> {
         }
     }
 
-    /// What the words ask.
+    /// Returns the query that the arguments describe.
+    ///
+    /// # Errors
+    ///
+    /// Refuses an unknown word of `--show`, one of `--show why` and `--of` without the other, and the name of an
+    /// unknown target, host or dependency kind; targets and hosts of a file are not checked here. Fails if memory is
+    /// refused.
     pub fn of(alloc: Global, words: &Words<'a>) -> Result<Asked<'a>, Refusal> {
         let Some(show) = show_of(words.show) else {
             let text = "--show names packages, edges, targets, why, features or unified";
@@ -224,7 +230,7 @@ impl<'a> Asked<'a> {
         })
     }
 
-    /// The same, asked of the targets of a file.
+    /// Returns the same query for the targets of a file.
     pub fn in_groups(self, groups: &'a Groups<'a>) -> Asked<'a> {
         let mut asked = self;
         asked.targets = groups.targets();
@@ -234,7 +240,8 @@ impl<'a> Asked<'a> {
         asked
     }
 
-    /// How many targets a set has.
+    /// Returns the number of targets in a set. If the targets are those of a file, its targets are counted, not their
+    /// groups.
     pub fn count_of(&self, targets: TargetSet) -> usize {
         match self.groups {
             Some(groups) => groups.count_of(targets),
@@ -242,7 +249,7 @@ impl<'a> Asked<'a> {
         }
     }
 
-    /// The targets of a set, for a line of JSON.
+    /// Returns the targets of a set for a line of JSON: `all` if these are the selected targets, and else their names.
     pub fn at(&self, alloc: Global, targets: TargetSet) -> Result<At<'a>, AllocError> {
         if targets.equals(self.targets) {
             return Ok(At::All(Every::All));

@@ -1,4 +1,4 @@
-//! What finds conditions that hold at exactly some targets: those of rustc, or those of a file.
+//! The search for conditions that are true on exactly some targets: those of rustc, or those of a file.
 
 use crate::asked::Asked;
 use crate::file_conditions::{FileFact, covering as file_covering, simple_condition, tried_facts};
@@ -8,14 +8,15 @@ use known_targets::classes::{Simple, covering};
 use known_targets::{KnownFact, TargetSet, having};
 use std::alloc::{AllocError, Global};
 
-/// The facts that conditions are made of: those that are tried, and those that the conditions of the graph ask for.
+/// The facts that conditions are built from: the candidate facts, and the facts that occur in the conditions of the
+/// graph.
 #[derive(Drop)]
 pub enum Finder<'a> {
     Known(Simple, Vec<KnownFact>),
     OfFile(&'a Groups<'a>, Vec<FileFact>, Vec<FileFact>),
 }
 
-/// Facts, each with the known targets that have it.
+/// Pairs each fact with the known targets that have it.
 fn known_facts(alloc: Global, values: Vec<Cfg>) -> Result<Vec<KnownFact>, AllocError> {
     let mut facts = Vec::new(alloc);
     for fact in values {
@@ -25,7 +26,7 @@ fn known_facts(alloc: Global, values: Vec<Cfg>) -> Result<Vec<KnownFact>, AllocE
     Ok(facts)
 }
 
-/// Facts, each with the targets of a file that have it.
+/// Pairs each fact with the targets of a file that have it.
 fn file_facts(
     alloc: Global,
     groups: &Groups<'_>,
@@ -39,7 +40,8 @@ fn file_facts(
 }
 
 impl<'a> Finder<'a> {
-    /// What finds conditions for sets of the targets that are meant, of a graph whose conditions ask for these facts.
+    /// Returns a finder for sets of the query's targets. `values` are the facts that occur in the conditions of the
+    /// graph.
     pub fn of(
         alloc: Global,
         asked: &Asked<'a>,
@@ -55,7 +57,8 @@ impl<'a> Finder<'a> {
         }
     }
 
-    /// A condition of one fact, or a name, that holds at exactly the targets of the set.
+    /// Returns a condition that is true on exactly the targets of the set, if a fact, `not(..)` of a fact or the name
+    /// of a target is one.
     pub fn simple(&self, alloc: Global, set: TargetSet) -> Result<Option<Platform>, AllocError> {
         match self {
             Finder::Known(simple, _) => simple.condition(alloc, set),
@@ -63,8 +66,8 @@ impl<'a> Finder<'a> {
         }
     }
 
-    /// A condition that holds at exactly these targets: one fact or a name, else of the facts that the graph asks for,
-    /// else of all facts.
+    /// Returns a condition that is true on exactly these targets, if one is found. Simple conditions are tried first,
+    /// then the facts in the conditions of the graph, and then all candidate facts.
     pub fn condition(&self, alloc: Global, set: TargetSet) -> Result<Option<Platform>, AllocError> {
         if let Some(found) = self.simple(alloc, set)? {
             return Ok(Some(found));
@@ -75,7 +78,7 @@ impl<'a> Finder<'a> {
         self.of_tried_facts(alloc, set)
     }
 
-    /// A condition of facts that the graph asks for.
+    /// Returns a condition made of the facts that occur in the conditions of the graph.
     fn of_asked_facts(
         &self,
         alloc: Global,
@@ -87,7 +90,7 @@ impl<'a> Finder<'a> {
         }
     }
 
-    /// A condition of facts that are tried.
+    /// Returns a condition made of the candidate facts.
     fn of_tried_facts(
         &self,
         alloc: Global,

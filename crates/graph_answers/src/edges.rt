@@ -1,4 +1,4 @@
-//! `--show edges`: each dependency that is followed, with its condition and the targets at which it is.
+//! `--show edges`: each dependency that is followed, with its condition and its targets.
 
 use crate::asked::Asked;
 use crate::conditions::Finder;
@@ -13,27 +13,27 @@ use known_targets::TargetSet;
 use serde::Serialize;
 use std::alloc::{AllocError, Global};
 
-/// A dependency of a package, by one of its kinds.
+/// A dependency of a package, of one of its kinds.
 #[derive(Drop)]
 pub struct Edge<'a> {
     pub from: usize,
     pub to: usize,
-    /// Its place among those of the package.
+    /// The index of the dependency among those of the package.
     pub place: usize,
     pub name: Option<&'a str>,
     pub kind: Kind,
-    /// The condition, where there is one.
+    /// The condition, if the dependency has one.
     pub condition: Option<Platform>,
-    /// The targets at which the condition holds.
+    /// The targets on which the condition is true.
     pub holds: TargetSet,
 }
 
-/// A dependency by one of its kinds, in a line of JSON.
+/// A step of a dependency path, in a line of JSON: a dependency of one kind.
 #[derive(Drop, Serialize)]
 pub struct PathStep<'a> {
-    /// The id of the package that depends.
+    /// The id of the package that has the dependency.
     from: Option<&'a str>,
-    /// The id of the package that it depends on.
+    /// The id of the package that is depended on.
     to: Option<&'a str>,
     name: Option<&'a str>,
     /// One of `normal`, `build` and `dev`.
@@ -45,22 +45,23 @@ pub struct PathStep<'a> {
 /// A line of `graph --show edges --json`.
 #[derive(Drop, Serialize)]
 struct EdgeLine<'g, 'c, 'a> {
-    /// The id of the package that depends.
+    /// The id of the package that has the dependency.
     from: Option<&'g str>,
-    /// The id of the package that it depends on.
+    /// The id of the package that is depended on.
     to: Option<&'g str>,
     name: Option<&'g str>,
     /// One of `normal`, `build` and `dev`.
     kind: &'static str,
     /// The condition in canonical form.
     condition: Option<String>,
-    /// How many targets are in `at`.
+    /// The number of targets in `at`.
     targets: usize,
-    /// The selected targets at which the dependency is followed.
+    /// The selected targets on which the dependency is followed.
     at: At<'a>,
-    /// A shorter condition that holds at the same targets: one fact, or a name.
+    /// A shorter condition that is true on the same targets: a fact, `not(..)` of a fact, or the name of a target.
     simple: Option<String>,
-    /// The condition of all edges between the two packages by this kind.
+    /// The combined condition of all dependencies of this kind between the two packages. Null if one of them has no
+    /// condition.
     group: Option<&'c Group>,
 }
 
@@ -69,11 +70,11 @@ struct EdgeLine<'g, 'c, 'a> {
 #[serde(untagged)]
 enum Group {
     Key(String),
-    /// Keys of which one at least is a target's name.
+    /// Several keys, of which at least one is the name of a target.
     Keys(Vec<String>),
 }
 
-/// The condition that is written; none where none is.
+/// Parses a condition, if there is one.
 fn read_condition(alloc: Global, text: Option<&str>) -> Result<Option<Platform>, AllocError> {
     let Some(text) = text else {
         return Ok(None);
@@ -81,12 +82,12 @@ fn read_condition(alloc: Global, text: Option<&str>) -> Result<Option<Platform>,
     match Platform::from_str(alloc, text) {
         Ok(platform) => Ok(Some(platform)),
         Err(ReadError::Memory(refused)) => Err(refused),
-        // A graph has no such condition.
+        // A graph contains no condition that does not parse.
         Err(ReadError::Parse(_)) => Ok(None),
     }
 }
 
-/// The edges of a package, in the order of the document.
+/// Returns the edges of a package, in the order of the document.
 pub fn edges_of<'a>(
     alloc: Global,
     graph: &Graph<'a>,
@@ -118,7 +119,7 @@ pub fn edges_of<'a>(
     Ok(edges)
 }
 
-/// Whether an edge is one of those that are asked for.
+/// Returns whether the selected dependency kinds include an edge.
 fn is_asked(graph: &Graph<'_>, edge: &Edge<'_>, asked: &Asked<'_>) -> bool {
     let Some(unit) = graph.linked.packages.get(edge.from) else {
         return false;
@@ -129,14 +130,14 @@ fn is_asked(graph: &Graph<'_>, edge: &Edge<'_>, asked: &Asked<'_>) -> bool {
     }
 }
 
-/// The targets that are asked for at which the edge is followed.
+/// Returns the selected targets on which an edge is followed.
 fn followed(graph: &Graph<'_>, edge: &Edge<'_>, asked: &Asked<'_>) -> TargetSet {
     graph
         .following(edge.from, edge.place, asked)
         .intersection(asked.targets)
 }
 
-/// The answer to `--show edges`.
+/// Returns the output of `--show edges`.
 pub fn show_edges(
     alloc: Global,
     graph: &Graph<'_>,
@@ -167,7 +168,7 @@ pub fn show_edges(
     Ok(answer)
 }
 
-/// A kind and its condition in words: `normal`, or `build where cfg(unix)`.
+/// Formats the kind and the condition of an edge: `normal`, or `build where cfg(unix)`.
 pub fn shown_kind(alloc: Global, edge: &Edge<'_>) -> Result<String, AllocError> {
     let word = kind_word(edge.kind);
     match &edge.condition {
@@ -198,7 +199,7 @@ fn push_line(
     push(text, line.as_str())
 }
 
-/// The canonical form of a condition.
+/// Returns the canonical form of a condition, if there is one.
 fn canonical(alloc: Global, condition: &Option<Platform>) -> Result<Option<String>, AllocError> {
     match condition {
         Some(condition) => Ok(Some(format!(in alloc; "{condition}")?)),
@@ -206,7 +207,7 @@ fn canonical(alloc: Global, condition: &Option<Platform>) -> Result<Option<Strin
     }
 }
 
-/// The step of an edge.
+/// Returns an edge as a step of a dependency path.
 pub fn step_of<'a>(
     alloc: Global,
     graph: &Graph<'a>,
@@ -221,7 +222,7 @@ pub fn step_of<'a>(
     })
 }
 
-/// The line of JSON of an edge.
+/// Returns the line of JSON for an edge.
 fn line_of<'g, 'c, 'a>(
     alloc: Global,
     graph: &Graph<'g>,
@@ -245,7 +246,8 @@ fn line_of<'g, 'c, 'a>(
     })
 }
 
-/// A shorter condition that holds at the same targets: one fact or a name, where there is one.
+/// Returns a shorter condition that is true on the same targets, if a fact, `not(..)` of a fact or the name of a target
+/// is one.
 fn smaller_condition(
     alloc: Global,
     edge: &Edge<'_>,
@@ -267,9 +269,9 @@ fn smaller_condition(
     }
 }
 
-// ---- groups: the edges between two packages of one kind
+// ---- groups: the edges of one kind between two packages
 
-/// The number of a kind, by which edges are put in order.
+/// Returns the number of a kind, by which edges are sorted.
 fn number_of(kind: Kind) -> u8 {
     match kind {
         Kind::Normal => 0,
@@ -278,10 +280,10 @@ fn number_of(kind: Kind) -> u8 {
     }
 }
 
-/// What edges of one group have in common, and the place of an edge.
+/// The package and the kind by which edges are grouped, and the index of an edge.
 type Member = ((usize, u8), usize);
 
-/// The places of the edges, those of a group side by side.
+/// Returns the indexes of the edges, sorted so that those of a group are adjacent.
 fn by_group(alloc: Global, edges: &[Edge<'_>]) -> Result<Vec<Member>, AllocError> {
     let mut places = Vec::new(alloc);
     for i in 0..edges.len() {
@@ -291,7 +293,7 @@ fn by_group(alloc: Global, edges: &[Edge<'_>]) -> Result<Vec<Member>, AllocError
     Ok(places)
 }
 
-/// Whether the group of the member at this place ends with it.
+/// Returns whether the member at this index is the last one of its group.
 fn is_last(members: &[Member], at: usize) -> bool {
     match (members.get(at), members.get(at.saturating_add(1))) {
         (Some((group, _)), Some((next, _))) => group != next,
@@ -303,12 +305,12 @@ fn is_last(members: &[Member], at: usize) -> bool {
 #[derive(Drop)]
 struct Groups {
     conditions: Vec<Option<Group>>,
-    /// For each edge the place of the condition of its group.
+    /// For each edge, the index of the condition of its group.
     places: Vec<usize>,
 }
 
 impl Groups {
-    /// The groups of the edges of a package: those that lead to the same package by the same kind.
+    /// Groups the edges of a package by the package that they lead to and by their kind.
     fn of(alloc: Global, edges: &[Edge<'_>]) -> Result<Groups, AllocError> {
         let mut conditions = Vec::new(alloc);
         let mut places = vec![in alloc; 0; edges.len()]?;
@@ -328,13 +330,13 @@ impl Groups {
         Ok(Groups { conditions, places })
     }
 
-    /// The condition of the group of an edge, if each edge of the group has one.
+    /// Returns the condition of the group of an edge, if each edge of the group has a condition.
     fn at(&self, edge: usize) -> Option<&Group> {
         self.conditions.get(*self.places.get(edge)?)?.as_ref()
     }
 }
 
-/// Whether some edge has no condition.
+/// Returns whether one of the given edges has no condition.
 fn has_no_condition(edges: &[Edge<'_>], places: &[usize]) -> bool {
     for place in places {
         if let Some(edge) = edges.get(*place) {
@@ -346,7 +348,7 @@ fn has_no_condition(edges: &[Edge<'_>], places: &[usize]) -> bool {
     false
 }
 
-/// Copies of the conditions of some edges.
+/// Copies the conditions of the given edges.
 fn conditions_of(
     alloc: Global,
     edges: &[Edge<'_>],
@@ -363,7 +365,7 @@ fn conditions_of(
     Ok(keys)
 }
 
-/// The one condition of some edges, if each of them has one.
+/// Returns the combined condition of the given edges, if each of them has one.
 fn group_of(
     alloc: Global,
     edges: &[Edge<'_>],
@@ -378,12 +380,12 @@ fn group_of(
     Ok(Some(any_of(alloc, keys)?))
 }
 
-/// Whether a condition is an expression.
+/// Returns whether a condition is an expression, and not the name of a target.
 fn is_expression(condition: &Platform) -> bool {
     matches!(condition, Platform::Cfg(_))
 }
 
-/// The only key, the `any(..)` of several expressions, or all keys where one of several is a name.
+/// Returns the only key, the `any(..)` of several expressions, or all keys if one of several is the name of a target.
 fn any_of(alloc: Global, keys: Vec<Platform>) -> Result<Group, AllocError> {
     if keys.len() > 1 && !keys.iter().all(is_expression) {
         let mut texts = Vec::new(alloc);
@@ -396,7 +398,7 @@ fn any_of(alloc: Global, keys: Vec<Platform>) -> Result<Group, AllocError> {
     Ok(Group::Key(format!(in alloc; "{whole}")?))
 }
 
-/// The only key, or the `any(..)` of the expressions.
+/// Returns the only key, or the `any(..)` of the expressions.
 fn any_of_expressions(alloc: Global, keys: Vec<Platform>) -> Result<Platform, AllocError> {
     let mut keys = keys;
     if keys.len() == 1 {

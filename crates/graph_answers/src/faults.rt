@@ -1,24 +1,24 @@
-//! Where a licence text is refused and why, as people read it.
+//! The span and the reason of an error in a licence expression, for text output.
 
 use crate::lines::push;
 use cargo_platform::shown_text;
 use spdx_expressions::ParseError;
 use std::alloc::{AllocError, Global};
 
-/// How many characters of a text are shown at most.
+/// The maximum number of characters of a text that are shown.
 const SHOWN: usize = 100;
 
-/// How many of them stand before the fault at most.
+/// The maximum number of characters that are shown before the error.
 const BEFORE: usize = 40;
 
-/// What was expected, and what was found.
+/// Formats what was expected and what was found.
 pub fn fault_message(alloc: Global, error: &ParseError) -> Result<String, AllocError> {
     let expected = &error.expected;
     let found = &error.found;
     format!(in alloc; "expected {expected}, found {found}")
 }
 
-/// How many characters stand before the fault of a text, and how many in it.
+/// Returns the number of characters before the error of a text, and the number of characters in its span.
 fn places(error: &ParseError) -> (usize, usize) {
     let mut before: usize = 0;
     let mut inside: usize = 0;
@@ -32,7 +32,8 @@ fn places(error: &ParseError) -> (usize, usize) {
     (before, inside)
 }
 
-/// The text around its fault, and below it carets under the fault with what was expected. Both lines are indented.
+/// Formats the text around its error, and below it carets under the error with what was expected. Both lines are
+/// indented.
 pub fn fault_lines(alloc: Global, error: &ParseError) -> Result<String, AllocError> {
     let (before, inside) = places(error);
     let first = before.saturating_sub(BEFORE);

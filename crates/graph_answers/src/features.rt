@@ -1,4 +1,4 @@
-//! `--show features`: which features of which package are on at which targets.
+//! `--show features`: the features of each package that are on, and the targets on which they are on.
 
 use crate::asked::Asked;
 use crate::graph::Graph;
@@ -23,13 +23,13 @@ struct FeatureLine<'g, 'f, 'a> {
     feature: &'f str,
     /// One of `target` and `host`.
     side: &'static str,
-    /// How many targets are in `at`.
+    /// The number of targets in `at`.
     targets: usize,
-    /// The selected targets at which it is on.
+    /// The selected targets on which the feature is on.
     at: At<'a>,
 }
 
-/// The word of a side.
+/// Returns the name of a side.
 pub fn side_word(side: Side) -> &'static str {
     match side {
         Side::Target => "target",
@@ -37,7 +37,7 @@ pub fn side_word(side: Side) -> &'static str {
     }
 }
 
-/// What a line tells of a side: nothing of the target's.
+/// Returns the part of a line that names the side. It is empty for the target.
 pub fn side_note(side: Side) -> &'static str {
     match side {
         Side::Target => "",
@@ -45,7 +45,7 @@ pub fn side_note(side: Side) -> &'static str {
     }
 }
 
-/// The answer to `--show features`.
+/// Returns the output of `--show features`.
 pub fn show_features(
     alloc: Global,
     graph: &Graph<'_>,
@@ -78,7 +78,7 @@ pub fn show_features(
     Ok(answer)
 }
 
-/// Appends a line or an object for each feature of a package that is on at a target that is asked for.
+/// Appends a line or an object for each feature of a package that is on for a selected target.
 fn push_side(
     text: &mut String,
     alloc: Global,
@@ -128,7 +128,7 @@ fn push_line(
     push(text, line.as_str())
 }
 
-/// Appends the line of JSON of a feature.
+/// Appends the line of JSON for a feature.
 fn push_object(
     text: &mut String,
     alloc: Global,

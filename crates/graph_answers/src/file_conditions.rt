@@ -1,12 +1,13 @@
-//! Conditions that hold at exactly some targets of a file, made of their facts as `known_targets::classes` makes them
-//! of those of the known targets.
+//! Conditions that are true on exactly some targets of a file. They are built from the facts of the file, as
+//! `known_targets::classes` builds conditions from the facts of the known targets.
 
 use crate::groups::Groups;
 use cargo_platform::{Cfg, CfgExpr, Platform};
 use known_targets::TargetSet;
 use std::alloc::{AllocError, Global};
 
-/// The names and keys of the facts that are tried, in this order. No flag and no profile changes one of these facts.
+/// The names and keys of the candidate facts, in the order in which they are tried. No flag and no profile changes one
+/// of these facts.
 const TRIED: [&str; 10] = [
     "unix",
     "windows",
@@ -20,7 +21,7 @@ const TRIED: [&str; 10] = [
     "target_pointer_width",
 ];
 
-/// A fact, and for each target of a file whether it has it.
+/// A fact, and for each target of a file whether the target has it.
 #[derive(Drop)]
 pub struct FileFact {
     fact: Cfg,
@@ -28,7 +29,7 @@ pub struct FileFact {
 }
 
 impl FileFact {
-    /// A fact with the targets that have it.
+    /// Returns a fact with the targets that have it.
     pub fn of(alloc: Global, groups: &Groups<'_>, fact: Cfg) -> Result<FileFact, AllocError> {
         let copy = fact.clone(alloc)?;
         let at = groups.truths_of(alloc, &Platform::Cfg(CfgExpr::Value(copy)))?;
@@ -36,7 +37,7 @@ impl FileFact {
     }
 }
 
-/// The name or key of a fact.
+/// Returns the name or the key of a fact.
 fn name_of<'a>(fact: &'a Cfg) -> &'a str {
     match fact {
         Cfg::Name(name) => name.as_str(),
@@ -44,7 +45,7 @@ fn name_of<'a>(fact: &'a Cfg) -> &'a str {
     }
 }
 
-/// The place of the name or key of a fact among those that are tried.
+/// Returns the index of the name or key of a fact in `TRIED`.
 fn rank_of(fact: &Cfg) -> Option<usize> {
     let name = name_of(fact);
     for i in 0..TRIED.len() {
@@ -55,10 +56,10 @@ fn rank_of(fact: &Cfg) -> Option<usize> {
     None
 }
 
-/// A fact that is tried, behind the place of its name or key, and the place of a target that has it.
+/// A candidate fact after the index of its name or key in `TRIED`, and the index of a target that has it.
 type Had<'a> = ((usize, &'a Cfg), usize);
 
-/// The facts of a file that are tried, of each target, in the order in which they are tried.
+/// Returns the candidate facts of each target of a file, sorted in the order in which they are tried.
 fn had_facts<'a>(alloc: Global, groups: &Groups<'a>) -> Result<Vec<Had<'a>>, AllocError> {
     let rows = groups.rows();
     let mut had = Vec::new(alloc);
@@ -73,7 +74,7 @@ fn had_facts<'a>(alloc: Global, groups: &Groups<'a>) -> Result<Vec<Had<'a>>, All
     Ok(had)
 }
 
-/// Whether a fact is the last one of a list.
+/// Returns whether a fact is the last one of a list.
 fn is_last(facts: &[FileFact], fact: &Cfg) -> bool {
     match facts.last() {
         Some(last) => last.fact == *fact,
@@ -81,7 +82,7 @@ fn is_last(facts: &[FileFact], fact: &Cfg) -> bool {
     }
 }
 
-/// The facts that conditions are made of, in the order in which they are tried.
+/// Returns the candidate facts of a file, in the order in which they are tried.
 pub fn tried_facts(alloc: Global, groups: &Groups<'_>) -> Result<Vec<FileFact>, AllocError> {
     let count = groups.rows().len();
     let mut facts: Vec<FileFact> = Vec::new(alloc);
@@ -99,20 +100,20 @@ pub fn tried_facts(alloc: Global, groups: &Groups<'_>) -> Result<Vec<FileFact>, 
     Ok(facts)
 }
 
-/// Says that something is true at a place.
+/// Sets the flag at an index, if there is one.
 fn mark(at: &mut Vec<bool>, place: usize) {
     if let Some(slot) = at.get_mut(place) {
         *slot = true;
     }
 }
 
-/// Whether something is true at a place.
+/// Returns the flag at an index, or `false` if there is none.
 fn is_at(at: &[bool], place: usize) -> bool {
     at.get(place).copied().unwrap_or(false)
 }
 
-/// The first condition that holds at exactly the targets of the set: one of the facts, `not(..)` of one, or the name of
-/// the only target.
+/// Returns the first condition that is true on exactly the targets of the set, if there is one: a fact, `not(..)` of a
+/// fact, or the name of the only target.
 pub fn simple_condition(
     alloc: Global,
     groups: &Groups<'_>,
@@ -136,7 +137,7 @@ pub fn simple_condition(
     }
 }
 
-/// The first fact that exactly these targets have, or exactly these lack.
+/// Returns the first fact that exactly these targets have or, if `has` is false, exactly these lack.
 fn first_at<'a>(facts: &'a [FileFact], at: &[bool], has: bool) -> Option<&'a Cfg> {
     for known in facts {
         let mut is_same = true;
@@ -155,7 +156,7 @@ fn first_at<'a>(facts: &'a [FileFact], at: &[bool], has: bool) -> Option<&'a Cfg
 
 // ---- conditions of several facts
 
-/// A fact by its place, or `not(..)` of it.
+/// A fact by its index, or `not(..)` of that fact.
 #[derive(Clone, Copy, Drop)]
 struct Literal {
     place: usize,
@@ -163,7 +164,7 @@ struct Literal {
 }
 
 impl Literal {
-    /// Whether it holds at a target.
+    /// Returns whether the literal is true on a target.
     fn is_at(self, facts: &[FileFact], target: usize) -> bool {
         match facts.get(self.place) {
             Some(known) => is_at(&known.at, target) != self.is_negated,
@@ -171,7 +172,7 @@ impl Literal {
         }
     }
 
-    /// It as an expression.
+    /// Returns the literal as an expression.
     fn expression(self, alloc: Global, facts: &[FileFact]) -> Result<CfgExpr, AllocError> {
         let Some(known) = facts.get(self.place) else {
             return Ok(CfgExpr::False);
@@ -185,7 +186,7 @@ impl Literal {
     }
 }
 
-/// Whether all of the literals hold at a target.
+/// Returns whether all of the literals are true on a target.
 fn all_at(facts: &[FileFact], literals: &[Literal], target: usize) -> bool {
     for literal in literals {
         if !literal.is_at(facts, target) {
@@ -195,8 +196,8 @@ fn all_at(facts: &[FileFact], literals: &[Literal], target: usize) -> bool {
     true
 }
 
-/// A condition of some of these facts that holds at exactly the targets of the set, where one is found: an `any(..)` of
-/// parts, each an `all(..)` of facts and `not(..)` of facts.
+/// Returns a condition of these facts that is true on exactly the targets of the set, if one is found: an `any(..)` of
+/// parts, each an `all(..)` of facts and negated facts.
 pub fn covering(
     alloc: Global,
     groups: &Groups<'_>,
@@ -222,7 +223,7 @@ pub fn covering(
     Ok(Some(Platform::Cfg(joined(parts))))
 }
 
-/// Takes those targets out at which all of the literals hold.
+/// Removes the targets on which all of the literals are true.
 fn take_out(left: &mut Vec<bool>, facts: &[FileFact], literals: &[Literal]) {
     for i in 0..left.len() {
         if all_at(facts, literals, i) {
@@ -231,7 +232,7 @@ fn take_out(left: &mut Vec<bool>, facts: &[FileFact], literals: &[Literal]) {
     }
 }
 
-/// The only one of the parts, or the `any(..)` of them.
+/// Returns the only part, or the `any(..)` of the parts.
 fn joined(parts: Vec<CfgExpr>) -> CfgExpr {
     let mut parts = parts;
     if parts.len() == 1 {
@@ -242,7 +243,7 @@ fn joined(parts: Vec<CfgExpr>) -> CfgExpr {
     CfgExpr::Any(parts)
 }
 
-/// The only one of the literals, or the `all(..)` of them.
+/// Returns the only literal, or the `all(..)` of the literals.
 fn part_of(alloc: Global, facts: &[FileFact], literals: &[Literal]) -> Result<CfgExpr, AllocError> {
     if literals.len() == 1 {
         if let Some(literal) = literals.first() {
@@ -256,7 +257,7 @@ fn part_of(alloc: Global, facts: &[FileFact], literals: &[Literal]) -> Result<Cf
     Ok(CfgExpr::All(members))
 }
 
-/// Literals that hold together at some of the targets that are left, and at none outside the set.
+/// Returns literals that are all true on some of the remaining targets, and on no target outside the set.
 fn part_for(
     alloc: Global,
     facts: &[FileFact],
@@ -279,7 +280,7 @@ fn part_for(
     Ok(Some(without_needless(alloc, facts, literals, at)?))
 }
 
-/// Whether the literals hold together at no target outside the set.
+/// Returns whether the set contains each target on which all of the literals are true.
 fn is_inside(facts: &[FileFact], literals: &[Literal], at: &[bool]) -> bool {
     for i in 0..at.len() {
         if !at[i] && all_at(facts, literals, i) {
@@ -289,8 +290,8 @@ fn is_inside(facts: &[FileFact], literals: &[Literal], at: &[bool]) -> bool {
     true
 }
 
-/// The literal that keeps most of the targets that are left times leaves out most of those outside the set, among those
-/// at which the literals hold; nothing where none does both.
+/// Returns the literal with the highest score (see `score_of`) for the targets on which `literals` are true: the
+/// remaining ones, and those outside the set. Returns `None` if each score is 0.
 fn best_literal(
     alloc: Global,
     facts: &[FileFact],
@@ -324,7 +325,7 @@ fn best_literal(
     Ok(best)
 }
 
-/// How many of some targets a literal keeps, times how many of others it leaves out.
+/// Returns the number of `kept` targets on which a literal is true, times the number of `others` on which it is false.
 fn score_of(literal: Literal, facts: &[FileFact], kept: &[usize], others: &[usize]) -> usize {
     let mut keeps: usize = 0;
     for target in kept {
@@ -341,7 +342,7 @@ fn score_of(literal: Literal, facts: &[FileFact], kept: &[usize], others: &[usiz
     keeps.saturating_mul(leaves_out)
 }
 
-/// The literals without those that are not needed to leave out the targets outside the set, the first ones first.
+/// Removes, from the first one on, the literals that are not needed to exclude the targets outside the set.
 fn without_needless(
     alloc: Global,
     facts: &[FileFact],
@@ -357,7 +358,7 @@ fn without_needless(
     Ok(needed)
 }
 
-/// Whether the first and the last literals hold together at a target outside the set.
+/// Returns whether the first and the last literals are all true on a target outside the set.
 fn is_needed(facts: &[FileFact], first: &[Literal], last: &[Literal], at: &[bool]) -> bool {
     for i in 0..at.len() {
         if !at[i] && all_at(facts, first, i) && all_at(facts, last, i) {

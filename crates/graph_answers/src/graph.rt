@@ -1,4 +1,4 @@
-//! The report on a document: it is read, linked and asked.
+//! The report on a document, which is parsed, linked and queried.
 
 use crate::asked::{Asked, Show, Words};
 use crate::edges::show_edges;
@@ -22,25 +22,25 @@ use package_graphs::{PackageSets, present_packages};
 use serde_json::{Error, Value};
 use std::alloc::{AllocError, Global};
 
-/// A graph, with the targets at which each of its packages is there.
+/// A dependency graph, with the targets on which each package is in the build.
 #[derive(Drop)]
 pub struct Graph<'a> {
     pub metadata: Metadata<'a>,
     pub linked: Linked<'a>,
     pub sets: PackageSets,
-    /// The packages' places, in order of name, version and id.
+    /// The indexes of the packages, sorted by name, version and id.
     pub order: Vec<usize>,
-    /// What features turn on, where that is asked for.
+    /// The resolved features, if feature resolution is requested.
     pub features: Option<Features<'a>>,
 }
 
 impl<'a> Graph<'a> {
-    /// The targets that are asked for at which a package is there.
+    /// Returns the selected targets on which a package is in the build.
     pub fn at(&self, index: usize, asked: &Asked<'_>) -> TargetSet {
         self.present(index).intersection(asked.targets)
     }
 
-    /// The targets at which a package is there.
+    /// Returns the targets on which a package is in the build.
     pub fn present(&self, index: usize) -> TargetSet {
         match &self.features {
             Some(features) => features.resolved.used(index),
@@ -48,7 +48,7 @@ impl<'a> Graph<'a> {
         }
     }
 
-    /// The targets at which a dependency is followed, by its place among those of a package.
+    /// Returns the targets on which a dependency is followed. `place` is its index among those of the package.
     pub fn following(&self, index: usize, place: usize, asked: &Asked<'_>) -> TargetSet {
         if let Some(features) = &self.features {
             return features.using(index, place);
@@ -66,13 +66,13 @@ impl<'a> Graph<'a> {
         }
     }
 
-    /// The package at a place, as the document describes it.
+    /// Returns the description of the package at an index.
     pub fn described(&self, index: usize) -> Option<&Described<'a>> {
         self.linked.described.get(index)
     }
 }
 
-/// The places of the packages in order of name, version and id.
+/// Returns the indexes of the packages, sorted by name, version and id.
 fn in_order(alloc: Global, described: &[Described<'_>]) -> Result<Vec<usize>, AllocError> {
     let mut keys = Vec::new(alloc);
     for i in 0..described.len() {
@@ -87,7 +87,8 @@ fn in_order(alloc: Global, described: &[Described<'_>]) -> Result<Vec<usize>, Al
     Ok(order)
 }
 
-/// Leaves those members alone as roots that have one of these names. An `Err` is a name that no member has.
+/// Keeps as roots only the members with one of these names, or all if there are no names. Fails with a name that no
+/// member has.
 fn choose_roots<'a>(linked: &mut Linked<'_>, names: &[&'a str]) -> Result<(), &'a str> {
     if names.is_empty() {
         return Ok(());
@@ -115,8 +116,9 @@ fn choose_roots<'a>(linked: &mut Linked<'_>, names: &[&'a str]) -> Result<(), &'
     Ok(())
 }
 
-/// The packages of a graph: a line of JSON for each, with the known targets at which it is in the build, as
-/// `manifest_check graph --json` prints them. Builds run on the host, or on the target itself without one.
+/// Returns a line of JSON for each package, with the known targets on which it is in the build, as `manifest_check
+/// graph --json` prints them. Builds run on `host`, or on the target itself if that is `None`. Fails if memory is
+/// refused.
 pub fn package_lines<'a>(
     alloc: Global,
     metadata: Metadata<'a>,
@@ -137,7 +139,7 @@ pub fn package_lines<'a>(
     Ok(answer.output)
 }
 
-/// What a document has, where no condition is nested too deep.
+/// Reads the metadata of a document, and refuses it if a condition is nested too deep.
 fn metadata_of<'a>(
     alloc: Global,
     file: &str,
@@ -152,13 +154,13 @@ fn metadata_of<'a>(
     }
 }
 
-/// What is said of a name that no member of the workspace has.
+/// Returns the message for a name that no member of the workspace has.
 fn no_member(alloc: Global, name: &str) -> Result<String, AllocError> {
     let name = shown_name(alloc, name)?;
     format!(in alloc; "no member of the workspace is named {name}")
 }
 
-/// The graph of a document, from the roots that are asked for.
+/// Links the graph of a document, from the selected roots.
 fn linked_from<'a>(
     alloc: Global,
     file: &str,
@@ -176,7 +178,7 @@ fn linked_from<'a>(
     Ok(linked)
 }
 
-/// The graph of what a document has.
+/// Returns the graph with the targets of its packages and, if that is requested, its resolved features.
 fn graph_of<'a>(
     alloc: Global,
     file: &str,
@@ -198,7 +200,7 @@ fn graph_of<'a>(
     })
 }
 
-/// What is printed of a graph.
+/// Returns the output for a graph.
 fn answer_of(
     alloc: Global,
     file: &str,
@@ -219,7 +221,7 @@ fn answer_of(
     }
 }
 
-/// What is printed, and the page where one is wanted and there is an answer.
+/// The output, and the HTML page if one is requested and there is an answer.
 #[derive(Drop)]
 pub struct Report {
     pub answer: Answer,
@@ -227,13 +229,13 @@ pub struct Report {
 }
 
 impl Report {
-    /// What is printed where there is no page.
+    /// Returns a report without a page.
     fn without_page(answer: Answer) -> Report {
         Report { answer, page: None }
     }
 }
 
-/// The report on a graph.
+/// Returns the report on a graph.
 fn report_on_graph(
     alloc: Global,
     file: &str,
@@ -252,7 +254,7 @@ fn report_on_graph(
     })
 }
 
-/// The report on a document that is JSON.
+/// Returns the report on a document that was parsed as JSON.
 fn report_on_document(
     alloc: Global,
     file: &str,
@@ -278,14 +280,14 @@ fn report_on_document(
     }
 }
 
-/// Why a text is no JSON.
+/// Returns the message for a text that is not JSON.
 fn no_json(alloc: Global, error: &Error) -> Result<String, AllocError> {
     let reason = format!(in alloc; "{error}")?;
     let reason = shown_text(alloc, reason.as_str())?;
     format!(in alloc; "no JSON: {reason}")
 }
 
-/// The document that a text spells.
+/// Parses a text as JSON.
 fn document_of(alloc: Global, file: &str, text: &str) -> Result<Value, Refusal> {
     match Value::from_str(alloc, text) {
         Ok(document) => Ok(document),
@@ -296,7 +298,7 @@ fn document_of(alloc: Global, file: &str, text: &str) -> Result<Value, Refusal> 
     }
 }
 
-/// The report on what `cargo metadata` printed.
+/// Returns the report on the output of `cargo metadata`.
 fn report_on_text(
     alloc: Global,
     file: &str,
@@ -319,7 +321,8 @@ fn report_on_text(
     )
 }
 
-/// The report to the words on what `cargo metadata` printed; `file` is where that was read.
+/// Returns the report on `text`, the output of `cargo metadata`, for the given arguments. Messages name `file` as its
+/// source. Invalid arguments and documents are reported in the answer; the call fails only if memory is refused.
 pub fn report_on(
     alloc: Global,
     file: &str,

@@ -1,4 +1,4 @@
-//! The targets of a file, in groups that stand at the places of the known targets.
+//! The targets of a file, in groups. Each group is represented by a known target.
 
 use crate::asked::{Words, unusable_words};
 use crate::refused::unusable;
@@ -11,25 +11,25 @@ use known_targets::{COUNT, KnownTarget, TargetSet};
 use std::alloc::{AllocError, Global};
 use target_tables::{TargetRow, TargetTable};
 
-/// The targets of a file, as they are asked for.
+/// The targets of a file, with those that are selected.
 #[derive(Drop)]
 pub struct AskedTable<'a> {
-    /// The file, as it is shown.
+    /// The name of the file, as it is displayed.
     file: &'a str,
     table: &'a TargetTable,
-    /// For each target whether it is asked for.
+    /// For each target, whether it is selected.
     is_asked: Vec<bool>,
-    /// The place of the host, where one is named.
+    /// The index of the host, if one is named.
     host: Option<usize>,
 }
 
-/// What is said of a name that no target of a file has.
+/// Returns the message for a name that no target of a file has.
 fn no_target(alloc: Global, file: &str, name: &str) -> Result<String, AllocError> {
     let name = shown_name(alloc, name)?;
     format!(in alloc; "no target of {file} is named {name}")
 }
 
-/// The place of the target with this name.
+/// Returns the index of the target with this name.
 fn place_of(alloc: Global, file: &str, table: &TargetTable, name: &str) -> Result<usize, Refusal> {
     let rows = table.rows();
     for i in 0..rows.len() {
@@ -41,7 +41,7 @@ fn place_of(alloc: Global, file: &str, table: &TargetTable, name: &str) -> Resul
     Err(unusable_words(alloc, text.as_str()))
 }
 
-/// For each target whether it has one of these names. All are asked for where there are none.
+/// Returns for each target whether it has one of these names. If there are no names, all targets are selected.
 fn asked_of(
     alloc: Global,
     file: &str,
@@ -58,7 +58,7 @@ fn asked_of(
     Ok(is_asked)
 }
 
-/// The place of the host, where one is named.
+/// Returns the index of the host, if one is named.
 fn host_of(
     alloc: Global,
     file: &str,
@@ -72,7 +72,8 @@ fn host_of(
 }
 
 impl<'a> AskedTable<'a> {
-    /// The targets of a file, as the words ask for them, where they name one.
+    /// Returns the targets of a file, with the selection of the arguments, if `--facts-of` names a file. Fails if no
+    /// target of the file has the name of a selected target or of the host, or if memory is refused.
     pub fn of(alloc: Global, words: &Words<'a>) -> Result<Option<AskedTable<'a>>, Refusal> {
         let Some((file, table)) = words.facts_of else {
             return Ok(None);
@@ -90,17 +91,17 @@ impl<'a> AskedTable<'a> {
 
 // ---- conditions
 
-/// A condition of a document, and where it holds.
+/// A condition of a document, and the targets on which it is true.
 #[derive(Drop)]
 struct Held<'a> {
     text: &'a str,
-    /// For each target of the file whether it holds there.
+    /// For each target of the file, whether the condition is true on it.
     at: Vec<bool>,
-    /// The places at which it holds.
+    /// The known targets that represent the groups on which it is true.
     set: TargetSet,
 }
 
-/// The texts of the conditions of a document, each once, in order.
+/// Returns the texts of the conditions of a document, sorted, each once.
 fn texts_of<'a>(alloc: Global, metadata: &Metadata<'a>) -> Result<Vec<&'a str>, AllocError> {
     let mut texts = Vec::new(alloc);
     for node in &metadata.nodes {
@@ -117,7 +118,7 @@ fn texts_of<'a>(alloc: Global, metadata: &Metadata<'a>) -> Result<Vec<&'a str>, 
     Ok(texts)
 }
 
-/// For each target of a file whether a condition holds there.
+/// Returns for each target of a file whether a condition is true on it.
 fn truths_of(
     alloc: Global,
     table: &TargetTable,
@@ -130,17 +131,17 @@ fn truths_of(
     Ok(at)
 }
 
-/// For each target of a file whether the condition of this text holds there.
+/// Returns for each target of a file whether the condition of this text is true on it.
 fn held_at(alloc: Global, table: &TargetTable, text: &str) -> Result<Vec<bool>, AllocError> {
     match Platform::from_str(alloc, text) {
         Ok(condition) => truths_of(alloc, table, &condition),
         Err(ReadError::Memory(refused)) => Err(refused),
-        // A graph has no such condition.
+        // A graph contains no condition that does not parse.
         Err(ReadError::Parse(_)) => Ok(Vec::new(alloc)),
     }
 }
 
-/// The conditions of a document, in the order of their texts.
+/// Returns the conditions of a document, sorted by their texts.
 fn conditions_of<'a>(
     alloc: Global,
     table: &TargetTable,
@@ -155,7 +156,7 @@ fn conditions_of<'a>(
     Ok(conditions)
 }
 
-/// The targets at which the condition of this text holds: all without one.
+/// Returns the targets on which the condition of this text is true. Without a text, these are all targets.
 fn holds_at(conditions: &[Held<'_>], text: Option<&str>) -> TargetSet {
     let Some(text) = text else {
         return TargetSet::all();
@@ -169,7 +170,7 @@ fn holds_at(conditions: &[Held<'_>], text: Option<&str>) -> TargetSet {
     }
 }
 
-/// Puts the sets of the conditions to the dependencies of a graph.
+/// Sets the targets of each dependency of a graph to those of its condition.
 fn put_sets(linked: &mut Linked<'_>, metadata: &Metadata<'_>, conditions: &[Held<'_>]) {
     for i in 0..metadata.nodes.len() {
         let Some(unit) = linked.packages.get_mut(i) else {
@@ -189,15 +190,15 @@ fn put_sets(linked: &mut Linked<'_>, metadata: &Metadata<'_>, conditions: &[Held
 
 // ---- groups
 
-/// Groups by their numbers, which are in the order of the groups' first members.
+/// Groups by their numbers, in the order of the groups' first members.
 #[derive(Drop)]
 struct Numbers {
-    /// For each member the number of its group.
+    /// For each member, the number of its group.
     of: Vec<usize>,
     count: usize,
 }
 
-/// The groups, each parted into the members at which something is false and those at which it is true.
+/// Splits each group into the members for which the flag in `at` is false and those for which it is true.
 fn parted(alloc: Global, numbers: &Numbers, at: &[bool]) -> Result<Numbers, AllocError> {
     let mut parts: Vec<Option<usize>> = vec![in alloc; None; numbers.count.saturating_mul(2)]?;
     let mut of = Vec::new(alloc);
@@ -220,12 +221,13 @@ fn parted(alloc: Global, numbers: &Numbers, at: &[bool]) -> Result<Numbers, Allo
     Ok(Numbers { of, count })
 }
 
-/// Whether something is true at a place.
+/// Returns the flag at an index, or `false` if there is none.
 fn is_at(at: &[bool], place: usize) -> bool {
     at.get(place).copied().unwrap_or(false)
 }
 
-/// The groups of targets that are all asked for, or none, and at which each condition has the same truth.
+/// Groups the targets so that those of a group are all selected or none, and each condition has the same truth value on
+/// them.
 fn numbers_of(
     alloc: Global,
     is_asked: &[bool],
@@ -239,7 +241,7 @@ fn numbers_of(
     Ok(numbers)
 }
 
-/// What is said of too many groups.
+/// Returns the refusal of a file whose targets form too many groups.
 fn too_many(alloc: Global, file: &str, count: usize) -> Result<Refusal, AllocError> {
     let reason = format!(in alloc;
         "the conditions of the graph tell {count} groups of its targets apart, and {COUNT} are the most"
@@ -247,7 +249,8 @@ fn too_many(alloc: Global, file: &str, count: usize) -> Result<Refusal, AllocErr
     Ok(unusable(alloc, file, reason.as_str()))
 }
 
-/// For each target the place of its group.
+/// Returns for each target the known target that represents its group. Fails if there are more groups than known
+/// targets.
 fn places_of(alloc: Global, file: &str, numbers: &Numbers) -> Result<Vec<KnownTarget>, Refusal> {
     let all: Vec<KnownTarget> = TargetSet::all().iter().collect(alloc)?;
     let mut places = Vec::new(alloc);
@@ -260,7 +263,7 @@ fn places_of(alloc: Global, file: &str, numbers: &Numbers) -> Result<Vec<KnownTa
     Ok(places)
 }
 
-/// The places of the targets at which something is true.
+/// Returns the known targets that represent the targets whose flag is true.
 fn set_of(places: &[KnownTarget], at: &[bool]) -> TargetSet {
     let mut set = TargetSet::none();
     for i in 0..places.len() {
@@ -271,16 +274,17 @@ fn set_of(places: &[KnownTarget], at: &[bool]) -> TargetSet {
     set
 }
 
-/// The targets of a file in groups. The members of a group have one place in each set of targets: they are all asked
-/// for, or none, and each condition of the graph has the same truth at them.
+/// The targets of a file in groups. The members of a group are in the same sets of targets: they are all selected or
+/// none, and each condition of the graph has the same truth value on them.
 #[derive(Drop)]
 pub struct Groups<'a> {
     asked: AskedTable<'a>,
-    /// For each target of the file the place of its group.
+    /// For each target of the file, the known target that represents its group.
     places: Vec<KnownTarget>,
 }
 
-/// The groups of the targets of a file by the conditions of a graph, whose sets become those of the file.
+/// Groups the targets of a file by the conditions of a graph, and sets the targets of the graph's dependencies
+/// accordingly. Fails if there are more groups than known targets, or if memory is refused.
 pub fn grouped<'a>(
     alloc: Global,
     asked: AskedTable<'a>,
@@ -298,32 +302,32 @@ pub fn grouped<'a>(
 }
 
 impl<'a> Groups<'a> {
-    /// The file, as it is shown.
+    /// Returns the name of the file, as it is displayed.
     pub fn file(&self) -> &'a str {
         self.asked.file
     }
 
-    /// The targets that are asked for.
+    /// Returns the selected targets.
     pub fn targets(&self) -> TargetSet {
         set_of(&self.places, &self.asked.is_asked)
     }
 
-    /// The host, where one is named.
+    /// Returns the host, if one is named.
     pub fn host(&self) -> Option<KnownTarget> {
         self.places.get(self.asked.host?).copied()
     }
 
-    /// The targets of the file, in its order.
+    /// Returns the targets of the file, in its order.
     pub fn rows(&self) -> &'a [TargetRow] {
         self.asked.table.rows()
     }
 
-    /// For each target of the file whether a condition holds there.
+    /// Returns for each target of the file whether a condition is true on it.
     pub fn truths_of(&self, alloc: Global, condition: &Platform) -> Result<Vec<bool>, AllocError> {
         truths_of(alloc, self.asked.table, condition)
     }
 
-    /// For each target of the file whether it is in a set.
+    /// Returns for each target of the file whether it is in a set.
     pub fn members(&self, alloc: Global, targets: TargetSet) -> Result<Vec<bool>, AllocError> {
         let mut members = Vec::new(alloc);
         for place in &self.places {
@@ -332,7 +336,7 @@ impl<'a> Groups<'a> {
         Ok(members)
     }
 
-    /// How many targets of the file a set has.
+    /// Returns the number of targets of the file in a set.
     pub fn count_of(&self, targets: TargetSet) -> usize {
         let mut count: usize = 0;
         for place in &self.places {
@@ -343,7 +347,7 @@ impl<'a> Groups<'a> {
         count
     }
 
-    /// The names of the targets of a set, in the order of the file.
+    /// Returns the names of the targets in a set, in the order of the file.
     pub fn names(&self, alloc: Global, targets: TargetSet) -> Result<Vec<&'a str>, AllocError> {
         let rows = self.rows();
         let mut names = Vec::new(alloc);

@@ -1,5 +1,5 @@
-//! What is printed of a graph of packages: the packages, edges, classes of targets, why a package is there, what an
-//! audit of licences tells, and a page.
+//! The output of `graph`: packages, dependencies, classes of targets, dependency paths, resolved features, licence
+//! audits, and an HTML page.
 #![tactic(auto)]
 
 pub mod asked;

@@ -1,5 +1,5 @@
-//! `--allow`: of which packages a list of allowed licences does not satisfy the licence, and at which targets these are
-//! there.
+//! `--allow`: the packages whose licence is not satisfied by a list of allowed licences, and the targets on which they
+//! are in the build.
 
 use crate::asked::{Asked, Words, unusable_words};
 use crate::faults::{fault_lines, fault_message};
@@ -20,37 +20,38 @@ use std::alloc::{AllocError, Global};
 /// A line of `graph --allow --json`: a package whose licence is not allowed.
 #[derive(Drop, Serialize)]
 struct LicenceLine<'a> {
-    /// Its name and version.
+    /// The name and the version of the package.
     package: String,
     id: &'a str,
-    /// The expression of its licence.
+    /// The licence expression of the package.
     license: Option<&'a str>,
-    /// How many targets are in `at`.
+    /// The number of targets in `at`.
     targets: usize,
-    /// The selected targets at which it is in the build.
+    /// The selected targets on which the package is in the build.
     at: At<'a>,
     /// One of `not-allowed`, `missing` and `refused`.
     finding: &'static str,
-    /// With `refused`, what was expected, and what was found.
+    /// If `finding` is `refused`: what was expected, and what was found.
     message: Option<String>,
-    /// With `refused`, where the expression goes wrong: the first byte, and the byte after the last one.
+    /// If `finding` is `refused`: the span of the error in the expression, as its first byte and the byte after its
+    /// last one.
     span: Option<(usize, usize)>,
 }
 
-/// What an audit is asked by.
+/// The allowed licences and the exceptions of an audit.
 #[derive(Drop)]
 pub struct Audit<'a> {
     pub allowed: Vec<Licence>,
     pub exceptions: Vec<Exception<'a>>,
 }
 
-/// What is said of an entry that spells no licence.
+/// Returns the message for an entry that is not a licence.
 fn no_licence(alloc: Global, place: &str, error: &ParseError) -> Result<String, AllocError> {
     let lines = fault_lines(alloc, error)?;
     format!(in alloc; "{place}the entry spells no licence\n{lines}")
 }
 
-/// The licence that an entry spells.
+/// Parses an entry as a licence. The message of an error begins with `place`.
 fn licence_of(alloc: Global, place: &str, entry: &str) -> Result<Licence, Refusal> {
     match Licence::from_str(alloc, entry) {
         Ok(licence) => Ok(licence),
@@ -71,7 +72,7 @@ fn add_entry(
     Ok(())
 }
 
-/// Adds the entries of `--allow`, which commas part.
+/// Adds the entries of `--allow`, which are separated by commas.
 fn add_list(allowed: &mut Vec<Licence>, alloc: Global, list: &str) -> Result<(), Refusal> {
     for entry in list.split(',') {
         add_entry(allowed, alloc, "error: --allow: ", entry)?;
@@ -79,7 +80,7 @@ fn add_list(allowed: &mut Vec<Licence>, alloc: Global, list: &str) -> Result<(),
     Ok(())
 }
 
-/// Adds the entries of a file, one a line. Empty lines and those that begin with `#` are passed over.
+/// Adds the entries of a file, one per line. Empty lines and lines that begin with `#` are skipped.
 fn add_lines(
     allowed: &mut Vec<Licence>,
     alloc: Global,
@@ -100,13 +101,13 @@ fn add_lines(
     Ok(())
 }
 
-/// What is said of a word that is no exception.
+/// Returns the message for an argument that is not an exception.
 fn no_exception(alloc: Global, word: &str) -> Result<String, AllocError> {
     let shown = shown_name(alloc, word)?;
     format!(in alloc; "--except names NAME@VERSION, and not {shown}")
 }
 
-/// The exceptions of these words, each the name and the version of a package.
+/// Parses the exceptions of the arguments, each the name and the version of a package.
 fn exceptions_of<'a>(alloc: Global, words: &[&'a str]) -> Result<Vec<Exception<'a>>, Refusal> {
     let mut exceptions = Vec::new(alloc);
     for word in words {
@@ -123,7 +124,7 @@ fn exceptions_of<'a>(alloc: Global, words: &[&'a str]) -> Result<Vec<Exception<'
     Ok(exceptions)
 }
 
-/// The licences that the words allow.
+/// Returns the licences that the arguments allow.
 fn allowed_by(alloc: Global, words: &Words<'_>) -> Result<Vec<Licence>, Refusal> {
     let mut allowed = Vec::new(alloc);
     if let Some(list) = words.allow {
@@ -136,7 +137,12 @@ fn allowed_by(alloc: Global, words: &Words<'_>) -> Result<Vec<Licence>, Refusal>
 }
 
 impl<'a> Audit<'a> {
-    /// The audit that the words ask for, if they ask for one.
+    /// Returns the audit that the arguments describe, if they request one.
+    ///
+    /// # Errors
+    ///
+    /// Refuses `--except` without a list of allowed licences, `--show` together with one, an entry that is not a
+    /// licence, and an exception that is not `NAME@VERSION`. Fails if memory is refused.
     pub fn of(alloc: Global, words: &Words<'a>) -> Result<Option<Audit<'a>>, Refusal> {
         if words.allow.is_none() && words.allow_file.is_none() {
             if words.except.is_empty() {
@@ -158,7 +164,7 @@ impl<'a> Audit<'a> {
     }
 }
 
-/// The packages as an audit sees them, in the order of the graph.
+/// Returns the packages as subjects of an audit, in the order of the graph.
 fn subjects_of<'a>(
     alloc: Global,
     graph: &Graph<'a>,
@@ -186,7 +192,7 @@ fn subjects_of<'a>(
     Ok(subjects)
 }
 
-/// The first exception that is no package's.
+/// Returns the first exception that names no package.
 fn unused<'a>(exceptions: &[Exception<'a>], subjects: &[Subject<'_>]) -> Option<Exception<'a>> {
     for exception in exceptions {
         if !subjects.iter().any(|subject| exception.names(subject)) {
@@ -196,14 +202,14 @@ fn unused<'a>(exceptions: &[Exception<'a>], subjects: &[Subject<'_>]) -> Option<
     None
 }
 
-/// What is said of an exception that is no package's.
+/// Returns the message for an exception that names no package.
 fn no_package(alloc: Global, exception: Exception<'_>) -> Result<String, AllocError> {
     let name = shown_name(alloc, exception.name)?;
     let version = shown_name(alloc, exception.version)?;
     format!(in alloc; "--except: no package is {name}@{version}")
 }
 
-/// The answer to `--allow`: the status is that of findings where there is something to tell.
+/// Returns the output of `--allow`. Its status is `Found` if there is something to report.
 pub fn show_licences(
     alloc: Global,
     file: &str,
@@ -239,7 +245,7 @@ pub fn show_licences(
     Ok(answer)
 }
 
-/// How many packages are told, and how many there are.
+/// Formats the number of reported packages and the number of packages in the build.
 fn shown_counts(
     alloc: Global,
     count: usize,
@@ -249,7 +255,7 @@ fn shown_counts(
     format!(in alloc; "{count} of {all} packages have a licence that is not allowed\n")
 }
 
-/// Appends what is told of a package: its object, or lines.
+/// Appends the report on a package: its object, or its lines.
 fn push_told(
     text: &mut String,
     alloc: Global,
@@ -265,7 +271,7 @@ fn push_told(
     }
 }
 
-/// What is found, in words.
+/// Formats a finding: the expression, or why there is none.
 fn shown_finding(alloc: Global, finding: &Finding) -> Result<String, AllocError> {
     match finding {
         Finding::NotAllowed(expression) => {
@@ -277,7 +283,7 @@ fn shown_finding(alloc: Global, finding: &Finding) -> Result<String, AllocError>
     }
 }
 
-/// Appends the line of a package that is told, and where its licence is refused, indented.
+/// Appends the line of a reported package, and the indented lines of the error if its licence is refused.
 fn push_lines(
     text: &mut String,
     alloc: Global,
@@ -301,7 +307,7 @@ fn push_lines(
     Ok(())
 }
 
-/// The word of a finding.
+/// Returns the name of a finding.
 fn finding_word(finding: &Finding) -> &'static str {
     match finding {
         Finding::NotAllowed(_) => "not-allowed",
@@ -310,10 +316,10 @@ fn finding_word(finding: &Finding) -> &'static str {
     }
 }
 
-/// What was expected of a refused licence, and where it goes wrong.
+/// The message of a refused licence, and the span of its error in bytes.
 type Fault = (Option<String>, Option<(usize, usize)>);
 
-/// The fault of a licence, if it is refused.
+/// Returns the message and the span of a refused licence. Both are `None` for other findings.
 fn fault_of(alloc: Global, finding: &Finding) -> Result<Fault, AllocError> {
     match finding {
         Finding::Refused(error) => {
@@ -324,7 +330,7 @@ fn fault_of(alloc: Global, finding: &Finding) -> Result<Fault, AllocError> {
     }
 }
 
-/// Appends the line of JSON of a package that is told.
+/// Appends the line of JSON for a reported package.
 fn push_object<'a>(
     text: &mut String,
     alloc: Global,

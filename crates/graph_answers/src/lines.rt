@@ -1,4 +1,4 @@
-//! Parts of the lines for people.
+//! Parts of text output.
 
 use crate::asked::Asked;
 use cargo_metadata::{Kind, Package as Described};
@@ -6,12 +6,12 @@ use cargo_platform::{Platform, shown_start};
 use known_targets::TargetSet;
 use std::alloc::{AllocError, Global};
 
-/// Appends a part to a text. The call has no clause, which takes the prover a tenth of the time.
+/// Appends a part to a text. This call has no clause, so that the prover takes a tenth of the time.
 pub fn push(text: &mut String, part: &str) -> Result<(), AllocError> {
     text.push_str(part)
 }
 
-/// Appends a comma and a space before each part but the first.
+/// Appends a comma and a space, unless the part is the first one.
 pub fn push_comma(text: &mut String, is_first: bool) -> Result<(), AllocError> {
     if is_first {
         return Ok(());
@@ -19,7 +19,7 @@ pub fn push_comma(text: &mut String, is_first: bool) -> Result<(), AllocError> {
     push(text, ", ")
 }
 
-/// A text of the document as it is shown, and the empty one as two quotes.
+/// Formats a text of the document for text output. The empty text becomes two quotes.
 pub fn shown(alloc: Global, text: &str) -> Result<String, AllocError> {
     if text.is_empty() {
         String::from_str(alloc, "\"\"")
@@ -28,15 +28,15 @@ pub fn shown(alloc: Global, text: &str) -> Result<String, AllocError> {
     }
 }
 
-/// A package as it is shown: its name and version.
+/// Formats the name and the version of a package for text output.
 pub fn shown_package(alloc: Global, described: &Described<'_>) -> Result<String, AllocError> {
     let name = shown(alloc, described.name)?;
     let version = shown(alloc, described.version)?;
     format!(in alloc; "{name} {version}")
 }
 
-/// Targets as they are shown: `all` that are asked for, `nowhere`, how many, or by their names where they were asked
-/// for by name.
+/// Formats targets: `nowhere` if there are none, their names if targets were selected by name, `all` if these are the
+/// selected targets, and else their number.
 pub fn shown_targets(
     alloc: Global,
     targets: TargetSet,
@@ -54,7 +54,7 @@ pub fn shown_targets(
     shown_count(alloc, asked.count_of(targets))
 }
 
-/// How many targets there are, in words.
+/// Formats a number of targets.
 pub fn shown_count(alloc: Global, count: usize) -> Result<String, AllocError> {
     if count == 1 {
         String::from_str(alloc, "1 target")
@@ -63,7 +63,7 @@ pub fn shown_count(alloc: Global, count: usize) -> Result<String, AllocError> {
     }
 }
 
-/// The names of targets, joined by commas.
+/// Returns the names of targets, separated by commas.
 pub fn joined_names(
     alloc: Global,
     targets: TargetSet,
@@ -82,7 +82,7 @@ pub fn joined_names(
     Ok(text)
 }
 
-/// Names of a file's targets as they are shown, joined by commas.
+/// Formats names of a file's targets for text output, separated by commas.
 fn joined_texts(alloc: Global, names: &[&str]) -> Result<String, AllocError> {
     let mut text = String::new(alloc);
     for name in names {
@@ -95,7 +95,7 @@ fn joined_texts(alloc: Global, names: &[&str]) -> Result<String, AllocError> {
     Ok(text)
 }
 
-/// The word of a kind.
+/// Returns the name of a dependency kind.
 pub fn kind_word(kind: Kind) -> &'static str {
     match kind {
         Kind::Normal => "normal",
@@ -104,7 +104,7 @@ pub fn kind_word(kind: Kind) -> &'static str {
     }
 }
 
-/// A condition in its canonical form, as it is shown.
+/// Formats the canonical form of a condition for text output.
 pub fn shown_condition(alloc: Global, condition: &Platform) -> Result<String, AllocError> {
     let text = format!(in alloc; "{condition}")?;
     shown_start(alloc, text.as_str())

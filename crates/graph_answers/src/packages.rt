@@ -1,4 +1,4 @@
-//! `--show packages`: at which targets each package is there.
+//! `--show packages`: the targets on which each package is in the build.
 
 use crate::asked::Asked;
 use crate::graph::Graph;
@@ -12,7 +12,7 @@ use package_graphs::Kind;
 use serde::Serialize;
 use std::alloc::{AllocError, Global};
 
-/// By which kinds of dependencies a package is reached at a target that is asked for.
+/// The dependency kinds through which a package is reached on the selected targets.
 #[derive(Clone, Copy, Drop)]
 pub struct Reached {
     normal: bool,
@@ -21,7 +21,7 @@ pub struct Reached {
 }
 
 impl Reached {
-    /// The words of the kinds, joined by commas.
+    /// Returns the names of the kinds, separated by commas.
     pub fn words(self, alloc: Global) -> Result<String, AllocError> {
         let mut text = String::new(alloc);
         push_word(&mut text, self.normal, "normal", true)?;
@@ -30,7 +30,7 @@ impl Reached {
         Ok(text)
     }
 
-    /// The words of the kinds.
+    /// Returns the names of the kinds.
     fn kinds(self, alloc: Global) -> Result<Vec<&'static str>, AllocError> {
         let mut kinds = Vec::new(alloc);
         if self.normal {
@@ -46,7 +46,7 @@ impl Reached {
     }
 }
 
-/// Appends a word where it is to be told.
+/// Appends `word` if `is_told`, after a comma unless it is the first one.
 fn push_word(
     text: &mut String,
     is_told: bool,
@@ -63,23 +63,24 @@ fn push_word(
 /// A line of `graph --json`: a package.
 #[derive(Drop, Serialize)]
 struct PackageLine<'g, 'a> {
-    /// Its name and version.
+    /// The name and the version of the package.
     package: String,
     id: &'g str,
-    /// The expression of its licence.
+    /// The licence expression of the package.
     license: Option<&'g str>,
-    /// How many targets are in `at`.
+    /// The number of targets in `at`.
     targets: usize,
-    /// The selected targets at which it is in the build.
+    /// The selected targets on which the package is in the build.
     at: At<'a>,
-    /// The kinds of dependencies that reach it. Each is one of `normal`, `build` and `dev`.
+    /// The dependency kinds through which the package is reached. Each is one of `normal`, `build` and `dev`.
     kinds: Vec<&'static str>,
-    /// Where features are resolved: why it is not in the build at the targets at which dependencies lead to it.
+    /// If features are resolved: the reasons why the package is not in the build on targets on which dependencies lead
+    /// to it.
     #[serde(skip_serializing_if = "Option::is_none")]
     left_out: Option<Vec<LeftOut<'a>>>,
 }
 
-/// By which kinds each package is reached.
+/// Returns for each package the dependency kinds through which it is reached on the selected targets.
 pub fn kinds_reached(
     alloc: Global,
     graph: &Graph<'_>,
@@ -112,7 +113,7 @@ pub fn kinds_reached(
     Ok(reached)
 }
 
-/// The answer to `--show packages`.
+/// Returns the output of `--show packages`.
 pub fn show_packages(
     alloc: Global,
     graph: &Graph<'_>,
@@ -132,7 +133,7 @@ pub fn show_packages(
     Ok(answer)
 }
 
-/// How many packages are there at a target that is asked for.
+/// Returns the number of packages that are in the build on a selected target.
 fn count_present(graph: &Graph<'_>, asked: &Asked<'_>) -> usize {
     let mut count: usize = 0;
     for i in &graph.order {
@@ -176,7 +177,7 @@ fn push_line(
     push(text, line.as_str())
 }
 
-/// The name and the version of a package, as they are.
+/// Returns the name and the version of a package, without escaping.
 pub fn name_and_version(alloc: Global, described: &Described<'_>) -> Result<String, AllocError> {
     let name = described.name;
     let version = described.version;
@@ -200,7 +201,7 @@ fn push_objects(
     Ok(())
 }
 
-/// Appends the line of JSON of a package.
+/// Appends the line of JSON for a package.
 fn push_object(
     text: &mut String,
     alloc: Global,

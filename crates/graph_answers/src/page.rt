@@ -1,7 +1,6 @@
 //! `--html`: a page of the packages by classes of targets.
 //!
-//! Each text of the document is shown as on lines, and goes onto the page by `push_text`, which writes its marks as
-//! entities.
+//! Each text of the document is formatted as in text output, and written with `push_text`, which escapes HTML markup.
 
 use crate::asked::Asked;
 use crate::graph::Graph;
@@ -13,7 +12,7 @@ use html_pages::Page;
 use known_targets::RUSTC_VERSION;
 use std::alloc::{AllocError, Global};
 
-/// What stands before the first text.
+/// The markup before the first text.
 const HEAD: &str = "<!doctype html>\n\
     <html lang=\"en\">\n\
     <head>\n\
@@ -42,7 +41,7 @@ const HEAD: &str = "<!doctype html>\n\
     <body>\n\
     <h1>Packages by targets</h1>\n";
 
-/// The page of a graph.
+/// Returns the HTML page of a graph.
 pub fn page_of(alloc: Global, graph: &Graph<'_>, asked: &Asked<'_>) -> Result<String, AllocError> {
     let classes = classes_at(alloc, graph, asked)?;
     let mut page = Page::new(alloc);
@@ -54,7 +53,7 @@ pub fn page_of(alloc: Global, graph: &Graph<'_>, asked: &Asked<'_>) -> Result<St
     Ok(page.into_html())
 }
 
-/// Writes markup. Without a clause a call takes the prover a tenth of the time.
+/// Writes markup. This call has no clause, so that the prover takes a tenth of the time.
 fn add_markup(page: &mut Page, markup: &'static str) -> Result<(), AllocError> {
     page.push_markup(markup)
 }
@@ -70,7 +69,7 @@ fn push_number(page: &mut Page, alloc: Global, number: usize) -> Result<(), Allo
     add_text(page, text.as_str())
 }
 
-/// Whose targets are meant.
+/// Returns the source of the targets: the name of a file, or the release of rustc.
 fn source_of(alloc: Global, asked: &Asked<'_>) -> Result<String, AllocError> {
     match asked.groups {
         Some(groups) => String::from_str(alloc, groups.file()),
@@ -78,7 +77,7 @@ fn source_of(alloc: Global, asked: &Asked<'_>) -> Result<String, AllocError> {
     }
 }
 
-/// Writes how many packages and targets the page is of.
+/// Writes the number of packages and the number of targets that the page describes.
 fn push_summary(
     page: &mut Page,
     alloc: Global,
@@ -106,7 +105,7 @@ fn push_summary(
     )
 }
 
-/// Writes the table of the classes: each with its number, its condition and its targets.
+/// Writes the table of the classes, each with its number, its condition and its targets.
 fn push_legend(
     page: &mut Page,
     alloc: Global,
@@ -212,7 +211,7 @@ fn push_package(
     add_markup(page, "</tr>\n")
 }
 
-/// Writes a text of the document, as it is shown on lines.
+/// Writes a text of the document, formatted as in text output.
 fn push_shown(page: &mut Page, alloc: Global, text: &str) -> Result<(), AllocError> {
     let text = shown(alloc, text)?;
     add_text(page, text.as_str())

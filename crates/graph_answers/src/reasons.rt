@@ -1,4 +1,4 @@
-//! Why a package that the dependencies lead to is not built: which rule of the feature resolver leaves it out.
+//! The rules of the feature resolver that leave out packages to which dependencies lead.
 
 use crate::asked::Asked;
 use crate::graph::Graph;
@@ -10,7 +10,7 @@ use known_targets::TargetSet;
 use serde::Serialize;
 use std::alloc::{AllocError, Global};
 
-/// A reason for which packages are left out.
+/// A reason why packages are left out.
 #[derive(Clone, Copy, Drop)]
 pub struct Reason {
     pub word: &'static str,
@@ -47,13 +47,13 @@ const UNASKED: Reason = Reason {
     text: "features ask for it that are not asked here",
 };
 
-/// For each reason, in order, and each package the targets at which it is left out for it.
+/// For each reason, in order, and for each package, the targets on which the package is left out for that reason.
 #[derive(Drop)]
 pub struct Reasons {
     told: Vec<(Reason, Vec<TargetSet>)>,
 }
 
-/// The same list of members, with each weak one as strong.
+/// Copies a list of members, with each weak member made strong.
 fn strong_members(alloc: Global, members: &[Member]) -> Result<Vec<Member>, AllocError> {
     let mut strong = Vec::new(alloc);
     for member in members {
@@ -65,7 +65,7 @@ fn strong_members(alloc: Global, members: &[Member]) -> Result<Vec<Member>, Allo
     Ok(strong)
 }
 
-/// A list of places, copied.
+/// Copies a list of indexes.
 fn copied(alloc: Global, places: &[usize]) -> Result<Vec<usize>, AllocError> {
     let mut copy = Vec::new(alloc);
     for place in places {
@@ -74,7 +74,7 @@ fn copied(alloc: Global, places: &[usize]) -> Result<Vec<usize>, AllocError> {
     Ok(copy)
 }
 
-/// The same packages, with each weak member of a feature as a strong one.
+/// Copies packages, with each weak member of a feature made strong.
 fn strong_packages(alloc: Global, packages: &[Package]) -> Result<Vec<Package>, AllocError> {
     let mut strong = Vec::new(alloc);
     for unit in packages {
@@ -104,7 +104,7 @@ fn strong_packages(alloc: Global, packages: &[Package]) -> Result<Vec<Package>, 
     Ok(strong)
 }
 
-/// For each package the targets at which a build uses it, of those that are left.
+/// Removes from `left` the targets on which a build uses each package, and returns them.
 fn taken(
     alloc: Global,
     packages: &[Package],
@@ -124,7 +124,7 @@ fn taken(
     Ok(taken)
 }
 
-/// For each package the targets at which dependencies lead to it, and the build does not use it.
+/// Returns for each package the targets on which dependencies lead to it but the build does not use it.
 fn left_out(
     alloc: Global,
     graph: &Graph<'_>,
@@ -139,7 +139,7 @@ fn left_out(
 }
 
 impl Reasons {
-    /// The reasons for which packages of a graph are left out, where features are resolved.
+    /// Returns the reasons why packages of a graph are left out, if features are resolved.
     pub fn of(alloc: Global, graph: &Graph<'_>) -> Result<Option<Reasons>, AllocError> {
         let Some(features) = &graph.features else {
             return Ok(None);
@@ -165,7 +165,7 @@ impl Reasons {
         Ok(Some(Reasons { told }))
     }
 
-    /// The targets that are asked for at which a package is left out for the reason at a place.
+    /// Returns the selected targets on which a package is left out for the reason at an index.
     fn at(&self, reason: usize, index: usize, asked: &Asked<'_>) -> TargetSet {
         let Some((_, sets)) = self.told.get(reason) else {
             return TargetSet::none();
@@ -177,7 +177,7 @@ impl Reasons {
     }
 }
 
-/// The reasons for which a package is left out, as a line tells them.
+/// Formats the reasons why a package is left out, as a part of its line.
 pub fn shown_reasons(
     alloc: Global,
     reasons: &Option<Reasons>,
@@ -201,18 +201,18 @@ pub fn shown_reasons(
     Ok(text)
 }
 
-/// Why a package is not in the build at some targets, in a line of JSON.
+/// A reason why a package is not in the build on some targets, in a line of JSON.
 #[derive(Drop, Serialize)]
 pub struct LeftOut<'a> {
     /// One of `weak`, `target`, `side`, `dev`, `several` and `unasked`.
     reason: &'static str,
-    /// How many targets are in `at`.
+    /// The number of targets in `at`.
     targets: usize,
-    /// The selected targets at which this is why.
+    /// The selected targets on which this is the reason.
     at: At<'a>,
 }
 
-/// Why a package is left out, for a line of JSON, where features are resolved.
+/// Returns the reasons why a package is left out, for a line of JSON, if features are resolved.
 pub fn left_out_of<'a>(
     alloc: Global,
     reasons: &Option<Reasons>,

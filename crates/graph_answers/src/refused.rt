@@ -1,4 +1,4 @@
-//! What is said of a document that can't be used: the path in it, what is wrong there, and of which package.
+//! Errors of documents that cannot be used: the path in the document, the reason, and the package.
 
 ghost use Rattle.std.specs.Prelude.{◌≡◌, false, OnOk};
 ghost use Rattle.cargo_metadata.specs.Documents.{is_memory};
@@ -14,7 +14,7 @@ use key_answers::printing::refused_key;
 use serde_json::Value;
 use std::alloc::{AllocError, Global};
 
-/// This reason on a line of its own.
+/// Returns the refusal of a file with this reason, on a line of its own, or the refusal of memory for that line.
 pub fn unusable(alloc: Global, file: &str, reason: &str) -> NoAnswer {
     match format!(in alloc; "{file}: error: {reason}\n") {
         Ok(line) => NoAnswer::Unusable(line),
@@ -22,7 +22,7 @@ pub fn unusable(alloc: Global, file: &str, reason: &str) -> NoAnswer {
     }
 }
 
-/// The reason with the package that it is about, where one is known.
+/// Appends to a reason the package that it is about, if one is known.
 fn about(alloc: Global, reason: String, subject: Option<&str>) -> Result<String, AllocError> {
     match subject {
         Some(subject) => {
@@ -33,13 +33,13 @@ fn about(alloc: Global, reason: String, subject: Option<&str>) -> Result<String,
     }
 }
 
-/// The text at a field of an element of a list.
+/// Returns the text in a field of an element of a list.
 fn text_in<'a>(list: Option<&'a Value>, index: usize, field: &str) -> Option<&'a str> {
     let items = list?.as_array()?;
     items.get(index)?.get(field)?.as_str()
 }
 
-/// The package that a refusal is about: its name, or the id of its node.
+/// Returns the package that a refusal is about: its name, or the id of its node.
 fn subject_of<'a>(document: &'a Value, refusal: &Refusal) -> Option<&'a str> {
     match refusal {
         Refusal::Package(i, _) => text_in(document.get("packages"), *i, "name"),
@@ -51,7 +51,8 @@ fn subject_of<'a>(document: &'a Value, refusal: &Refusal) -> Option<&'a str> {
     }
 }
 
-/// Why a document is none of `cargo metadata`, as people read it. Where memory was refused there is no reason.
+/// Formats why a document is not the output of `cargo metadata`. Fails if memory is refused, and if that is what
+/// `refusal` reports.
 pub fn document_reason(
     alloc: Global,
     document: &Value,
@@ -66,7 +67,7 @@ pub fn document_reason(
     about(alloc, reason, subject_of(document, refusal))
 }
 
-/// What is said of a document that is none of `cargo metadata`.
+/// Returns the refusal of a document that is not the output of `cargo metadata`.
 pub fn refused_document(
     alloc: Global,
     file: &str,
@@ -79,22 +80,22 @@ pub fn refused_document(
     }
 }
 
-/// The id of a package.
+/// Returns the id of a package.
 fn id_of_package<'a>(metadata: &Metadata<'a>, i: usize) -> Option<&'a str> {
     Some(metadata.packages.get(i)?.id)
 }
 
-/// The id of a node.
+/// Returns the id of a node.
 fn id_of_node<'a>(metadata: &Metadata<'a>, i: usize) -> Option<&'a str> {
     Some(metadata.nodes.get(i)?.id)
 }
 
-/// The id on which a node depends.
+/// Returns the id on which a node depends.
 fn id_depended_on<'a>(metadata: &Metadata<'a>, i: usize, j: usize) -> Option<&'a str> {
     Some(metadata.nodes.get(i)?.dependencies.get(j)?.on)
 }
 
-/// The id that a refusal is about.
+/// Returns the id that a refusal is about.
 fn id_of<'a>(metadata: &Metadata<'a>, refusal: &Unlinked) -> Option<&'a str> {
     match refusal {
         Unlinked::SamePackage { again, .. } => id_of_package(metadata, *again),
@@ -107,13 +108,14 @@ fn id_of<'a>(metadata: &Metadata<'a>, refusal: &Unlinked) -> Option<&'a str> {
     }
 }
 
-/// The text of the condition at these places.
+/// Returns the text of the condition at these indexes.
 fn condition_at<'a>(metadata: &Metadata<'a>, i: usize, j: usize, k: usize) -> Option<&'a str> {
     let dependency = metadata.nodes.get(i)?.dependencies.get(j)?;
     dependency.kinds.get(k)?.condition
 }
 
-/// The first condition of a document that is nested too deep: its places, and the byte from which on it is.
+/// Returns the first condition of a document that is nested too deep: its indexes, and the byte at which the limit is
+/// exceeded.
 fn first_deep(metadata: &Metadata<'_>) -> Option<((usize, usize, usize), usize)> {
     for (i, node) in metadata.nodes.iter().enumerate() {
         for (j, dependency) in node.dependencies.iter().enumerate() {
@@ -130,7 +132,7 @@ fn first_deep(metadata: &Metadata<'_>) -> Option<((usize, usize, usize), usize)>
     None
 }
 
-/// Why the condition at these places is not read: from this byte on it is nested too deep.
+/// Formats why the condition at these indexes is refused: at byte `at`, it is nested too deep.
 fn deep_reason(
     alloc: Global,
     metadata: &Metadata<'_>,
@@ -156,7 +158,7 @@ pub fn refuse_depth(alloc: Global, file: &str, metadata: &Metadata<'_>) -> Resul
     }
 }
 
-/// Where a condition is refused and why, indented, as `targets` shows it, behind a line end.
+/// Formats the span and the reason of a condition's error as `targets` does, indented and after a line end.
 fn fault_lines(alloc: Global, key: &str, error: &ParseError) -> Result<String, AllocError> {
     let whole = refused_key(alloc, key, error)?;
     let mut lines = String::new(alloc);
@@ -167,8 +169,8 @@ fn fault_lines(alloc: Global, key: &str, error: &ParseError) -> Result<String, A
     Ok(lines)
 }
 
-/// Why the ids or conditions of a document make no graph, as people read it: one line, and of a refused condition the
-/// lines that show where. Where memory was refused there is no reason.
+/// Formats why the ids or conditions of a document form no graph: one line, and for a refused condition the lines that
+/// show its error. Fails if memory is refused, and if that is what `refusal` reports.
 pub fn graph_reason(
     alloc: Global,
     metadata: &Metadata<'_>,
@@ -190,7 +192,7 @@ pub fn graph_reason(
     Ok(reason)
 }
 
-/// What is said of a document whose ids or conditions make no graph.
+/// Returns the refusal of a document whose ids or conditions form no graph.
 pub fn refused_graph(
     alloc: Global,
     file: &str,

@@ -1,4 +1,4 @@
-//! Which features are asked for, and what they turn on.
+//! Feature resolution: the features that are requested, and what they turn on.
 
 use crate::asked::{Asked, Show, Words, unusable_words};
 use crate::refused::unusable;
@@ -15,14 +15,14 @@ use package_graphs::{Kinds, Side};
 use serde_json::Value;
 use std::alloc::{AllocError, Global};
 
-/// Whether the features are to be resolved.
+/// Returns whether features have to be resolved.
 fn is_asked(words: &Words<'_>, show: Show) -> bool {
     let is_shown = matches!(show, Show::Features | Show::Unified);
     let is_told = words.resolver.is_some() || !words.features.is_empty();
     is_shown || is_told || words.no_default || words.all_features
 }
 
-/// The names of the features that are asked for, one by one.
+/// Splits the requested features at commas and spaces.
 fn names_of<'a>(alloc: Global, features: &[&'a str]) -> Result<Vec<&'a str>, AllocError> {
     let mut names = Vec::new(alloc);
     for words in features {
@@ -37,27 +37,28 @@ fn names_of<'a>(alloc: Global, features: &[&'a str]) -> Result<Vec<&'a str>, All
     Ok(names)
 }
 
-/// Which resolver decides.
+/// The feature resolver.
 #[derive(Clone, Copy, Debug, PartialEq, Eq, Drop)]
 pub enum Resolver {
     One,
-    /// 2, or 3, which tells features apart alike.
+    /// Resolver 2, or 3, which keeps features apart in the same way.
     Two,
 }
 
-/// A graph with what its features turn on.
+/// The resolved features of a graph.
 #[derive(Drop)]
 pub struct Features<'a> {
     pub manifests: Vec<Manifest<'a>>,
-    /// For each package of the graph the place of what it declares.
+    /// For each package of the graph, the index of its declarations in `manifests`.
     pub places: Vec<usize>,
-    /// For each of its dependencies its place among those of the linked package.
+    /// For each package, and each of its dependencies in `resolved`, the index among the dependencies of the linked
+    /// package.
     pub edges: Vec<Vec<usize>>,
     pub resolved: Resolved,
 }
 
 impl<'a> Features<'a> {
-    /// The targets at which a dependency is used, by its place among those of a linked package.
+    /// Returns the targets on which a dependency is used. `place` is its index among those of the linked package.
     pub fn using(&self, index: usize, place: usize) -> TargetSet {
         let mut targets = TargetSet::none();
         let Some(edges) = self.edges.get(index) else {
@@ -71,12 +72,12 @@ impl<'a> Features<'a> {
         targets
     }
 
-    /// The targets at which the build uses a package on a side.
+    /// Returns the targets on which the build uses a package for a side.
     pub fn used_on(&self, index: usize, side: Side) -> TargetSet {
         self.resolved.at(Claim::Used(index, side))
     }
 
-    /// The names of a package's features, in order.
+    /// Returns the names of a package's features, in order.
     pub fn names(&self, alloc: Global, index: usize) -> Result<Vec<&'a str>, AllocError> {
         let mut names = Vec::new(alloc);
         let Some(place) = self.places.get(index) else {
@@ -91,7 +92,7 @@ impl<'a> Features<'a> {
     }
 }
 
-/// Whether a path is that of the manifest in a folder, with either sign between them.
+/// Returns whether a path is that of the manifest in a folder, with `/` or `\` between them.
 fn is_manifest_in(path: &str, folder: &str) -> bool {
     match path.strip_prefix(folder) {
         Some(rest) => rest == "/Cargo.toml" || rest == "\\Cargo.toml",
@@ -99,7 +100,7 @@ fn is_manifest_in(path: &str, folder: &str) -> bool {
     }
 }
 
-/// The place of the root package: the one whose manifest is that of the workspace.
+/// Returns the index of the root package: the one whose manifest is that of the workspace.
 fn root_place(document: &Value) -> Option<usize> {
     let root = text_at(document, "workspace_root")?;
     let packages = document.get("packages")?.as_array()?;
@@ -113,23 +114,24 @@ fn root_place(document: &Value) -> Option<usize> {
     None
 }
 
-/// The edition of the root package.
+/// Returns the edition of the root package.
 fn root_edition<'a>(document: &Value, manifests: &[Manifest<'a>]) -> Option<&'a str> {
     manifests.get(root_place(document)?)?.edition
 }
 
-/// The text at a field.
+/// Returns the text in a field.
 fn text_at<'a>(value: &'a Value, field: &str) -> Option<&'a str> {
     value.get(field)?.as_str()
 }
 
-/// What is said of an edition whose resolver is not known.
+/// Returns the message for an edition whose resolver is not known.
 fn no_resolver(alloc: Global, edition: &str) -> Result<String, AllocError> {
     let shown = shown_name(alloc, edition)?;
     format!(in alloc; "no resolver is known of edition {shown}: say --resolver 1, 2 or 3")
 }
 
-/// The resolver that Cargo takes by the edition of the root package.
+/// Returns the default resolver of the root package's edition, as in Cargo's [resolver
+/// versions](https://doc.rust-lang.org/cargo/reference/resolver.html#resolver-versions).
 fn resolver_by_edition(
     alloc: Global,
     file: &str,
@@ -151,7 +153,7 @@ fn resolver_by_edition(
     }
 }
 
-/// The resolver of the word.
+/// Returns the resolver that `--resolver` selects.
 fn resolver_of(
     alloc: Global,
     file: &str,
@@ -167,7 +169,7 @@ fn resolver_of(
     }
 }
 
-/// What a resolver builds.
+/// Returns the build of a resolver.
 fn build_of(resolver: Resolver, kinds: Kinds, host: KnownTarget) -> Build {
     match resolver {
         Resolver::One => Build::by_resolver_1(kinds, host),
@@ -175,7 +177,7 @@ fn build_of(resolver: Resolver, kinds: Kinds, host: KnownTarget) -> Build {
     }
 }
 
-/// The name of a feature that no root has.
+/// Returns the first requested feature that no root has.
 fn unknown_feature<'a>(
     names: &[&'a str],
     metadata: &Metadata<'_>,
@@ -204,7 +206,8 @@ fn unknown_feature<'a>(
     None
 }
 
-/// Whether a package has a feature of this name: `f`, its own name before it, or that of a dependency.
+/// Returns whether a package has a feature of this name: one of its own, with or without `PACKAGE/` before it, or one
+/// with the name of a dependency before it.
 fn has_feature(package: &str, manifest: &Manifest<'_>, name: &str) -> bool {
     let own = match name.split_once('/') {
         Some((first, feature)) if first == package => feature,
@@ -227,7 +230,7 @@ fn has_feature(package: &str, manifest: &Manifest<'_>, name: &str) -> bool {
     false
 }
 
-/// For each package of a graph the place of what it declares.
+/// Returns for each package of a graph the index of its declarations.
 fn places_of(
     alloc: Global,
     metadata: &Metadata<'_>,
@@ -252,7 +255,7 @@ fn places_of(
     Ok(places)
 }
 
-/// What packages declare. Of what is not as it has to be, the reason is said.
+/// Reads the declarations of the packages.
 fn manifests_of<'a>(
     alloc: Global,
     file: &str,
@@ -268,7 +271,7 @@ fn manifests_of<'a>(
     }
 }
 
-/// Refuses names of features that no root has.
+/// Refuses a requested feature that no root has.
 fn refuse_unknown(
     alloc: Global,
     file: &str,
@@ -288,7 +291,7 @@ fn refuse_unknown(
     }
 }
 
-/// The host for which features are resolved, where that can be asked.
+/// Returns the host for which features are resolved. Refuses a query without a host, and `--show why`.
 fn host_of(alloc: Global, asked: &Asked<'_>) -> Result<KnownTarget, NoAnswer> {
     let Some(host) = asked.host else {
         let text = "features are resolved for a host: say --host NAME";
@@ -302,7 +305,7 @@ fn host_of(alloc: Global, asked: &Asked<'_>) -> Result<KnownTarget, NoAnswer> {
     Ok(host)
 }
 
-/// What the features of a graph turn on, if that is asked for.
+/// Resolves the features of a graph, if that is requested.
 pub fn features_of<'a>(
     alloc: Global,
     file: &str,

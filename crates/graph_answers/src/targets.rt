@@ -1,4 +1,4 @@
-//! `--show targets`: classes of targets that no package tells apart, and which packages each has.
+//! `--show targets`: the classes of targets that no package distinguishes, and the packages of each class.
 
 use crate::asked::Asked;
 use crate::conditions::Finder;
@@ -14,29 +14,29 @@ use known_targets::classes::classes;
 use serde::Serialize;
 use std::alloc::{AllocError, Global};
 
-/// A class of targets, and a condition that holds at exactly these of all targets, where one was found.
+/// A class of targets, and a condition that is true on exactly these of all targets, if one was found.
 #[derive(Drop)]
 pub struct Class {
     pub targets: TargetSet,
     pub condition: Option<String>,
 }
 
-/// A line of `graph --show targets --json`: a class of targets that no package tells apart.
+/// A line of `graph --show targets --json`: a class of targets that no package distinguishes.
 #[derive(Drop, Serialize)]
 struct ClassLine<'g, 'c, 'a> {
-    /// Its number, from 1 on.
+    /// The number of the class, from 1 on.
     class: usize,
-    /// A condition that holds at exactly its targets, selected or not.
+    /// A condition that is true on exactly the targets of the class, selected or not.
     condition: Option<&'c str>,
-    /// How many targets are in `at`.
+    /// The number of targets in `at`.
     targets: usize,
-    /// Its selected targets.
+    /// The selected targets of the class.
     at: At<'a>,
-    /// The ids of the packages that are in the build there.
+    /// The ids of the packages that are in the build on the targets of the class.
     packages: Vec<&'g str>,
 }
 
-/// The targets of each package, without those that are alike.
+/// Returns the sets of targets of the packages, each once.
 fn different_sets(alloc: Global, graph: &Graph<'_>) -> Result<Vec<TargetSet>, AllocError> {
     let mut different: Vec<TargetSet> = Vec::new(alloc);
     for i in 0..graph.linked.packages.len() {
@@ -48,7 +48,7 @@ fn different_sets(alloc: Global, graph: &Graph<'_>) -> Result<Vec<TargetSet>, Al
     Ok(different)
 }
 
-/// The first target of a set, by its place, for an order of sets.
+/// Returns the index of the first target of a set, by which sets are sorted.
 fn first_of(set: TargetSet) -> usize {
     match set.iter().next() {
         Some(target) => target.index(),
@@ -56,7 +56,7 @@ fn first_of(set: TargetSet) -> usize {
     }
 }
 
-/// The facts that the conditions of the graph ask for, each once.
+/// Returns the facts that occur in the conditions of the graph, each once.
 fn asked_facts(alloc: Global, graph: &Graph<'_>) -> Result<Vec<Cfg>, AllocError> {
     let mut values = Vec::new(alloc);
     for i in 0..graph.linked.packages.len() {
@@ -74,7 +74,7 @@ fn asked_facts(alloc: Global, graph: &Graph<'_>) -> Result<Vec<Cfg>, AllocError>
     Ok(values)
 }
 
-/// The classes in the order of their first targets, each with its condition.
+/// Returns the classes, sorted by their first targets, each with its condition.
 fn classes_of(
     alloc: Global,
     graph: &Graph<'_>,
@@ -91,7 +91,7 @@ fn classes_of(
     Ok(found)
 }
 
-/// The text of a condition that holds at exactly these targets.
+/// Returns the text of a condition that is true on exactly these targets, if one is found.
 fn condition_of(
     alloc: Global,
     targets: TargetSet,
@@ -103,7 +103,7 @@ fn condition_of(
     }
 }
 
-/// The classes that have a target that is asked for.
+/// Returns the classes that contain a selected target.
 pub fn classes_at(
     alloc: Global,
     graph: &Graph<'_>,
@@ -114,7 +114,7 @@ pub fn classes_at(
     Ok(classes)
 }
 
-/// The answer to `--show targets`.
+/// Returns the output of `--show targets`.
 pub fn show_targets(
     alloc: Global,
     graph: &Graph<'_>,
@@ -160,7 +160,7 @@ fn push_line(
     push(text, line.as_str())
 }
 
-/// Appends a line for each package: the classes at which it is there.
+/// Appends a line for each package, with the classes on which it is in the build.
 fn push_table(
     text: &mut String,
     alloc: Global,
@@ -178,7 +178,7 @@ fn push_table(
     Ok(())
 }
 
-/// Appends the numbers of the classes at which a package is there, and a line end.
+/// Appends the numbers of the classes on which a package is in the build, and a line end.
 fn push_classes(
     text: &mut String,
     alloc: Global,
@@ -207,7 +207,7 @@ fn push_classes(
     }
 }
 
-/// The ids of the packages that are there at a target of a class.
+/// Returns the ids of the packages that are in the build on a target of a class.
 fn ids_at<'a>(
     alloc: Global,
     graph: &Graph<'a>,
@@ -225,7 +225,7 @@ fn ids_at<'a>(
     Ok(ids)
 }
 
-/// Appends the line of JSON of a class.
+/// Appends the line of JSON for a class.
 fn push_object(
     text: &mut String,
     alloc: Global,

@@ -1,4 +1,4 @@
-//! `--show unified`: the packages that are built with different features, at different targets or for the host.
+//! `--show unified`: the packages that are built with different features, on different targets or for the host.
 
 use crate::asked::Asked;
 use crate::features::{side_note, side_word};
@@ -15,7 +15,7 @@ use package_graphs::Side;
 use serde::Serialize;
 use std::alloc::{AllocError, Global};
 
-/// Targets at which a package is built for a side with the same features.
+/// The targets on which a package is built for a side with the same features.
 #[derive(Drop)]
 struct Built<'a> {
     side: Side,
@@ -23,7 +23,7 @@ struct Built<'a> {
     features: Vec<&'a str>,
 }
 
-/// A line of `graph --show unified --json`: a package that is built with different features, with some of them.
+/// A line of `graph --show unified --json`: one of several sets of features with which a package is built.
 #[derive(Drop, Serialize)]
 struct UnifiedLine<'g, 'l, 'f, 'a> {
     /// The name and the version of the package.
@@ -34,13 +34,13 @@ struct UnifiedLine<'g, 'l, 'f, 'a> {
     side: &'static str,
     /// The features that are on.
     features: &'l [&'f str],
-    /// How many targets are in `at`.
+    /// The number of targets in `at`.
     targets: usize,
-    /// The selected targets at which it is built with these features.
+    /// The selected targets on which the package is built with these features.
     at: At<'a>,
 }
 
-/// Appends how a package is built for a side, at the targets that are asked for.
+/// Appends each set of features with which a package is built for a side, on the selected targets.
 fn push_built<'a>(
     alloc: Global,
     features: &Features<'a>,
@@ -79,7 +79,7 @@ fn push_built<'a>(
     Ok(())
 }
 
-/// Whether all are built with the same features.
+/// Returns whether all are built with the same features.
 fn are_same(built: &[Built<'_>]) -> bool {
     let Some(first) = built.first() else {
         return true;
@@ -92,7 +92,7 @@ fn are_same(built: &[Built<'_>]) -> bool {
     true
 }
 
-/// The answer to `--show unified`.
+/// Returns the output of `--show unified`.
 pub fn show_unified(
     alloc: Global,
     graph: &Graph<'_>,
@@ -120,7 +120,7 @@ pub fn show_unified(
     Ok(answer)
 }
 
-/// Appends the line of a package with some features.
+/// Appends the line of a package with a set of features.
 fn push_line(
     text: &mut String,
     alloc: Global,
@@ -148,7 +148,7 @@ fn push_line(
     push(text, "\n")
 }
 
-/// Appends the line of JSON of a package with some features.
+/// Appends the line of JSON for a package with a set of features.
 fn push_object(
     text: &mut String,
     alloc: Global,

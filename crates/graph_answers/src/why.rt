@@ -1,4 +1,5 @@
-//! `--show why`: for each package of a name a shortest path from a root, at each target at which it is there.
+//! `--show why`: a shortest dependency path from a root to each package of a name, on each target on which the package
+//! is in the build.
 
 use crate::asked::Asked;
 use crate::edges::{Edge, PathStep, edges_of, shown_kind, step_of};
@@ -16,29 +17,29 @@ use package_graphs::{Step, shortest_path};
 use serde::Serialize;
 use std::alloc::{AllocError, Global};
 
-/// The targets at which one path is the shortest.
+/// A shortest dependency path, and the targets on which it is found.
 #[derive(Drop)]
 struct Way {
     targets: TargetSet,
     steps: Vec<Step>,
 }
 
-/// A line of `graph --show why --json`: a shortest path to a package.
+/// A line of `graph --show why --json`: a shortest dependency path to a package.
 #[derive(Drop, Serialize)]
 struct PathLine<'g, 'a> {
     /// The name and the version of the package.
     package: String,
     /// The id of the package.
     id: &'g str,
-    /// How many targets are in `at`.
+    /// The number of targets in `at`.
     targets: usize,
-    /// The selected targets at which this path is a shortest one.
+    /// The selected targets on which this path is a shortest one.
     at: At<'a>,
-    /// The steps of the path, from a root on. Null where no path leads to the package.
+    /// The steps of the path, from a root on. Null if no path leads to the package.
     path: Option<Vec<PathStep<'g>>>,
 }
 
-/// The ways to a package, in the order of their first targets.
+/// Returns the dependency paths to a package, in the order of their first targets.
 fn ways_to(
     alloc: Global,
     graph: &Graph<'_>,
@@ -71,7 +72,7 @@ fn ways_to(
     Ok(ways)
 }
 
-/// The answer to `--show why`.
+/// Returns the output of `--show why`.
 pub fn show_why(
     alloc: Global,
     file: &str,
@@ -101,7 +102,7 @@ pub fn show_why(
     answered(alloc, Err(unusable(alloc, file, reason.as_str())))
 }
 
-/// The edge that a step goes along.
+/// Returns the edge of a step.
 fn edge_of<'a>(
     alloc: Global,
     graph: &Graph<'a>,
@@ -115,7 +116,7 @@ fn edge_of<'a>(
     Ok(None)
 }
 
-/// Appends the lines of the ways to a package.
+/// Appends the lines of the dependency paths to a package.
 fn push_lines(
     text: &mut String,
     alloc: Global,
@@ -142,7 +143,7 @@ fn push_lines(
     Ok(())
 }
 
-/// Appends the lines of a path, indented: its root, and each step.
+/// Appends the lines of a dependency path, indented: its root, and each step.
 fn push_path(
     text: &mut String,
     alloc: Global,
@@ -173,7 +174,7 @@ fn push_path(
     Ok(())
 }
 
-/// The steps of a way.
+/// Returns the steps of a dependency path.
 fn path_of<'a>(
     alloc: Global,
     graph: &Graph<'a>,
@@ -189,7 +190,7 @@ fn path_of<'a>(
 }
 
 impl<'g, 'a> PathLine<'g, 'a> {
-    /// The line of a package with a path to it at these targets, if one leads there.
+    /// Returns the line for a package with the targets of a path to it, and the path if there is one.
     fn of(
         alloc: Global,
         described: &Described<'g>,
@@ -207,7 +208,7 @@ impl<'g, 'a> PathLine<'g, 'a> {
     }
 }
 
-/// Appends the lines of JSON of the ways to a package; one without a path where there is no way.
+/// Appends a line of JSON for each dependency path to a package, or one without a path if there is none.
 fn push_objects(
     text: &mut String,
     alloc: Global,

@@ -1,4 +1,4 @@
--- What rules make of the weight of a finding.
+-- The level that rules give a diagnostic.
 use Rattle.std.specs.Prelude.{◌≡◌, ◌≢◌, ◌≤◌, ◌⊎◌, ℕ, List, [], ◌∷◌, Option, Some, None, option_map, Contains, string_bytes}
 use Rattle.std.specs.declared.string.String.{String}
 use Rattle.std.specs.declared.alloc.Global.{Global}
@@ -11,13 +11,13 @@ use Rattle.lint_reports.specs.declared.weight_rules.Subject.TheVariants as subje
 use Rattle.lint_reports.specs.declared.weight_rules.Rule.{Rule}
 use Rattle.lint_reports.specs.declared.weight_rules.Weighed.{Weighed}
 
--- the weight of a finding that hears a rule with this setting
+-- the level of a diagnostic to which a rule with this setting applies
 abbrev pub weight_set : Setting → Weight
 weight_set setting.Allow = weight.Allowed
 weight_set setting.Warn = weight.Warning
 weight_set setting.Deny = weight.Error
 
--- the subject has the findings of this code that weigh so much by the rules before
+-- the subject includes the diagnostics of this lint that have this level after the rules before
 abbrev pub IsAbout : Subject → List ℕ → Weight → Type 0
 IsAbout (subject.Code word) code w = string_bytes word ≡ code
 IsAbout subject.Warnings code w = w ≡ weight.Warning
@@ -28,12 +28,12 @@ abbrev pub IsMeant : Option (String Global) → Option (List ℕ) → Type 0
 IsMeant None key = Unit {0}
 IsMeant (Some meant) key = key ≡ Some (string_bytes meant)
 
--- a finding of this code, on this key, that weighs so much by the rules before, hears the rule
+-- the rule applies to a diagnostic of this lint, on this key, that has this level after the rules before
 abbrev pub Hears : Rule → List ℕ → Option (List ℕ) → Weight → Type 0
 Hears rule code key w = IsAbout rule.subject code w × IsMeant rule.key key
 
--- the rules make the second weight of the first: each, in its order, sets it where the finding hears it by then, and
--- leaves it where not
+-- the rules turn the first level into the second: each, in its order, sets the level if it applies to the diagnostic by
+-- then, and otherwise keeps it
 abbrev pub Makes : List ℕ → Option (List ℕ) → Weight → List Rule → Weight → Type 0
 Makes code key w [] v = v ≡ w
 Makes code key w (rule ∷ rules) v =
@@ -52,7 +52,7 @@ abbrev pub Fails : Option Weight → Weight → Type 0
 Fails None w = ⊥
 Fails (Some least) w = severity least ≤ severity w
 
--- a finding hears the rule, and would be told without any rule
+-- the rule applies to a diagnostic that would be reported without any rule
 abbrev pub IsNeeded : Rule → List Weighed → Type 0
 IsNeeded rule found = (it : Weighed) × Contains found it × (it.weight ≢ weight.Allowed)
     × Hears rule it.code.now (option_map (λ k. k.now) it.key) it.weight

@@ -1,4 +1,4 @@
-//! What the codes of findings mean, for people.
+//! The explanations of the lints, for people.
 
 use crate::told::own_weight;
 use crate::weight_rules::Weight;
@@ -6,32 +6,32 @@ use cargo_platform::shown_start;
 use manifest_lints_findings::{CODES, Code, MISPLACED, UNDERSCORED, near};
 use std::alloc::{AllocError, Global};
 
-/// The code of what can't be used in a table of rules.
+/// The lint that reports invalid entries in a table of rules.
 pub const SETTINGS: &str = "settings";
 
-/// The code of a rule that allows what is not found any more.
+/// The lint that reports a rule that allows nothing that is found.
 pub const UNNEEDED_ALLOW: &str = "unneeded-allow";
 
-/// The code of a field that Cargo does not read at a key of its own configuration.
+/// The lint that reports a field that Cargo does not read under a key of its own configuration.
 pub const UNREAD_FIELD: &str = "unread-field";
 
-/// The code of a name that rustc knew before.
+/// The lint that reports a name that rustc knew until some release.
 pub const FORMER: &str = "former";
 
-/// What is said of a code.
+/// The explanation of a lint.
 #[derive(Clone, Copy, Drop)]
 pub struct Explained {
-    /// The word for it.
+    /// The name of the lint.
     pub word: &'static str,
-    /// How much a finding weighs where no rule is heard.
+    /// The level of the lint if no rule applies.
     pub weight: Weight,
-    /// Where it is told, in a line.
+    /// A summary of one line.
     pub short: &'static str,
     /// A paragraph, and an example.
     pub text: &'static str,
 }
 
-/// What is said of the codes that are not about a key.
+/// The explanations of the lints that are not about a key.
 const OTHERS: [Explained; 6] = [
     Explained {
         word: FORMER,
@@ -88,10 +88,10 @@ const OTHERS: [Explained; 6] = [
     },
 ];
 
-/// What is said of a code on a key.
+/// The explanation of a lint on keys, without its name and level.
 #[derive(Clone, Copy, Drop)]
 struct Said {
-    /// Where it is told, in a line.
+    /// A summary of one line.
     short: &'static str,
     /// A paragraph, and an example.
     text: &'static str,
@@ -200,7 +200,7 @@ const NOT_CANONICAL: Said = Said {
            Example: [target.'cfg( unix )'.dependencies]\nWrite `cfg(unix)`.",
 };
 
-/// What is said of the code.
+/// Returns the explanation of a lint on keys.
 fn said_of(code: Code) -> Said {
     match code {
         Code::Refused => REFUSED,
@@ -220,7 +220,7 @@ fn said_of(code: Code) -> Said {
     }
 }
 
-/// What is said of a code, with the word for it and its weight.
+/// Returns the explanation of a lint on keys, with its name and level.
 pub fn explanation_of(code: Code) -> Explained {
     let Said { short, text } = said_of(code);
     Explained {
@@ -231,7 +231,8 @@ pub fn explanation_of(code: Code) -> Explained {
     }
 }
 
-/// What is said of each code, in the order in which they are told of a key, and of those that are not about keys.
+/// Returns the explanations of all lints: first those on keys, in the order in which they are reported for a key, and
+/// then the others. Fails if memory is refused.
 pub fn all_explained(alloc: Global) -> Result<Vec<Explained>, AllocError> {
     let mut all = Vec::new(alloc);
     for code in &CODES {
@@ -243,7 +244,7 @@ pub fn all_explained(alloc: Global) -> Result<Vec<Explained>, AllocError> {
     Ok(all)
 }
 
-/// The words for all codes.
+/// Returns the names of all lints. Fails if memory is refused.
 pub fn words(alloc: Global) -> Result<Vec<&'static str>, AllocError> {
     let mut words = Vec::new(alloc);
     for explained in &all_explained(alloc)? {

@@ -1,9 +1,9 @@
-//! How much was checked, and how much was found.
+//! The numbers of checked files and keys, and of diagnostics.
 
 use crate::weight_rules::Weight;
 use std::alloc::{AllocError, Global};
 
-/// How many manifests, configurations and keys were checked, and how many findings there are of each weight.
+/// The numbers of manifests, configurations and keys that were checked, and of diagnostics of each level.
 #[derive(Clone, Copy, Drop)]
 pub struct Counts {
     manifests: usize,
@@ -14,7 +14,7 @@ pub struct Counts {
     notes: usize,
 }
 
-/// A number of things.
+/// Formats a number of things.
 fn counted(alloc: Global, count: usize, thing: &str) -> Result<String, AllocError> {
     if count == 1 {
         format!(in alloc; "{count} {thing}")
@@ -24,7 +24,7 @@ fn counted(alloc: Global, count: usize, thing: &str) -> Result<String, AllocErro
 }
 
 impl Counts {
-    /// None.
+    /// Returns counts of zero.
     pub fn none() -> Counts {
         Counts {
             manifests: 0,
@@ -36,19 +36,19 @@ impl Counts {
         }
     }
 
-    /// One more manifest, with so many keys.
+    /// Counts a manifest with this number of keys.
     pub fn add_manifest(&mut self, keys: usize) {
         self.manifests = self.manifests.saturating_add(1);
         self.keys = self.keys.saturating_add(keys);
     }
 
-    /// One more file of Cargo's configuration, with so many keys.
+    /// Counts a file of Cargo's configuration with this number of keys.
     pub fn add_configuration(&mut self, keys: usize) {
         self.configurations = self.configurations.saturating_add(1);
         self.keys = self.keys.saturating_add(keys);
     }
 
-    /// The files that were checked. Configurations are told where there are any.
+    /// Formats the numbers of checked files. Configurations are left out if there are none.
     fn files(self, alloc: Global) -> Result<String, AllocError> {
         let manifests = counted(alloc, self.manifests, "manifest")?;
         if self.configurations == 0 {
@@ -58,7 +58,7 @@ impl Counts {
         format!(in alloc; "{manifests}, {configurations}")
     }
 
-    /// One more of this weight.
+    /// Counts a diagnostic of this level. Allowed diagnostics are not counted.
     pub fn add(&mut self, weight: Weight) {
         match weight {
             Weight::Error => self.errors = self.errors.saturating_add(1),
@@ -68,7 +68,7 @@ impl Counts {
         }
     }
 
-    /// The findings of each weight.
+    /// Formats the numbers of diagnostics of each level.
     fn findings(self, alloc: Global) -> Result<String, AllocError> {
         let errors = counted(alloc, self.errors, "error")?;
         let warnings = counted(alloc, self.warnings, "warning")?;
@@ -76,7 +76,7 @@ impl Counts {
         format!(in alloc; "{errors}, {warnings}, {notes}")
     }
 
-    /// The last line, which sums up.
+    /// Returns the summary, which is the last line of the output. Fails if memory is refused.
     pub fn line(self, alloc: Global) -> Result<String, AllocError> {
         let files = self.files(alloc)?;
         let keys = counted(alloc, self.keys, "key")?;

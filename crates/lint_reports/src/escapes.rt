@@ -1,11 +1,11 @@
-//! Texts of GitHub's workflow commands, and paths as URIs.
+//! Escaped texts of GitHub's workflow commands, and paths as URIs.
 //!
-//! In a command the toolkit of GitHub's actions writes `%`, a carriage return and a line feed as their bytes in
-//! hexadecimal, and in a property `:` and `,` too.
+//! As in the toolkit of GitHub's actions, a command has `%`, carriage returns and line feeds as `%` and two hexadecimal
+//! digits, and a property has `:` and `,` in that form too.
 
 use std::alloc::{AllocError, Global};
 
-/// What stands for a character, if it can't stand for itself.
+/// Returns the escape of a character, if the character has to be escaped.
 fn escape(c: char, in_property: bool) -> Option<&'static str> {
     match c {
         '%' => Some("%25"),
@@ -17,7 +17,7 @@ fn escape(c: char, in_property: bool) -> Option<&'static str> {
     }
 }
 
-/// The text of a command or of a property of one.
+/// Escapes the text of a workflow command or, if `in_property`, of a property of one. Fails if memory is refused.
 pub fn escaped(alloc: Global, text: &str, in_property: bool) -> Result<String, AllocError> {
     let mut escaped = String::new(alloc);
     for c in text.chars() {
@@ -29,7 +29,9 @@ pub fn escaped(alloc: Global, text: &str, in_property: bool) -> Result<String, A
     Ok(escaped)
 }
 
-/// A path as a reference of a URI: a byte that may not stand there is `%` and its two digits (RFC 3986).
+/// Returns a path as a URI reference ([RFC 3986](https://www.rfc-editor.org/rfc/rfc3986)): ASCII letters, digits, `/`,
+/// `.`, `-`, `_` and `~` are kept, and each other byte becomes `%` and two hexadecimal digits. Fails if memory is
+/// refused.
 pub fn uri_of(alloc: Global, path: &str) -> Result<String, AllocError> {
     let mut uri = String::new(alloc);
     for byte in path.bytes() {

@@ -1,4 +1,4 @@
-//! What Cargo does not read at the keys of `target` in its own configuration.
+//! Fields under the keys of `target` that Cargo does not read in its own configuration.
 
 use crate::codes::UNREAD_FIELD;
 use cargo_platform::shown_start;
@@ -6,16 +6,17 @@ use manifest_lints_findings::{Level, WrongPlace, add_at_top, near};
 use std::alloc::{AllocError, Global};
 use toml::{Table, Value};
 
-/// The table of the keys.
+/// The name of the table that contains the keys.
 const TARGET: &str = "target";
 
-/// The field that Cargo reads at the name of a target alone.
+/// The field that Cargo reads only under the name of a target.
 const OF_NAMES: &str = "rustdocflags";
 
-/// The fields of a key. At the name of a target other members are tables for libraries of `links`.
+/// The fields of a key. Under the name of a target, other members are tables for libraries of `links`.
 const FIELDS: [&str; 4] = ["linker", "runner", "rustflags", OF_NAMES];
 
-/// Returns the level and the message for a field that Cargo reads at some keys, or `None` if it reads it at this one.
+/// Returns the level and the message for a field that Cargo reads under some keys, or `None` if Cargo reads it under
+/// this one.
 fn misplaced(
     alloc: Global,
     name: &str,
@@ -28,7 +29,7 @@ fn misplaced(
     Ok(None)
 }
 
-/// What Cargo makes of a field that it reads at no key. `name` is the field as it is shown.
+/// Formats what Cargo does with a field that it reads under no key. `name` is the field as it is displayed.
 fn reason_of(
     alloc: Global,
     name: &str,
@@ -44,8 +45,8 @@ fn reason_of(
     }
 }
 
-/// Returns the level and the message for a field that Cargo does not read, or `None` if Cargo reads it or its name is not
-/// similar to that of a field that Cargo reads.
+/// Returns the level and the message for a field. Returns `None` if Cargo reads the field, or if no field that Cargo
+/// reads has a similar name.
 fn unread(
     alloc: Global,
     key: &str,
@@ -71,7 +72,7 @@ fn unread(
     Ok(Some((level, message)))
 }
 
-/// A field of a key that is not read, with what is told of it.
+/// Returns the diagnostic on a field of a key that is not read.
 fn field_of(
     alloc: Global,
     key: &str,
@@ -88,7 +89,7 @@ fn field_of(
     })
 }
 
-/// Adds the fields of a key that are not read.
+/// Adds the diagnostics on the fields of a key that are not read.
 fn add_of_key(
     alloc: Global,
     key: &str,
@@ -103,7 +104,9 @@ fn add_of_key(
     Ok(())
 }
 
-/// What Cargo does not read of a configuration: tables that are meant for targets and stand elsewhere, and fields.
+/// Returns the diagnostics on what Cargo does not read of a
+/// [configuration](https://doc.rust-lang.org/cargo/reference/config.html#target): tables that are meant for targets but
+/// are defined elsewhere, and fields of keys. Fails if memory is refused.
 pub fn wrong_fields(alloc: Global, configuration: &Table) -> Result<Vec<WrongPlace>, AllocError> {
     let mut found = Vec::new(alloc);
     add_at_top(alloc, configuration, &mut found)?;

@@ -1,4 +1,4 @@
-//! The formats in which findings are printed.
+//! The output formats of diagnostics.
 
 use crate::escapes::escaped;
 use crate::sarif::{push_result, sarif_begin, sarif_end};
@@ -9,23 +9,23 @@ use key_answers::printing::push_indented;
 use serde::Serialize;
 use std::alloc::{AllocError, Global};
 
-/// How findings are printed.
+/// The output format of diagnostics.
 #[derive(Clone, Copy, Debug, PartialEq, Eq, Drop)]
 pub enum Format {
-    /// A line each, and the two lines that show a fault.
+    /// One line per diagnostic, followed by the two lines that show an error.
     Human,
-    /// A line each.
+    /// One line per diagnostic.
     Short,
-    /// An object each, on a line of its own.
+    /// One JSON object per diagnostic, each on a line of its own.
     Json,
-    /// A command each, for a workflow of GitHub.
+    /// One workflow command of GitHub per diagnostic.
     Github,
-    /// One document in the Static Analysis Results Interchange Format, 2.1.0.
+    /// One document in the Static Analysis Results Interchange Format (SARIF), 2.1.0.
     Sarif,
 }
 
 impl Format {
-    /// The format with this name.
+    /// Returns the format with this name.
     pub fn by_name(name: &str) -> Option<Format> {
         match name {
             "human" => Some(Format::Human),
@@ -38,22 +38,22 @@ impl Format {
     }
 }
 
-/// How findings are printed.
+/// The output format of diagnostics, and whether it has colours.
 #[derive(Clone, Copy, Drop)]
 pub struct Style {
     pub format: Format,
-    /// Words for weights have colours, where people read them.
+    /// True if the names of levels are coloured in the formats for people.
     pub colours: bool,
 }
 
-/// Findings that are printed one after the other.
+/// A printer of diagnostics, which counts those that it has printed.
 #[derive(Clone, Copy, Drop)]
 pub struct Printed {
     style: Style,
     told: usize,
 }
 
-/// The word for a weight, in colours where these are wanted.
+/// Returns the name of a level, in colour if `colours`.
 fn coloured(alloc: Global, weight: Weight, colours: bool) -> Result<String, AllocError> {
     let word = weight_word(weight);
     if !colours {
@@ -67,7 +67,7 @@ fn coloured(alloc: Global, weight: Weight, colours: bool) -> Result<String, Allo
     format!(in alloc; "\x1b[{colour}m{word}\x1b[0m")
 }
 
-/// A line behind a text, or nothing where no line is certain.
+/// Returns a line number after the text `before`, or the empty text if no line is certain.
 fn line_behind(alloc: Global, before: &str, line: Option<usize>) -> Result<String, AllocError> {
     match line {
         Some(line) => format!(in alloc; "{before}{line}"),
@@ -75,7 +75,7 @@ fn line_behind(alloc: Global, before: &str, line: Option<usize>) -> Result<Strin
     }
 }
 
-/// Appends the line of a finding: where it is, its weight and code, what it is on and what is told.
+/// Appends the line of a diagnostic: its position, level, lint, subject and message.
 fn push_line(
     text: &mut String,
     alloc: Global,
@@ -91,7 +91,7 @@ fn push_line(
     text.push_str(head.as_str())
 }
 
-/// Appends the lines of a finding, with those that show a fault.
+/// Appends the lines of a diagnostic, with those that show an error.
 fn push_lines(
     text: &mut String,
     alloc: Global,
@@ -108,9 +108,9 @@ fn push_lines(
 /// A line of `lint --json`: a diagnostic.
 #[derive(Drop, Serialize)]
 struct Diagnostic<'a> {
-    /// The name of its lint.
+    /// The name of the lint.
     code: &'a str,
-    /// The key of `target` that it is on.
+    /// The key of `target` that the diagnostic is about.
     key: Option<&'a str>,
     /// One of `error`, `warning`, `note` and `allowed`.
     level: &'static str,
@@ -119,14 +119,14 @@ struct Diagnostic<'a> {
     /// The path of the manifest.
     manifest: &'a str,
     message: &'a str,
-    /// Where the key goes wrong: the first byte, and the byte after the last one.
+    /// The span of an error in the key: its first byte, and the byte after its last one.
     span: Option<(usize, usize)>,
-    /// A key that may stand in its place.
+    /// A key that can replace it.
     suggestion: Option<&'a str>,
 }
 
 impl<'a> Diagnostic<'a> {
-    /// The diagnostic for a finding.
+    /// Returns a diagnostic as a line of JSON.
     fn of(told: &Told<'a>) -> Diagnostic<'a> {
         Diagnostic {
             code: told.code,
@@ -141,7 +141,7 @@ impl<'a> Diagnostic<'a> {
     }
 }
 
-/// The command for a weight.
+/// Returns the workflow command for a level.
 fn command_word(weight: Weight) -> &'static str {
     match weight {
         Weight::Error => "error",
@@ -150,13 +150,13 @@ fn command_word(weight: Weight) -> &'static str {
     }
 }
 
-/// What a command says of a finding.
+/// Returns the text of the workflow command for a diagnostic.
 fn command_body(alloc: Global, told: &Told<'_>) -> Result<String, AllocError> {
     let sentence = sentence_of(alloc, told)?;
     escaped(alloc, sentence.as_str(), false)
 }
 
-/// Appends the command of a finding, which shows it beside the line in a change.
+/// Appends the workflow command for a diagnostic, which GitHub shows beside the line in a change.
 fn push_command(text: &mut String, alloc: Global, told: &Told<'_>) -> Result<(), AllocError> {
     let word = command_word(told.weight);
     let file = escaped(alloc, told.place.path, true)?;
@@ -168,12 +168,12 @@ fn push_command(text: &mut String, alloc: Global, told: &Told<'_>) -> Result<(),
 }
 
 impl Printed {
-    /// A report in this style, with nothing told so far.
+    /// Returns a printer with this style that has printed no diagnostic.
     pub fn new(style: Style) -> Printed {
         Printed { style, told: 0 }
     }
 
-    /// What stands before the first finding.
+    /// Returns the text before the first diagnostic. `version` is that of the program. Fails if memory is refused.
     pub fn begin(&self, alloc: Global, version: &str) -> Result<String, AllocError> {
         match self.style.format {
             Format::Sarif => sarif_begin(alloc, version),
@@ -181,7 +181,7 @@ impl Printed {
         }
     }
 
-    /// Appends what is printed of a finding.
+    /// Appends a diagnostic. Fails if memory is refused.
     pub fn push(
         &mut self,
         text: &mut String,
@@ -199,7 +199,7 @@ impl Printed {
         }
     }
 
-    /// What stands behind the last finding.
+    /// Returns the text after the last diagnostic.
     pub fn end(&self) -> &'static str {
         match self.style.format {
             Format::Sarif => sarif_end(),

@@ -1,4 +1,4 @@
-//! What is told of names that rustc knew before.
+//! Diagnostics on names that rustc knew until some release.
 
 use crate::codes::FORMER;
 use crate::settings::Settings;
@@ -11,18 +11,18 @@ use manifests::{Declared, Targets, target_keys};
 use std::alloc::{AllocError, Global};
 use toml::Table;
 
-/// What says which rustc builds a project.
+/// The settings that determine which rustc builds a project.
 #[derive(Clone, Copy, Drop)]
 pub struct Project<'a> {
     pub of_workspace: &'a Settings,
     pub of_package: &'a Settings,
     /// The `rust-version` of the package.
     pub rust_version: Option<Release>,
-    /// Names of targets that are known besides.
+    /// The names of targets that are known in addition.
     pub targets: &'a [String],
 }
 
-/// Whether one of the texts is this one.
+/// Returns whether one of the texts is `wanted`.
 fn has(texts: &[String], wanted: &str) -> bool {
     for text in texts {
         if text.as_str() == wanted {
@@ -33,7 +33,7 @@ fn has(texts: &[String], wanted: &str) -> bool {
 }
 
 impl<'a> Project<'a> {
-    /// The rustc that builds it: that of the package, or else that of the workspace.
+    /// Returns the rustc that builds the project: that of the package, or else that of the workspace.
     fn rustc(&self) -> Option<Release> {
         match self.of_package.rustc {
             Some(release) => Some(release),
@@ -41,14 +41,14 @@ impl<'a> Project<'a> {
         }
     }
 
-    /// Whether it knows a target of this name by itself.
+    /// Returns whether the project itself declares a target of this name.
     fn knows_target(&self, name: &str) -> bool {
         self.of_package.knows_target(name)
             || self.of_workspace.knows_target(name)
             || has(self.targets, name)
     }
 
-    /// Why no rustc that builds it knows a name, to be put behind what is told of that.
+    /// Formats why no rustc that builds the project knows a name, as the end of a message.
     fn reason(&self, alloc: Global, bounds: Bounds) -> Result<String, AllocError> {
         if bounds.is_lacking(self.rustc()) {
             return reason(alloc, "the rustc of this project", self.rustc());
@@ -57,7 +57,7 @@ impl<'a> Project<'a> {
     }
 }
 
-/// A reason that names a release.
+/// Formats a reason that names a release.
 fn reason(alloc: Global, subject: &str, release: Option<Release>) -> Result<String, AllocError> {
     match release {
         Some(release) => format!(in alloc; ", and {subject} is {release}"),
@@ -65,7 +65,7 @@ fn reason(alloc: Global, subject: &str, release: Option<Release>) -> Result<Stri
     }
 }
 
-/// Until when rustc knew a name.
+/// Formats until which release rustc knew a name.
 fn until(alloc: Global, name: &str, bounds: Bounds) -> Result<String, AllocError> {
     let Bounds { last, gone } = bounds;
     if bounds.is_close() {
@@ -75,7 +75,8 @@ fn until(alloc: Global, name: &str, bounds: Bounds) -> Result<String, AllocError
     }
 }
 
-/// What is told of a name that rustc knew before, at a key; nothing where the project's rustc knows it.
+/// Returns the diagnostic on a name in a key that rustc knew until some release, or `None` if the project's rustc knows
+/// it.
 fn former(
     alloc: Global,
     key: &str,
@@ -103,7 +104,7 @@ fn former(
     }))
 }
 
-/// What is told of the name of a target that rustc knew before.
+/// Returns the diagnostic on the name of a target that rustc knew until some release.
 fn former_of_target(
     alloc: Global,
     name: &str,
@@ -121,7 +122,7 @@ fn former_of_target(
     Ok(Some(told))
 }
 
-/// A fact that a target had before, and between which releases it went.
+/// A fact that targets had until some release, and the releases between which it was removed.
 #[derive(Clone, Copy, Drop)]
 struct FormerFact<'a> {
     key: &'a str,
@@ -130,7 +131,7 @@ struct FormerFact<'a> {
 }
 
 impl<'a> FormerFact<'a> {
-    /// The fact, where it is one.
+    /// Returns a fact as a former one, if it is one.
     fn of(fact: &'a Cfg) -> Option<FormerFact<'a>> {
         let bounds = former_fact(fact)?;
         match fact {
@@ -143,7 +144,7 @@ impl<'a> FormerFact<'a> {
         }
     }
 
-    /// Whether one of the facts is the same.
+    /// Returns whether the list contains the same fact.
     fn is_among(&self, facts: &[FormerFact<'_>]) -> bool {
         for other in facts {
             if other.key == self.key && other.value == self.value {
@@ -153,7 +154,7 @@ impl<'a> FormerFact<'a> {
         false
     }
 
-    /// What is told of it at a key.
+    /// Returns the diagnostic on the fact in a key.
     fn told(
         &self,
         alloc: Global,
@@ -166,7 +167,7 @@ impl<'a> FormerFact<'a> {
         former(alloc, key, fact.as_str(), self.bounds, project)
     }
 
-    /// It, as `rustc --print cfg` printed it.
+    /// Returns the fact as `rustc --print cfg` printed it.
     fn printed(&self, alloc: Global) -> Result<String, AllocError> {
         let name = self.key;
         let value = self.value;
@@ -174,18 +175,18 @@ impl<'a> FormerFact<'a> {
     }
 }
 
-/// What a manifest has of names that rustc knew before.
+/// The names in a manifest that rustc knew until some release.
 #[derive(Drop)]
 pub struct Formers {
-    /// What is told of them.
+    /// The diagnostics on these names.
     pub told: Vec<WrongPlace>,
     /// The facts among them, as `rustc --print cfg` printed them.
     pub facts: Vec<String>,
-    /// The keys that are names of targets among them.
+    /// The keys among them that are names of targets.
     targets: Vec<String>,
 }
 
-/// Those among the facts of a key that targets had before and that are not declared, each once.
+/// Returns the facts of a key that targets had until some release and that the manifest does not declare, each once.
 fn formers_among<'a>(
     alloc: Global,
     values: &[&'a Cfg],
@@ -202,13 +203,14 @@ fn formers_among<'a>(
     Ok(facts)
 }
 
-/// Whether a key may have a name that rustc knew before. It is not read for that: most have none.
+/// Returns whether a key may contain a name that rustc knew until some release. The key is not parsed for that, since
+/// most keys contain no such name.
 fn may_have(key: &str) -> bool {
     former_target(key).is_some() || has_former_value(key)
 }
 
 impl Formers {
-    /// Adds a fact that a key asks for.
+    /// Adds a fact that occurs in a key.
     fn add_fact(
         &mut self,
         alloc: Global,
@@ -260,7 +262,7 @@ impl Formers {
         Ok(())
     }
 
-    /// Adds what a key has of them. One that spells no condition has nothing.
+    /// Adds the names in a key. A key that is not a condition adds none.
     fn add_key(
         &mut self,
         alloc: Global,
@@ -278,7 +280,8 @@ impl Formers {
         }
     }
 
-    /// What a manifest has of them, beside the facts that it declares and the targets that its project knows.
+    /// Returns the names in the keys of a manifest that rustc knew until some release, except facts that the manifest
+    /// declares and targets that the project knows. Fails if memory is refused.
     pub fn of(
         alloc: Global,
         manifest: &Table,
@@ -303,7 +306,7 @@ impl Formers {
         Ok(formers)
     }
 
-    /// Whether a key is the name of a target among them.
+    /// Returns whether a key is one of these names, and the name of a target.
     pub fn has_target(&self, key: &str) -> bool {
         has(&self.targets, key)
     }

@@ -1,8 +1,9 @@
-//! What `lint` tells, as it is printed: for people, one line or one object each, or as a CI takes it; and which
-//! findings are told, and how much each weighs: what rules make of the weight that a finding has by its code.
+//! The output of `lint` in each of its formats, and the level of each diagnostic: the level of its lint, as changed by
+//! rules.
 //!
-//! Rules stand in an order, and the last one that a finding hears decides. The words for what they do are those of
-//! rustc's lints, and `warnings` stands, as there, for what is a warning by the rules before.
+//! Rules have an order, and the last one that applies to a diagnostic decides. They are named as rustc's [lint
+//! levels](https://doc.rust-lang.org/rustc/lints/levels.html) are, and `warnings` means, as there, all that are
+//! warnings after the rules before.
 #![tactic(auto)]
 
 pub mod codes;

@@ -1,4 +1,4 @@
-//! What is told of tables that are no keys: rules that can't be used or that nothing needs, and wrong places.
+//! Diagnostics that are not about conditions: invalid or unneeded rules, and misplaced tables.
 
 use crate::codes::{SETTINGS, UNNEEDED_ALLOW, unknown_lint};
 use crate::settings::{Fault, TOOL};
@@ -9,7 +9,7 @@ use manifest_lints_findings::WrongPlace;
 use manifests::reading::Manifest;
 use std::alloc::{AllocError, Global};
 
-/// What is told of something that can't be used in a table of rules.
+/// Returns the message for an error in a table of rules. Fails if memory is refused.
 pub fn fault_message(alloc: Global, fault: &Fault) -> Result<String, AllocError> {
     match fault {
         Fault::NoTable => format!(in alloc; "`{TOOL}` is no table"),
@@ -29,7 +29,7 @@ pub fn fault_message(alloc: Global, fault: &Fault) -> Result<String, AllocError>
     }
 }
 
-/// What is told of a rule that allows what is not found.
+/// Returns the message for a rule that allows nothing that is found. Fails if memory is refused.
 pub fn unneeded_message(alloc: Global, rule: &Rule) -> Result<String, AllocError> {
     let subject = match &rule.subject {
         Subject::Code(word) => word.as_str(),
@@ -45,7 +45,7 @@ pub fn unneeded_message(alloc: Global, rule: &Rule) -> Result<String, AllocError
     }
 }
 
-/// What is told of a part of a manifest.
+/// Returns a diagnostic on a part of a manifest.
 fn told_of_part<'a>(
     path: &'a str,
     part: &'a str,
@@ -69,17 +69,17 @@ fn told_of_part<'a>(
     }
 }
 
-/// That something can't be used in the rules of a part of a manifest.
+/// Returns the diagnostic on an error in the rules of a part of a manifest.
 pub fn told_of_fault<'a>(path: &'a str, part: &'a str, message: &'a str) -> Told<'a> {
     told_of_part(path, part, SETTINGS, Weight::Warning, message)
 }
 
-/// That nothing needs a rule of a part of a manifest.
+/// Returns the diagnostic on an unneeded rule of a part of a manifest.
 pub fn told_of_unneeded<'a>(path: &'a str, part: &'a str, message: &'a str) -> Told<'a> {
     told_of_part(path, part, UNNEEDED_ALLOW, Weight::Note, message)
 }
 
-/// That something stands where it is not read.
+/// Returns the diagnostic for `wrong`, with its position in the manifest.
 pub fn told_of_wrong<'a>(manifest: &'a Manifest, wrong: &'a WrongPlace) -> Told<'a> {
     let told = told_of_part(
         manifest.path.as_str(),

@@ -1,4 +1,4 @@
-//! Findings in the Static Analysis Results Interchange Format, 2.1.0, a standard of OASIS.
+//! Diagnostics in the Static Analysis Results Interchange Format (SARIF), 2.1.0, a standard of OASIS.
 
 use crate::codes::{Explained, all_explained};
 use crate::escapes::uri_of;
@@ -8,7 +8,7 @@ use key_answers::json_lines;
 use serde::Serialize;
 use std::alloc::{AllocError, Global};
 
-/// The schema of a document.
+/// The URI of the schema of a document.
 const SCHEMA: &str = "https://json.schemastore.org/sarif-2.1.0.json";
 
 /// The document of `lint --message-format sarif`.
@@ -74,7 +74,7 @@ struct Location<'a> {
     physical_location: PhysicalLocation<'a>,
 }
 
-/// A manifest, and the line where it is certain.
+/// A manifest, and the line if it is certain.
 #[derive(Drop, Serialize)]
 #[serde(rename_all = "camelCase")]
 struct PhysicalLocation<'a> {
@@ -83,7 +83,7 @@ struct PhysicalLocation<'a> {
     region: Option<Region>,
 }
 
-/// The path of a manifest as a reference of a URI.
+/// The path of a manifest as a URI reference.
 #[derive(Drop, Serialize)]
 struct ArtifactLocation<'a> {
     uri: &'a str,
@@ -96,7 +96,7 @@ struct Region {
     start_line: usize,
 }
 
-/// The rule of a code.
+/// Returns the rule of a lint.
 fn rule_of(explained: &Explained) -> Rule<'static> {
     Rule {
         full_description: Message {
@@ -109,8 +109,8 @@ fn rule_of(explained: &Explained) -> Rule<'static> {
     }
 }
 
-/// What stands before the first result: the schema, the tool and its rules. It is a document without results, up to
-/// their place.
+/// Returns the text before the first result: the schema, the tool and its rules. It is a document without results, up
+/// to where the results begin. `version` is that of the program. Fails if memory is refused.
 pub fn sarif_begin(alloc: Global, version: &str) -> Result<String, AllocError> {
     let explained = all_explained(alloc)?;
     let mut rules = Vec::new(alloc);
@@ -138,12 +138,12 @@ pub fn sarif_begin(alloc: Global, version: &str) -> Result<String, AllocError> {
     format!(in alloc; "{begin}\n")
 }
 
-/// What stands behind the last result.
+/// Returns the text after the last result.
 pub fn sarif_end() -> &'static str {
     "]}]}\n"
 }
 
-/// The word for the level of a result.
+/// Returns the name of a result's level.
 fn level_word(weight: Weight) -> &'static str {
     match weight {
         Weight::Allowed => "none",
@@ -151,7 +151,7 @@ fn level_word(weight: Weight) -> &'static str {
     }
 }
 
-/// The place of a finding in the manifest at this reference of a URI.
+/// Returns the location of a diagnostic in the manifest at this URI reference.
 fn location_of<'a>(told: &Told<'_>, uri: &'a str) -> Location<'a> {
     let artifact_location = ArtifactLocation { uri };
     let physical_location = PhysicalLocation {
@@ -161,7 +161,7 @@ fn location_of<'a>(told: &Told<'_>, uri: &'a str) -> Location<'a> {
     Location { physical_location }
 }
 
-/// The result of a finding with this sentence.
+/// Returns the result of a diagnostic with this sentence.
 fn result_of<'a>(told: &Told<'a>, uri: &'a str, sentence: &'a str) -> SarifResult<'a> {
     let location = location_of(told, uri);
     let message = Message { text: sentence };
@@ -173,7 +173,7 @@ fn result_of<'a>(told: &Told<'a>, uri: &'a str, sentence: &'a str) -> SarifResul
     }
 }
 
-/// Appends the result of a finding, on a line of its own.
+/// Appends the result of a diagnostic, on a line of its own. Fails if memory is refused.
 pub fn push_result(
     text: &mut String,
     alloc: Global,

@@ -1,4 +1,4 @@
-//! The rules that stand in a manifest.
+//! The rules in the metadata of a manifest.
 
 use crate::weight_rules::{Rule, Setting, Subject};
 use former_names::Release;
@@ -8,7 +8,7 @@ use toml::{Table, Value};
 /// The name of the table of rules.
 pub const TOOL: &str = "manifest-check";
 
-/// The settings in the order in which their rules stand: where a code is in several lists, the last one counts.
+/// The settings in the order of their rules: if a lint is in several lists, the last list decides.
 const SETTINGS: [Setting; 3] = [Setting::Allow, Setting::Warn, Setting::Deny];
 
 /// The list of targets that a project has in addition to those of rustc.
@@ -17,45 +17,45 @@ const KNOWN_TARGETS: &str = "known-targets";
 /// The list of facts that a project sets by flags of its own.
 const KNOWN_FACTS: &str = "known-facts";
 
-/// The release of rustc that builds a project.
+/// The field with the release of rustc that builds a project.
 const RUSTC: &str = "rustc";
 
-/// What can't be used of a table of rules.
+/// An error in a table of rules.
 #[derive(Drop)]
 pub enum Fault {
-    /// It is no table.
+    /// The value is not a table.
     NoTable,
-    /// What stands at this word is no list.
+    /// The value of this field is not a list.
     NoList(&'static str),
-    /// An entry of this list is neither a code nor a table with the texts `key` and `code`.
+    /// An entry of this list is neither a lint nor a table with the texts `key` and `code`.
     NoEntry(&'static str),
-    /// An entry of this list is no text.
+    /// An entry of this list is not a text.
     NoText(&'static str),
-    /// What stands at this word is no release.
+    /// The value of this field is not a release.
     NoRelease(&'static str),
-    /// No code has this word.
+    /// No lint has this name.
     UnknownCode(String),
-    /// Nothing is set by this word.
+    /// No setting has this name.
     UnknownWord(String),
 }
 
-/// What a table of rules says.
+/// The settings in a table of rules.
 #[derive(Drop)]
 pub struct Settings {
-    /// The rules of all keys, and behind them those of one key: of each those of `allow`, of `warn` and of `deny`.
+    /// The rules for all keys, and then those for one key: of each, those of `allow`, then of `warn`, then of `deny`.
     pub rules: Vec<Rule>,
     /// The names of known targets, in addition to those of rustc.
     pub targets: Vec<String>,
-    /// The facts that are known, as `rustc --print cfg` prints them.
+    /// The facts that are declared as known, as `rustc --print cfg` prints them.
     pub facts: Vec<String>,
     /// The release of rustc that builds the project.
     pub rustc: Option<Release>,
-    /// What can't be used.
+    /// The errors in the table.
     pub faults: Vec<Fault>,
 }
 
 impl Setting {
-    /// The word for it.
+    /// Returns the name of the setting.
     pub fn word(self) -> &'static str {
         match self {
             Setting::Allow => "allow",
@@ -66,7 +66,8 @@ impl Setting {
 }
 
 impl Subject {
-    /// What a word stands for: `warnings`, `notes`, or one of the codes.
+    /// Parses the subject of a rule: `warnings`, `notes`, or one of the lints in `codes`. Returns `None` for any other
+    /// word. Fails if memory is refused.
     pub fn of(alloc: Global, word: &str, codes: &[&str]) -> Result<Option<Subject>, AllocError> {
         match word {
             "warnings" => Ok(Some(Subject::Warnings)),
@@ -82,18 +83,19 @@ impl Subject {
     }
 }
 
-/// The table of rules in `package.metadata` or `workspace.metadata` of a manifest, where one stands there.
+/// Returns the value for the table of rules in `package.metadata` or `workspace.metadata` of a manifest, if there is
+/// one. `part` is `package` or `workspace`.
 pub fn settings_at<'a>(manifest: &'a Table, part: &str) -> Option<&'a Value> {
     let part = manifest.get(part)?.as_table()?;
     part.get("metadata")?.as_table()?.get(TOOL)
 }
 
-/// The text at a member of an entry.
+/// Returns the text in a member of an entry.
 fn text_at<'a>(entry: &'a Table, member: &str) -> Option<&'a str> {
     entry.get(member)?.as_str()
 }
 
-/// Whether something is set by a word.
+/// Returns whether a setting has this name.
 fn is_word(word: &str) -> bool {
     matches!(
         word,
@@ -101,7 +103,7 @@ fn is_word(word: &str) -> bool {
     )
 }
 
-/// The code that an entry of a list names, and the key where it has one.
+/// Returns the lint that an entry of a list names, and the key if it has one.
 fn named_by(entry: &Value) -> Option<(&str, Option<&str>)> {
     match entry {
         Value::String(word) => Some((word.as_str(), None)),
@@ -110,13 +112,13 @@ fn named_by(entry: &Value) -> Option<(&str, Option<&str>)> {
     }
 }
 
-/// The release that a value spells.
+/// Returns the release that a value spells, or `None` if it spells none.
 pub fn release_of(value: &Value) -> Option<Release> {
     Release::of(value.as_str()?)
 }
 
 impl Settings {
-    /// Adds the rule of an entry, where it is one of a key, or of all, as is asked for.
+    /// Adds the rule of an entry: of one that names a key if `of_keys`, and else of one that names none.
     fn add_entry(
         &mut self,
         alloc: Global,
@@ -151,7 +153,7 @@ impl Settings {
         Ok(())
     }
 
-    /// Adds the rules of the lists that are about one key, or about all.
+    /// Adds the rules of the lists: those for one key if `of_keys`, and else those for all keys.
     fn add_lists(
         &mut self,
         alloc: Global,
@@ -177,7 +179,7 @@ impl Settings {
         Ok(())
     }
 
-    /// The texts of a list.
+    /// Returns the texts of a list, and records errors in it.
     fn texts(
         &mut self,
         alloc: Global,
@@ -200,7 +202,7 @@ impl Settings {
         Ok(texts)
     }
 
-    /// The release at a word.
+    /// Returns the release in a field, and records an error in it.
     fn release(
         &mut self,
         table: &Table,
@@ -216,12 +218,13 @@ impl Settings {
         Ok(release)
     }
 
-    /// Returns whether a target with this name is among those that the table makes known.
+    /// Returns whether the settings declare a target of this name as known.
     pub fn knows_target(&self, name: &str) -> bool {
         self.targets.iter().any(|it| it.as_str() == name)
     }
 
-    /// What stands at a place for rules, whose codes are these.
+    /// Reads the settings from a table of rules, if there is one. `codes` are the names of the lints. Errors in the
+    /// table are recorded in `faults`; the call fails only if memory is refused.
     pub fn of(
         alloc: Global,
         value: Option<&Value>,

@@ -1,4 +1,4 @@
-//! What is told of a manifest: where, how much it weighs, and the text.
+//! Diagnostics on a manifest, with their positions, levels and messages.
 
 ghost use Rattle.std.specs.Prelude.{◌↔◌, ◌≡◌};
 ghost use Rattle.key_answers.specs.declared.answer.Status.TheVariants.{Fine, Found};
@@ -13,43 +13,43 @@ use manifests::reading::Manifest;
 use std::alloc::{AllocError, Global};
 use std::ops::Range;
 
-/// Where a finding is.
+/// The position of a diagnostic.
 #[derive(Clone, Copy, Drop)]
 pub struct Place<'a> {
-    /// The path of the manifest, as it is shown.
+    /// The path of the manifest, as it is displayed.
     pub path: &'a str,
-    /// The key that it is on, if it is on one.
+    /// The key that the diagnostic is about, if there is one.
     pub key: Option<&'a str>,
-    /// The line, where it is certain.
+    /// The line, if it is certain.
     pub line: Option<usize>,
 }
 
-/// A finding as it is told.
+/// A diagnostic as it is reported.
 #[derive(Clone, Copy, Drop)]
 pub struct Told<'a> {
     pub place: Place<'a>,
-    /// How much it weighs by the rules.
+    /// The level after the rules.
     pub weight: Weight,
-    /// The word for its code.
+    /// The name of the lint.
     pub code: &'a str,
-    /// What stands between the code and the text.
+    /// The text between the name of the lint and the message.
     pub subject: &'a str,
-    /// What is told. It has one line, and no character that is not shown.
+    /// The message. It has one line, and no hidden characters.
     pub message: &'a str,
-    /// A text that may stand in place of the whole key.
+    /// A text that can replace the whole key.
     pub suggestion: Option<&'a str>,
-    /// Where in the key a fault lies, in bytes.
+    /// The span of an error in the key, in bytes.
     pub span: Option<(usize, usize)>,
-    /// The two lines that show the fault.
+    /// The two lines that show the error.
     pub snippet: Option<&'a str>,
 }
 
-/// The key that a finding is on, if it is on one.
+/// Returns the key that a diagnostic is about, if there is one.
 fn key_of<'k, 'a>(report: &'k Report<'a>, finding: &Finding) -> Option<&'k ReadKey<'a>> {
     report.keys.get(finding.key?)
 }
 
-/// The place of a key of a manifest.
+/// Returns the position of a key of a manifest.
 pub fn place_of_key<'a>(manifest: &'a Manifest, key: &'a str) -> Place<'a> {
     let lines = &manifest.document.lines;
     Place {
@@ -59,7 +59,7 @@ pub fn place_of_key<'a>(manifest: &'a Manifest, key: &'a str) -> Place<'a> {
     }
 }
 
-/// The place of a finding of a report on a manifest.
+/// Returns the position of a diagnostic of a report on a manifest.
 pub fn place_of<'a>(manifest: &'a Manifest, report: &Report<'a>, finding: &Finding) -> Place<'a> {
     match key_of(report, finding) {
         Some(key) => place_of_key(manifest, key.text),
@@ -71,7 +71,7 @@ pub fn place_of<'a>(manifest: &'a Manifest, report: &Report<'a>, finding: &Findi
     }
 }
 
-/// Returns the weight of a diagnostic with this level where no rule sets another one.
+/// Returns the weight of a diagnostic of this level if no rule applies to it.
 pub fn weight_of(level: Level) -> Weight {
     match level {
         Level::Error => Weight::Error,
@@ -80,8 +80,7 @@ pub fn weight_of(level: Level) -> Weight {
     }
 }
 
-/// Returns the weight of a finding with this code and level where no rule sets another one. `not-canonical` is allowed
-/// then.
+/// Returns the level of a diagnostic of this lint if no rule applies to it: `not-canonical` is then allowed.
 pub fn own_weight(code: Code, level: Level) -> Weight {
     match code {
         Code::NotCanonical => Weight::Allowed,
@@ -89,7 +88,7 @@ pub fn own_weight(code: Code, level: Level) -> Weight {
     }
 }
 
-/// The beginning and the end of a span.
+/// Returns the start and the end of a span.
 fn ends(span: &Option<Range<usize>>) -> Option<(usize, usize)> {
     match span {
         Some(span) => Some((span.start, span.end)),
@@ -97,7 +96,7 @@ fn ends(span: &Option<Range<usize>>) -> Option<(usize, usize)> {
     }
 }
 
-/// The text of an optional `String`.
+/// Returns the text of an optional `String`.
 fn text_of(text: &Option<String>) -> Option<&str> {
     match text {
         Some(text) => Some(text.as_str()),
@@ -105,7 +104,7 @@ fn text_of(text: &Option<String>) -> Option<&str> {
     }
 }
 
-/// A finding at its place, with the weight that rules make of it.
+/// Returns the diagnostic for a finding, at its position, with the level after the rules.
 pub fn told_of<'a>(place: Place<'a>, finding: &'a Finding, weight: Weight) -> Told<'a> {
     Told {
         place,
@@ -120,7 +119,8 @@ pub fn told_of<'a>(place: Place<'a>, finding: &'a Finding, weight: Weight) -> To
 }
 
 impl<'a> Told<'a> {
-    /// What it is on, as it is shown: its key, or what stands in place of one.
+    /// Returns the subject of the diagnostic as it is displayed, with its key if it has one. Fails if memory is
+    /// refused.
     pub fn on(&self, alloc: Global) -> Result<String, AllocError> {
         let subject = self.subject;
         match self.place.key {
@@ -133,14 +133,14 @@ impl<'a> Told<'a> {
     }
 }
 
-/// What is told of what a finding is on, in one text.
+/// Returns the subject and the message of a diagnostic as one text. Fails if memory is refused.
 pub fn sentence_of(alloc: Global, told: &Told<'_>) -> Result<String, AllocError> {
     let subject = told.on(alloc)?;
     let message = told.message;
     format!(in alloc; "{subject}: {message}")
 }
 
-/// The word for a weight.
+/// Returns the name of a level.
 pub fn weight_word(weight: Weight) -> &'static str {
     match weight {
         Weight::Allowed => "allowed",

@@ -1,18 +1,18 @@
-//! Laws over the definitions. The functions do nothing: each contract is a law.
+//! Laws about the definitions. The functions do nothing: the contract of each is a law.
 
 ghost use Rattle.lint_reports.specs.WeightLaws.{MakesOne, IsKept, LastDecides};
 
-/// Rules make one weight of a weight.
+/// States that rules turn a level into exactly one level.
 pub fn one_weight()
     ensures { MakesOne }
 {}
 
-/// A finding that hears none of the rules keeps its weight.
+/// States that a diagnostic keeps its level if no rule applies to it.
 pub fn unheard_rules_do_nothing()
     ensures { IsKept }
 {}
 
-/// A rule that the finding hears whatever it weighs, and after which it hears none, decides.
+/// States that a rule decides if it applies to a diagnostic of any level and no rule after it applies.
 pub fn the_last_decides()
     ensures { LastDecides }
 {}

@@ -1,18 +1,18 @@
-//! Rules on findings, and what they come to.
+//! Rules that set the levels of diagnostics.
 
 ghost use Rattle.std.specs.Prelude.{◌≡◌, ◌↔◌, ◌++◌, IsTrue, option_map};
 ghost use Rattle.lint_reports.specs.Weights.{weight_set, severity, IsAbout, IsMeant, Hears, Makes, IsNeeded};
 
-/// How much a finding weighs.
+/// The level of a diagnostic.
 #[derive(Clone, Copy, Debug, PartialEq, Eq, Drop)]
 pub enum Weight {
-    /// It is not told.
+    /// The diagnostic is not reported.
     Allowed,
-    /// Something that may be meant.
+    /// Something that may be intended.
     Note,
-    /// Something does not do what its writer may expect.
+    /// Something that does not do what its author may expect.
     Warning,
-    /// Something is refused or left out.
+    /// Something that is rejected or left out.
     Error,
 }
 
@@ -30,19 +30,19 @@ impl Weight {
     }
 }
 
-/// What a rule makes of a finding that hears it.
+/// The level that a rule sets.
 #[derive(Clone, Copy, Debug, PartialEq, Eq, Drop)]
 pub enum Setting {
-    /// It is not told.
+    /// The diagnostic is not reported.
     Allow,
-    /// It is a warning.
+    /// The diagnostic is a warning.
     Warn,
-    /// It is an error.
+    /// The diagnostic is an error.
     Deny,
 }
 
 impl Setting {
-    /// The weight of a finding that hears a rule with this setting.
+    /// Returns the level of a diagnostic to which a rule with this setting applies.
     pub fn weight(self) -> Weight
         ensures { result ≡ weight_set self }
     {
@@ -54,39 +54,39 @@ impl Setting {
     }
 }
 
-/// Which findings a rule is about.
+/// The diagnostics that a rule is about.
 #[derive(Drop)]
 pub enum Subject {
-    /// Those of this code.
+    /// The diagnostics of this lint.
     Code(String),
-    /// Those that are warnings, by the rules before this one.
+    /// The diagnostics that are warnings after the rules before this one.
     Warnings,
-    /// Those that are notes, by the rules before this one.
+    /// The diagnostics that are notes after the rules before this one.
     Notes,
 }
 
-/// A rule.
+/// A rule that sets the level of diagnostics.
 #[derive(Drop)]
 pub struct Rule {
     pub setting: Setting,
     pub subject: Subject,
-    /// The key that alone is meant; without one all are.
+    /// The only key to which the rule applies. `None` applies to all.
     pub key: Option<String>,
 }
 
-/// A finding, as rules see it.
+/// A diagnostic, as rules see it.
 #[derive(Clone, Copy, Drop)]
 pub struct Weighed<'a> {
-    /// The word of its code.
+    /// The name of its lint.
     pub code: &'a str,
-    /// The key that it is on, where it is on one.
+    /// The key that it is about, if there is one.
     pub key: Option<&'a str>,
-    /// How much it weighs by its code.
+    /// The level of its lint.
     pub weight: Weight,
 }
 
 impl Rule {
-    /// Whether its subject has the finding, where that weighs so much by the rules before.
+    /// Returns whether the rule's subject includes a diagnostic that has the level `weight` after the rules before.
     fn is_about(&self, found: &Weighed<'_>, weight: Weight) -> bool
         ensures { IsTrue result ↔ IsAbout self.now.subject found.now.code.now weight }
     {
@@ -98,7 +98,7 @@ impl Rule {
     }
 }
 
-/// Whether all keys are meant, or this one is.
+/// Returns whether all keys are meant, or this one is.
 fn is_meant(meant: &Option<String>, key: Option<&str>) -> bool
     ensures { IsTrue result ↔ IsMeant meant.now (option_map (λ k. k.now) key.entry) }
 {
@@ -110,7 +110,7 @@ fn is_meant(meant: &Option<String>, key: Option<&str>) -> bool
 }
 
 impl Rule {
-    /// Whether the finding hears it, where that weighs so much by the rules before.
+    /// Returns whether the rule applies to a diagnostic that has the level `weight` after the rules before.
     pub fn is_heard(&self, found: &Weighed<'_>, weight: Weight) -> bool
         ensures { IsTrue result ↔ Hears self.now found.now.code.now (option_map (λ k. k.now) found.now.key) weight }
     {
@@ -118,7 +118,8 @@ impl Rule {
     }
 }
 
-/// What the rules make of the weight of a finding: each, in its order, sets it where the finding hears it by then.
+/// Returns the level of a diagnostic after the rules. They apply in their order: each sets the level if it applies to
+/// the diagnostic at the level that it has by then.
 pub fn weight_by(rules: &[Rule], found: &Weighed<'_>) -> Weight
     ensures { Makes found.now.code.now (option_map (λ k. k.now) found.now.key) found.now.weight rules.now result }
 {
@@ -132,7 +133,7 @@ pub fn weight_by(rules: &[Rule], found: &Weighed<'_>) -> Weight
 }
 
 impl Rule {
-    /// Whether a finding hears it that would be told without any rule.
+    /// Returns whether the rule applies to one of the diagnostics that would be reported without any rule.
     pub fn is_needed(&self, found: &[Weighed<'_>]) -> bool
         ensures { IsTrue result ↔ IsNeeded self.now found.now }
     {
@@ -145,8 +146,8 @@ impl Rule {
     }
 }
 
-/// What the rules of a workspace make of the weight of a finding, then those of its package, and then those of a
-/// command line, which win.
+/// Returns the level of a diagnostic after the rules of a workspace, then those of its package, and then those of a
+/// command line, which take precedence.
 pub fn weight_by_each(
     of_workspace: &[Rule],
     of_package: &[Rule],

@@ -1,4 +1,4 @@
-//! Whether a condition is never or always true, and whether it holds at no or every known target.
+//! Decides whether a condition is never or always true, and whether it is true on no or every known target.
 
 ghost use Rattle.std.specs.Prelude.{◌≡◌, ◌≤◌, ◌↔◌, ◌⊎◌, ◌||◌, false, length, IsTrue, IfOk};
 ghost use Rattle.cargo_platform.specs.Trees.{condition_of};
@@ -14,18 +14,20 @@ use exact_answers::{CanSelect, Known, MustSelect, always_platform, can_hold_plat
 use known_targets::{certainly_matching, possibly_matching};
 use std::alloc::{AllocError, Global};
 
-/// A search of a condition of few facts may make so many splits; one of many facts fewer.
+/// The maximum number of case splits in a search for a condition of at most `FEW` facts. With more facts it is lower.
 const SPLITS: u64 = 1024;
 
 const FEW: usize = 64;
 
-/// Of a condition with more members that others follow in one another nothing is asked: the stack has no room for them.
+/// The maximum number of group members, nested in one another and each followed by others, of a condition that is
+/// searched over sets of facts. The stack has no room for more.
 pub const LEVELS: usize = 20_000;
 
-/// Of a condition with more open names and keys it is not asked whether it holds nowhere or everywhere.
+/// The maximum number of open names and keys of a condition for which it is decided whether it is true on no or every
+/// known target.
 pub const MANY: usize = 4096;
 
-/// Whether something holds of a condition.
+/// The answer to a question about a condition.
 #[derive(Clone, Copy, Debug, PartialEq, Eq, Drop)]
 pub enum Decided {
     Yes,
@@ -33,7 +35,7 @@ pub enum Decided {
     Unknown,
 }
 
-/// Whether it is known to hold.
+/// Returns whether the answer is `Yes`.
 fn is_yes(decided: Decided) -> bool
     ensures { result ≡ is_yes decided }
 {
@@ -43,7 +45,7 @@ fn is_yes(decided: Decided) -> bool
     }
 }
 
-/// Whether it is not known.
+/// Returns whether the answer is `Unknown`.
 fn is_unknown(decided: Decided) -> bool
     ensures { result ≡ is_unknown decided }
 {
@@ -53,8 +55,8 @@ fn is_unknown(decided: Decided) -> bool
     }
 }
 
-/// Whether it may be asked what holds of the condition of a key over every set of facts: it has no more such levels
-/// than these. The key of one with more has more parentheses in one another.
+/// Returns whether the condition of a key may be searched over every set of facts. Returns `false` only if more than
+/// `LEVELS` parentheses of the key are nested in one another. `levels` is the number of levels of the condition.
 pub fn may_ask(levels: usize, key: &str) -> bool
     ensures { result ≡ false → IsNestedBeyond key.now LEVELS }
 {
@@ -67,7 +69,7 @@ pub fn may_ask(levels: usize, key: &str) -> bool
     }
 }
 
-/// How many splits a search of a condition with so many facts may make.
+/// Returns the maximum number of case splits in a search for a condition of so many facts.
 pub fn budget_for(facts: usize) -> u64
     ensures { result ≡ budget_of facts }
 {
@@ -77,7 +79,8 @@ pub fn budget_for(facts: usize) -> u64
     (SPLITS * 64 / (facts as u64)).max(8)
 }
 
-/// Whether a condition holds for no possible target. What takes too many splits is tried over some sets of facts.
+/// Decides whether a condition is true for no possible target. If that takes too many case splits, some sets of facts
+/// are tried.
 fn is_never<'a>(
     alloc: Global,
     platform: &'a Platform,
@@ -95,7 +98,8 @@ fn is_never<'a>(
     }
 }
 
-/// Whether a condition holds for each possible target. What takes too many splits is tried over some sets of facts.
+/// Decides whether a condition is true for each possible target. If that takes too many case splits, some sets of facts
+/// are tried.
 fn is_always<'a>(
     alloc: Global,
     platform: &'a Platform,
@@ -113,7 +117,7 @@ fn is_always<'a>(
     }
 }
 
-/// What some sets of facts show of whether a condition is as true as this for no possible target.
+/// Decides by some sets of facts whether a condition has this truth value for no possible target.
 fn unless_shown(
     alloc: Global,
     platform: &Platform,
@@ -128,7 +132,7 @@ fn unless_shown(
     Ok(Decided::Unknown)
 }
 
-/// What is known of whether a condition is never and always true.
+/// Decides whether a condition is never true, and whether it is always true.
 fn settled<'a>(
     alloc: Global,
     platform: &'a Platform,
@@ -147,14 +151,14 @@ fn settled<'a>(
     Ok((never, always))
 }
 
-/// Whether a condition holds at no known target, whatever the facts of these names and keys are.
+/// Returns whether a condition is true on no known target, whichever facts with these names and keys are set.
 fn is_nowhere(alloc: Global, platform: &Platform, open_keys: &[&str]) -> Result<bool, AllocError>
     ensures { IfOk result (λ b. IsTrue b ↔ IsNowhere (names_of open_keys.now) (condition_of platform.now)) }
 {
     Ok(possibly_matching(alloc, platform, open_keys)?.is_empty())
 }
 
-/// Whether it holds at every known target, whatever the facts of these names and keys are.
+/// Returns whether a condition is true on every known target, whichever facts with these names and keys are set.
 fn is_everywhere(alloc: Global, platform: &Platform, open_keys: &[&str]) -> Result<bool, AllocError>
     ensures { IfOk result (λ b. IsTrue b ↔ IsEverywhere (names_of open_keys.now) (condition_of platform.now)) }
 {
@@ -165,8 +169,9 @@ fn is_everywhere(alloc: Global, platform: &Platform, open_keys: &[&str]) -> Resu
     )
 }
 
-/// Whether a condition holds at no and whether at every known target, whatever is open; of too many open names and keys
-/// it is not asked.
+/// Returns whether a condition is true on no known target, and whether it is true on every known target, whichever
+/// facts with these names and keys are set. Both are `false` if there are more than `MANY` names and keys. Fails if
+/// memory is refused.
 pub fn places(
     alloc: Global,
     platform: &Platform,
@@ -187,7 +192,8 @@ pub fn places(
     Ok((nowhere, everywhere))
 }
 
-/// Whether a condition is never and whether it is always true, and whether something of that is not known.
+/// Returns whether a condition is never true, whether it is always true, and whether one of these answers is not known.
+/// Fails if memory is refused.
 #[tactic(auto, using(crate::proofs::Verdicts::verdicts))]
 pub fn asked<'a>(
     alloc: Global,
@@ -211,7 +217,7 @@ pub fn asked<'a>(
     Ok((is_yes(never), is_yes(always), unknown))
 }
 
-/// Whether one of two things is so.
+/// Returns whether at least one of two flags is set.
 pub fn either(first: bool, second: bool) -> bool
     ensures { result ≡ (first || second) }
 {

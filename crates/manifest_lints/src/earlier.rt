@@ -1,4 +1,4 @@
-//! How a key stands to those before it: the same condition, or one that is as true.
+//! The relation of a key to those before it: the same condition, or an equivalent one.
 
 ghost use Rattle.std.specs.Prelude.{◌≡◌, None, [], IfOk, OnOk, IsTrue};
 ghost use Rattle.std.specs.Borrow.{Bor};
@@ -19,45 +19,45 @@ use known_targets::{WORDS, matching};
 use std::alloc::{AllocError, Global};
 use std::collections::BTreeMap;
 
-/// So many keys of its class a key is compared with at most.
+/// The maximum number of keys of its class that a key is compared with.
 pub const MOST: usize = 64;
 
-/// What is known of an earlier key.
+/// The relation of a key to the earlier ones.
 #[derive(Clone, Copy, Debug, PartialEq, Eq, Drop)]
 pub enum Earlier {
-    /// None is the same or as true.
+    /// No earlier key is the same or equivalent.
     Unlike,
-    /// This one is the same.
+    /// The key at this index is the same.
     Same(usize),
-    /// This one is as true.
+    /// The key at this index is equivalent.
     Equivalent(usize),
-    /// It is not known whether one is as true.
+    /// It is not known whether an earlier key is equivalent.
     Undecided,
 }
 
 impl Earlier {
-    /// Whether none is the same or as true.
+    /// Returns whether no earlier key is the same or equivalent.
     fn is_unlike(self) -> bool
         ensures { result ≡ is_unlike self }
     {
         matches!(self, Earlier::Unlike)
     }
 
-    /// Whether an earlier key is the same.
+    /// Returns whether an earlier key is the same.
     pub fn is_same(self) -> bool
         ensures { result ≡ is_same self }
     {
         matches!(self, Earlier::Same(_))
     }
 
-    /// Whether an earlier key is as true.
+    /// Returns whether an earlier key is equivalent.
     pub fn is_equivalent(self) -> bool
         ensures { result ≡ is_equivalent self }
     {
         matches!(self, Earlier::Equivalent(_))
     }
 
-    /// Whether it is not known.
+    /// Returns whether the relation is not known.
     pub fn is_undecided(self) -> bool
         ensures { result ≡ is_undecided self }
     {
@@ -65,17 +65,18 @@ impl Earlier {
     }
 }
 
-/// What equivalent conditions share, and of which part of these conditions a class is.
+/// The values that equivalent conditions share, and the part of the conditions with these values that the class
+/// contains.
 #[derive(Clone, Copy, Debug, PartialEq, Eq, PartialOrd, Ord, Drop)]
 struct Class {
-    // The known targets at which they hold.
+    // The known targets on which they are true.
     targets: [u64; WORDS],
-    // Their truths over the sets of facts that are tried.
+    // Their truth values over the sampled sets of facts.
     truths: u64,
     part: Part,
 }
 
-/// A part of the conditions that share their truths.
+/// A part of the conditions that share their truth values.
 #[derive(Clone, Copy, Debug, PartialEq, Eq, PartialOrd, Ord, Drop)]
 enum Part {
     /// All of them.
@@ -86,18 +87,18 @@ enum Part {
     NotNumbered,
 }
 
-/// Keys in their order, each with what its class has.
+/// The keys so far, in their order, with the classes of their conditions.
 #[derive(Drop)]
 pub struct Keys<'a> {
     seen: BTreeMap<&'a Platform, usize>,
-    // The conditions that are compared with later ones, and the places of their keys.
+    // The indexes of the keys whose conditions are compared with later ones, and these conditions.
     members: Vec<(usize, &'a Platform)>,
-    // Where among them those of a class stand.
+    // For each class, the indexes of its members.
     classes: BTreeMap<Class, Vec<usize>>,
 }
 
 impl<'a> Keys<'a> {
-    /// No keys.
+    /// Returns an empty list of keys.
     pub fn new(alloc: Global) -> Keys<'a>
         ensures none { (q : Bor Shown) → noted result q ≡ None }
         ensures no_members { result.members.items ≡ [] }
@@ -110,8 +111,8 @@ impl<'a> Keys<'a> {
         }
     }
 
-    /// Adds a key at a place after those that were added, and tells how it stands to them. With no budget it is not
-    /// asked what is as true.
+    /// Adds the key at `index`, which comes after those that were added, and returns its relation to them. Without a
+    /// budget, it is not decided whether a key is equivalent. Fails if memory is refused.
     pub fn add(
         &mut self,
         alloc: Global,
@@ -136,7 +137,7 @@ impl<'a> Keys<'a> {
         }
     }
 
-    /// Notes a condition, and answers the place of the same one where there is one.
+    /// Records a condition, and returns the index of the same condition if there is one.
     fn note(&mut self, index: usize, platform: &'a Platform) -> Result<Option<usize>, AllocError>
         ensures first { IfOk result (λ first. first ≡ noted self.old platform.entry) }
         ensures notes { OnOk result (Notes self.old self.new index platform.entry) }
@@ -150,7 +151,8 @@ impl<'a> Keys<'a> {
         Ok(None)
     }
 
-    /// Compares a condition with those of its class, and puts it among them unless it is as true as one or unknown.
+    /// Compares a condition with those of its class, and adds it to them unless it is equivalent to one, or that is not
+    /// known.
     fn compare(
         &mut self,
         alloc: Global,
@@ -182,7 +184,7 @@ impl<'a> Keys<'a> {
         Ok(Earlier::Unlike)
     }
 
-    /// Puts a condition among the members of its class, and of the part of it.
+    /// Adds a condition to the members of its class, and to those of its part of the class.
     fn put_member(
         &mut self,
         alloc: Global,
@@ -200,7 +202,8 @@ impl<'a> Keys<'a> {
         put(alloc, &mut self.classes, part_of(class, number), place)
     }
 
-    /// Which member of a class is as true as a condition: one that shares its number, or one of all where it has none.
+    /// Finds a member of a class that is equivalent to a condition: in the part of the class with its number, or in the
+    /// whole class if it has none.
     fn as_true_among(
         &self,
         alloc: Global,
@@ -222,7 +225,8 @@ impl<'a> Keys<'a> {
         }
     }
 
-    /// Which member of a class is as true as a condition that has a number: one that shares it, or has none.
+    /// Finds a member of a class that is equivalent to a condition with a number: among those that share the number, or
+    /// have none.
     fn as_true_in_part(
         &self,
         alloc: Global,
@@ -249,7 +253,7 @@ impl<'a> Keys<'a> {
         self.as_true(alloc, &part, platform, known, budget)
     }
 
-    /// Which member of a class is as true as a condition.
+    /// Finds a member of a class that is equivalent to a condition.
     fn as_true(
         &self,
         alloc: Global,
@@ -289,7 +293,7 @@ impl<'a> Keys<'a> {
     }
 }
 
-/// The part of a class whose conditions share a number, or have none.
+/// Returns the part of a class whose conditions share a number, or have none.
 fn part_of(class: Class, number: Option<u64>) -> Class
     ensures { result ≡ part_of class number }
 {
@@ -300,7 +304,7 @@ fn part_of(class: Class, number: Option<u64>) -> Class
     Class { part, ..class }
 }
 
-/// Puts a place among those of a class.
+/// Adds an index to those of a class.
 fn put(
     alloc: Global,
     classes: &mut BTreeMap<Class, Vec<usize>>,
@@ -319,7 +323,7 @@ fn put(
     Ok(())
 }
 
-/// The class of an expression.
+/// Returns the class of an expression.
 fn class_of(alloc: Global, platform: &Platform, e: &CfgExpr) -> Result<Class, AllocError>
     ensures { condition_of platform.now ≡ Expression (tree_of e.now) → IfOk result (IsClassOf (tree_of e.now)) }
 {

@@ -1,4 +1,4 @@
-//! A key with what is found of it: by itself, over sets of facts, and beside the keys before it.
+//! A key, with the lints that apply to it: by itself, over sets of facts, and compared with the keys before it.
 
 ghost use Rattle.std.specs.Prelude.{◌≡◌, ◌⊎◌, ◌↔◌, ◌<◌, ◌++◌, ◌∷◌, ◌&&◌, [], List, IsTrue, true, not, length};
 ghost use Rattle.std.specs.Prelude.{IfOk, OnOk, IfSome, MatchOption, ℕ, false, ◌||◌};
@@ -31,43 +31,43 @@ use manifest_lints_standings::asked_facts::open_names;
 use manifests::Declared;
 use std::alloc::{AllocError, Global};
 
-/// What all keys of a manifest are asked by.
+/// The settings that are the same for all keys of a manifest.
 #[derive(Drop)]
 pub struct Asking<'a> {
-    /// What the manifest declares.
+    /// The declarations of the manifest.
     pub declared: &'a Declared<'a>,
-    /// What is known of each target.
+    /// The knowledge of the facts of each target.
     pub known: &'a Known<'a>,
 }
 
-/// What is answered of a key over sets of facts, and beside the keys before it.
+/// The answers about a key, over sets of facts and compared with the keys before it.
 #[derive(Clone, Copy, Drop)]
 pub struct Answers {
     /// No set of facts makes it true.
     pub never: bool,
-    /// Every set of facts does.
+    /// Every set of facts makes it true.
     pub always: bool,
-    /// It holds at no known target.
+    /// It is true on no known target.
     pub nowhere: bool,
-    /// It holds at each.
+    /// It is true on every known target.
     pub everywhere: bool,
-    /// How it stands to the keys before it.
+    /// Its relation to the keys before it.
     pub earlier: Earlier,
-    /// Something of that is not known.
+    /// One of these answers is not known.
     pub is_open: bool,
 }
 
-/// A key, with what is found of it.
+/// A key, with the answers about it.
 #[derive(Drop)]
 pub struct Found<'a> {
-    /// What is known of it by itself.
+    /// The properties of the key by itself.
     pub key: KnownKey<'a>,
-    /// What is answered of it.
+    /// The answers about the key.
     pub answers: Answers,
 }
 
 impl<'a> Found<'a> {
-    /// Whether a code holds of the key.
+    /// Returns whether a lint applies to the key.
     pub fn holds(&self, code: Code) -> bool
         ensures { result ≡ found_codes self.now code }
     {
@@ -82,8 +82,8 @@ impl<'a> Found<'a> {
         }
     }
 
-    /// Whether a finding of this code is told: it holds, and none that holds hides it. What is hidden of one name alone
-    /// is told of the others, and so is not hidden here.
+    /// Returns whether a diagnostic of this lint is reported: the lint applies, and no other lint that applies hides
+    /// it. A lint that is hidden for one name only is reported for the other names, and so is not hidden here.
     pub fn is_told(&self, code: Code) -> bool
         ensures { result ≡ is_told (found_codes self.now) code }
     {
@@ -99,7 +99,7 @@ impl<'a> Found<'a> {
     }
 }
 
-/// What is answered of a condition by itself.
+/// Returns the answers about a condition by itself.
 fn answers_alone<'a>(
     alloc: Global,
     asking: &Asking<'a>,
@@ -130,14 +130,14 @@ fn answers_alone<'a>(
     })
 }
 
-/// Whether so many names and keys are too many.
+/// Returns whether there are more than `MANY` open names and keys.
 fn are_many(open: &[&str]) -> bool
     ensures { IsTrue result ↔ (MANY < length open.now) }
 {
     open.len() > MANY
 }
 
-/// How many splits may be made for a key beside another one: none, where that is not asked of it.
+/// Returns the maximum number of case splits for comparing a key with another one, or `None` if they are not compared.
 fn budget_beside(key: &KnownKey<'_>, decides: bool) -> Option<u64>
     ensures { MatchOption result ((decides ≡ true) ⊎ IsNestedBeyond key.now.read.now.text.now LEVELS)
         (λ splits. splits ≡ budget_of (length key.now.asked.items)) }
@@ -151,14 +151,14 @@ fn budget_beside(key: &KnownKey<'_>, decides: bool) -> Option<u64>
     Some(budget_for(key.asked.len()))
 }
 
-/// Whether it stays open how a key stands to those before it: it is not known, and hidden by nothing.
+/// Returns whether it stays open how a key relates to those before it: this is not known, and nothing hides it.
 fn stays_open(earlier: Earlier, decides: bool) -> bool
     ensures { result ≡ (is_undecided earlier && not decides) }
 {
     earlier.is_undecided() && !decides
 }
 
-/// What is answered of a condition, by itself and beside those before it.
+/// Returns the answers about a condition, by itself and compared with those before it.
 fn answers_of<'a>(
     alloc: Global,
     asking: &Asking<'a>,
@@ -197,7 +197,7 @@ fn answers_of<'a>(
     Ok(answers)
 }
 
-/// What is answered of a key that spells no condition.
+/// The answers about a key that is not a condition.
 const NONE: Answers = Answers {
     never: false,
     always: false,
@@ -207,7 +207,7 @@ const NONE: Answers = Answers {
     is_open: false,
 };
 
-/// A key with what is found of it, after those before it.
+/// Returns the key at index `place`, with the answers about it, after the keys before it. Fails if memory is refused.
 pub fn found_of<'a>(
     alloc: Global,
     asking: &Asking<'a>,

@@ -1,4 +1,4 @@
-//! What there is to tell of the keys of `target` in a manifest.
+//! The lints for the keys of `target` in a manifest.
 #![tactic(auto)]
 
 mod deciding;

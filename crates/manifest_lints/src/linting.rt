@@ -1,4 +1,4 @@
-//! What there is to tell of the keys of a manifest.
+//! The diagnostics on the keys of a manifest.
 
 ghost use Rattle.std.specs.Prelude.{◌≡◌, ◌<◌, ◌++◌, IfOk, OnOk, IfSome, List, [], map, length, get_or};
 ghost use Rattle.std.specs.List.{All};
@@ -23,7 +23,7 @@ use manifests::document::Document;
 use manifests::{Declared, TargetKey, Targets};
 use std::alloc::{AllocError, Global};
 
-/// The earlier key that is the same or as true.
+/// Returns the earlier key that is the same or equivalent, or the empty text if there is none.
 fn earlier_key<'a>(read: &'a [ReadKey<'a>], earlier: Earlier) -> &'a str
     ensures { IfSome (named_place earlier) (λ n. n < length read.now → (d : Entry)
         → result.now ≡ (get_or (map entry_read read.now) n d).0) }
@@ -34,7 +34,7 @@ fn earlier_key<'a>(read: &'a [ReadKey<'a>], earlier: Earlier) -> &'a str
     }
 }
 
-/// The key at a place.
+/// Returns the key at an index, or the empty text if there is none.
 fn key_at<'a>(read: &'a [ReadKey<'a>], place: usize) -> &'a str
     ensures { place < length read.now → (d : Entry) → result.now ≡ (get_or (map entry_read read.now) place d).0 }
 {
@@ -44,7 +44,7 @@ fn key_at<'a>(read: &'a [ReadKey<'a>], place: usize) -> &'a str
     }
 }
 
-/// Appends the finding of this code on a key, if it is told.
+/// Appends the diagnostic of this lint on a key, if it is reported.
 #[tactic(auto, using(crate::proofs::Reports::one_told, crate::proofs::Reports::none_told))]
 fn add_finding(
     alloc: Global,
@@ -65,7 +65,7 @@ fn add_finding(
     Ok(())
 }
 
-/// Appends the findings on a key: those that are told, in the order of the codes.
+/// Appends the diagnostics on a key that are reported, in the order of the lints.
 fn add_findings(
     alloc: Global,
     words: &Words,
@@ -82,7 +82,7 @@ fn add_findings(
     Ok(())
 }
 
-/// Appends the place of a key of which something is not known.
+/// Appends the index of a key if an answer about it is not known.
 fn note_undecided(found: &Found<'_>, undecided: &mut Vec<usize>) -> Result<(), AllocError>
     ensures { OnOk result
         (undecided.new.items ≡ undecided.old.items ++ left_open found.now.key.place found.now.answers.is_open) }
@@ -93,7 +93,7 @@ fn note_undecided(found: &Found<'_>, undecided: &mut Vec<usize>) -> Result<(), A
     Ok(())
 }
 
-/// The keys, each with what it spells.
+/// Parses the keys.
 fn read_keys<'a>(alloc: Global, keys: &[TargetKey<'a>]) -> Result<Vec<ReadKey<'a>>, AllocError>
     ensures keys { IfOk result (λ read. map entry_read read.items ≡ map entry_of keys.now) }
     ensures read { IfOk result (λ read. All IsRead read.items) }
@@ -105,7 +105,7 @@ fn read_keys<'a>(alloc: Global, keys: &[TargetKey<'a>]) -> Result<Vec<ReadKey<'a
     Ok(read)
 }
 
-/// The findings on keys that are read, and the places of those of which something is not known.
+/// Returns the diagnostics on the parsed keys, and the indexes of the keys about which an answer is not known.
 fn findings_on<'a>(
     alloc: Global,
     words: &Words,
@@ -128,7 +128,7 @@ fn findings_on<'a>(
     Ok((findings, undecided))
 }
 
-/// The findings on the keys of a manifest's table.
+/// Returns the diagnostics on the keys of a manifest's table.
 fn report_on<'a>(
     alloc: Global,
     manifest: &toml::Table,
@@ -162,7 +162,7 @@ fn report_on<'a>(
     })
 }
 
-/// The report on a manifest without a table `target`, with these findings.
+/// Returns the report with these diagnostics on a manifest without a table `target`.
 fn report_of<'a>(alloc: Global, findings: Vec<Finding>) -> Report<'a>
     ensures keys { result.keys.items ≡ [] }
     ensures findings { result.findings.items ≡ findings.items }
@@ -175,8 +175,9 @@ fn report_of<'a>(alloc: Global, findings: Vec<Finding>) -> Report<'a>
     }
 }
 
-/// The findings on a manifest: on the keys of `target`, in the order in which they first appear where the document
-/// knows that, or on a `target` that is no table. What the manifest declares as expected is no custom fact.
+/// Returns the diagnostics on a manifest: on the keys of `target`, in the order in which they first appear if the
+/// document knows it, or on a `target` that is not a table. A name or pair that the manifest declares as expected is
+/// not reported as a custom fact. Fails if memory is refused.
 pub fn lint<'a>(
     alloc: Global,
     document: &'a Document,

@@ -1,4 +1,4 @@
-//! Sets of facts that are tried. Each has the facts of a known target, and some that are no fact of rustc's.
+//! The sampled sets of facts. Each has the facts of a known target, and some facts that are not rustc's.
 
 ghost use Rattle.std.specs.Prelude.{◌≡◌, ◌<◌, ◌*◌, ◌==◌, ◌&&◌, ◌||◌, ℕ, true, false, [], map, length};
 ghost use Rattle.std.specs.Prelude.{IfOk, IfSome, IfNone};
@@ -23,10 +23,10 @@ use partial_facts::names::is_among;
 use std::alloc::{AllocError, Global};
 use std::ops::ControlFlow;
 
-/// Each fifth known target stands in a set of facts that is tried.
+/// The distance between the known targets whose facts are in the sampled sets.
 const STRIDE: usize = 5;
 
-/// Whether the condition holds over the facts, for a target whose name is empty.
+/// Returns whether the condition is true over the facts, for a target whose name is empty. Fails if memory is refused.
 pub fn holds_over(alloc: Global, platform: &Platform, facts: &[Cfg]) -> Result<bool, AllocError>
     ensures { IfOk result
         (λ b. b ≡ truth_of_condition [] (fact_set (map value_of facts.now)) (condition_of platform.now)) }
@@ -40,7 +40,8 @@ pub fn holds_over(alloc: Global, platform: &Platform, facts: &[Cfg]) -> Result<b
     }
 }
 
-/// The facts of a set that is tried, over which the condition is as true as wanted where it is so over one.
+/// Returns the facts of a sampled set over which the condition has the truth value `wanted`, if there is such a set.
+/// Fails if memory is refused.
 pub fn tried(alloc: Global, platform: &Platform, wanted: bool) -> Result<Vec<Cfg>, AllocError> {
     let Platform::Cfg(e) = platform else {
         return Ok(Vec::new(alloc));
@@ -54,7 +55,8 @@ pub fn tried(alloc: Global, platform: &Platform, wanted: bool) -> Result<Vec<Cfg
     facts_at(alloc, platform, place)
 }
 
-/// The facts of the set at this place: those of its target, and those of the condition that stand in the set besides.
+/// Returns the facts of the set at an index: those of its target, and those of the condition that are in the set
+/// besides.
 fn facts_at(alloc: Global, platform: &Platform, place: u32) -> Result<Vec<Cfg>, AllocError> {
     let index = (place as usize).saturating_mul(STRIDE);
     let target = match names().get(index) {
@@ -74,22 +76,22 @@ fn facts_at(alloc: Global, platform: &Platform, place: u32) -> Result<Vec<Cfg>, 
     Ok(facts)
 }
 
-/// The truths of an expression over 64 sets of facts that are possible, one a bit. Each has the facts of a known target
-/// and some that are no fact of rustc's.
+/// Returns the truth values of an expression over 64 possible sets of facts, one bit each. Each set has the facts of a
+/// known target, and some facts that are not rustc's. Fails if memory is refused.
 pub fn truths(alloc: Global, e: &CfgExpr) -> Result<u64, AllocError>
     ensures { IfOk result (AreTruths (holds_beside None) (tree_of e.now)) }
 {
     fold_expression(alloc, e, &OverSamples { other: None })
 }
 
-/// The 64 sets of facts, each a bit of what is made.
+/// The 64 sets of facts, each of which has one bit in the result.
 #[derive(Clone, Copy, Drop)]
 struct OverSamples<'a> {
-    /// What stands in each set in place of the pair of its key.
+    /// The pair that replaces, in each set, the pair of its key.
     other: Option<Other<'a>>,
 }
 
-/// A key with one value, and what it is in place of that of a known target; where it is none, no pair is a fact.
+/// A key with one value, and the value that replaces that of a known target. With `None`, no pair of the key is a fact.
 #[derive(Clone, Copy, Drop)]
 struct Other<'a> {
     key: &'a str,
@@ -97,7 +99,7 @@ struct Other<'a> {
 }
 
 impl<'a> OverSamples<'a> {
-    /// The truths of a name or pair.
+    /// Returns the truth values of a name or pair.
     fn truths_at(&self, c: &Cfg) -> u64
         ensures { AreBits (λ l. holds_beside self.now.other l (pair_of (value_of c.now))) result }
     {
@@ -108,7 +110,7 @@ impl<'a> OverSamples<'a> {
     }
 }
 
-/// The truths of a name or pair, where a key has another value.
+/// Returns the truth values of a name or pair if a key has another value.
 fn truths_beside(other: Other<'_>, c: &Cfg) -> u64
     ensures { AreBits (λ l. holds_beside (Some other.entry) l (pair_of (value_of c.now))) result }
 {
@@ -118,7 +120,7 @@ fn truths_beside(other: Other<'_>, c: &Cfg) -> u64
     truths_of(c)
 }
 
-/// Whether the fact is a value of this key.
+/// Returns whether the fact is a value of this key.
 fn is_value_of(c: &Cfg, key: &str) -> bool
     ensures { result ≡ is_value key.now (pair_of (value_of c.now)) }
 {
@@ -128,7 +130,7 @@ fn is_value_of(c: &Cfg, key: &str) -> bool
     }
 }
 
-/// Whether the fact has this value, where there is one.
+/// Returns whether the fact has this value. Without a value, it has not.
 fn has_only(c: &Cfg, only: Option<&str>) -> bool
     ensures { result ≡ is_only (text_of only.entry) (pair_of (value_of c.now)).value }
 {
@@ -138,7 +140,7 @@ fn has_only(c: &Cfg, only: Option<&str>) -> bool
     }
 }
 
-/// Whether the text is this value, where there is one.
+/// Returns whether the text is this value. Without a value, it is not.
 fn is_only(only: Option<&str>, value: &str) -> bool
     ensures { result ≡ is_only (text_of only.entry) (Some value.now) }
 {
@@ -153,7 +155,7 @@ impl<'a> Fold for OverSamples<'a> {
 
     type Part = u64;
 
-    /// The truths of the group so far.
+    /// The truth values of the group so far.
     type Members = u64;
 
     ghost makes = { λ sets e part. AreTruths (holds_beside sets.other) e part };
@@ -190,13 +192,13 @@ impl<'a> Fold for OverSamples<'a> {
     }
 }
 
-/// A pair of one value with its key, as texts.
+/// A key that has one value, and its value, as texts.
 type Pair<'a> = (&'a str, &'a str);
 
-/// Of so many values that no known target has it is asked what a condition is worth there.
+/// The maximum number of values that no known target has for which the truth values of a condition are computed.
 const FEW: usize = 8;
 
-/// Whether it is a value that no known target has, of a key that has one value.
+/// Returns whether the fact is a value that no known target has, of a key that has one value.
 fn is_unknown(c: &Cfg) -> bool
     ensures { result ≡ is_unknown_value (pair_of (value_of c.now)) }
 {
@@ -206,7 +208,7 @@ fn is_unknown(c: &Cfg) -> bool
     false
 }
 
-/// A value that no known target has, of a key that has one value.
+/// Returns the key and the value of a fact if no known target has the value, and the key has one value.
 fn unknown_value(c: &Cfg) -> Option<Pair<'_>>
     ensures some { IfSome result (λ x. pair_at x ≡ pair_of (value_of c.now)) }
     ensures unknown { IfSome result (λ x. is_unknown_value (pair_of (value_of c.now)) ≡ true) }
@@ -223,7 +225,7 @@ fn unknown_value(c: &Cfg) -> Option<Pair<'_>>
     }
 }
 
-/// Whether a pair is among these.
+/// Returns whether the list contains a pair.
 fn has_pair(pairs: &[Pair<'_>], pair: Pair<'_>) -> bool
     ensures { result ≡ has_pair (map pair_at pairs.now) (pair_at pair.entry) }
 {
@@ -235,15 +237,15 @@ fn has_pair(pairs: &[Pair<'_>], pair: Pair<'_>) -> bool
     false
 }
 
-/// Whether both are the same.
+/// Returns whether two pairs are the same.
 fn is_pair(pair: Pair<'_>, other: Pair<'_>) -> bool
     ensures { result ≡ same_pair (pair_at pair.entry) (pair_at other.entry) }
 {
     pair.0 == other.0 && pair.1 == other.1
 }
 
-/// The values of a condition that no known target has, of keys that have one value; each once, and none where they are
-/// many.
+/// Returns the values in a condition that no known target has, of keys that have one value, each once. Returns `None`
+/// if there are more than `FEW`.
 fn unknown_values<'a>(
     alloc: Global,
     values: &[&'a Cfg],
@@ -273,7 +275,8 @@ fn unknown_values<'a>(
     Ok(Some(found))
 }
 
-/// What the truths of an expression hang on where a key has this value: none where they are those without the value.
+/// Returns a number for the truth values of an expression if a key has this value: 0 if they are the same as without
+/// the value.
 fn apart(alloc: Global, e: &CfgExpr, pair: Pair<'_>) -> Result<u64, AllocError>
     ensures { IfOk result (λ n. n ≡ apart_of (tree_of e.now) (pair_at pair.entry)) }
 {
@@ -283,7 +286,7 @@ fn apart(alloc: Global, e: &CfgExpr, pair: Pair<'_>) -> Result<u64, AllocError>
     Ok(number_apart(with, without, key, value))
 }
 
-/// The truths of an expression where a key has this value alone, or none.
+/// Returns the truth values of an expression if a key has only this value, or none.
 fn truths_beside_key(
     alloc: Global,
     e: &CfgExpr,
@@ -297,7 +300,7 @@ fn truths_beside_key(
     Ok(truths)
 }
 
-/// The number of truths with a value: 0 where they are those without it.
+/// Returns a number for truth values with a value: 0 if they are the same as those without it.
 fn number_apart(with: u64, without: u64, key: &str, value: &str) -> u64
     ensures { result ≡ apart with without (pair_at (key.entry, value.entry)) }
 {
@@ -308,7 +311,7 @@ fn number_apart(with: u64, without: u64, key: &str, value: &str) -> u64
     spread(mixed(number.wrapping_add(1), value))
 }
 
-/// The sum of what an expression hangs on at each of these values.
+/// Returns the sum of the numbers of an expression for each of these values.
 fn sum_apart(alloc: Global, e: &CfgExpr, pairs: &[Pair<'_>]) -> Result<u64, AllocError>
     ensures { IfOk result (λ n. n ≡ summed (apart_of (tree_of e.now)) 0 (map pair_at pairs.now)) }
 {
@@ -319,8 +322,9 @@ fn sum_apart(alloc: Global, e: &CfgExpr, pairs: &[Pair<'_>]) -> Result<u64, Allo
     Ok(sum)
 }
 
-/// A number that conditions share which are as true over each possible set of facts. It hangs on their truths over sets
-/// where a key has a value that no known target has; where these values are many, it is not known.
+/// Returns a number that is the same for conditions that are equivalent over each possible set of facts. It depends on
+/// their truth values over sets in which a key has a value that no known target has. Returns `None` if there are too
+/// many of these values. Fails if memory is refused.
 pub fn beyond_targets(
     alloc: Global,
     platform: &Platform,
@@ -335,7 +339,7 @@ pub fn beyond_targets(
     }
 }
 
-/// The truths of a group with one more member.
+/// Returns the truth values of a group with one more member.
 fn joined(neutral: bool, so_far: u64, part: u64) -> u64
     ensures { AreBits (λ l. both neutral (is_set so_far l) (is_set part l)) result }
 {
@@ -346,14 +350,14 @@ fn joined(neutral: bool, so_far: u64, part: u64) -> u64
     }
 }
 
-/// The same truth over each of the sets.
+/// Returns the same truth value for each of the sets.
 fn everywhere(truth: bool) -> u64
     ensures { AreBits (λ l. truth) result }
 {
     if truth { u64::MAX } else { 0 }
 }
 
-/// The truths of a name or pair.
+/// Returns the truth values of a name or pair.
 fn truths_of(c: &Cfg) -> u64
     ensures { AreBits (λ l. holds l (pair_of (value_of c.now))) result }
 {
@@ -363,7 +367,7 @@ fn truths_of(c: &Cfg) -> u64
     }
 }
 
-/// Which of the targets whose facts are in the sets are among these, a bit for each.
+/// Returns, one bit each, whether the targets whose facts are in the sampled sets are in this set of targets.
 fn sampled(targets: TargetSet) -> u64
     ensures { AreBits (λ l. is_member targets (l * STRIDE)) result }
 {
@@ -377,7 +381,7 @@ fn sampled(targets: TargetSet) -> u64
     truths
 }
 
-/// The word with one more bit where that is told.
+/// Returns the word, with the bit at `place` set if `is_there`.
 fn with_bit(word: u64, place: usize, is_there: bool) -> u64
     requires { place < 64 }
     ensures { (l : ℕ) → is_set result l ≡ (((l == place) && is_there) || is_set word l) }
@@ -389,8 +393,8 @@ fn with_bit(word: u64, place: usize, is_there: bool) -> u64
     }
 }
 
-/// The known targets that have a name or pair, if it is one of rustc's: one that some target has, or a value of a key
-/// that has one value.
+/// Returns the known targets that have a name or pair, if it is one of rustc's: one that some target has, or a value of
+/// a key that has one value.
 fn targets_of(c: &Cfg) -> Option<TargetSet>
     ensures some { IfSome result (λ targets. is_rustcs (pair_of (value_of c.now)) ≡ true) }
     ensures members { IfSome result (λ targets. (k : ℕ) → k < COUNT
@@ -407,7 +411,7 @@ fn targets_of(c: &Cfg) -> Option<TargetSet>
     Some(targets)
 }
 
-/// Whether the fact is a value of one of these keys.
+/// Returns whether the fact is a value of one of these keys.
 pub fn is_of_key(c: &Cfg, keys: &[&str]) -> bool
     ensures { result ≡ is_single (names_of keys.now) (pair_of (value_of c.now)) }
 {
@@ -417,10 +421,10 @@ pub fn is_of_key(c: &Cfg, keys: &[&str]) -> bool
     }
 }
 
-/// Where the number of a name or pair begins.
+/// The initial value for the hash of a name or pair.
 const START: u64 = 0xcbf2_9ce4_8422_2325;
 
-/// The truths of a name or pair that is none of rustc's.
+/// Returns the truth values of a name or pair that is not rustc's.
 fn mixed_truths(c: &Cfg) -> u64
     ensures { result ≡ mixed_truths (pair_of (value_of c.now)) }
 {
@@ -433,7 +437,7 @@ fn mixed_truths(c: &Cfg) -> u64
     }
 }
 
-/// A number that hangs on each byte of the text.
+/// Returns a hash of the text, which starts with the value `start`.
 fn mixed(start: u64, text: &str) -> u64
     ensures { result ≡ mixed start text.now }
 {
@@ -444,7 +448,7 @@ fn mixed(start: u64, text: &str) -> u64
     mixed
 }
 
-/// The number, each of whose bits hangs on each bit of this one.
+/// Returns a number in which each bit depends on each bit of this one.
 fn spread(number: u64) -> u64
     ensures { result ≡ spread number }
 {

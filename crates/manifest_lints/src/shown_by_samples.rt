@@ -1,4 +1,4 @@
-//! What sets of facts that are tried show, where a search takes too many splits.
+//! Answers by the sampled sets of facts, for a search that takes too many case splits.
 
 ghost use Rattle.std.specs.Prelude.{◌≡◌, map, IfOk, IsTrue};
 ghost use Rattle.std.specs.List.{list_any};
@@ -14,7 +14,8 @@ use cargo_platform::{Cfg, Platform};
 use exact_answers::Known;
 use std::alloc::{AllocError, Global};
 
-/// Whether a set of facts that is tried shows that the condition can be as true as this.
+/// Returns whether a sampled set of facts shows that the condition can have this truth value. Fails if memory is
+/// refused.
 pub fn is_shown(
     alloc: Global,
     platform: &Platform,
@@ -31,14 +32,14 @@ pub fn is_shown(
     Ok(is_same(holds, truth))
 }
 
-/// Whether both are true, or both false.
+/// Returns whether two truth values are the same.
 fn is_same(first: bool, second: bool) -> bool
     ensures { IsTrue result → first ≡ second }
 {
     first == second
 }
 
-/// Whether the facts are shown to be possible. Where some are listed, or names are complete, none are shown to be.
+/// Returns whether the facts are shown to be possible. They are not if some facts are listed, or names are complete.
 #[tactic(auto, using(crate::proofs::Tried::are_possible))]
 fn are_possible(facts: &[Cfg], known: &Known<'_>) -> bool
     ensures { IsTrue result → IsAllowed known.now (fact_set (map value_of facts.now)) }
@@ -55,7 +56,7 @@ fn are_possible(facts: &[Cfg], known: &Known<'_>) -> bool
     known.assumed.matches(facts)
 }
 
-/// Whether one of these keys has two values among the facts.
+/// Returns whether one of these keys has two values among the facts.
 fn has_doubled(facts: &[Cfg], single: &[&str]) -> bool
     ensures { result ≡ has_doubled (names_of single.now) (pairs_at facts.now) }
 {
@@ -67,7 +68,7 @@ fn has_doubled(facts: &[Cfg], single: &[&str]) -> bool
     false
 }
 
-/// Whether one of the facts is another value of the key of this one.
+/// Returns whether one of the facts is another value of the key of `c`.
 fn is_doubled(c: &Cfg, facts: &[Cfg]) -> bool
     ensures { result ≡ list_any (are_two (pair_of (value_of c.now))) (pairs_at facts.now) }
 {
@@ -79,7 +80,7 @@ fn is_doubled(c: &Cfg, facts: &[Cfg]) -> bool
     false
 }
 
-/// Whether two facts are two values of one key.
+/// Returns whether two facts are different values of one key.
 fn are_two(c: &Cfg, other: &Cfg) -> bool
     ensures { result ≡ are_two (pair_of (value_of c.now)) (pair_of (value_of other.now)) }
 {

@@ -1,4 +1,4 @@
-//! Which of the names and pairs that a key asks for are told.
+//! Selects which of the names and pairs in a key are reported.
 
 ghost use Rattle.std.specs.Prelude.{◌≡◌, IfOk};
 ghost use Rattle.cargo_platform.specs.Trees.{value_of};
@@ -10,31 +10,31 @@ use manifest_lints_standings::asked_facts::AskedFact;
 use manifest_lints_standings::standing::{Sort, Standing};
 use std::alloc::{AllocError, Global};
 
-/// Some of the names and pairs.
+/// A selection of names and pairs.
 #[derive(Clone, Copy, Drop)]
 pub enum Choice {
-    /// Those of a sort, each once.
+    /// Those of a category, each once.
     OfSort(Sort),
-    /// The raw `true` and `false` alone, each once.
+    /// The names `r#true` and `r#false`, each once.
     Literal,
-    /// What only unstable features of rustc set.
+    /// Those that only unstable features of rustc set.
     Unstable,
-    /// What is none of these.
+    /// Those that do not depend on unstable features of rustc.
     Stable,
-    /// The pairs of `target_feature`, which no target specification of one's own can have either.
+    /// The pairs of `target_feature`, which a custom target specification cannot have either.
     Feature,
-    /// What is none of these.
+    /// Those that are not pairs of `target_feature`.
     NoFeature,
 }
 
-/// Whether only unstable features of rustc set it.
+/// Returns whether only unstable features of rustc set the name or pair.
 fn is_unstable(standing: Standing) -> bool
     ensures { result ≡ is_unstable standing }
 {
     matches!(standing, Standing::Unstable)
 }
 
-/// Whether it is a pair of `target_feature`.
+/// Returns whether a fact is a pair of `target_feature`.
 fn is_feature(fact: &Cfg) -> bool
     ensures { result ≡ is_feature (value_of fact.now) }
 {
@@ -44,7 +44,7 @@ fn is_feature(fact: &Cfg) -> bool
     }
 }
 
-/// Whether it is a raw `true` or `false` alone, which Cargo reads as a literal.
+/// Returns whether a fact is the name `r#true` or `r#false`, which Cargo reads as a literal.
 pub fn is_marked_literal(fact: &Cfg) -> bool
     ensures { result ≡ is_marked_literal (value_of fact.now) }
 {
@@ -54,7 +54,7 @@ pub fn is_marked_literal(fact: &Cfg) -> bool
     }
 }
 
-/// Whether it is one of those.
+/// Returns whether the selection includes a name or pair.
 fn is_chosen(choice: Choice, asked: &AskedFact<'_>) -> bool
     ensures { result ≡ is_chosen choice asked.now }
 {
@@ -68,7 +68,7 @@ fn is_chosen(choice: Choice, asked: &AskedFact<'_>) -> bool
     }
 }
 
-/// Those of the names and pairs, in their order.
+/// Returns the selected names and pairs, in their order. Fails if memory is refused.
 pub fn chosen<'a>(
     alloc: Global,
     asked: &[AskedFact<'a>],

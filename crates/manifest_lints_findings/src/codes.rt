@@ -1,27 +1,27 @@
-//! The codes of findings, as one table.
+//! The lints, in one table.
 
 ghost use Rattle.manifest_lints_findings.specs.Codes.{hiders, code_word, code_level, level_word};
 ghost use Rattle.std.specs.Prelude.{◌≡◌};
 
-/// How much a finding weighs.
+/// The level of a diagnostic.
 #[derive(Clone, Copy, Debug, PartialEq, Eq, Drop)]
 pub enum Level {
-    /// Cargo refuses the manifest, or leaves something out.
+    /// Cargo rejects the manifest, or leaves something out.
     Error,
-    /// Something does not select what its writer may expect.
+    /// Something does not select what its author may expect.
     Warning,
-    /// Something that may be meant.
+    /// Something that may be intended.
     Note,
 }
 
-/// What kind a finding is of.
+/// The lint that a diagnostic reports.
 #[derive(Clone, Copy, Debug, PartialEq, Eq, PartialOrd, Ord, Drop)]
 pub enum Code {
-    /// The key spells no condition.
+    /// The key is not a condition.
     Refused,
-    /// Something is no table.
+    /// A value is not a table.
     NoTable,
-    /// Cargo of today reads the key otherwise.
+    /// Current Cargo reads the key otherwise.
     ReadOtherwise,
     /// Cargo warns of names and pairs that are not supported.
     Unsupported,
@@ -29,25 +29,25 @@ pub enum Code {
     Never,
     /// No known target has the name.
     UnknownTarget,
-    /// What people take for a fact of rustc's.
+    /// The condition contains something that people take for a fact of rustc's.
     UnknownFact,
-    /// The condition holds at no known target.
+    /// The condition is true on no known target.
     Nowhere,
-    /// The same condition as that of an earlier key.
+    /// The condition is the same as that of an earlier key.
     Same,
-    /// As true as an earlier key.
+    /// The condition is equivalent to that of an earlier key.
     Equivalent,
     /// The condition is true over every set of facts.
     Always,
-    /// The condition holds at every known target.
+    /// The condition is true on every known target.
     Everywhere,
-    /// What only flags or unstable features of rustc set.
+    /// The condition contains something that only flags or unstable features of rustc set.
     Custom,
     /// The canonical form is another text.
     NotCanonical,
 }
 
-/// The codes in the order in which they are told of one key.
+/// The lints in the order in which they are reported for one key.
 pub const CODES: [Code; 14] = [
     Code::Refused,
     Code::NoTable,
@@ -66,7 +66,7 @@ pub const CODES: [Code; 14] = [
 ];
 
 impl Level {
-    /// The word for it.
+    /// Returns the name of the level.
     pub fn word(self) -> &'static str
         ensures { result.now ≡ level_word self }
     {
@@ -78,28 +78,28 @@ impl Level {
     }
 }
 
-/// What the table has of a code.
+/// The row of a lint in the table.
 #[derive(Clone, Copy, Drop)]
 pub struct Row {
-    /// The word for it.
+    /// The name of the lint.
     pub word: &'static str,
-    /// How much a finding of it weighs. `never` of a key without names and pairs is a note, and `always` of one with
-    /// names and pairs a warning.
+    /// The level of its diagnostics. `never` is a note on a key without names and pairs, and `always` is a warning on
+    /// one with names and pairs.
     pub level: Level,
-    /// The codes that hide it on the same key, whatever names they tell of.
+    /// The lints that hide it on the same key, whatever names they report.
     pub hidden_by: &'static [Code],
 }
 
-/// What hides `nowhere`.
+/// The lints that hide `nowhere`.
 const NOWHERE_HIDERS: [Code; 3] = [Code::UnknownTarget, Code::UnknownFact, Code::Never];
 
-/// What hides `equivalent`.
+/// The lints that hide `equivalent`.
 const EQUIVALENT_HIDERS: [Code; 3] = [Code::Never, Code::Always, Code::Same];
 
-/// What hides `everywhere`.
+/// The lints that hide `everywhere`.
 const EVERYWHERE_HIDERS: [Code; 1] = [Code::Always];
 
-/// What hides `not-canonical`: what changes the key.
+/// The lints that hide `not-canonical`: those that change the key.
 const NOT_CANONICAL_HIDERS: [Code; 3] = [
     Code::ReadOtherwise,
     Code::UnknownTarget,
@@ -121,7 +121,7 @@ impl Row {
 }
 
 impl Code {
-    /// Its row of the table.
+    /// Returns the row of the lint.
     pub fn row(self) -> Row
         ensures word { result.word.now ≡ code_word self }
         ensures level { result.level ≡ code_level self }
@@ -145,7 +145,7 @@ impl Code {
         }
     }
 
-    /// The word for it.
+    /// Returns the name of the lint.
     pub fn word(self) -> &'static str
         ensures { result.now ≡ code_word self }
     {

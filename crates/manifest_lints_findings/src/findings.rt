@@ -1,4 +1,4 @@
-//! What there is to tell of the keys of a manifest.
+//! The diagnostics on the keys of a manifest.
 
 ghost use Rattle.std.specs.Prelude.{◌≡◌, IfOk, None};
 ghost use Rattle.manifest_lints_findings.specs.Marks.{mark};
@@ -8,39 +8,39 @@ use crate::readings::ReadKey;
 use std::alloc::{AllocError, Global};
 use std::ops::Range;
 
-/// Something to tell of a key.
+/// A diagnostic on a key.
 #[derive(Drop)]
 pub struct Finding {
-    /// How much it weighs.
+    /// The level.
     pub level: Level,
-    /// What kind it is of.
+    /// The lint.
     pub code: Code,
-    /// The place of its key among those of the report; of `target` itself there is none.
+    /// The index of the key among those of the report, or `None` for `target` itself.
     pub key: Option<usize>,
-    /// What is told, without the snippet. It has one line, and no character that is not shown.
+    /// The message, without the snippet. It has one line, and no hidden characters.
     pub message: String,
-    /// A text that may stand in place of the whole key.
+    /// A text that can replace the whole key.
     pub suggestion: Option<String>,
-    /// Of a key that is refused, where in the key the fault lies, in bytes.
+    /// The span of the error in a rejected key, in bytes.
     pub span: Option<Range<usize>>,
-    /// Of a key that is refused, the two lines that show it.
+    /// The two lines that show the error in a rejected key.
     pub snippet: Option<String>,
 }
 
-/// The keys of a manifest, the findings on them, and those of which something was left open for want of splits.
+/// The keys of a manifest, the diagnostics on them, and the keys about which an answer is not known.
 #[derive(Drop)]
 pub struct Report<'a> {
-    /// The keys with what they spell, in the order in which they first appear where the document knows that, and else
-    /// in that of their bytes.
+    /// The parsed keys, in the order in which they first appear if the document knows it, and else in the order of
+    /// their bytes.
     pub keys: Vec<ReadKey<'a>>,
-    /// The findings, by the keys in their order, and of one key by their codes.
+    /// The diagnostics, by key, and for one key in the order of the lints.
     pub findings: Vec<Finding>,
-    /// The places of the keys of which something is not known: the splits are too few, or too many parentheses lie in
-    /// one another, names and keys are open, or keys stand before it.
+    /// The indexes of the keys about which an answer is not known: there are too few case splits, too many nested
+    /// parentheses, too many open names and keys, or too many keys before it.
     pub undecided: Vec<usize>,
 }
 
-/// The finding on a `target` that is no table.
+/// Returns the diagnostic on a `target` that is not a table. Fails if memory is refused.
 pub fn target_is_no_table(alloc: Global) -> Result<Finding, AllocError>
     ensures { IfOk result (λ f. mark f ≡ (None, Code.NoTable)) }
 {

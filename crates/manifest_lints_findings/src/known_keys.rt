@@ -1,4 +1,4 @@
-//! What is known of a key by itself, from its text, one walk of its tree, and what the manifest declares.
+//! The properties of a key by itself: from its text, one walk of its tree, and the declarations of the manifest.
 
 ghost use Rattle.std.specs.Prelude.{◌≡◌, [], IfOk, not, string_bytes};
 ghost use Rattle.cargo_platform.specs.Trees.{value_of, condition_of};
@@ -20,27 +20,27 @@ use manifest_lints_standings::standing::{Sort, is_unknown_target};
 use manifests::Declared;
 use std::alloc::{AllocError, Global};
 
-/// What is known of a key. A key that spells no condition asks for nothing.
+/// The properties of a key. A key that is not a condition contains no names and pairs.
 #[derive(Drop)]
 pub struct KnownKey<'a> {
-    /// Its text, what stands at it, and what it spells.
+    /// The key as it was parsed: its text, its value, and what it spells.
     pub read: &'a ReadKey<'a>,
-    /// Its place among the keys of the manifest.
+    /// The index of the key among those of the manifest.
     pub place: usize,
-    /// What stands at it and is no table of dependencies, by words for each.
+    /// The parts of the value that are not dependency tables, with a text for each.
     pub no_tables: Vec<String>,
-    /// The names and pairs that it asks for, from left to right.
+    /// The names and pairs in the key, from left to right.
     pub asked: Vec<AskedFact<'a>>,
-    /// How many members, each with others after it in its group, stand in one another at most.
+    /// The maximum number of members, nested in one another, that others follow in their group.
     pub levels: usize,
     /// The canonical form of its condition.
     pub canonical: String,
-    /// Whether it is the name of a target that is not known.
+    /// True if the key is the name of a target that is not known.
     pub is_unknown_target: bool,
 }
 
 impl<'a> KnownKey<'a> {
-    /// What is known of a key that is read, at this place.
+    /// Returns the properties of the parsed key at index `place`. Fails if memory is refused.
     pub fn of(
         alloc: Global,
         read: &'a ReadKey<'a>,
@@ -67,7 +67,7 @@ impl<'a> KnownKey<'a> {
         }
     }
 
-    /// What is known of a key that stands in no manifest.
+    /// Returns the properties of a key that is in no manifest.
     pub(crate) fn alone(alloc: Global, read: &'a ReadKey<'a>) -> Result<KnownKey<'a>, AllocError>
         ensures place { IfOk result (λ k. k.place ≡ 0) }
         ensures known { IfOk result (λ k. IsKnown [] read.now k) }
@@ -75,7 +75,8 @@ impl<'a> KnownKey<'a> {
         KnownKey::of(alloc, read, 0, &Declared::none(alloc))
     }
 
-    /// Whether a code holds of the key. What is asked over sets of facts, and beside other keys, does not.
+    /// Returns whether a lint applies to the key. For lints that are decided over sets of facts, or by comparing keys,
+    /// this is `false`.
     pub fn holds(&self, code: Code) -> bool
         ensures { result ≡ holds_alone self.now code }
     {
@@ -98,7 +99,7 @@ impl<'a> KnownKey<'a> {
     }
 }
 
-/// What stands at a key and is no table of dependencies, by words for each.
+/// Returns the parts of a key's value that are not dependency tables, with a text for each.
 fn no_tables_under(alloc: Global, read: &ReadKey<'_>) -> Result<Vec<String>, AllocError>
     ensures { IfOk result (λ found. is_empty_list found.items ≡ not (is_no_table (entry_read read.now).1)) }
 {
@@ -108,7 +109,7 @@ fn no_tables_under(alloc: Global, read: &ReadKey<'_>) -> Result<Vec<String>, All
     }
 }
 
-/// What is known of a key that spells this condition.
+/// Returns the properties of a key with this condition.
 fn known_condition<'a>(
     alloc: Global,
     read: &'a ReadKey<'a>,
@@ -135,14 +136,14 @@ fn known_condition<'a>(
     })
 }
 
-/// The canonical form of a condition.
+/// Returns the canonical form of a condition.
 fn canonical(alloc: Global, condition: &Platform) -> Result<String, AllocError>
     ensures { IfOk result (λ s. string_bytes s ≡ print_condition (condition_of condition.now)) }
 {
     format!(in alloc; "{condition}")
 }
 
-/// Whether one of them is a raw `true` or `false` alone, which Cargo reads as a literal.
+/// Returns whether one of the facts is the name `r#true` or `r#false`, which Cargo reads as a literal.
 fn has_marked_literal(asked: &[AskedFact<'_>]) -> bool
     ensures { result ≡ has_marked_literal (sorted_by asked.now) }
 {

@@ -1,8 +1,8 @@
-//! Laws over the definitions. The function does nothing: its contract is the law.
+//! Laws about the definitions. The function does nothing: its contract is the law.
 
 ghost use Rattle.manifest_lints_findings.specs.Laws.{AreAllCodes};
 
-/// The codes that are gone over are all codes, each once, in the order in which they are told.
+/// `CODES` contains all lints, each once, in the order in which they are reported.
 pub fn codes()
     ensures { AreAllCodes }
 {}

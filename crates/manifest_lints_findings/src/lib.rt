@@ -1,4 +1,4 @@
-//! What is known of a key of `target` by itself, the codes of findings as one table, and what findings tell.
+//! The properties of a key of `target` by itself, the lints in one table, and the messages of the diagnostics.
 #![tactic(auto)]
 
 mod chosen;

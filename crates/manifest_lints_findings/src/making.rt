@@ -1,4 +1,4 @@
-//! The finding of a code on a key.
+//! Makes the diagnostic of a lint on a key.
 
 ghost use Rattle.std.specs.Prelude.{◌≡◌, IfOk, IfSome, Some, length, string_bytes};
 ghost use Rattle.manifest_lints_findings.specs.Codes.{finding_level};
@@ -14,7 +14,7 @@ use crate::readings::Spelled;
 use crate::suggestions::{Words, suggestion_of};
 use std::alloc::{AllocError, Global};
 
-/// How much a finding of this code weighs on a condition with so many names and pairs.
+/// Returns the level of a diagnostic of this lint on a condition with `count` names and pairs.
 fn level_of(code: Code, count: usize) -> Level
     ensures { result ≡ finding_level code count }
 {
@@ -37,7 +37,8 @@ fn level_of(code: Code, count: usize) -> Level
     }
 }
 
-/// The finding of this code on a key. `other` is the earlier key that is the same or as true.
+/// Returns the diagnostic of this lint on a key. `other` is the earlier key that is the same or equivalent. Fails if
+/// memory is refused.
 pub fn finding_on(
     alloc: Global,
     words: &Words,

@@ -1,13 +1,13 @@
-//! What people mean by other words for rustc's values and targets: fixed rules, and words that are one edit away.
+//! The values and target names of rustc that people mean by other words, found by fixed rules, or one edit away.
 
 use known_targets::{KnownTarget, names};
 use manifest_lints_standings::standing::is_value_of;
 use std::alloc::{AllocError, Global};
 
-/// A text of fewer bytes is near to no word.
+/// The length of the shortest text, in bytes, that is similar to a word.
 const SHORTEST: usize = 3;
 
-/// How many bytes are the same from the beginning on.
+/// Returns the number of bytes that are the same at the beginning.
 fn common_front(text: &[u8], word: &[u8]) -> usize {
     text.iter()
         .zip(word)
@@ -15,7 +15,7 @@ fn common_front(text: &[u8], word: &[u8]) -> usize {
         .count()
 }
 
-/// How many bytes are the same from the end on.
+/// Returns the number of bytes that are the same at the end.
 fn common_back(text: &[u8], word: &[u8]) -> usize {
     text.iter()
         .rev()
@@ -24,7 +24,7 @@ fn common_back(text: &[u8], word: &[u8]) -> usize {
         .count()
 }
 
-/// Whether both are the same but for the case of letters.
+/// Returns whether both are the same except for the case of ASCII letters.
 fn is_same_but_case(text: &[u8], word: &[u8]) -> bool {
     text.len() == word.len()
         && text
@@ -33,8 +33,9 @@ fn is_same_but_case(text: &[u8], word: &[u8]) -> bool {
             .all(|pair| pair.0.eq_ignore_ascii_case(pair.1))
 }
 
-/// Whether one edit leads from a text to a word: a byte is changed, put in or left out, or two that stand side by side
-/// change places. Letter case alone is one edit too.
+/// Returns whether one edit changes a text into a word: one byte is changed, inserted or deleted, or two adjacent bytes
+/// are swapped. A difference in ASCII case only is one edit too. A text of fewer than 3 bytes is not similar to any
+/// word.
 pub fn is_one_edit(text: &str, word: &str) -> bool {
     if text.len() < SHORTEST || text.len().abs_diff(word.len()) > 1 {
         return false;
@@ -58,7 +59,7 @@ pub fn is_one_edit(text: &str, word: &str) -> bool {
     }
 }
 
-/// The first of the words to which one edit leads.
+/// Returns the first of the words that is one edit away from a text.
 pub fn near<'a>(text: &str, words: &[&'a str]) -> Option<&'a str> {
     for word in words {
         if is_one_edit(text, word) {
@@ -68,7 +69,7 @@ pub fn near<'a>(text: &str, words: &[&'a str]) -> Option<&'a str> {
     None
 }
 
-/// Values, and other words that people have for them.
+/// Values, and other words that people use for them.
 const OTHER_WORDS: &[(&str, &[&str])] = &[
     ("macos", &["darwin", "mac", "macosx", "osx"]),
     ("windows", &["win32", "win64"]),
@@ -97,7 +98,7 @@ const OTHER_WORDS: &[(&str, &[&str])] = &[
     ("64", &["64bit", "64-bit"]),
 ];
 
-/// The value that people mean by another word for it.
+/// Returns the value that people mean by another word.
 fn other_word(word: &str) -> Option<&'static str> {
     for (value, words) in OTHER_WORDS {
         if words.contains(&word) {
@@ -107,7 +108,7 @@ fn other_word(word: &str) -> Option<&'static str> {
     None
 }
 
-/// The value of the key that is meant by another word, by a fixed rule.
+/// Returns the value of the key that is meant by another word, by a fixed rule. Fails if memory is refused.
 pub fn meant_value(
     alloc: Global,
     key: &str,
@@ -125,7 +126,7 @@ pub fn meant_value(
     }
 }
 
-/// The name, where a known target has it.
+/// Returns the name if a known target has it.
 pub fn if_known(name: String) -> Option<String> {
     if KnownTarget::by_name(name.as_str()).is_some() {
         Some(name)
@@ -134,7 +135,7 @@ pub fn if_known(name: String) -> Option<String> {
     }
 }
 
-/// What is meant by the first part of a target's name, by a fixed rule.
+/// Returns what is meant by the first part of a target's name, by a fixed rule.
 fn first_by_rule(first: &str) -> &str {
     match first {
         "i386" => "i686",
@@ -142,7 +143,7 @@ fn first_by_rule(first: &str) -> &str {
     }
 }
 
-/// What is meant by what stands behind the first part of a target's name, by a fixed rule.
+/// Returns what is meant by the rest of a target's name after its first part, by a fixed rule.
 fn rest_by_rule(rest: &str) -> &str {
     match rest {
         "apple-macos" | "apple-macosx" | "apple-osx" | "macos" | "darwin" => "apple-darwin",
@@ -150,8 +151,8 @@ fn rest_by_rule(rest: &str) -> &str {
     }
 }
 
-/// The name of the known target that is meant by its first part and what stands behind it, by a fixed rule: a vendor is
-/// left out, or the last parts have other words.
+/// Returns the name of the known target that is meant by its first part and the rest, by a fixed rule: the vendor is
+/// missing, or other words stand for the last parts.
 fn target_by_rule(alloc: Global, first: &str, rest: &str) -> Result<Option<String>, AllocError> {
     let rest = rest_by_rule(rest);
     for vendor in ["", "unknown-", "pc-", "apple-"] {
@@ -163,7 +164,8 @@ fn target_by_rule(alloc: Global, first: &str, rest: &str) -> Result<Option<Strin
     Ok(None)
 }
 
-/// The name of the known target that these parts mean, the first part as it stands or as another word.
+/// Returns the name of the known target that is meant by these parts, where the first part is taken as it is, or as
+/// another word.
 fn target_of_parts(alloc: Global, first: &str, rest: &str) -> Result<Option<String>, AllocError> {
     let name = target_by_rule(alloc, first, rest)?;
     if name.is_some() {
@@ -172,7 +174,8 @@ fn target_of_parts(alloc: Global, first: &str, rest: &str) -> Result<Option<Stri
     target_by_rule(alloc, first_by_rule(first), rest)
 }
 
-/// The name of the known target that is meant by this text: by a fixed rule, or where one edit leads there.
+/// Returns the name of the known target that is meant by a text: by a fixed rule, or because it is one edit away. Fails
+/// if memory is refused.
 pub fn nearest_target(alloc: Global, text: &str) -> Result<Option<String>, AllocError> {
     if text == "wasm32-wasi" {
         return Ok(Some(String::from_str(alloc, "wasm32-wasip1")?));

@@ -1,15 +1,15 @@
-//! What people mean by values of `target_feature` that rustc has for no architecture.
+//! The features that people mean by values of `target_feature` that rustc has for no architecture.
 
 use crate::meant::is_one_edit;
 use manifest_lints_standings::rustc_names::target_features;
 use std::alloc::{AllocError, Global};
 
-/// Whether it stands between the parts of a feature's name.
+/// Returns whether a byte separates the parts of a feature's name.
 fn is_mark(byte: u8) -> bool {
     matches!(byte, b'-' | b'_' | b'.')
 }
 
-/// Whether both are the same but for the case of letters and the marks between.
+/// Returns whether both are the same except for ASCII case and separators.
 fn is_same_but_marks(text: &str, word: &str) -> bool {
     let mut others = word.bytes().filter(|byte| !is_mark(*byte));
     for byte in text.bytes().filter(|byte| !is_mark(*byte)) {
@@ -21,7 +21,7 @@ fn is_same_but_marks(text: &str, word: &str) -> bool {
     others.next().is_none()
 }
 
-/// The one feature to which one edit leads. Of several none is meant.
+/// Returns the feature that is one edit away, if there is only one.
 fn one_near(text: &str) -> Option<&'static str> {
     let mut found = None;
     for feature in target_features() {
@@ -35,7 +35,8 @@ fn one_near(text: &str) -> Option<&'static str> {
     found
 }
 
-/// The feature that is meant by a text: but for letter case and the marks between, or where one edit leads there.
+/// Returns the feature that is meant by a text: one that differs only in ASCII case and separators, or that is one edit
+/// away.
 fn meant_feature(text: &str) -> Option<&'static str> {
     for feature in target_features() {
         if is_same_but_marks(text, feature) {
@@ -45,8 +46,8 @@ fn meant_feature(text: &str) -> Option<&'static str> {
     one_near(text)
 }
 
-/// The condition that may be meant by a value of `target_feature` that rustc has for no architecture. `+` and `-`
-/// before it are those of the flag: with the feature, and without it.
+/// Returns the condition that may be meant by a value of `target_feature` that rustc has for no architecture. `+` and
+/// `-` before the value are those of rustc's flag, which turn a feature on and off. Fails if memory is refused.
 pub fn feature_instead_of(alloc: Global, value: &str) -> Result<Option<String>, AllocError> {
     if let Some(feature) = value.strip_prefix("-").and_then(meant_feature) {
         return Ok(Some(format!(in alloc; "not(target_feature = \"{feature}\")")?));

@@ -1,4 +1,4 @@
-//! What the findings tell, code by code.
+//! The messages of the diagnostics, lint by lint.
 
 ghost use Rattle.std.specs.Prelude.{◌≡◌, ◌++◌, ◌∷◌, [], IfOk, OnOk, false, string_bytes};
 ghost use Rattle.cargo_platform.specs.Errors.{texts};
@@ -23,8 +23,8 @@ use manifest_lints_standings::asked_facts::AskedFact;
 use manifest_lints_standings::standing::{Sort, Standing};
 use std::alloc::{AllocError, Global};
 
-/// What is told by the finding of this code. `other` is the earlier key that is the same or as true, and `meant` may
-/// stand in the key's place.
+/// Returns the message of the diagnostic of this lint. `other` is the earlier key that is the same or equivalent, and
+/// `meant` can replace the key. Fails if memory is refused.
 pub fn message_of(
     alloc: Global,
     words: &Words,
@@ -60,7 +60,7 @@ pub fn message_of(
     }
 }
 
-/// The words with the text in quotes behind them.
+/// Returns `words` followed by the text in backquotes.
 fn behind_words(alloc: Global, words: &str, text: &str) -> Result<String, AllocError>
     ensures { IfOk result (λ message. EndsWith (quoted_text text.now) (string_bytes message)) }
 {
@@ -68,14 +68,14 @@ fn behind_words(alloc: Global, words: &str, text: &str) -> Result<String, AllocE
     format!(in alloc; "{words}{text}")
 }
 
-/// `no target that rustc .. knows`
+/// Returns `no target that rustc .. knows`, with the release.
 fn no_target(alloc: Global) -> Result<String, AllocError>
     ensures { IfOk result (λ s. Mentions (RUSTC_VERSION.now ∷ []) (string_bytes s)) }
 {
     format!(in alloc; "no target that rustc {RUSTC_VERSION} knows")
 }
 
-/// What is told of what stands at a key and is no table.
+/// Returns the message for the parts of a key's value that are not tables.
 fn no_table_message(alloc: Global, key: &KnownKey<'_>) -> Result<String, AllocError>
     ensures { IfOk result
         (λ s. Mentions (first_texts (λ t. string_bytes t) key.now.no_tables.items) (string_bytes s)) }
@@ -83,7 +83,7 @@ fn no_table_message(alloc: Global, key: &KnownKey<'_>) -> Result<String, AllocEr
     joined(alloc, &key.no_tables, key.no_tables.len(), ", ")
 }
 
-/// What people write in place of the words of a condition, and what stands for it.
+/// The operators and words that people write in conditions of other languages, and a suggestion for each.
 const INSTEAD: [(&str, &str); 8] = [
     ("||", "use `any(..)` in place of `||`"),
     ("&&", "use `all(..)` in place of `&&`"),
@@ -95,7 +95,7 @@ const INSTEAD: [(&str, &str); 8] = [
     (" or ", "use `any(..)` in place of `or`"),
 ];
 
-/// Whether these words stand in a key, outside of its values.
+/// Returns whether a key contains these words outside of its values.
 fn stands_outside(key: &str, words: &str) -> bool {
     for (place, part) in key.split('"').enumerate() {
         if place % 2 == 0 && part.contains(words) {
@@ -105,7 +105,7 @@ fn stands_outside(key: &str, words: &str) -> bool {
     false
 }
 
-/// What to write in place of what stands in a key that is refused. What stands in a value is not meant.
+/// Returns a suggestion for what people write in a rejected key. Texts inside values are ignored.
 fn instead_of_fault(key: &str) -> Option<&'static str> {
     for (written, hint) in INSTEAD {
         if stands_outside(key, written) {
@@ -118,7 +118,7 @@ fn instead_of_fault(key: &str) -> Option<&'static str> {
     None
 }
 
-/// Why a key is refused, shown and cut.
+/// Returns the error of a rejected key, escaped and shortened.
 fn fault_of(alloc: Global, spelled: &Spelled) -> Result<String, AllocError>
     ensures { IfOk result (λ s. Mentions (fault_shown spelled.now) (string_bytes s)) }
 {
@@ -132,7 +132,7 @@ fn fault_of(alloc: Global, spelled: &Spelled) -> Result<String, AllocError>
     }
 }
 
-/// What is told of a key that is refused.
+/// Returns the message for a rejected key.
 fn refused_message(alloc: Global, key: &KnownKey<'_>) -> Result<String, AllocError>
     ensures { IfOk result (λ s. Mentions (fault_shown key.now.read.now.spelled) (string_bytes s)) }
 {
@@ -143,7 +143,7 @@ fn refused_message(alloc: Global, key: &KnownKey<'_>) -> Result<String, AllocErr
     }
 }
 
-/// What is told of a key that Cargo alone reads: its warnings.
+/// Returns the message for a key that only Cargo accepts: Cargo's warnings.
 fn by_cargo_message(alloc: Global, marked: &Marked) -> Result<String, AllocError>
     ensures { IfOk result (λ s. Mentions (cargo_words marked.now ∷ []) (string_bytes s)) }
 {
@@ -152,7 +152,7 @@ fn by_cargo_message(alloc: Global, marked: &Marked) -> Result<String, AllocError
     format!(in alloc; "Cargo of today reads the key, and warns: {text}")
 }
 
-/// What is told of a key of which Cargo reads names without their raw marks.
+/// Returns the message for a key in which Cargo reads names without their raw marks.
 fn unmarked_message(alloc: Global, key: &KnownKey<'_>) -> Result<String, AllocError>
     ensures { IfOk result (λ s. Mentions (listing (chosen Choice.Literal key.now.asked.items)) (string_bytes s)) }
 {
@@ -161,7 +161,8 @@ fn unmarked_message(alloc: Global, key: &KnownKey<'_>) -> Result<String, AllocEr
     format!(in alloc; "Cargo of today reads {names} as if it had no raw mark")
 }
 
-/// What is told of a key that Cargo reads otherwise: it alone reads the key, or reads names without their raw marks.
+/// Returns the message for a key that Cargo reads otherwise: only Cargo accepts it, or Cargo reads names without their
+/// raw marks.
 fn read_otherwise_message(alloc: Global, key: &KnownKey<'_>) -> Result<String, AllocError>
     ensures { IfOk result (λ s. Mentions
         (read_otherwise key.now.read.now.spelled key.now.asked.items) (string_bytes s)) }
@@ -172,14 +173,14 @@ fn read_otherwise_message(alloc: Global, key: &KnownKey<'_>) -> Result<String, A
     }
 }
 
-/// Whether it is a pair.
+/// Returns whether a fact is a pair.
 fn is_pair(fact: &Cfg) -> bool
     ensures { result ≡ is_pair (value_of fact.now) }
 {
     matches!(fact, Cfg::KeyPair(_, _))
 }
 
-/// Appends what Cargo says of a name or pair.
+/// Appends Cargo's warning on a name or pair.
 fn warn(alloc: Global, fact: &Cfg, warnings: &mut Vec<String>) -> Result<(), AllocError>
     ensures { OnOk result
         (texts warnings.new ≡ texts warnings.old ++ attribute_warning (value_of fact.now)) }
@@ -188,7 +189,8 @@ fn warn(alloc: Global, fact: &Cfg, warnings: &mut Vec<String>) -> Result<(), All
     Platform::Cfg(CfgExpr::Value(fact)).check_cfg_attributes(alloc, warnings)
 }
 
-/// What Cargo says of names and pairs that do not select dependencies. Of `feature` it says so once.
+/// Returns Cargo's warnings on names and pairs that do not select dependencies. The warning on `feature` is included
+/// once.
 fn warnings_on(alloc: Global, facts: &[AskedFact<'_>]) -> Result<Vec<String>, AllocError>
     ensures { IfOk result (λ found. texts found ≡ warnings_on false facts.now) }
 {
@@ -204,7 +206,7 @@ fn warnings_on(alloc: Global, facts: &[AskedFact<'_>]) -> Result<Vec<String>, Al
     Ok(found)
 }
 
-/// What Cargo says of facts that do not select dependencies, on one line.
+/// Returns Cargo's warnings on facts that do not select dependencies, on one line.
 fn unsupported_message(alloc: Global, key: &KnownKey<'_>) -> Result<String, AllocError>
     ensures { IfOk result (λ s. Mentions
         (unsupported_in (chosen (Choice.OfSort Sort.Unsupported) key.now.asked.items) ∷ []) (string_bytes s)) }
@@ -215,7 +217,7 @@ fn unsupported_message(alloc: Global, key: &KnownKey<'_>) -> Result<String, Allo
     shown_text(alloc, words.as_str())
 }
 
-/// What is told of a name that no known target has.
+/// Returns the message for a name that no known target has.
 fn unknown_target_message(alloc: Global, meant: &Option<String>) -> Result<String, AllocError>
     ensures { IfOk result
         (λ s. Mentions (RUSTC_VERSION.now ∷ meant_shown meant.now) (string_bytes s)) }
@@ -225,7 +227,7 @@ fn unknown_target_message(alloc: Global, meant: &Option<String>) -> Result<Strin
     format!(in alloc; "{unknown} has this name{OWN}{perhaps}")
 }
 
-/// A mistaken fact with what may be meant.
+/// Returns a mistaken fact, with what may be meant.
 fn mistake(alloc: Global, words: &Words, asked: &AskedFact<'_>) -> Result<String, AllocError>
     ensures { IfOk result (λ s. BeginsWith (fact_text asked.now) (string_bytes s)) }
 {
@@ -240,12 +242,12 @@ fn mistake(alloc: Global, words: &Words, asked: &AskedFact<'_>) -> Result<String
     Ok(text)
 }
 
-/// What stands before a mistake.
+/// Returns the separator before the mistake at an index.
 fn mark_before(place: usize) -> &'static str {
     if place == 0 { "" } else { ", " }
 }
 
-/// The first mistakes, each with what may be meant, and how many more there are.
+/// Returns the first mistakes, each with what may be meant, and the number of the others.
 fn mistakes_listed(
     alloc: Global,
     words: &Words,
@@ -264,7 +266,7 @@ fn mistakes_listed(
     Ok(listed)
 }
 
-/// What is told of mistaken facts that are no features. Empty where there are none.
+/// Returns the message for mistaken facts that are not features, or the empty text if there are none.
 fn facts_told(alloc: Global, words: &Words, facts: &[AskedFact<'_>]) -> Result<String, AllocError>
     ensures { IfOk result (λ s. Mentions (listing_of_version facts.now) (string_bytes s)) }
 {
@@ -276,7 +278,7 @@ fn facts_told(alloc: Global, words: &Words, facts: &[AskedFact<'_>]) -> Result<S
     format!(in alloc; "{unknown} has {listed}{OWN}")
 }
 
-/// What is told of mistaken features. Empty where there are none.
+/// Returns the message for mistaken features, or the empty text if there are none.
 fn features_told(
     alloc: Global,
     words: &Words,
@@ -291,7 +293,7 @@ fn features_told(
     format!(in alloc; "no architecture that rustc {RUSTC_VERSION} knows has {listed}")
 }
 
-/// What is told of mistaken facts, each with what may be meant.
+/// Returns the message for mistaken facts, each with what may be meant.
 fn unknown_fact_message(
     alloc: Global,
     words: &Words,
@@ -308,7 +310,7 @@ fn unknown_fact_message(
     both(alloc, first, second)
 }
 
-/// What is told of a condition that holds at no known target.
+/// Returns the message for a condition that is true on no known target.
 fn nowhere_message(alloc: Global) -> Result<String, AllocError>
     ensures { IfOk result (λ s. Mentions (RUSTC_VERSION.now ∷ []) (string_bytes s)) }
 {
@@ -318,14 +320,14 @@ fn nowhere_message(alloc: Global) -> Result<String, AllocError>
     )
 }
 
-/// What is told of a condition that holds at every known target.
+/// Returns the message for a condition that is true on every known target.
 fn everywhere_message(alloc: Global) -> Result<String, AllocError>
     ensures { IfOk result (λ s. Mentions (RUSTC_VERSION.now ∷ []) (string_bytes s)) }
 {
     format!(in alloc; "the condition holds at every target that rustc {RUSTC_VERSION} knows")
 }
 
-/// What is told of facts that only flags set. Empty where there are none.
+/// Returns the message for facts that only flags set, or the empty text if there are none.
 fn flagged_told(alloc: Global, facts: &[AskedFact<'_>]) -> Result<String, AllocError>
     ensures { IfOk result (λ s. Mentions (listing_of_version facts.now) (string_bytes s)) }
 {
@@ -339,7 +341,7 @@ fn flagged_told(alloc: Global, facts: &[AskedFact<'_>]) -> Result<String, AllocE
     )
 }
 
-/// What is told of facts that only unstable features set. Empty where there are none.
+/// Returns the message for facts that only unstable features set, or the empty text if there are none.
 fn unstable_told(alloc: Global, facts: &[AskedFact<'_>]) -> Result<String, AllocError>
     ensures { IfOk result (λ s. Mentions (listing_of_version facts.now) (string_bytes s)) }
 {
@@ -350,7 +352,7 @@ fn unstable_told(alloc: Global, facts: &[AskedFact<'_>]) -> Result<String, Alloc
     format!(in alloc; "rustc {RUSTC_VERSION} prints {names} only with unstable features")
 }
 
-/// What is told of facts that only flags set, and of those that only unstable features set.
+/// Returns the message for facts that only flags set, and for those that only unstable features set.
 fn custom_message(alloc: Global, key: &KnownKey<'_>) -> Result<String, AllocError>
     ensures { IfOk result (λ s. Mentions
         (custom_in (chosen (Choice.OfSort Sort.Custom) key.now.asked.items)) (string_bytes s)) }

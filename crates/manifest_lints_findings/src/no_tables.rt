@@ -1,4 +1,4 @@
-//! What under a key of `target` is no table of dependencies.
+//! The parts of the value of a key of `target` that are not dependency tables.
 
 ghost use Rattle.std.specs.Prelude.{◌≡◌, IfOk, not};
 ghost use Rattle.toml.specs.View.{view};
@@ -9,7 +9,7 @@ use crate::wording::quoted;
 use std::alloc::{AllocError, Global};
 use toml::Value;
 
-/// Whether Cargo reads a member of this name in the table of a key.
+/// Returns whether Cargo reads a member of this name in the table of a key.
 fn is_table_name(name: &str) -> bool
     ensures { result ≡ is_table_name name.now }
 {
@@ -23,15 +23,15 @@ fn is_table_name(name: &str) -> bool
     )
 }
 
-/// The names of tables of dependencies.
+/// The names of dependency tables.
 const TABLES: [&str; 3] = ["dependencies", "dev-dependencies", "build-dependencies"];
 
-/// Whether Cargo reads a member of this name in the table of a key of its own configuration.
+/// Returns whether Cargo reads a member of this name in the table of a key of its own configuration.
 fn is_configuration(name: &str) -> bool {
     matches!(name, "linker" | "runner" | "rustflags" | "rustdocflags")
 }
 
-/// What is told of a member of this name, which is no table of dependencies.
+/// Returns the message for a member of this name, which is not a dependency table.
 fn other_member(alloc: Global, name: &str) -> Result<String, AllocError> {
     let shown = quoted(alloc, name)?;
     if is_configuration(name) {
@@ -45,13 +45,13 @@ fn other_member(alloc: Global, name: &str) -> Result<String, AllocError> {
     }
 }
 
-/// What is told of a member of this name, which is no table.
+/// Returns the message for a member of this name, which is not a table.
 fn no_table(alloc: Global, name: &str) -> Result<String, AllocError> {
     let name = quoted(alloc, name)?;
     format!(in alloc; "{name} is no table")
 }
 
-/// What of what stands at a key is no table of dependencies, by words for each.
+/// Returns the parts of a key's value that are not dependency tables, with a text for each. Fails if memory is refused.
 pub fn no_tables(alloc: Global, value: &Value) -> Result<Vec<String>, AllocError>
     ensures { IfOk result (λ found. is_empty_list found.items ≡ not (is_no_table (view value.now))) }
 {

@@ -12,36 +12,36 @@ pub const MISPLACED: &str = "misplaced";
 /// The lint for a table with an underscore in its name.
 pub const UNDERSCORED: &str = "underscored";
 
-/// A diagnostic on a table or a field that Cargo does not read as its author may expect.
+/// A diagnostic on a table, or on a part of a table, that Cargo may not read as its author expects.
 #[derive(Drop)]
 pub struct WrongPlace {
     /// The name of the lint.
     pub code: &'static str,
     pub level: Level,
-    /// The table, as in its header.
+    /// The table, as its header spells it.
     pub subject: String,
-    /// The key of `target` below `subject` that the diagnostic is about, if it is about one.
+    /// The key of `target` that the diagnostic is about, if there is one. `subject` is then the text before the key.
     pub key: Option<String>,
     pub message: String,
-    /// A replacement for the whole key.
+    /// A text that can replace the whole key.
     pub suggestion: Option<&'static str>,
 }
 
-/// The tables of dependencies of a package.
+/// The names of a package's dependency tables.
 const TABLES: [&str; 3] = ["dependencies", "dev-dependencies", "build-dependencies"];
 
-/// Names with underscores that Cargo knows, and those that stand for them.
+/// Names with underscores that Cargo knows, and the names to use in place of them.
 const UNDERSCORES: [(&str, &str); 2] = [
     ("dev_dependencies", "dev-dependencies"),
     ("build_dependencies", "build-dependencies"),
 ];
 
-/// Whether a key of a table is one of `target`.
+/// Returns whether a key of a table is written as one of `target` is.
 fn is_key(key: &str) -> bool {
     key.starts_with("cfg(") || KnownTarget::by_name(key).is_some()
 }
 
-/// Whether what stands at a key is a table with a key of `target`.
+/// Returns whether a value is a table that contains a key of `target`.
 fn has_keys(value: &Value) -> bool {
     match value.as_table() {
         Some(table) => table.keys().any(|key| is_key(key.as_str())),
@@ -49,7 +49,7 @@ fn has_keys(value: &Value) -> bool {
     }
 }
 
-/// A table of this name, which Cargo does not read.
+/// Returns the diagnostic on a table of this name, which Cargo does not read.
 fn unread(alloc: Global, name: &str, meant: &str) -> Result<WrongPlace, AllocError> {
     let name = shown_start(alloc, name)?;
     let meant = shown_start(alloc, meant)?;
@@ -64,7 +64,7 @@ fn unread(alloc: Global, name: &str, meant: &str) -> Result<WrongPlace, AllocErr
     })
 }
 
-/// Adds a table of this name, which Cargo does not read.
+/// Adds the diagnostic on a table of this name, which Cargo does not read.
 fn add_unread(
     alloc: Global,
     name: &str,
@@ -75,7 +75,7 @@ fn add_unread(
     Ok(())
 }
 
-/// Adds what stands at a name at the top, where it is a table that Cargo does not read.
+/// Adds the diagnostic on a name at the top level, if it is that of a table that Cargo does not read.
 fn add_of_name(
     alloc: Global,
     name: &str,
@@ -92,7 +92,7 @@ fn add_of_name(
     Ok(())
 }
 
-/// Whether `target` stands in the table of the workspace.
+/// Returns whether the table of the workspace contains `target`.
 fn is_in_workspace(manifest: &Table) -> bool {
     match manifest.get("workspace") {
         Some(Value::Table(workspace)) => workspace.get("target").is_some(),
@@ -100,7 +100,8 @@ fn is_in_workspace(manifest: &Table) -> bool {
     }
 }
 
-/// Adds the tables at the top of a manifest, or of a configuration, that Cargo does not read.
+/// Adds the diagnostics on tables at the top level of a manifest, or of a configuration, that Cargo does not read.
+/// Fails if memory is refused.
 pub fn add_at_top(
     alloc: Global,
     manifest: &Table,
@@ -115,7 +116,7 @@ pub fn add_at_top(
     Ok(())
 }
 
-/// A key of `target` that stands in the table of dependencies of this name.
+/// Returns the diagnostic on a key of `target` in the dependency table of this name.
 fn among_packages(alloc: Global, name: &str, key: &str) -> Result<WrongPlace, AllocError> {
     let key = shown_start(alloc, key)?;
     Ok(WrongPlace {
@@ -130,7 +131,7 @@ fn among_packages(alloc: Global, name: &str, key: &str) -> Result<WrongPlace, Al
     })
 }
 
-/// Adds the keys of `target` that stand in a table of dependencies, as if they were names of packages.
+/// Adds the diagnostics on keys of `target` in dependency tables, where Cargo takes them for names of packages.
 fn add_among_packages(
     alloc: Global,
     manifest: &Table,
@@ -149,7 +150,7 @@ fn add_among_packages(
     Ok(())
 }
 
-/// Whether the package says that its edition is 2024.
+/// Returns whether the package declares the edition 2024.
 fn is_of_2024(manifest: &Table) -> bool {
     match manifest.get("package") {
         Some(Value::Table(package)) => match package.get("edition") {
@@ -160,7 +161,7 @@ fn is_of_2024(manifest: &Table) -> bool {
     }
 }
 
-/// What is told of a name with underscores, in whose place the other one stands.
+/// Returns the message for a name with underscores. `other` is the name to use in place of it.
 fn underscored_message(alloc: Global, other: &str, is_refused: bool) -> Result<String, AllocError> {
     if is_refused {
         format!(in alloc; "Cargo refuses this name in the edition of 2024; `{other}` is the name")
@@ -169,7 +170,8 @@ fn underscored_message(alloc: Global, other: &str, is_refused: bool) -> Result<S
     }
 }
 
-/// The table of this name as its header has it: at the top, or below a key of `target`.
+/// Formats the name of a table as its header spells it: at the top level, or under a key of `target`. Fails if memory
+/// is refused.
 pub fn shown_table(alloc: Global, key: Option<&str>, name: &str) -> Result<String, AllocError> {
     match key {
         Some(key) => {
@@ -180,7 +182,7 @@ pub fn shown_table(alloc: Global, key: Option<&str>, name: &str) -> Result<Strin
     }
 }
 
-/// A table whose name has underscores, in whose place the other one stands.
+/// Returns the diagnostic on a table whose name has underscores. `other` is the name to use in place of it.
 fn underscored(
     alloc: Global,
     key: Option<&str>,
@@ -202,8 +204,8 @@ fn underscored(
     })
 }
 
-/// Adds the tables with underscores in their names, which Cargo refuses from the edition of 2024 on: at the top, or
-/// below a key of `target`.
+/// Adds the diagnostics on tables with underscores in their names, at the top level or under a key of `target`. Cargo
+/// rejects these names from edition 2024 on.
 fn add_underscored(
     alloc: Global,
     table: &Table,
@@ -219,7 +221,8 @@ fn add_underscored(
     Ok(())
 }
 
-/// The tables of a manifest that are meant for targets and stand elsewhere, and those with an old name.
+/// Returns the diagnostics on tables of a manifest that are meant for targets but are defined elsewhere, and on tables
+/// with underscores in their names. Fails if memory is refused.
 pub fn wrong_places(alloc: Global, manifest: &Table) -> Result<Vec<WrongPlace>, AllocError> {
     let mut found = Vec::new(alloc);
     add_at_top(alloc, manifest, &mut found)?;

@@ -1,4 +1,4 @@
-//! Keys as they are read, here and by Cargo of today.
+//! Keys as they are parsed here, and by current Cargo.
 
 ghost use Rattle.std.specs.Prelude.{◌≡◌, IfOk};
 ghost use Rattle.manifests.specs.Entries.{entry_of};
@@ -12,41 +12,41 @@ use std::alloc::{AllocError, Global};
 use std::collections::BTreeSet;
 use toml::Value;
 
-/// What Cargo of today makes of a key that is refused here.
+/// A key that is rejected here, as current Cargo reads it.
 #[derive(Drop)]
 pub struct Marked {
     /// Cargo's first warnings, each on one line.
     pub warnings: Vec<String>,
-    /// How many different ones there are.
+    /// The number of different warnings.
     pub count: usize,
     /// The key with raw marks, which means the same here and to Cargo.
     pub key: String,
 }
 
-/// What a key spells.
+/// The meaning of a key.
 #[derive(Drop)]
 pub enum Spelled {
-    /// This condition.
+    /// The key is this condition.
     Condition(Platform),
-    /// None here. Cargo of today reads it.
+    /// The key is rejected here, but current Cargo accepts it.
     ByCargo(Marked),
-    /// None, for this fault.
+    /// The key is rejected with this error.
     Refused(ParseError),
 }
 
-/// A key that is read.
+/// A parsed key.
 #[derive(Drop)]
 pub struct ReadKey<'a> {
-    /// The key, as it reads after escapes.
+    /// The text of the key, after its escapes are resolved.
     pub text: &'a str,
-    /// What stands at it, if it stands in a manifest.
+    /// The value of the key, if the key is in a manifest.
     pub value: Option<&'a Value>,
-    /// What it spells.
+    /// The meaning of the key.
     pub spelled: Spelled,
 }
 
 impl<'a> ReadKey<'a> {
-    /// Reads a key of a manifest.
+    /// Parses a key of a manifest. Fails if memory is refused; a key that is not a condition is no failure.
     pub fn of(alloc: Global, key: &TargetKey<'a>) -> Result<ReadKey<'a>, AllocError>
         ensures entry { IfOk result (λ read. entry_read read ≡ entry_of key.now) }
         ensures read { IfOk result IsRead }
@@ -58,7 +58,7 @@ impl<'a> ReadKey<'a> {
         })
     }
 
-    /// A key that stands in no manifest, and spells this condition.
+    /// Returns a key that is in no manifest, and has this condition.
     pub fn alone(text: &'a str, condition: Platform) -> ReadKey<'a>
         ensures spelled { result.spelled ≡ Spelled.Condition condition }
         ensures text { result.text.now ≡ text.now }
@@ -71,7 +71,7 @@ impl<'a> ReadKey<'a> {
     }
 }
 
-/// Reads a key.
+/// Parses a key.
 fn read_key(alloc: Global, key: &str) -> Result<Spelled, AllocError>
     ensures { IfOk result (IsSpelledAs key.now) }
 {
@@ -86,29 +86,29 @@ fn read_key(alloc: Global, key: &str) -> Result<Spelled, AllocError>
     }
 }
 
-/// What stood last in a text that is gone through.
+/// The last token of a text that is being read.
 #[derive(Clone, Copy, Drop)]
 enum Last<'a> {
-    /// `true` or `false`, from this byte on, which is a key if `=` comes next.
+    /// `true` or `false`, with its first byte. It is a key if `=` comes next.
     Word(&'a str, usize),
     /// `=` after such a key.
     Key(&'a str),
     Other,
 }
 
-/// An expression that is copied, with a raw mark before each `true` and `false` that is the key of a pair.
+/// An expression that is being copied, with a raw mark added before each `true` and `false` that is the key of a pair.
 #[derive(Drop)]
 struct Marking<'a> {
     text: &'a str,
     copied: usize,
     marked: String,
-    /// Such pairs.
+    /// The pairs whose keys were marked.
     pairs: BTreeSet<Cfg>,
     warnings: Vec<String>,
 }
 
 impl<'a> Marking<'a> {
-    /// Copies what stands before this byte, and a raw mark.
+    /// Copies the text before a byte, and adds a raw mark.
     fn mark(&mut self, start: usize) -> Result<(), AllocError> {
         let before = self.text.get(self.copied..start).unwrap_or("");
         self.marked.push_str(before)?;
@@ -117,7 +117,7 @@ impl<'a> Marking<'a> {
         Ok(())
     }
 
-    /// Notes a pair, with Cargo's warning on it where it is one of the first.
+    /// Records a pair, with Cargo's warning on it if it is one of the first.
     fn note(&mut self, alloc: Global, key: &str, value: &str) -> Result<(), AllocError> {
         let is_new = self.pairs.insert(pair(alloc, key, value)?)?;
         if is_new && self.pairs.len() <= TOLD {
@@ -126,7 +126,7 @@ impl<'a> Marking<'a> {
         Ok(())
     }
 
-    /// Goes on by one token, which begins at this byte.
+    /// Takes one token, which begins at byte `start`.
     fn step(
         &mut self,
         alloc: Global,
@@ -151,7 +151,8 @@ impl<'a> Marking<'a> {
     }
 }
 
-/// What Cargo makes of a key that is refused here: it takes unmarked `true` and `false` as the keys of pairs.
+/// Reads a key that is rejected here as Cargo does, which takes `true` and `false` without a raw mark as the keys of
+/// pairs.
 fn read_by_cargo(alloc: Global, key: &str) -> Result<Option<Marked>, AllocError> {
     let Some(text) = inside_cfg(key) else {
         return Ok(None);
@@ -177,7 +178,7 @@ fn read_by_cargo(alloc: Global, key: &str) -> Result<Option<Marked>, AllocError>
     accepted(alloc, marking)
 }
 
-/// The key with raw marks, if it spells a condition.
+/// Returns the key with raw marks, if that is a condition.
 fn accepted(alloc: Global, marking: Marking<'_>) -> Result<Option<Marked>, AllocError> {
     let Marking {
         text,
@@ -199,7 +200,7 @@ fn accepted(alloc: Global, marking: Marking<'_>) -> Result<Option<Marked>, Alloc
     }
 }
 
-/// Cargo's warning on a pair, on one line.
+/// Returns Cargo's warning on a pair, on one line.
 fn warning_on(alloc: Global, key: &str, value: &str) -> Result<String, AllocError> {
     let condition = Platform::Cfg(CfgExpr::Value(pair(alloc, key, value)?));
     let mut warnings = Vec::new(alloc);
@@ -211,7 +212,7 @@ fn warning_on(alloc: Global, key: &str, value: &str) -> Result<String, AllocErro
     Ok(line)
 }
 
-/// Adds the lines of a warning that stands after its path, without what ends them.
+/// Appends the lines of a warning, without its path and without line ends.
 fn push_lines(line: &mut String, warning: &str) -> Result<(), AllocError> {
     for part in warning.strip_prefix("[] ").unwrap_or(warning).lines() {
         line.push_str(part)?;

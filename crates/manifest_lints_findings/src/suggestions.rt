@@ -1,4 +1,4 @@
-//! What may be meant by a name, key or value that no known target has, and a key with its mistakes replaced.
+//! Suggestions for a name, key or value that no known target has, and a key with its mistakes replaced.
 
 ghost use Rattle.std.specs.Prelude.{IsTrue, IfOk, IfSome, string_bytes};
 ghost use Rattle.cargo_platform.specs.Trees.{condition_of};
@@ -23,14 +23,14 @@ pub struct Words {
 }
 
 impl Words {
-    /// The facts of all known targets.
+    /// Returns the facts of all known targets. Fails if memory is refused.
     pub fn new(alloc: Global) -> Result<Words, AllocError> {
         Ok(Words {
             facts: all_facts(alloc)?,
         })
     }
 
-    /// The value of the key to which one edit leads.
+    /// Returns the value of the key that is one edit away.
     fn near_value(&self, key: &str, text: &str) -> Option<&str> {
         for known in &self.facts {
             if let Cfg::KeyPair(other, value) = &known.fact {
@@ -43,7 +43,7 @@ impl Words {
     }
 }
 
-/// The text that may stand in place of a name or pair that is mistaken.
+/// Returns the text that can replace a mistaken name or pair. Fails if memory is refused.
 pub fn instead_of(
     alloc: Global,
     words: &Words,
@@ -64,12 +64,12 @@ pub fn instead_of(
     }
 }
 
-/// The key with a value.
+/// Returns the pair of a key and a value.
 fn with_value(alloc: Global, key: &str, value: &str) -> Result<Option<String>, AllocError> {
     Ok(Some(format!(in alloc; "{key} = \"{value}\"")?))
 }
 
-/// The value of the key that may be meant by another one.
+/// Returns the value of the key that may be meant by another one.
 fn value_instead_of<'a>(
     alloc: Global,
     words: &'a Words,
@@ -82,7 +82,7 @@ fn value_instead_of<'a>(
     }
 }
 
-/// The keys among whose values a value is looked for that is none of its own key.
+/// The keys that are searched for a value that its own key does not have.
 const OTHER_KEYS: [&str; 5] = [
     "target_os",
     "target_arch",
@@ -91,7 +91,7 @@ const OTHER_KEYS: [&str; 5] = [
     "target_abi",
 ];
 
-/// The fact that may be meant by a value of another key.
+/// Returns the fact that may be meant by a value of another key.
 fn by_value_of_other(alloc: Global, key: &str, value: &str) -> Result<Option<String>, AllocError> {
     if value == "unix" || value == "windows" {
         return Ok(Some(String::from_str(alloc, value)?));
@@ -104,7 +104,7 @@ fn by_value_of_other(alloc: Global, key: &str, value: &str) -> Result<Option<Str
     Ok(None)
 }
 
-/// Appends a pair at this place in a group.
+/// Appends a pair at this index of a group.
 fn push_pair(
     text: &mut String,
     alloc: Global,
@@ -117,7 +117,7 @@ fn push_pair(
     text.push_str(fact.as_str())
 }
 
-/// `any(..)` of the values that a value joins by commas or bars, where each is one.
+/// Returns the `any(..)` of values that are joined by commas or bars, if each of them is a value of the key.
 fn any_of_joined(alloc: Global, key: &str, value: &str) -> Result<Option<String>, AllocError> {
     let mark = if value.contains('|') { '|' } else { ',' };
     if !value.contains(mark) {
@@ -135,7 +135,7 @@ fn any_of_joined(alloc: Global, key: &str, value: &str) -> Result<Option<String>
     Ok(Some(text))
 }
 
-/// The text that may stand in place of a pair whose value no known target has.
+/// Returns the text that can replace a pair whose value no known target has.
 fn fact_instead_of(
     alloc: Global,
     words: &Words,
@@ -163,7 +163,7 @@ fn fact_instead_of(
     }
 }
 
-/// The whole key of a shortened one. What people call a platform is a system.
+/// Returns the full key for a shortened one. `platform` stands for `target_os`.
 fn long_key(alloc: Global, key: &str) -> Result<String, AllocError> {
     if key == "platform" {
         String::from_str(alloc, "target_os")
@@ -172,7 +172,7 @@ fn long_key(alloc: Global, key: &str) -> Result<String, AllocError> {
     }
 }
 
-/// The pair of a key with a value, or with the one that is meant.
+/// Returns the pair of a key with a value, or with the value that is meant.
 fn fact_of_value(
     alloc: Global,
     words: &Words,
@@ -191,7 +191,7 @@ fn fact_of_value(
     }
 }
 
-/// The pair with the whole key, and the value that is meant.
+/// Returns the pair with the full key, and with the value that is meant.
 fn long_fact(
     alloc: Global,
     words: &Words,
@@ -202,7 +202,7 @@ fn long_fact(
     fact_of_value(alloc, words, key.as_str(), value)
 }
 
-/// The fact that is meant by another word for it.
+/// Returns the fact that is meant by another word for it.
 fn by_other_word(alloc: Global, word: &str) -> Result<Option<String>, AllocError> {
     match meant_value(alloc, "target_os", word)? {
         Some("windows") => Ok(Some(String::from_str(alloc, "windows")?)),
@@ -211,12 +211,12 @@ fn by_other_word(alloc: Global, word: &str) -> Result<Option<String>, AllocError
     }
 }
 
-/// `cfg(..)` around the pair of a key.
+/// Returns `cfg(..)` around a pair.
 fn cfg_of(alloc: Global, key: &str, value: &str) -> Result<Option<String>, AllocError> {
     Ok(Some(format!(in alloc; "cfg({key} = \"{value}\")")?))
 }
 
-/// `cfg(..)` around the pair of a key whose value a target's name is, or means.
+/// Returns `cfg(..)` around a pair whose value is, or is meant by, the name of a target.
 fn cfg_instead_of(alloc: Global, key: &str, name: &str) -> Result<Option<String>, AllocError> {
     if is_value_of(alloc, key, name)? {
         return cfg_of(alloc, key, name);
@@ -227,7 +227,7 @@ fn cfg_instead_of(alloc: Global, key: &str, name: &str) -> Result<Option<String>
     }
 }
 
-/// The key that may stand in place of one that is a target's name, and no known target has it.
+/// Returns the key that can replace the name of a target that is not known.
 fn key_instead_of(alloc: Global, key: &KnownKey<'_>) -> Result<Option<String>, AllocError> {
     let name = key.read.text;
     if name == "windows" || name == "unix" {
@@ -246,7 +246,7 @@ fn key_instead_of(alloc: Global, key: &KnownKey<'_>) -> Result<Option<String>, A
     nearest_target(alloc, name)
 }
 
-/// The known target whose name TOML takes for two keys, as `[target.thumbv8m.main-none-eabi]`.
+/// Returns the known target whose name TOML splits into two keys, as in `[target.thumbv8m.main-none-eabi]`.
 fn dotted_target(alloc: Global, key: &KnownKey<'_>) -> Result<Option<String>, AllocError> {
     let Some(Some(table)) = key.read.value.map(|value: &Value| value.as_table()) else {
         return Ok(None);
@@ -261,7 +261,7 @@ fn dotted_target(alloc: Global, key: &KnownKey<'_>) -> Result<Option<String>, Al
     Ok(None)
 }
 
-/// The target that a key asks for by `target = ".."` alone.
+/// Returns the target that a key names by `target = ".."` alone.
 fn asked_target<'a>(key: &KnownKey<'a>) -> Option<&'a str> {
     match &key.read.spelled {
         Spelled::Condition(Platform::Cfg(CfgExpr::Value(Cfg::KeyPair(name, value))))
@@ -270,8 +270,8 @@ fn asked_target<'a>(key: &KnownKey<'a>) -> Option<&'a str> {
     }
 }
 
-/// Appends the key's text from this byte up to a mistaken fact, and what stands in place of the fact. Gives the byte
-/// behind the fact, or `None` where nothing can stand in its place.
+/// Appends the key's text from this byte up to a mistaken fact, and the text that replaces the fact. Returns the byte
+/// after the fact, or `None` if nothing can replace it.
 fn push_repaired(
     repaired: &mut String,
     alloc: Global,
@@ -291,7 +291,7 @@ fn push_repaired(
     Ok(Some(span.end))
 }
 
-/// The key with each mistaken fact replaced, where each has something to stand in its place.
+/// Returns the key with each mistaken fact replaced, if each can be replaced.
 fn with_facts_replaced(
     alloc: Global,
     words: &Words,
@@ -312,7 +312,7 @@ fn with_facts_replaced(
     Ok(Some(repaired))
 }
 
-/// The target that a key asks for alone, or the key with each mistaken fact replaced.
+/// Returns the target that a key alone names, or the key with each mistaken fact replaced.
 fn repaired(
     alloc: Global,
     words: &Words,
@@ -324,8 +324,8 @@ fn repaired(
     }
 }
 
-/// What may stand in the place of the whole key, by the finding of this code. It spells a condition, of which no such
-/// finding is told.
+/// Returns a suggestion that replaces the whole key, for the diagnostic of this lint. It is a condition on which this
+/// lint does not report anything. Fails if memory is refused.
 pub fn suggestion_of(
     alloc: Global,
     words: &Words,
@@ -340,7 +340,7 @@ pub fn suggestion_of(
     }
 }
 
-/// Whether the text spells a condition of which a finding of this code is not told.
+/// Returns whether a text is a condition on which this lint reports nothing.
 fn is_mended(alloc: Global, text: &str, code: Code) -> Result<bool, AllocError>
     ensures { IfOk result (λ b. IsTrue b → IsMended code text.now) }
 {
@@ -351,7 +351,7 @@ fn is_mended(alloc: Global, text: &str, code: Code) -> Result<bool, AllocError>
     }
 }
 
-/// Whether a finding of this code is not told of the text, which spells this condition.
+/// Returns whether this lint reports nothing on a text with this condition.
 fn is_rid_of(alloc: Global, text: &str, condition: Platform, code: Code) -> Result<bool, AllocError>
     ensures { IfOk result (λ b. IsTrue b → IsRidOf code text.now (condition_of condition)) }
 {
@@ -365,7 +365,7 @@ fn is_rid_of(alloc: Global, text: &str, condition: Platform, code: Code) -> Resu
     }
 }
 
-/// A text that may be meant in the place of the whole key, by the finding of this code.
+/// Returns a text that may be meant in place of the whole key, for the diagnostic of this lint.
 fn text_instead(
     alloc: Global,
     words: &Words,

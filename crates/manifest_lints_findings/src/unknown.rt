@@ -1,4 +1,4 @@
-//! What a key that stands alone asks for and no known target has.
+//! The names and pairs in a key outside of a manifest that no known target has.
 
 ghost use Rattle.std.specs.Prelude.{◌≡◌, ◌++◌, IfOk, OnOk, []};
 ghost use Rattle.cargo_platform.specs.Trees.{condition_of};
@@ -15,9 +15,9 @@ use crate::suggestions::Words;
 use cargo_platform::Platform;
 use std::alloc::{AllocError, Global};
 
-/// The findings on a key that stands in no manifest, and spells this condition, that ask nothing over every set of
-/// facts, in the order of their codes: a name that no known target has, what is taken for a fact of rustc's, and what
-/// only `--cfg` sets.
+/// Returns those diagnostics on a key in no manifest, with this condition, that need no search over sets of facts, in
+/// the order of the lints: a name that no known target has, something that is taken for a fact of rustc's, and
+/// something that only `--cfg` or unstable features set. Fails if memory is refused.
 pub fn unknown_in(
     alloc: Global,
     words: &Words,
@@ -35,7 +35,7 @@ pub fn unknown_in(
     Ok(findings)
 }
 
-/// Appends the finding of this code, where it holds of the key.
+/// Appends the diagnostic of this lint, if the lint applies to the key.
 fn add_where(
     alloc: Global,
     words: &Words,

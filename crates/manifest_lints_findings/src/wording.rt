@@ -1,4 +1,4 @@
-//! The words of findings.
+//! Parts of messages.
 
 ghost use Rattle.std.specs.Prelude.{◌≡◌, ◌++◌, IfOk, codes, length, string_bytes, take};
 ghost use Rattle.std.specs.List.{join_by};
@@ -12,13 +12,13 @@ use cargo_platform::{Cfg, shown_start};
 use manifest_lints_standings::asked_facts::AskedFact;
 use std::alloc::{AllocError, Global};
 
-/// So many of several things are told.
+/// The maximum number of items of a list that are printed.
 pub const TOLD: usize = 3;
 
-/// What is said of what no known target has.
+/// The end of messages about what no known target has.
 pub const OWN: &str = "; a target specification of one's own may have it";
 
-/// The text in backquotes, shown and cut.
+/// Returns the text in backquotes, escaped and shortened. Fails if memory is refused.
 pub fn quoted(alloc: Global, text: &str) -> Result<String, AllocError>
     ensures { IfOk result (λ s. string_bytes s ≡ quoted_text text.now) }
 {
@@ -26,7 +26,7 @@ pub fn quoted(alloc: Global, text: &str) -> Result<String, AllocError>
     format!(in alloc; "`{shown}`")
 }
 
-/// The fact in backquotes, shown and cut.
+/// Returns the fact in backquotes, escaped and shortened. Fails if memory is refused.
 pub fn quoted_fact(alloc: Global, c: &Cfg) -> Result<String, AllocError>
     ensures { IfOk result (λ s. string_bytes s ≡ quoted_value (value_of c.now)) }
 {
@@ -34,14 +34,15 @@ pub fn quoted_fact(alloc: Global, c: &Cfg) -> Result<String, AllocError>
     quoted(alloc, text.as_str())
 }
 
-/// The first of them, as many as are told.
+/// Returns the first items, at most `TOLD`.
 pub fn told<T>(all: &[T]) -> &[T]
     ensures { result.now ≡ take TOLD all.now }
 {
     if all.len() > TOLD { &all[..TOLD] } else { all }
 }
 
-/// How many more there are of so many; nothing where all are told.
+/// Returns ` and .. more` with the number of items beyond the first ones, or the empty text if all are printed. Fails
+/// if memory is refused.
 pub fn and_more(alloc: Global, all: usize) -> Result<String, AllocError>
     ensures { IfOk result (λ s. string_bytes s ≡ and_more all) }
 {
@@ -52,7 +53,7 @@ pub fn and_more(alloc: Global, all: usize) -> Result<String, AllocError>
     format!(in alloc; " and {more} more")
 }
 
-/// The first texts, with `separator` between them.
+/// Returns the first texts, with `separator` between them.
 fn first_joined(alloc: Global, texts: &[String], separator: &str) -> Result<String, AllocError>
     ensures { IfOk result (λ s. string_bytes s
         ≡ join_by (λ t. string_bytes t) separator.now (take TOLD texts.now)) }
@@ -69,7 +70,8 @@ fn first_joined(alloc: Global, texts: &[String], separator: &str) -> Result<Stri
     Ok(joined)
 }
 
-/// The first texts of so many, with `separator` between them, and how many more there are.
+/// Returns the first of `all` texts, with `separator` between them, and the number of the others. Fails if memory is
+/// refused.
 pub fn joined(
     alloc: Global,
     texts: &[String],
@@ -85,7 +87,7 @@ pub fn joined(
     Ok(joined)
 }
 
-/// The first facts, and how many more there are.
+/// Returns the first facts, and the number of the others. Fails if memory is refused.
 pub fn listed(alloc: Global, facts: &[AskedFact<'_>]) -> Result<String, AllocError>
     ensures { IfOk result (λ s. string_bytes s ≡ joined_first fact_text (codes ", ") facts.now) }
 {
@@ -96,7 +98,7 @@ pub fn listed(alloc: Global, facts: &[AskedFact<'_>]) -> Result<String, AllocErr
     joined(alloc, &texts, facts.len(), ", ")
 }
 
-/// One text behind the other, where both say something.
+/// Returns both texts with a semicolon between them, or the only one that is not empty. Fails if memory is refused.
 pub fn both(alloc: Global, first: String, second: String) -> Result<String, AllocError>
     ensures { IfOk result
         (λ s. FollowsIn (string_bytes s) (string_bytes first) (string_bytes second)) }
@@ -110,7 +112,7 @@ pub fn both(alloc: Global, first: String, second: String) -> Result<String, Allo
     format!(in alloc; "{first}; {second}")
 }
 
-/// What may be meant, to stand behind a message.
+/// Returns the end of a message that says what may be meant. Fails if memory is refused.
 pub fn perhaps(alloc: Global, meant: &Option<String>) -> Result<String, AllocError>
     ensures { IfOk result (λ s. Mentions (meant_shown meant.now) (string_bytes s)) }
 {

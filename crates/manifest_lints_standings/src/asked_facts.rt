@@ -1,4 +1,4 @@
-//! The names and pairs that a key asks for, each with where it stands and what it is.
+//! The names and pairs in a key, each with its span and its class.
 
 ghost use Rattle.std.specs.Prelude.{◌≡◌, ◌++◌, IfOk, OnOk, map, flat_map};
 ghost use Rattle.std.specs.List.{list_any};
@@ -16,22 +16,23 @@ use manifests::Declared;
 use std::alloc::{AllocError, Global};
 use std::collections::BTreeSet;
 
-/// The names and keys that flags, profiles and Cargo change.
+/// The names and keys whose facts depend on flags, profiles and Cargo.
 const OPEN: [&str; 3] = ["debug_assertions", "panic", "target_feature"];
 
-/// A name or pair that a key asks for.
+/// A name or pair in a key.
 #[derive(Clone, Copy, Drop)]
 pub struct AskedFact<'a> {
     pub fact: &'a Cfg,
-    /// Where it stands in the key.
+    /// The span in the key.
     pub span: Option<Span>,
-    /// What it is, beside what the manifest declares.
+    /// The class, given the declarations of the manifest.
     pub standing: Standing,
-    /// Whether none before it in the key is the same.
+    /// True if no earlier name or pair in the key is the same.
     pub is_first: bool,
 }
 
-/// The names and pairs of a condition, which stand at these places of its key, by what they are.
+/// Returns the names and pairs of a condition with their classes. `spans` are their spans in the key. Fails if memory
+/// is refused.
 pub fn asked_facts<'a>(
     alloc: Global,
     values: &[&'a Cfg],
@@ -53,7 +54,7 @@ pub fn asked_facts<'a>(
     Ok(asked)
 }
 
-/// A name or pair of a key, by what it is.
+/// Returns a name or pair of a key with its class.
 fn asked_fact<'a>(
     alloc: Global,
     fact: &'a Cfg,
@@ -72,7 +73,7 @@ fn asked_fact<'a>(
     })
 }
 
-/// Whether one of them is of this sort.
+/// Returns whether one of the names and pairs is of this category.
 pub fn has_sort(asked: &[AskedFact<'_>], sort: Sort) -> bool
     ensures { result ≡ has_sort sort (sorted_by asked.now) }
 {
@@ -84,8 +85,8 @@ pub fn has_sort(asked: &[AskedFact<'_>], sort: Sort) -> bool
     false
 }
 
-/// The names and keys of which each fact is open, each as often as it stands there: those of flags, and those of facts
-/// that only Cargo or `--cfg` set.
+/// Returns the names and keys whose facts are open, each as often as it occurs: those that depend on flags, and those
+/// whose facts only Cargo or `--cfg` set. Fails if memory is refused.
 pub fn open_names<'a>(alloc: Global, asked: &[AskedFact<'a>]) -> Result<Vec<&'a str>, AllocError>
     ensures { IfOk result (λ names. names_of names.items ≡ flag_names ++ flat_map opened_by (sorted_by asked.now)) }
 {
@@ -96,7 +97,7 @@ pub fn open_names<'a>(alloc: Global, asked: &[AskedFact<'a>]) -> Result<Vec<&'a 
     Ok(open)
 }
 
-/// The names and keys that flags, profiles and Cargo change.
+/// Returns the names and keys whose facts depend on flags, profiles and Cargo.
 fn open_flags<'a>(alloc: Global) -> Result<Vec<&'a str>, AllocError>
     ensures { IfOk result (λ names. names_of names.items ≡ flag_names) }
 {
@@ -107,7 +108,7 @@ fn open_flags<'a>(alloc: Global) -> Result<Vec<&'a str>, AllocError>
     Ok(open)
 }
 
-/// Adds the name or key of a fact that is open.
+/// Appends the name or key of a fact that is open.
 fn push_open<'a>(names: &mut Vec<&'a str>, asked: &AskedFact<'a>) -> Result<(), AllocError>
     ensures { OnOk result (names_of names.new.items ≡ names_of names.old.items ++ opened_by (sorted_of asked.now)) }
 {

@@ -1,19 +1,19 @@
-//! Where the names and pairs of a key stand in its text.
+//! The spans of the names and pairs in the text of a key.
 
 use cargo_platform::{Token, Tokenizer, inside_cfg};
 use std::alloc::{AllocError, Global};
 
-/// What an expression stands behind in a key.
+/// The text before the expression of a key.
 const OPENED: &str = "cfg(";
 
-/// A part of a key, in bytes.
+/// A span in a key, in bytes.
 #[derive(Clone, Copy, Debug, PartialEq, Eq, Drop)]
 pub struct Span {
     pub start: usize,
     pub end: usize,
 }
 
-/// The part of the key from one byte of its expression to another.
+/// Converts a span of the expression to one of the key.
 fn in_key(start: usize, end: usize) -> Span {
     Span {
         start: start.saturating_add(OPENED.len()),
@@ -21,11 +21,12 @@ fn in_key(start: usize, end: usize) -> Span {
     }
 }
 
-/// Where the names and pairs of a key that spells an expression stand, from left to right.
+/// Returns the spans of the names and pairs in a key that is an expression, from left to right. Fails if memory is
+/// refused.
 pub fn spans_of(alloc: Global, key: &str) -> Result<Vec<Span>, AllocError> {
     let mut spans = Vec::new(alloc);
     let text = inside_cfg(key).unwrap_or("");
-    // The name, or the key of a pair, that was read last, and its value where that was read too.
+    // The span of the last name or key of a pair, with that of its value if it was read.
     let mut begun: Option<Span> = None;
     let mut tokens = Tokenizer::new(text);
     'tokens: for _ in 0..text.len() {

@@ -1,4 +1,4 @@
-//! Laws over the definitions. The functions do nothing: each contract is a law.
+//! Laws about the definitions. The functions do nothing: the contract of each is a law.
 
 ghost use Rattle.std.specs.Prelude.{Bool};
 ghost use Rattle.cargo_platform.specs.Trees.{CfgValue};
@@ -20,17 +20,18 @@ pub fn constants()
     ensures shortest { IsShortest }
 {}
 
-/// A name or pair is of a sort exactly where a rule says so, and no rule comes before another.
+/// A name or pair is of a category exactly if a rule says so, and no rule takes precedence over another.
 pub fn one_sort()
     ensures { (c : CfgValue) (s : Sort) → HasSortOfRules c s }
 {}
 
-/// What some known target has is rustc's, or Cargo warns of it: it is never mistaken and never custom.
+/// A fact that some known target has is in the category of rustc's facts, or Cargo warns of it: it is never mistaken
+/// and never custom.
 pub fn what_targets_have_is_no_mistake()
     ensures { (c : CfgValue) → IsNoMistake c }
 {}
 
-/// A declaration makes what is mistaken or custom declared, and changes nothing else.
+/// A declaration turns a mistaken or custom fact into a declared one, and changes nothing else.
 pub fn beside_declarations()
     ensures settled { (s : Sort) → IsSettled s }
     ensures stays { (is_told : Bool) (s : Sort) → StaysOrIsDeclared is_told s }

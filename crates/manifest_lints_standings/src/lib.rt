@@ -1,4 +1,4 @@
-//! rustc's names, and what the names and pairs of a condition are to rustc and to Cargo.
+//! The names of rustc, and the classes of the names and pairs of a condition for rustc and Cargo.
 #![tactic(auto)]
 
 pub mod asked_facts;

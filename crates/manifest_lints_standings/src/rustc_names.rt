@@ -1,4 +1,4 @@
-//! rustc's names and keys, and those of a fact.
+//! The names and keys of rustc, and those of a fact.
 
 ghost use Rattle.std.specs.Prelude.{◌≡◌, IfOk};
 ghost use Rattle.cargo_platform.specs.Trees.{KeyPair, value_of};
@@ -25,7 +25,7 @@ pub const VALUED: [&str; 9] = [
     "target_vendor",
 ];
 
-/// The keys of which flags and profiles change the values.
+/// The keys whose values depend on flags and profiles.
 pub const FLAGGED: [&str; 2] = ["panic", "target_feature"];
 
 /// The names that rustc sets without a value.
@@ -59,7 +59,7 @@ pub const UNSTABLE_KEYS: [&str; 5] = [
     "target_has_atomic_load_store",
 ];
 
-/// Rustc's keys without `target_`, as people write them, and the word for all of these.
+/// rustc's keys without `target_`, as people write them, and `platform`.
 pub const SHORTENED: [&str; 9] = [
     "abi",
     "arch",
@@ -72,27 +72,27 @@ pub const SHORTENED: [&str; 9] = [
     "vendor",
 ];
 
-/// What a profile sets, as people ask for it. Cargo selects dependencies without a profile.
+/// The names by which people refer to settings of a profile. Cargo selects dependencies without a profile.
 pub const OF_PROFILES: [&str; 3] = ["debug", "opt_level", "release"];
 
 /// Other words for facts of rustc's.
 pub const OTHER_WORDS: [&str; 5] = ["darwin", "macosx", "osx", "win32", "win64"];
 
-/// The features that rustc has for some architecture: the values of `target_feature`.
+/// Returns the features that rustc has for some architecture: the values of `target_feature`.
 pub fn target_features() -> &'static [&'static str]
     ensures { names_of result.now ≡ target_features }
 {
     &TARGET_FEATURES
 }
 
-/// Whether rustc has the feature for some architecture.
+/// Returns whether rustc has the feature for some architecture.
 pub fn is_target_feature(name: &str) -> bool
     ensures { result ≡ is_named name.now target_features }
 {
     is_among(name, target_features())
 }
 
-/// The pair of this key and value.
+/// Returns the pair of a key and a value. Fails if memory is refused.
 pub fn pair(alloc: Global, key: &str, value: &str) -> Result<Cfg, AllocError>
     ensures { IfOk result (λ c. value_of c ≡ KeyPair (plain key.now) value.now) }
 {
@@ -103,7 +103,7 @@ pub fn pair(alloc: Global, key: &str, value: &str) -> Result<Cfg, AllocError>
     Ok(Cfg::KeyPair(key, String::from_str(alloc, value)?))
 }
 
-/// The name, or the key of a pair.
+/// Returns the name, or the key of a pair.
 pub fn name_in(c: &Cfg) -> &str
     ensures { result.now ≡ (name_in (value_of c.now)).name }
 {

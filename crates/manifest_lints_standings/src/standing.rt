@@ -1,4 +1,4 @@
-//! What a name or pair that a condition asks for is to rustc: one of its own, a mistake, or a custom one.
+//! The class of a name or pair in a condition: a fact of rustc's, a mistake, or a custom fact.
 
 ghost use Rattle.std.specs.Prelude.{◌≡◌, ◌↔◌, IfOk, IfSome, IsTrue, is_some};
 ghost use Rattle.std.specs.List.{list_any};
@@ -23,7 +23,7 @@ use partial_facts::names::is_among;
 use std::alloc::{AllocError, Global};
 use strsim::osa_distance;
 
-/// The keys with one value, and `target_family`, in the order in which a name is looked for among their values.
+/// The keys with one value, and `target_family`, in the order in which their values are searched for a name.
 const NAMED_BY_VALUE: [&str; 9] = [
     "target_os",
     "target_arch",
@@ -36,29 +36,29 @@ const NAMED_BY_VALUE: [&str; 9] = [
     "panic",
 ];
 
-/// A name of fewer characters is near to none.
+/// The length of the shortest name that is similar to another one, in bytes.
 const SHORTEST: usize = 4;
 
-/// What a name or pair is.
+/// The class of a name or pair.
 #[derive(Clone, Copy, Debug, PartialEq, Eq, Drop)]
 pub enum Standing {
-    /// rustc sets it at a known target, or flags may make it set it.
+    /// rustc sets it for a known target, or may set it, depending on flags.
     Rustc,
-    /// Cargo says that it does not select dependencies.
+    /// Cargo warns that it does not select dependencies.
     Unsupported,
     /// A value of this key that is used as a name.
     ValueAsName(&'static str),
-    /// A key that has a value, without one.
+    /// A key that has a value, used without one.
     NoValue,
-    /// A name that has no value, with one.
+    /// A name that has no value, used with one.
     WithValue,
-    /// A value that no known target has of the key, or a feature that rustc has for no architecture.
+    /// A value of the key that no known target has, or a feature that rustc has for no architecture.
     OtherValue,
     /// A value of the key `target`.
     TargetKey,
-    /// A key of rustc's without `target_`.
+    /// One of rustc's keys without `target_`.
     Shortened,
-    /// What a profile sets.
+    /// A setting of a profile.
     OfProfile,
     /// Another word for a fact of rustc's.
     OtherWord,
@@ -68,18 +68,18 @@ pub enum Standing {
     Unstable,
     /// Only `--cfg` sets it.
     Custom,
-    /// The manifest declares it: `--cfg` sets it, or a rustc of its own.
+    /// The manifest declares it: `--cfg` sets it, or a custom rustc.
     Declared,
 }
 
-/// The sorts of what a name or pair is.
+/// The category of a class.
 #[derive(Clone, Copy, Debug, PartialEq, Eq, Drop)]
 pub enum Sort {
-    /// rustc sets it at a known target, or may by its flags.
+    /// rustc sets it for a known target, or may set it, depending on flags.
     Rustcs,
-    /// Cargo warns of it.
+    /// Cargo warns about it.
     Unsupported,
-    /// It is taken for a fact of rustc's, and none, and the manifest does not declare it.
+    /// It is taken for a fact of rustc's, and is none, and the manifest does not declare it.
     Mistaken,
     /// Only `--cfg` or an unstable feature sets it, and the manifest does not declare it.
     Custom,
@@ -88,7 +88,7 @@ pub enum Sort {
 }
 
 impl Standing {
-    /// Of which sort it is.
+    /// Returns the category of the class.
     pub fn sort(self) -> Sort
         ensures { result ≡ sort_in self }
     {
@@ -110,7 +110,7 @@ impl Standing {
         }
     }
 
-    /// The same of a name or pair that the manifest declares, or does not.
+    /// Returns the class of the name or pair, given whether the manifest declares it.
     pub fn beside(self, is_declared: bool) -> Standing
         ensures { sort_in result ≡ beside is_declared (sort_in self) }
     {
@@ -124,7 +124,7 @@ impl Standing {
 }
 
 impl Sort {
-    /// Whether it is the other one.
+    /// Returns whether both categories are the same.
     pub fn is(self, other: Sort) -> bool
         ensures { result ≡ is_sort self other }
     {
@@ -138,7 +138,7 @@ impl Sort {
         )
     }
 
-    /// Whether it is open if a target has facts of it.
+    /// Returns whether facts of this category are open.
     pub fn is_open(self) -> bool
         ensures { result ≡ is_open_sort self }
     {
@@ -146,14 +146,14 @@ impl Sort {
     }
 }
 
-/// Whether some known target has the fact. Raw marks play no part.
+/// Returns whether some known target has the fact. Raw marks are ignored.
 fn is_had(c: &Cfg) -> bool
     ensures { result ≡ is_had table_keys (value_of c.now) }
 {
     !having(c).is_empty()
 }
 
-/// Whether some known target has this value of the key.
+/// Returns whether some known target has this value of the key. Fails if memory is refused.
 pub fn is_value_of(alloc: Global, key: &str, value: &str) -> Result<bool, AllocError>
     ensures { IfOk result (λ has. has ≡ is_had table_keys (KeyPair (plain key.now) value.now)) }
 {
@@ -161,7 +161,7 @@ pub fn is_value_of(alloc: Global, key: &str, value: &str) -> Result<bool, AllocE
     Ok(is_had(&pair))
 }
 
-/// The first of the keys of which a known target has this value.
+/// Returns the first of the keys for which a known target has this value.
 fn key_of_value(
     alloc: Global,
     value: &str,
@@ -177,7 +177,7 @@ fn key_of_value(
     Ok(None)
 }
 
-/// The first of these that is one edit away.
+/// Returns the first of the words that is one edit away.
 fn near(
     alloc: Global,
     text: &str,
@@ -193,7 +193,7 @@ fn near(
     Ok(None)
 }
 
-/// The first of rustc's names and keys that is one edit away.
+/// Returns the first of rustc's names and keys that is one edit away.
 fn near_one(alloc: Global, text: &str) -> Result<Option<&'static str>, AllocError>
     ensures { IfOk result (λ word. is_some word ≡ is_near_one text.now) }
 {
@@ -206,7 +206,7 @@ fn near_one(alloc: Global, text: &str) -> Result<Option<&'static str>, AllocErro
     near(alloc, text, &VALUED)
 }
 
-/// What a name or key is that people take for one of rustc's, whatever is near to it.
+/// Returns the class of a name or key that people take for one of rustc's, whether or not one is similar to it.
 fn taken_for_rustcs(name: &str) -> Option<Standing>
     ensures is_one { is_some result ≡ is_taken_for_rustcs name.now }
     ensures mistaken { IfSome result (λ s. sort_in s ≡ Sort.Mistaken) }
@@ -223,7 +223,7 @@ fn taken_for_rustcs(name: &str) -> Option<Standing>
     None
 }
 
-/// What a name or key is that rustc does not have.
+/// Returns the class of a name or key that rustc does not have.
 #[tactic(auto, unfolding(crate::specs::Standings::is_near))]
 fn other(alloc: Global, name: &str) -> Result<Standing, AllocError>
     ensures { IfOk result (λ s. sort_in s ≡ sort_of_other name.now) }
@@ -240,14 +240,14 @@ fn other(alloc: Global, name: &str) -> Result<Standing, AllocError>
     }
 }
 
-/// Whether Cargo says of the name that it does not select dependencies.
+/// Returns whether Cargo warns that the name does not select dependencies.
 fn is_unsupported(name: &str) -> bool
     ensures { result ≡ is_unsupported_name (plain name.now) }
 {
     matches!(name, "test" | "debug_assertions" | "proc_macro")
 }
 
-/// What a name alone is.
+/// Returns the class of a name without a value.
 fn standing_of_name(alloc: Global, name: &str) -> Result<Standing, AllocError>
     ensures { IfOk result (λ s. sort_in s ≡ sort_of (Alone (plain name.now))) }
 {
@@ -272,7 +272,7 @@ fn standing_of_name(alloc: Global, name: &str) -> Result<Standing, AllocError>
     }
 }
 
-/// What a value of `target_feature` is.
+/// Returns the class of a value of `target_feature`.
 fn standing_of_feature(value: &str) -> Standing
     ensures { sort_in result ≡ sort_of_feature value.now }
 {
@@ -283,7 +283,7 @@ fn standing_of_feature(value: &str) -> Standing
     }
 }
 
-/// What a pair with this key and value is.
+/// Returns the class of a pair with this key and value.
 fn standing_of_pair(alloc: Global, c: &Cfg, key: &str, value: &str) -> Result<Standing, AllocError>
     ensures { IfOk result (λ s. sort_in s ≡ sort_of_pair key.now value.now (is_had table_keys (value_of c.now))) }
 {
@@ -314,7 +314,7 @@ fn standing_of_pair(alloc: Global, c: &Cfg, key: &str, value: &str) -> Result<St
     other(alloc, key)
 }
 
-/// What a name or pair is. Raw marks play no part.
+/// Returns the class of a name or pair. Raw marks are ignored. Fails if memory is refused.
 pub fn standing_of(alloc: Global, c: &Cfg) -> Result<Standing, AllocError>
     ensures { IfOk result (λ s. sort_in s ≡ sort_of (value_of c.now)) }
 {
@@ -324,7 +324,7 @@ pub fn standing_of(alloc: Global, c: &Cfg) -> Result<Standing, AllocError>
     }
 }
 
-/// Whether a condition is the name of a target that is not known.
+/// Returns whether a condition is the name of a target that is not known.
 pub fn is_unknown_target(platform: &Platform) -> bool
     ensures { IsTrue result ↔ IsUnknownTarget (condition_of platform.now) }
 {

@@ -1,4 +1,5 @@
-//! The names and pairs that a manifest declares as expected, in `[lints.rust]` under `unexpected_cfgs`, `check-cfg`.
+//! The names and pairs that a manifest declares as expected: in `[lints.rust]`, under `unexpected_cfgs`, the texts of
+//! `check-cfg` (see the [rustc book](https://doc.rust-lang.org/rustc/check-cfg/cargo-specifics.html)).
 
 ghost use Rattle.std.specs.Prelude.{◌≡◌, ◌++◌, ◌∷◌, [], IfOk, true, false, cond, OnOk, map, codes, Some};
 ghost use Rattle.std.specs.Prelude.{option_map, option_and_then, unwrap_or};
@@ -19,12 +20,12 @@ use partial_facts::names::is_among;
 use std::alloc::{AllocError, Global};
 use toml::{Table, Value};
 
-/// The values that are declared with some names.
+/// The values that are declared for some names.
 #[derive(Drop)]
 enum Values<'a> {
-    /// No value, or any.
+    /// Any value, and none.
     Any,
-    /// These, and where the flag is set none too.
+    /// These values and, if the flag is set, none.
     Listed(Vec<&'a str>, bool),
 }
 
@@ -35,14 +36,14 @@ struct Entry<'a> {
     values: Values<'a>,
 }
 
-/// What a manifest declares.
+/// The names and pairs that a manifest declares as expected.
 #[derive(Drop)]
 pub struct Declared<'a> {
     entries: Vec<Entry<'a>>,
 }
 
 impl<'a> Declared<'a> {
-    /// Nothing, as where there is no manifest.
+    /// Returns no declarations, as for a manifest without any.
     pub fn none(alloc: Global) -> Declared<'a>
         ensures { declarations_of result ≡ [] }
     {
@@ -51,8 +52,9 @@ impl<'a> Declared<'a> {
         }
     }
 
-    /// What the manifest declares: texts of the forms `cfg(NAME, ..)` and `cfg(NAME, .., values(..))` with texts,
-    /// `any()` and `none()` between the parentheses. Texts of other forms declare nothing.
+    /// Returns the declarations of a manifest: texts of the forms `cfg(NAME, ..)` and `cfg(NAME, .., values(..))` with
+    /// texts, `any()` and `none()` between the parentheses. Texts of other forms declare nothing. Fails if memory is
+    /// refused.
     pub fn of(alloc: Global, manifest: &'a Table) -> Result<Declared<'a>, AllocError>
         ensures { IfOk result (λ d. IsDeclaredBy (table_view manifest.now) (declarations_of d)) }
     {
@@ -63,7 +65,7 @@ impl<'a> Declared<'a> {
         Ok(Declared { entries })
     }
 
-    /// Whether the name or the pair is declared.
+    /// Returns whether a name or pair is declared.
     pub fn declares(&self, c: &Cfg) -> bool
         ensures { result ≡ is_declared (declarations_of self.now) (value_of c.now) }
     {
@@ -76,14 +78,14 @@ impl<'a> Declared<'a> {
     }
 }
 
-/// What stands at `lints` in a manifest.
+/// Returns the value of `lints` in a manifest.
 fn lints(manifest: &Table) -> Option<&Value>
     ensures { option_map (λ v. view v.now) result ≡ get_member (codes "lints") (table_view manifest.now) }
 {
     manifest.get("lints")
 }
 
-/// What stands at a key of a value, if there is one.
+/// Returns the value at a key of a value, if there is one.
 fn under<'a>(value: Option<&'a Value>, key: &str) -> Option<&'a Value>
     ensures { option_map (λ v. view v.now) result
         ≡ option_and_then (get key.now) (option_map (λ v. view v.now) value.entry) }
@@ -94,7 +96,7 @@ fn under<'a>(value: Option<&'a Value>, key: &str) -> Option<&'a Value>
     }
 }
 
-/// What stands at `lints.rust.unexpected_cfgs.check-cfg`.
+/// Returns the value of `lints.rust.unexpected_cfgs.check-cfg`.
 fn check_cfg(manifest: &Table) -> Option<&Value>
     ensures { option_map (λ v. view v.now) result ≡ check_cfg_of (table_view manifest.now) }
 {
@@ -102,7 +104,7 @@ fn check_cfg(manifest: &Table) -> Option<&Value>
     under(under(rust, "unexpected_cfgs"), "check-cfg")
 }
 
-/// The items of an array; of anything else there are none.
+/// Returns the items of an array, and none for any other value.
 fn items_of(value: Option<&Value>) -> &[Value]
     ensures { items_view result.now
         ≡ unwrap_or (option_and_then as_array (option_map (λ v. view v.now) value.entry)) no_items }
@@ -121,7 +123,7 @@ fn items_of(value: Option<&Value>) -> &[Value]
     }
 }
 
-/// Appends what a text declares.
+/// Appends the declaration in a text, if there is one.
 fn add_text<'a>(
     alloc: Global,
     text: &'a str,
@@ -136,7 +138,7 @@ fn add_text<'a>(
     Ok(())
 }
 
-/// Appends what a value declares, if it is a text.
+/// Appends the declaration in a value, if the value is a text with one.
 fn add_value<'a>(
     alloc: Global,
     value: &'a Value,
@@ -156,7 +158,7 @@ fn add_value<'a>(
     }
 }
 
-/// Whether an entry declares the name or the pair.
+/// Returns whether an entry declares a name or pair.
 fn declares(entry: &Entry<'_>, c: &Cfg) -> bool
     ensures { result ≡ declares_entry (value_of c.now) (entry_in entry.now) }
 {
@@ -178,7 +180,7 @@ fn declares(entry: &Entry<'_>, c: &Cfg) -> bool
     }
 }
 
-/// The tokens of a text; none where something in it is no token.
+/// Returns the tokens of a text, or `None` if something in it is not a token.
 fn tokens_of<'a>(alloc: Global, text: &'a str) -> Result<Option<Vec<Token<'a>>>, AllocError>
     ensures { IfOk result (λ tokens. HasTokens text.now (option_map (λ v. lexemes_in v.items) tokens)) }
 {
@@ -192,7 +194,7 @@ fn tokens_of<'a>(alloc: Global, text: &'a str) -> Result<Option<Vec<Token<'a>>>,
     Ok(Some(tokens))
 }
 
-/// Whether only a parenthesis is left.
+/// Returns whether the only remaining token is a closing parenthesis.
 fn is_paren(tokens: &[Token<'_>]) -> bool
     ensures { result ≡ is_paren (lexemes_in tokens.now) }
 {
@@ -202,7 +204,7 @@ fn is_paren(tokens: &[Token<'_>]) -> bool
     }
 }
 
-/// Whether only a parenthesis is left, maybe behind a comma.
+/// Returns whether the only remaining tokens are a closing parenthesis, and perhaps a comma before it.
 fn is_close(tokens: &[Token<'_>]) -> bool
     ensures { result ≡ is_close (lexemes_in tokens.now) }
 {
@@ -212,7 +214,7 @@ fn is_close(tokens: &[Token<'_>]) -> bool
     }
 }
 
-/// The values that stand before, where what is left closes them.
+/// Returns the values that were read, if the remaining tokens end the declaration.
 fn closed<'a>(left: &[Token<'_>], texts: Vec<&'a str>, any: bool, none: bool) -> Option<Values<'a>>
     ensures { option_map values_in result
         ≡ cond (is_close (lexemes_in left.now)) (Some (declared_values (names_of texts.entry.items) any none)) None }
@@ -227,23 +229,23 @@ fn closed<'a>(left: &[Token<'_>], texts: Vec<&'a str>, any: bool, none: bool) ->
     }
 }
 
-/// What comes next between the parentheses of `values`.
+/// The part that is expected next between the parentheses of `values`.
 #[derive(Clone, Copy, Drop)]
 enum Stage<'a> {
     /// A value.
     Value,
-    /// The parentheses of a word.
+    /// The parentheses after a word.
     Parens(&'a str),
-    /// The second of them.
+    /// The closing parenthesis after a word.
     Paren(&'a str),
-    /// What stands behind a value.
+    /// A comma, or the closing parenthesis of the values.
     Behind,
 }
 
-/// What a token does between the parentheses of `values`.
+/// The effect of a token between the parentheses of `values`.
 #[derive(Clone, Copy, Drop)]
 enum Step<'a> {
-    /// Something else comes next.
+    /// It changes what is expected next.
     To(Stage<'a>),
     /// It is a value.
     Text(&'a str),
@@ -251,11 +253,11 @@ enum Step<'a> {
     Word(&'a str),
     /// It closes the values.
     Close,
-    /// It does not belong there.
+    /// It is not allowed there.
     Fault,
 }
 
-/// What the token does.
+/// Returns the effect of a token.
 fn step_of<'a>(stage: Stage<'a>, token: &Token<'a>) -> Step<'a>
     ensures { Steps stage.entry (lexeme token.now) result }
 {
@@ -296,7 +298,8 @@ fn step_of<'a>(stage: Stage<'a>, token: &Token<'a>) -> Step<'a>
     }
 }
 
-/// What stands between the parentheses of `values`, where these are closed and nothing is left.
+/// Parses the tokens after the opening parenthesis of `values`, up to the end of the declaration. Returns `None` if
+/// they are invalid.
 fn values_in<'a>(alloc: Global, tokens: &[Token<'a>]) -> Result<Option<Values<'a>>, AllocError>
     ensures { IfOk result
         (λ found. option_map values_in found ≡ values_from true [] false false (lexemes_in tokens.now)) }
@@ -329,22 +332,22 @@ fn values_in<'a>(alloc: Global, tokens: &[Token<'a>]) -> Result<Option<Values<'a
     Ok(None)
 }
 
-/// What a token does among the names.
+/// The effect of a token among the names.
 #[derive(Clone, Copy, Drop)]
 enum Turn<'a> {
     /// It is a name, or the word before values.
     Word(bool, &'a str),
-    /// It ends a name, and another comes.
+    /// It ends a name, and another one follows.
     Next(&'a str),
     /// It ends the last name.
     Last(&'a str),
     /// Values follow.
     Values(bool, &'a str),
-    /// It does not belong there.
+    /// It is not allowed there.
     Fault,
 }
 
-/// What the token does behind a word, if there is one.
+/// Returns the effect of a token after a word, if there is one.
 fn turn_of<'a>(word: Option<(bool, &'a str)>, token: &Token<'a>) -> Turn<'a>
     ensures { Turns word.entry (lexeme token.now) result }
 {
@@ -366,7 +369,7 @@ fn turn_of<'a>(word: Option<(bool, &'a str)>, token: &Token<'a>) -> Turn<'a>
     }
 }
 
-/// The names behind the first parenthesis, and their values.
+/// Parses the tokens after the first parenthesis: the names and their values.
 fn names_in<'a>(alloc: Global, tokens: &[Token<'a>]) -> Result<Option<Entry<'a>>, AllocError>
     ensures { IfOk result (λ e. option_map entry_in e ≡ names_from [] (lexemes_in tokens.now)) }
 {
@@ -393,7 +396,7 @@ fn names_in<'a>(alloc: Global, tokens: &[Token<'a>]) -> Result<Option<Entry<'a>>
     Ok(None)
 }
 
-/// Names of which this is the last, where nothing is left.
+/// Returns the entry whose last name is `name`, if no tokens remain.
 fn last<'a>(
     alloc: Global,
     mut names: Vec<&'a str>,
@@ -411,7 +414,7 @@ fn last<'a>(
     Ok(Some(Entry { names, values }))
 }
 
-/// Names with the values that follow, where the word before these is `values`.
+/// Returns the entry with the values that follow, if the word before these is `values`.
 fn with_values<'a>(
     alloc: Global,
     names: Vec<&'a str>,
@@ -431,7 +434,7 @@ fn with_values<'a>(
     }
 }
 
-/// Whether a token is the word `cfg`.
+/// Returns whether a token is the word `cfg`.
 fn is_cfg(token: &Token<'_>) -> bool
     ensures { result ≡ is_cfg (lexeme token.now) }
 {
@@ -442,7 +445,7 @@ fn is_cfg(token: &Token<'_>) -> bool
     }
 }
 
-/// Whether a token is the first of two parentheses.
+/// Returns whether a token is an opening parenthesis.
 fn is_left(token: &Token<'_>) -> bool
     ensures { result ≡ is_left (lexeme token.now) }
 {
@@ -453,7 +456,7 @@ fn is_left(token: &Token<'_>) -> bool
     }
 }
 
-/// What tokens declare.
+/// Parses the tokens of a declaration. Returns `None` if they are invalid.
 fn declaration<'a>(alloc: Global, tokens: &[Token<'a>]) -> Result<Option<Entry<'a>>, AllocError>
     ensures { IfOk result (λ e. option_map entry_in e ≡ declaration (lexemes_in tokens.now)) }
 {
@@ -469,7 +472,7 @@ fn declaration<'a>(alloc: Global, tokens: &[Token<'a>]) -> Result<Option<Entry<'
     names_in(alloc, behind)
 }
 
-/// What a text declares.
+/// Parses the text of a declaration. Returns `None` if it is invalid.
 fn entry_of<'a>(alloc: Global, text: &'a str) -> Result<Option<Entry<'a>>, AllocError>
     ensures { IfOk result (λ e. Declares text.now (option_map entry_in e)) }
 {

@@ -1,4 +1,4 @@
-//! A manifest that is read: its table, and where the keys of `target` stand.
+//! A parsed manifest: its table, and the lines of the keys of `target`.
 
 ghost use Rattle.std.specs.Prelude.{IfOk};
 ghost use Rattle.toml.specs.View.{table_view};
@@ -10,7 +10,7 @@ use crate::{Targets, target_keys};
 use std::alloc::{AllocError, Global};
 use toml::Table;
 
-/// A manifest that is read.
+/// A parsed manifest.
 #[derive(Drop)]
 pub struct Document {
     pub table: Table,
@@ -18,7 +18,8 @@ pub struct Document {
 }
 
 impl Document {
-    /// A table that stands in this text.
+    /// Returns the manifest with this table and the lines of its keys in `text`, from which the table was parsed. Fails
+    /// if memory is refused.
     pub fn of(alloc: Global, table: Table, text: &str) -> Result<Document, AllocError> {
         Ok(Document {
             table,
@@ -26,7 +27,7 @@ impl Document {
         })
     }
 
-    /// A table of whose text nothing is known.
+    /// Returns the manifest with this table and without lines.
     pub fn of_table(alloc: Global, table: Table) -> Document {
         Document {
             table,
@@ -34,8 +35,8 @@ impl Document {
         }
     }
 
-    /// What stands at `target`: the keys in the order in which they first appear, and those of which that is not
-    /// certain after the others, in the order of their bytes.
+    /// Returns the value of `target`: its keys, in the order in which they first appear in the text. Keys for which
+    /// that is not certain come last, in the order of their bytes. Fails if memory is refused.
     pub fn target_keys(&self, alloc: Global) -> Result<Targets<'_>, AllocError>
         ensures { IfOk result (λ found. AreInSomeOrder (target_of (table_view self.now.table)) (target_told found)) }
     {

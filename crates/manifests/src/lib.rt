@@ -1,5 +1,5 @@
-//! Manifests: the tables that hold dependencies, the keys of `target` with their lines, the names and pairs that are
-//! declared as expected, and which dependencies a target selects.
+//! Manifests: their dependency tables, the keys of `target` with their lines, the names and pairs that are declared as
+//! expected, and the dependencies that a target selects.
 #![tactic(auto)]
 
 mod declared;

@@ -1,8 +1,8 @@
-//! The lines of a manifest on which the keys of `target` first appear, told only where they are certain.
+//! The lines of a manifest on which the keys of `target` first appear, as far as they are certain.
 //!
-//! The tables are known by then: this pass goes over the text once more by the toolchain's readers of keys and values,
-//! which skip strings, comments and numbers. Where it meets anything that it does not expect it ends, and the keys that
-//! it has not met have no line.
+//! The manifest is already parsed. This pass goes through the text once more with the toolchain's readers of keys and
+//! values, which skip strings, comments and numbers. It stops at anything unexpected, and the keys that it has not
+//! reached have no line.
 
 use std::alloc::{AllocError, AllocFailed, Global};
 use std::collections::BTreeMap;
@@ -10,16 +10,16 @@ use std::ops::ControlFlow;
 use toml_parser::text::{first, skip, skip_blank, skip_ws};
 use toml_parser::{Key, ParseError, dotted_key, quoted, starts_string, unquoted};
 
-/// Where a key first appears.
+/// The position at which a key first appears.
 #[derive(Clone, Copy, Debug, PartialEq, Eq, Drop)]
 pub struct Appearance {
-    /// How many others appear before it.
+    /// The number of keys that appear before it.
     pub place: usize,
     /// The line, counted from 1.
     pub line: usize,
 }
 
-/// Where `target` and its keys first appear.
+/// The lines on which `target` and its keys first appear.
 #[derive(Drop)]
 pub struct Lines {
     /// The line of `target` itself.
@@ -27,7 +27,7 @@ pub struct Lines {
     keys: BTreeMap<String, Appearance>,
 }
 
-/// Which table keys stand in.
+/// The table that contains a key.
 #[derive(Clone, Copy, Debug, PartialEq, Eq, Drop)]
 enum Table {
     Top,
@@ -35,14 +35,14 @@ enum Table {
     Other,
 }
 
-/// An array or an inline table that is open.
+/// An open array or inline table.
 #[derive(Clone, Copy, Debug, PartialEq, Eq, Drop)]
 enum OpenValue {
     Array,
     Inline(Table),
 }
 
-/// A text that is gone through, and what was met so far.
+/// A pass through a text, with the lines that were found so far.
 #[derive(Drop)]
 struct Walk<'a> {
     alloc: Global,
@@ -53,7 +53,7 @@ struct Walk<'a> {
     table: Table,
 }
 
-/// Why a walk ends before the text does.
+/// The reason why a pass stops before the text ends.
 #[derive(Drop)]
 enum Stop {
     Unexpected,
@@ -82,7 +82,7 @@ impl From<ParseError> for Stop {
 }
 
 impl Lines {
-    /// Goes through the text of a manifest.
+    /// Returns the lines in the text of a manifest. Fails if memory is refused.
     pub fn of(alloc: Global, text: &str) -> Result<Lines, AllocError> {
         let mut walk = Walk {
             alloc,
@@ -102,7 +102,7 @@ impl Lines {
         Ok(walk.lines)
     }
 
-    /// No line is known.
+    /// Returns lines of no keys.
     pub fn none(alloc: Global) -> Lines {
         Lines {
             target: None,
@@ -110,12 +110,12 @@ impl Lines {
         }
     }
 
-    /// Where the key first appears.
+    /// Returns the position at which a key first appears, if it is known.
     pub fn of_key(&self, key: &str) -> Option<Appearance> {
         self.keys.get(key).copied()
     }
 
-    /// How many keys appear before this one; of one that has no line the greatest number.
+    /// Returns the number of keys that appear before this one, or `usize::MAX` if the key has no line.
     pub fn place_of(&self, key: &str) -> usize {
         match self.of_key(key) {
             Some(appearance) => appearance.place,
@@ -123,7 +123,7 @@ impl Lines {
         }
     }
 
-    /// Notes where a key appears, unless it has before.
+    /// Records the position of a key, unless the key appeared before.
     fn note(&mut self, alloc: Global, key: &str, line: usize) -> Result<(), AllocError> {
         if self.keys.get(key).is_none() {
             let place = self.keys.len();
@@ -133,7 +133,7 @@ impl Lines {
         Ok(())
     }
 
-    /// Notes what a dotted key in a table names, and answers which table its value would be.
+    /// Records the keys that a dotted key names in a table, and returns which table its value would be.
     fn note_path(
         &mut self,
         alloc: Global,
@@ -170,7 +170,7 @@ impl Lines {
     }
 }
 
-/// How many lines end in a text.
+/// Returns the number of line ends in a text.
 fn line_ends(text: &str) -> usize {
     let mut count: usize = 0;
     for byte in text.as_bytes() {
@@ -182,7 +182,7 @@ fn line_ends(text: &str) -> usize {
 }
 
 impl<'a> Walk<'a> {
-    /// Goes on to what is left.
+    /// Moves to the rest of the text, and counts the lines before it.
     fn go_to(&mut self, rest: &'a str) {
         let read = self.rest.len().saturating_sub(rest.len());
         let ends = line_ends(self.rest.get(0..read).unwrap_or(""));
@@ -190,7 +190,7 @@ impl<'a> Walk<'a> {
         self.rest = rest;
     }
 
-    /// Goes over one character, which comes next.
+    /// Consumes one ASCII character, which has to come next.
     fn take(&mut self, byte: u8) -> Result<(), Stop> {
         if byte == 0 || byte >= 128 || first(self.rest) != byte {
             return Err(Stop::Unexpected);
@@ -200,7 +200,7 @@ impl<'a> Walk<'a> {
         Ok(())
     }
 
-    /// One header, one key with the beginning of its value, or one value. A `Break` is the end of the text.
+    /// Reads one header, one key with the beginning of its value, or one value. Returns `Break` at the end of the text.
     fn step(&mut self) -> Result<ControlFlow<()>, Stop> {
         self.go_to(skip_blank(self.rest, true));
         match self.open.pop() {
@@ -211,7 +211,7 @@ impl<'a> Walk<'a> {
         Ok(ControlFlow::Continue(()))
     }
 
-    /// A header or a key outside of arrays and inline tables.
+    /// Reads a header, or a key outside of arrays and inline tables.
     fn line_of_top(&mut self) -> Result<(), Stop> {
         if first(self.rest) != b'[' {
             return self.key(self.table);
@@ -235,7 +235,7 @@ impl<'a> Walk<'a> {
         Ok(())
     }
 
-    /// A key, `=` and what its value begins with.
+    /// Reads a key, `=` and the beginning of the value.
     fn key(&mut self, table: Table) -> Result<(), Stop> {
         let (key, rest) = dotted_key(self.alloc, self.rest)?;
         let inside = self.lines.note_path(self.alloc, table, &key, self.line)?;
@@ -245,7 +245,7 @@ impl<'a> Walk<'a> {
         self.value(inside)
     }
 
-    /// A value, or what one begins with.
+    /// Reads a value, or the beginning of one.
     fn value(&mut self, inside: Table) -> Result<(), Stop> {
         if first(self.rest) == b'[' {
             self.take(b'[')?;
@@ -263,7 +263,7 @@ impl<'a> Walk<'a> {
         Ok(())
     }
 
-    /// What comes next in an array or an inline table: its end, a comma, or a member.
+    /// Reads the next part of an array or an inline table: its end, a comma, or a member.
     fn part(&mut self, open: OpenValue) -> Result<(), Stop> {
         let end = match open {
             OpenValue::Array => b']',

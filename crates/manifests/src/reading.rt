@@ -1,4 +1,4 @@
-//! Manifests, read from files, folders and standard input.
+//! The reader of manifests from files, folders and standard input.
 
 use crate::document::Document;
 use cargo_platform::shown_text;
@@ -8,18 +8,18 @@ use std::fs;
 use std::rt::Files;
 use toml::{Table, table_from_str};
 
-/// A manifest that is read.
+/// A manifest that was read and parsed.
 #[derive(Drop)]
 pub struct Manifest {
-    /// The path as it is shown: of a folder that of its `Cargo.toml`.
+    /// The path as it is displayed. For a folder it is the path of its `Cargo.toml`.
     pub path: String,
     pub document: Document,
 }
 
-/// Why a manifest gives nothing.
+/// The reason why a manifest cannot be read.
 #[derive(Drop)]
 pub enum ReadError {
-    /// It can't be used, which is to be told.
+    /// The manifest cannot be used, which has to be reported.
     Unusable(Unusable),
     Memory(AllocError),
 }
@@ -30,7 +30,7 @@ impl From<AllocError> for ReadError {
     }
 }
 
-/// The file that a path names: of a folder its `Cargo.toml`.
+/// Returns the file that a path names. For a folder it is its `Cargo.toml`.
 fn file_at<R: Files + AllocGlobal>(rt: &R, path: &str) -> Result<String, AllocError> {
     let alloc = rt.alloc();
     if path != INPUT {
@@ -51,7 +51,7 @@ fn unusable_at(alloc: Global, path: &str, reason: &str) -> Result<Unusable, Allo
     })
 }
 
-/// What is told of a manifest that can't be used.
+/// Returns the error for a manifest that cannot be used.
 fn unusable(alloc: Global, path: &str, reason: &str) -> ReadError {
     match unusable_at(alloc, path, reason) {
         Ok(unusable) => ReadError::Unusable(unusable),
@@ -59,7 +59,7 @@ fn unusable(alloc: Global, path: &str, reason: &str) -> ReadError {
     }
 }
 
-/// What is told of a text that is no TOML, on one line.
+/// Returns the error for a text that is not TOML, on one line.
 fn no_toml(alloc: Global, path: &str, error: &toml::de::Error) -> ReadError {
     if error.is_memory() {
         return ReadError::Memory(AllocError);
@@ -85,14 +85,14 @@ fn joined_lines(alloc: Global, error: &toml::de::Error) -> Result<String, AllocE
 /// The text of a manifest.
 #[derive(Drop)]
 pub struct ManifestText {
-    /// The path of the manifest, as it is shown.
+    /// The path of the manifest, as it is displayed.
     path: String,
     text: String,
 }
 
 impl ManifestText {
-    /// The text of the manifest that an argument names. One of more bytes than the limit is not read to its end, and
-    /// refused.
+    /// Reads the text of the manifest that an argument names. Fails if it cannot be read, has more than `limit` bytes,
+    /// or memory is refused. A longer text is not read to its end.
     pub fn read<R: Files + Input + AllocGlobal>(
         rt: &R,
         path: &str,
@@ -110,12 +110,12 @@ impl ManifestText {
         }
     }
 
-    /// It, as Cargo reads it.
+    /// Returns the text as Cargo reads it, without a byte order mark.
     fn text(&self) -> &str {
         without_mark(self.text.as_str())
     }
 
-    /// The table that it spells.
+    /// Parses the text as a TOML table. Fails if it is not TOML, or memory is refused.
     pub fn table(&self, alloc: Global) -> Result<Table, ReadError> {
         match table_from_str(alloc, self.text()) {
             Ok(table) => Ok(table),
@@ -123,7 +123,8 @@ impl ManifestText {
         }
     }
 
-    /// The manifest with this table, and with the lines of its keys, for which the text is gone through once more.
+    /// Returns the manifest with this table and the lines of its keys, for which the text is read once more. Fails if
+    /// memory is refused.
     pub fn with_lines(self, alloc: Global, table: Table) -> Result<Manifest, AllocError> {
         let document = Document::of(alloc, table, self.text())?;
         Ok(Manifest {
@@ -132,7 +133,7 @@ impl ManifestText {
         })
     }
 
-    /// The manifest with this table, and with no lines.
+    /// Returns the manifest with this table and without lines.
     pub fn without_lines(self, alloc: Global, table: Table) -> Manifest {
         Manifest {
             path: self.path,
@@ -141,8 +142,8 @@ impl ManifestText {
     }
 }
 
-/// Reads the manifest that an argument names, with the lines of its keys. One of more bytes than the limit is not read
-/// to its end, and refused.
+/// Reads and parses the manifest that an argument names, with the lines of its keys. Fails if it cannot be read, has
+/// more than `limit` bytes, is not TOML, or memory is refused. A longer text is not read to its end.
 pub fn read_manifest<R: Files + Input + AllocGlobal>(
     rt: &R,
     path: &str,

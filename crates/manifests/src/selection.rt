@@ -1,4 +1,5 @@
-//! Which dependencies of a manifest a target selects.
+//! The dependencies of a manifest that a target selects (see the [Cargo
+//! book](https://doc.rust-lang.org/cargo/reference/specifying-dependencies.html#platform-specific-dependencies)).
 
 ghost use Rattle.std.specs.Prelude.{◌≡◌, ◌↔◌, ◌++◌, IfOk, IfErr, OnOk, Some, None, map};
 ghost use Rattle.toml.specs.View.{table_view};
@@ -20,48 +21,48 @@ use partial_facts::{Complete, Knowledge, decide_platform, residual_platform};
 use std::alloc::{AllocError, Global};
 use toml::Table;
 
-/// What is known of the facts of a target. A fact in `added` holds. Of the other facts, those of the names and keys in
-/// `open` are open, and the rest holds exactly where it is in `facts`. Raw marks play no part.
+/// The facts of a target, as far as they are known. A fact in `added` is set. Other facts are open if their name or key
+/// is in `open`, and otherwise they are set exactly if they are in `facts`. Raw marks are ignored.
 #[derive(Drop)]
 pub struct Asked<'a> {
     /// The facts of the target.
     pub facts: &'a [Cfg],
-    /// More facts, which win over `open`.
+    /// Additional facts, which take precedence over `open`.
     pub added: &'a [Cfg],
-    /// Names and keys of which each fact is open.
+    /// The names and keys whose facts are open.
     pub open: &'a [&'a str],
 }
 
-/// Whether a dependency is selected.
+/// The selection of a dependency.
 #[derive(Drop)]
 pub enum Choice {
-    /// Its condition holds.
+    /// The condition is true.
     Selected,
-    /// Its condition does not hold.
+    /// The condition is false.
     LeftOut,
-    /// It is not known whether this condition holds, which is what is left of its own.
+    /// The truth value of the condition is not known. This is the residual of the condition.
     Open(Platform),
 }
 
-/// A dependency, and whether it is selected.
+/// A dependency, and its selection.
 #[derive(Drop)]
 pub struct Row<'a> {
     /// The dependency.
     pub dependency: Dependency<'a>,
-    /// Whether it is selected.
+    /// The selection of the dependency.
     pub choice: Choice,
 }
 
-/// Why nothing is selected.
+/// The reason why a selection fails.
 #[derive(Drop)]
 pub enum SelectError<'a> {
     /// Memory was refused.
     Memory(AllocError),
-    /// `target` is no table.
+    /// `target` is not a table.
     TargetIsNoTable,
-    /// This key is no table.
+    /// The value of this key is not a table.
     KeyIsNoTable(&'a str),
-    /// This key is refused.
+    /// This key is not a condition.
     Refused(&'a str, ParseError),
 }
 
@@ -75,7 +76,8 @@ impl<'a> From<AllocError> for SelectError<'a> {
     }
 }
 
-/// Whether a condition holds for a target of this name, of which this is known.
+/// Decides a condition for a target with this name and these known facts. Returns its residual if the truth value is
+/// not known. Fails if memory is refused.
 pub fn choose<K: Knowledge>(
     alloc: Global,
     platform: &Platform,
@@ -134,7 +136,7 @@ impl<'a> Knowledge for Asked<'a> {
         (map (λ t. t.now) k.open.now) s p is };
 }
 
-/// Whether a condition holds for the host; where the host is not known, it is left as it is.
+/// Decides a condition for the host. Without a host, the condition stays open as it is.
 fn choose_for_host(
     alloc: Global,
     platform: &Platform,
@@ -148,7 +150,8 @@ fn choose_for_host(
     }
 }
 
-/// Whether a condition holds for what the dependencies of this kind are built for.
+/// Decides a condition for what the dependencies of this kind are built for: the host for build-dependencies, and
+/// otherwise the target.
 fn choose_for(
     alloc: Global,
     platform: &Platform,
@@ -165,9 +168,13 @@ fn choose_for(
     }
 }
 
-/// The rows of a manifest, for a target of this name: those of the tables outside `target`, which are selected, and
-/// then those of each key. What stands under a key is asked of the target, but for the dependencies of build scripts,
-/// which are asked of the host. A manifest with a key that is refused, or is no table, is refused.
+/// Returns the dependencies of a manifest with their selection for a target of this name: those of the tables outside
+/// `target`, which are selected, and then those of each key. The conditions are decided for the target, except those of
+/// build-dependencies, which are decided for the host.
+///
+/// # Errors
+///
+/// Fails if `target` or the value of a key is not a table, if a key is not a condition, or if memory is refused.
 pub fn select<'a>(
     alloc: Global,
     manifest: &'a Table,
@@ -190,7 +197,7 @@ pub fn select<'a>(
     }
 }
 
-/// The rows of the tables outside `target`.
+/// Returns the rows of the tables outside `target`.
 fn outside<'a>(alloc: Global, manifest: &'a Table) -> Result<Vec<Row<'a>>, AllocError>
     ensures { IfOk result (λ rows. map chosen_of rows.items
         ≡ map selected (rows_of None (table_view manifest.now))) }
@@ -206,7 +213,7 @@ fn outside<'a>(alloc: Global, manifest: &'a Table) -> Result<Vec<Row<'a>>, Alloc
     Ok(rows)
 }
 
-/// Appends the rows of each key, up to the first one that is refused, or is no table.
+/// Appends the rows of each key, up to the first key that is not a condition or has no table.
 fn add_keys<'a>(
     alloc: Global,
     keys: &[TargetKey<'a>],
@@ -251,7 +258,7 @@ fn add_rows<'a>(
     Ok(())
 }
 
-/// Appends the rows of dependencies that stand under a condition.
+/// Appends the rows of the dependencies under a condition.
 fn add_chosen<'a>(
     alloc: Global,
     condition: &Platform,

@@ -1,4 +1,4 @@
-//! The tables of a manifest that hold dependencies.
+//! The tables of a manifest that contain dependencies.
 
 ghost use Rattle.std.specs.Prelude.{◌≡◌, ◌++◌, IfOk, OnOk, map, option_map};
 ghost use Rattle.std.specs.Option.{option_copied};
@@ -12,21 +12,21 @@ ghost use Rattle.manifests.specs.Tables.{row_of, table_of, member_rows, kind_row
 use std::alloc::{AllocError, Global};
 use toml::{Table, Value};
 
-/// A key of the top table `target`, and what stands at it.
+/// A key of the top-level table `target`, with its value.
 #[derive(Clone, Copy, Drop)]
 pub struct TargetKey<'a> {
-    /// The key, as it reads after escapes.
+    /// The key, after its escapes are resolved.
     pub key: &'a str,
-    /// What stands at it.
+    /// The value of the key.
     pub value: &'a Value,
 }
 
-/// What stands at `target` in a manifest.
+/// The value of `target` in a manifest.
 #[derive(Drop)]
 pub enum Targets<'a> {
-    /// Nothing.
+    /// There is none.
     Absent,
-    /// Something that is no table.
+    /// A value that is not a table.
     NoTable,
     /// A table with these keys, in the order of their bytes.
     Keys(Vec<TargetKey<'a>>),
@@ -43,21 +43,21 @@ pub enum Kind {
     Build,
 }
 
-/// A dependency as a row of a table.
+/// A dependency in a table.
 #[derive(Clone, Copy, Drop)]
 pub struct Dependency<'a> {
     /// The name in the table.
     pub name: &'a str,
     /// The kind of the table.
     pub kind: Kind,
-    /// The key under `target`; of a table outside `target` there is none.
+    /// The key under `target`, or `None` for a table outside `target`.
     pub key: Option<&'a str>,
-    /// Whether it has `optional = true`.
+    /// True if the dependency has `optional = true`.
     pub optional: bool,
 }
 
 impl Kind {
-    /// The name of its table today.
+    /// Returns the current name of the table of this kind.
     pub fn table_name(self) -> &'static str
         ensures { result.now ≡ table_name self }
     {
@@ -68,7 +68,7 @@ impl Kind {
         }
     }
 
-    /// The name that its table had once.
+    /// Returns the former name of the table of this kind.
     pub fn old_table_name(self) -> &'static str
         ensures { result.now ≡ old_table_name self }
     {
@@ -80,14 +80,14 @@ impl Kind {
     }
 }
 
-/// What stands at a key of a table.
+/// Returns the value at a key of a table.
 fn member<'a>(table: &'a Table, key: &str) -> Option<&'a Value>
     ensures { option_map (λ value. view value.now) result ≡ get_member key.now (table_view table.now) }
 {
     table.get(key)
 }
 
-/// What stands at `target`.
+/// Returns the value of `target`. Fails if memory is refused.
 pub fn target_keys<'a>(alloc: Global, manifest: &'a Table) -> Result<Targets<'a>, AllocError>
     ensures { IfOk result (λ found. target_told found ≡ target_of (table_view manifest.now)) }
 {
@@ -100,7 +100,7 @@ pub fn target_keys<'a>(alloc: Global, manifest: &'a Table) -> Result<Targets<'a>
     }
 }
 
-/// The keys of a table, each with what stands at it.
+/// Returns the keys of a table with their values. Fails if memory is refused.
 pub fn keys_of<'a>(alloc: Global, table: &'a Table) -> Result<Vec<TargetKey<'a>>, AllocError>
     ensures { IfOk result (λ keys. map entry_of keys.items ≡ entries_of (table_view table.now)) }
 {
@@ -112,7 +112,7 @@ pub fn keys_of<'a>(alloc: Global, table: &'a Table) -> Result<Vec<TargetKey<'a>>
     Ok(keys)
 }
 
-/// The table of dependencies of a kind: the one with today's name, and where there is none the one with the old name.
+/// Returns the dependency table of a kind: the one with the current name or, without it, the one with the former name.
 pub fn table_of(table: &Table, kind: Kind) -> Option<&Value>
     ensures { option_map (λ value. view value.now) result ≡ table_of kind (table_view table.now) }
 {
@@ -122,7 +122,8 @@ pub fn table_of(table: &Table, kind: Kind) -> Option<&Value>
     }
 }
 
-/// The rows of the dependencies in a table, by kinds: `dependencies`, `dev-dependencies`, `build-dependencies`.
+/// Returns the dependencies in a table by kind: `dependencies`, `dev-dependencies`, `build-dependencies`. `key` is the
+/// key under `target` that contains the table, if any. Fails if memory is refused.
 pub fn dependencies<'a>(
     alloc: Global,
     table: &'a Table,
@@ -177,7 +178,7 @@ fn add_members<'a>(
     Ok(())
 }
 
-/// Whether the value of a dependency says `optional = true`.
+/// Returns whether the value of a dependency has `optional = true`.
 fn is_optional(value: &Value) -> bool
     ensures { result ≡ is_optional (view value.now) }
 {

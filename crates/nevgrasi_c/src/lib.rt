@@ -1,7 +1,7 @@
-//! What C calls. Each function is a call of `byte_answers`, with its clauses.
+//! The functions for C. Each is a call of `byte_answers` or `byte_graphs`, with its clauses.
 //!
-//! A slice is a pointer and a length for C; the allocator is none of its arguments. `include/nevgrasi.h` is made of
-//! these signatures and comments by `.ci/c-library --header`.
+//! For C, a slice is a pointer and a length, and the allocator is not an argument. `.ci/c-library --header` makes
+//! `include/nevgrasi.h` from these signatures and comments.
 #![tactic(auto)]
 
 ghost use Rattle.std.specs.Prelude.{◌≡◌, ◌↔◌, ◌≢◌, ◌≤◌, ◌<◌, ℕ, List, [], length, IsTrue, true, false, ◌||◌, ◌==◌};
@@ -27,10 +27,10 @@ use byte_answers::{
 use known_targets::{COUNT, WORDS};
 use std::alloc::Global;
 
-/// The version of the interface: it rises whenever a caller of an earlier one may break.
+/// The version of the interface. It rises whenever a caller of an earlier version may break.
 pub const ABI: u32 = 2;
 
-/// Answers the version of the interface. A caller that was compiled with another `NEVGRASI_ABI` should not go on.
+/// Returns the version of the interface. A caller that was compiled with another `NEVGRASI_ABI` should not go on.
 #[unsafe(no_mangle)]
 pub extern "C" fn nevgrasi_abi() -> u32
     ensures { result ≡ ABI }
@@ -38,7 +38,7 @@ pub extern "C" fn nevgrasi_abi() -> u32
     ABI
 }
 
-/// Writes the version of the library, as three numbers with dots between them.
+/// Writes the version of the library: three numbers with dots between them.
 #[unsafe(no_mangle)]
 pub extern "C" fn nevgrasi_version(out: &mut [u8], outcome: &mut Outcome) -> u32
     ensures written { IsWritten VERSION.now outcome.new.needed out.old out.new }
@@ -49,7 +49,7 @@ pub extern "C" fn nevgrasi_version(out: &mut [u8], outcome: &mut Outcome) -> u32
     outcome.code
 }
 
-/// Writes the canonical text of the condition that a key spells: its print, which spells the same condition.
+/// Writes the canonical text of a key's condition, which spells the same condition.
 #[unsafe(no_mangle)]
 pub extern "C" fn nevgrasi_canonical(
     alloc: Global,
@@ -71,8 +71,8 @@ pub extern "C" fn nevgrasi_canonical(
     outcome.code
 }
 
-/// Shows where a key is refused: with `REFUSED` it writes two lines, the key and carets under its fault. `DONE`, with
-/// no bytes, where the key spells a condition.
+/// Shows the error of a rejected key: with `REFUSED`, writes two lines, the key and carets under the error. Returns
+/// `DONE`, with no bytes, if the key is a condition.
 #[unsafe(no_mangle)]
 pub extern "C" fn nevgrasi_fault(
     alloc: Global,
@@ -94,8 +94,8 @@ pub extern "C" fn nevgrasi_fault(
     outcome.code
 }
 
-/// Answers by `holds` whether a key applies to the target of this name, with the facts of these lines, as
-/// `rustc --print cfg` prints them. `argument` 2 tells that a line is refused.
+/// Decides whether a key is true on the target with this name and the facts in these lines, which are as `rustc --print
+/// cfg` prints them. `holds` is the answer. With `REFUSED`, `argument` 2 means that a line is not a fact.
 #[unsafe(no_mangle)]
 pub extern "C" fn nevgrasi_matches(
     alloc: Global,
@@ -128,7 +128,7 @@ pub extern "C" fn nevgrasi_matches(
     outcome.code
 }
 
-/// Answers the known targets at which a key holds: the target at place `k` is bit `k % 64` of word `k / 64`.
+/// Sets `words` to the known targets on which a key is true: bit `k % 64` of word `k / 64` is the target at index `k`.
 #[unsafe(no_mangle)]
 pub extern "C" fn nevgrasi_targets(
     alloc: Global,
@@ -152,7 +152,7 @@ pub extern "C" fn nevgrasi_targets(
     outcome.code
 }
 
-/// Writes the name of the known target at this place, or answers `UNKNOWN_TARGET`. The names are sorted.
+/// Writes the name of the known target at an index, or returns `UNKNOWN_TARGET`. The names are sorted.
 #[unsafe(no_mangle)]
 pub extern "C" fn nevgrasi_target_name(place: usize, out: &mut [u8], outcome: &mut Outcome) -> u32
     ensures done { result ≡ DONE → IsWritten (target_name place) outcome.new.needed out.old out.new }
@@ -166,7 +166,7 @@ pub extern "C" fn nevgrasi_target_name(place: usize, out: &mut [u8], outcome: &m
     outcome.code
 }
 
-/// Writes the facts of the known target of this name, one a line, as `nevgrasi_matches` reads them; or answers
+/// Writes the facts of the known target with this name, one per line, as `nevgrasi_matches` reads them, or returns
 /// `UNKNOWN_TARGET`.
 #[unsafe(no_mangle)]
 pub extern "C" fn nevgrasi_facts(
@@ -187,8 +187,8 @@ pub extern "C" fn nevgrasi_facts(
     outcome.code
 }
 
-/// Answers by `holds` whether the second key holds wherever the first does, over every set of facts that rustc's rules
-/// allow. Of a no it writes an example.
+/// Decides whether the second key is true wherever the first is, over every set of facts that rustc's rules allow.
+/// `holds` is the answer. If it is false, writes a counterexample.
 #[unsafe(no_mangle)]
 pub extern "C" fn nevgrasi_implies(
     alloc: Global,
@@ -222,7 +222,8 @@ pub extern "C" fn nevgrasi_implies(
     outcome.code
 }
 
-/// The same of whether both keys hold at the same targets.
+/// Decides whether both keys are true on the same targets, over every set of facts that rustc's rules allow. `holds` is
+/// the answer. If it is false, writes a counterexample.
 #[unsafe(no_mangle)]
 pub extern "C" fn nevgrasi_equivalent(
     alloc: Global,
@@ -256,7 +257,8 @@ pub extern "C" fn nevgrasi_equivalent(
     outcome.code
 }
 
-/// The same of whether the keys hold together nowhere.
+/// Decides whether the keys are true together on no target, over every set of facts that rustc's rules allow. `holds`
+/// is the answer. If it is false, writes a counterexample.
 #[unsafe(no_mangle)]
 pub extern "C" fn nevgrasi_excludes(
     alloc: Global,
@@ -290,8 +292,8 @@ pub extern "C" fn nevgrasi_excludes(
     outcome.code
 }
 
-/// Answers by `holds` whether a key can hold, over some set of facts that rustc's rules allow. Of a yes it writes an
-/// example.
+/// Decides whether a key can be true, over some set of facts that rustc's rules allow. `holds` is the answer. If it is
+/// true, writes an example.
 #[unsafe(no_mangle)]
 pub extern "C" fn nevgrasi_can_hold(
     alloc: Global,
@@ -316,7 +318,7 @@ pub extern "C" fn nevgrasi_can_hold(
     outcome.code
 }
 
-/// Writes the flat condition that a key spells: bytes that the caller keeps in its place.
+/// Writes the flat form of a key's condition: bytes that the caller can keep in place of the key.
 #[unsafe(no_mangle)]
 pub extern "C" fn nevgrasi_read_key(
     alloc: Global,
@@ -358,7 +360,7 @@ pub extern "C" fn nevgrasi_flat_print(
     outcome.code
 }
 
-/// Answers by `holds` whether a flat condition holds for the target of this name, with these flat facts.
+/// Decides whether a flat condition is true on the target with this name and these flat facts. `holds` is the answer.
 #[unsafe(no_mangle)]
 pub extern "C" fn nevgrasi_flat_matches(
     alloc: Global,
@@ -384,10 +386,10 @@ pub extern "C" fn nevgrasi_flat_matches(
     outcome.code
 }
 
-/// Writes at which known targets each package of a graph is in the build: a line of JSON for each package, as the
-/// program `manifest_check graph --json` prints them. The document is what `cargo metadata --format-version 1` printed.
-/// Builds run on the host, a known target of this name, and with an empty name on the target itself. With `REFUSED` it
-/// writes why the document can't be used, and tells no span.
+/// Writes a line of JSON for each package of a graph, with the known targets on which it is in the build, as the
+/// program `manifest_check graph --json` prints them. The document is the output of `cargo metadata --format-version
+/// 1`. Builds run on the host, a known target with this name, or on the target itself if the name is empty. With
+/// `REFUSED`, writes why the document cannot be used, and sets no span.
 #[unsafe(no_mangle)]
 pub extern "C" fn nevgrasi_graph(
     alloc: Global,

@@ -1,4 +1,4 @@
--- At which targets a dependency is followed.
+-- The targets on which a dependency is followed.
 use Rattle.std.specs.Prelude.{ℕ, IsTrue, List, Option}
 use Rattle.known_targets.specs.Sets.{is_member}
 use Rattle.known_targets.specs.declared.known.KnownTarget.{KnownTarget}
@@ -10,7 +10,8 @@ use Rattle.package_graphs.specs.declared.packages.Package.{Package}
 use Rattle.package_graphs.specs.declared.packages.Side.{Side}
 use Rattle.package_graphs.specs.declared.package_sets.PackageSets.{PackageSets}
 
--- the package is there at the target k, built for one side, and from there the dependency is followed and holds
+-- the package is in the build for one side on the target k, and from there the dependency is followed and its condition
+-- is true
 pub record IsFollowedAt (sets : PackageSets) (packages : List Package) (kinds : Kinds) (host : Option KnownTarget)
     (from : ℕ) (d : Dependency) (k : ℕ) : Type 0 where
   pub on : Side

@@ -1,4 +1,4 @@
--- Which nodes of a graph are there at which target.
+-- The nodes of a graph that are reached on each target.
 use Rattle.std.specs.Prelude.{◌≡◌, ℕ, Bool, false, IsTrue, List, [], map, Contains}
 use Rattle.std.specs.List.{slice_index_or}
 use Rattle.known_targets.specs.Sets.{is_member}
@@ -17,19 +17,19 @@ edge_lists graph = map (λ edges. edges.items) graph.nodes.items
 abbrev pub edges_from : Edges → ℕ → List Edge
 edges_from graph n = slice_index_or graph n []
 
--- an edge from m to n holds at the target k
+-- an edge from m to n has the target k
 pub record LeadsAt (graph : Edges) (k : ℕ) (m n : ℕ) : Type 0 where
   pub edge : Edge
   pub begins : Contains (edges_from graph m) edge
   pub ends : edge.to ≡ n
   pub holds : IsTrue (is_member edge.holds k)
 
--- The node n is there at the target k: some edges lead from a root to it, each of which holds at k. A root itself is
--- there at each target.
+-- The node n is reached on the target k: edges with that target lead to it from a root. A root itself is reached on
+-- each target.
 abbrev pub IsPresent : Edges → List ℕ → ℕ → ℕ → Type 0
 IsPresent graph roots k n = Reaches (λ root. Contains roots root) (λ m n. LeadsAt graph k m n) n
 
--- whether the set of the node n has the target k
+-- true if the set of the node n has the target k
 abbrev pub is_in : List TargetSet → ℕ → ℕ → Bool
 is_in sets n k = slice_index_or (map (λ set. is_member set) sets) n (λ k. false) k
 

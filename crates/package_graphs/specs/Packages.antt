@@ -1,4 +1,4 @@
--- At which targets a package is there: by the targets alone, and where a build runs on a host.
+-- The targets on which a package is in the build: by the targets alone, and if a build runs on a host.
 use Rattle.std.specs.Prelude.{◌≡◌, ℕ, ◌+◌, ◌*◌, Bool, true, false, ◌||◌, cond, IsTrue, Option, Some, None, List, []}
 use Rattle.std.specs.Prelude.{map, Contains}
 use Rattle.std.specs.List.{slice_index_or}
@@ -45,7 +45,7 @@ pub record DependsOn (packages : List Package) (kinds : Kinds) (p q : ℕ) : Typ
   pub ends : dependency.to ≡ q
   pub followed : IsTrue (is_followed kinds (is_root packages p) dependency.kind)
 
--- the place of a package's set among those of both sides
+-- the offset of a side among the sets of a package
 abbrev pub number_of : Side → ℕ
 number_of Target = 0
 number_of Host = 1
@@ -59,20 +59,20 @@ pub record LeadsTo (packages : List Package) (kinds : Kinds) (k p q : ℕ) : Typ
   pub depends : DependsOn packages kinds p q
   pub holds : IsTrue (is_member depends.dependency.holds k)
 
--- the package p is there at the target k: from a root dependencies lead to it, each of which holds at k
+-- the package p is reached on the target k: dependencies whose conditions are true on k lead to it from a root
 abbrev pub IsThere : List Package → Kinds → ℕ → ℕ → Type 0
 IsThere packages kinds k p = Reaches (λ root. IsTrue (is_root packages root)) (λ p q. LeadsTo packages kinds k p q) p
 
 -- ---- with a host
 
--- a package, and what it is built for
+-- a package, and the side for which it is built
 abbrev pub Sided : Type 0
 Sided = ℕ × Side
 
 abbrev pub IsForTarget : Sided → Type 0
 IsForTarget n = n.1 ≡ Target
 
--- whether a dependency is one of the host: what the host needs, and what a build script does
+-- true if a dependency is decided for the host: what the host needs, and what a build script needs
 abbrev pub is_of_host : Side → Kind → Bool
 is_of_host Host kind = true
 is_of_host Target Normal = false
@@ -83,12 +83,12 @@ abbrev pub side : Bool → Side
 side true = Host
 side false = Target
 
--- the target at which a dependency is asked, of those that are built for the target k; without a host it is k
+-- the target for which a dependency is decided in a build for the target k; without a host it is k
 abbrev pub asked_at : Option KnownTarget → ℕ → Side → Kind → ℕ
 asked_at None k from kind = k
 asked_at (Some host) k from kind = cond (is_of_host from kind) (place host) k
 
--- what a package is built for that a dependency leads to; a procedural macro is built for the host
+-- the side for which a package is built that a dependency leads to; a procedural macro is built for the host
 abbrev pub side_after : Option KnownTarget → Side → Kind → Bool → Side
 side_after None from kind is_macro = Target
 side_after (Some host) from kind is_macro = side (is_of_host from kind || is_macro)
@@ -107,7 +107,8 @@ pub record LeadsOn (packages : List Package) (kinds : Kinds) (host : Option Know
   pub holds : IsTrue (is_member depends.dependency.holds (asked_at host k m.1 depends.dependency.kind))
   pub on : n.1 ≡ side_after host m.1 depends.dependency.kind (is_macro packages n.0)
 
--- a root is there on its side, and a dependency leads on; of packages that are built for the target or for the host
+-- a root is in the build on its side, and dependencies lead on, among packages that are built for the target or for the
+-- host
 abbrev pub IsThereOn : List Package → Kinds → Option KnownTarget → ℕ → Sided → Type 0
 IsThereOn packages kinds host k n = Reaches (StartsOn packages host) (LeadsOn packages kinds host k) n
 
@@ -116,7 +117,7 @@ pub record IsPlain (packages : List Package) : Type 0 where
   pub normal : (p : ℕ) (d : Dependency) → Contains (dependencies packages p) d → d.kind ≡ Normal
   pub no_macro : (p : ℕ) → is_macro packages p ≡ false
 
--- whether the sets have the target k of a package, on a side
+-- true if the sets of a package have the target k, on a side
 abbrev pub is_on : PackageSets → ℕ → Side → ℕ → Bool
 is_on sets p from k = is_in sets.sets.items (node_of p from) k
 

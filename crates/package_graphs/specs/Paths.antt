@@ -14,7 +14,7 @@ use Rattle.package_graphs.specs.declared.paths.Step.{Step}
 abbrev pub Steps : Type 0
 Steps = List Step
 
--- the dependency d is followed from m, holds at the target k, and leads to n
+-- the dependency d is followed from m, is true on the target k, and leads to n
 pub record LeadsBy (packages : List Package) (kinds : Kinds) (host : Option KnownTarget) (k : ℕ) (d : Dependency)
     (m n : Sided) : Type 0 where
   pub ends : d.to ≡ n.0
@@ -30,7 +30,7 @@ pub record IsStep (packages : List Package) (kinds : Kinds) (host : Option Known
   pub stands : slice_get (dependencies packages m.0) step.dependency ≡ Some dependency
   pub leads : LeadsBy packages kinds host k dependency m n
 
--- the steps lead from a root to n at the target k; no steps lead to a root
+-- the steps lead from a root to n on the target k; for a root there are no steps
 pub data IsPath (packages : List Package) (kinds : Kinds) (host : Option KnownTarget) (k : ℕ)
     : List Step → Sided → Type 0 where
   starts : (n : Sided) → StartsOn packages host n → IsPath packages kinds host k [] n
@@ -41,7 +41,7 @@ pub data IsPath (packages : List Package) (kinds : Kinds) (host : Option KnownTa
 abbrev pub LeadTo : List Package → Kinds → Option KnownTarget → ℕ → List Step → ℕ → Type 0
 LeadTo packages kinds host k steps p = (side : Side) × IsPath packages kinds host k steps (p, side)
 
--- they do, and no fewer
+-- they lead there, and no fewer steps do
 pub record IsShortest (packages : List Package) (kinds : Kinds) (host : Option KnownTarget) (k : ℕ)
     (steps : List Step) (p : ℕ) : Type 0 where
   pub path : LeadTo packages kinds host k steps p

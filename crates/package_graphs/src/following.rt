@@ -1,4 +1,4 @@
-//! The targets at which a dependency is followed.
+//! The targets on which a dependency is followed.
 
 ghost use Rattle.std.specs.Prelude.{◌≡◌, ◌<◌, ◌↔◌, ◌&&◌, ℕ, IsTrue};
 ghost use Rattle.known_targets.specs.Sets.{is_member};
@@ -13,8 +13,9 @@ use crate::sides::Question;
 use known_targets::{KnownTarget, TargetSet};
 
 impl PackageSets {
-    /// The targets at which a dependency of the package at this place is followed: where the package is there and the
-    /// dependency holds. `packages`, `kinds` and `host` are those of `present_packages`.
+    /// Returns the targets on which a dependency of the package at index `from` is followed: the package is in the
+    /// build, and the condition of the dependency is true. `packages`, `kinds` and `host` are those of
+    /// `present_packages`.
     pub fn following(
         &self,
         packages: &[Package],
@@ -23,8 +24,8 @@ impl PackageSets {
         from: usize,
         dependency: &Dependency,
     ) -> TargetSet
-        // A target is in the set exactly if the package is there on a side, and the dependency is followed and holds
-        // from it.
+        // A target is in the set exactly if the package is in the build for a side, and from there the dependency is
+        // followed and its condition is true.
         ensures { (k : ℕ) → k < COUNT → IsTrue (is_member result k)
             ↔ IsFollowedAt self.now packages.now kinds host from dependency.now k }
     {
@@ -36,7 +37,8 @@ impl PackageSets {
         target.union(self.along(&question, from, Side::Host, dependency))
     }
 
-    /// The targets at which the package is there, built for this side, and the dependency holds from there.
+    /// Returns the targets on which the package is in the build for this side, and the condition of the dependency is
+    /// true from there.
     fn along(
         &self,
         question: &Question,
@@ -54,7 +56,7 @@ impl PackageSets {
     }
 }
 
-/// Whether the package at this place is a root; there is none past the end.
+/// Returns whether the package at an index is a root. There is none past the end.
 pub fn is_root(packages: &[Package], index: usize) -> bool
     ensures { result ≡ is_root packages.now index }
 {

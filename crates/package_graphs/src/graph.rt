@@ -6,23 +6,23 @@ ghost use Rattle.package_graphs.specs.Graphs.{edge_lists, edges_from};
 use known_targets::TargetSet;
 use std::alloc::{AllocError, Global};
 
-/// Where an edge leads, and at which targets.
+/// The end of an edge, and the targets of the edge.
 #[derive(Clone, Copy, Drop)]
 pub struct Edge {
-    /// The node that it leads to.
+    /// The node that the edge leads to.
     pub to: usize,
-    /// The targets at which its condition holds.
+    /// The targets on which the condition of the edge is true.
     pub holds: TargetSet,
 }
 
-/// Nodes, which are numbers from 0 on, and the edges between them.
+/// Nodes, which are numbers from 0 on, with the edges between them.
 #[derive(Drop)]
 pub struct Graph {
     nodes: Vec<Vec<Edge>>,
 }
 
 impl Graph {
-    /// A graph of so many nodes, without an edge. It refuses only where memory is refused.
+    /// Returns a graph of `count` nodes without edges. Fails only if memory is refused.
     pub fn new(alloc: Global, count: usize) -> Result<Graph, AllocError>
         ensures { IfOk result (λ graph. edge_lists graph ≡ replicate count []) }
     {
@@ -33,14 +33,14 @@ impl Graph {
         Ok(Graph { nodes })
     }
 
-    /// How many nodes it has.
+    /// Returns the number of nodes.
     pub fn len(&self) -> usize
         ensures { result ≡ length (edge_lists self.now) }
     {
         self.nodes.len()
     }
 
-    /// The edges that begin at this node.
+    /// Returns the edges that begin at a node.
     pub fn edges_from(&self, from: usize) -> &[Edge]
         requires { from < length (edge_lists self.now) }
         ensures { result.now ≡ edges_from (edge_lists self.now) from }
@@ -48,7 +48,7 @@ impl Graph {
         &self.nodes[from]
     }
 
-    /// Adds an edge that begins at this node. It refuses only where memory is refused.
+    /// Adds an edge that begins at a node. Fails only if memory is refused.
     pub fn add_edge(&mut self, from: usize, edge: Edge) -> Result<(), AllocError>
         requires { from < length (edge_lists self.old) }
         ensures { OnOk result (edge_lists self.new
@@ -58,7 +58,7 @@ impl Graph {
         Ok(())
     }
 
-    /// Adds a node, with the edges that begin at it. It refuses only where memory is refused.
+    /// Adds a node with the edges that begin at it. Fails only if memory is refused.
     pub fn push(&mut self, edges: Vec<Edge>) -> Result<(), AllocError>
         ensures { OnOk result (edge_lists self.new ≡ edge_lists self.old ++ edges.items ∷ []) }
     {

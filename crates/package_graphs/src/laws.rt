@@ -1,12 +1,12 @@
-//! Laws over the definitions. The functions do nothing: each contract is a law.
+//! Laws about the definitions. The functions do nothing: the contract of each is a law.
 
 ghost use Rattle.std.specs.Prelude.{◌⊎◌, ◌↔◌, ◌++◌, ℕ, Bool, List, IsTrue, Contains, Some, None};
 ghost use Rattle.package_graphs.specs.Graphs.{Edges, IsPartOf, IsPresent, LeadsAt};
 ghost use Rattle.package_graphs.specs.Packages.{Packages, KindSet, HostTarget, Sided, IsThere, IsThereOn};
 ghost use Rattle.package_graphs.specs.Packages.{IsForTarget, IsPlain};
 
-/// The targets of the nodes are the least sets that have the roots and that the edges lead on from: these are such, and
-/// are parts of any other such sets.
+/// The target sets of the nodes are the least sets that contain all targets for the roots and are closed under the
+/// edges: they are such sets, and they are subsets of any other such sets.
 pub fn presence_is_least()
     ensures roots { (graph : Edges) (roots : List ℕ) (k n : ℕ) → Contains roots n → IsPresent graph roots k n }
     ensures edges { (graph : Edges) (roots : List ℕ) (k m n : ℕ)
@@ -17,37 +17,38 @@ pub fn presence_is_least()
         → (n k : ℕ) → IsPresent graph roots k n → IsTrue (at n k) }
 {}
 
-/// With more edges no node loses a target.
+/// Additional edges remove no target from a node.
 pub fn more_edges_keep_targets()
     ensures { (graph more : Edges) (roots : List ℕ) (k n : ℕ) → IsPartOf graph more
         → IsPresent graph roots k n → IsPresent more roots k n }
 {}
 
-/// The order of the edges does not count, nor how often one stands there.
+/// The order of the edges does not matter, nor how often an edge occurs.
 pub fn order_does_not_count()
     ensures { (graph other : Edges) (roots : List ℕ) (k n : ℕ) → IsPartOf graph other → IsPartOf other graph
         → IsPresent graph roots k n ↔ IsPresent other roots k n }
 {}
 
-/// With more roots no node loses a target.
+/// Additional roots remove no target from a node.
 pub fn more_roots_keep_targets()
     ensures { (graph : Edges) (roots more : List ℕ) (k n : ℕ) → ((root : ℕ) → Contains roots root → Contains more root)
         → IsPresent graph roots k n → IsPresent graph more k n }
 {}
 
-/// What is there from two lists of roots is what is there from one of them.
+/// A node has a target from two lists of roots exactly if it has that target from one of them.
 pub fn roots_add_up()
     ensures { (graph : Edges) (roots others : List ℕ) (k n : ℕ)
         → IsPresent graph (roots ++ others) k n ↔ (IsPresent graph roots k n ⊎ IsPresent graph others k n) }
 {}
 
-/// Without a host a package is there, built for the target, where it is by the targets alone.
+/// Without a host, a package is in the build exactly if it is by the conditions on the target alone, and it is built
+/// for the target.
 pub fn without_a_host_the_target_is_asked()
     ensures { (packages : Packages) (kinds : KindSet) (k : ℕ) (n : Sided)
         → IsThereOn packages kinds None k n ↔ (IsThere packages kinds k n.0 × IsForTarget n) }
 {}
 
-/// Where each dependency is a normal one and no package is a procedural macro, the host does not count.
+/// If each dependency is a normal one and no package is a procedural macro, the host does not matter.
 pub fn plain_packages_need_no_host()
     ensures { (packages : Packages) (kinds : KindSet) (host : HostTarget) (k : ℕ) (n : Sided) → IsPlain packages
         → IsThereOn packages kinds (Some host) k n ↔ (IsThere packages kinds k n.0 × IsForTarget n) }

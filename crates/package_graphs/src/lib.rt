@@ -1,4 +1,4 @@
-//! Graphs whose edges hold at some targets, and the targets at which each node is there.
+//! Graphs whose edges have conditions, and the targets on which each node is reached.
 #![tactic(auto)]
 
 mod following;

@@ -1,4 +1,4 @@
-//! The targets at which each package is there.
+//! The targets on which each package is in the build.
 
 ghost use Rattle.std.specs.Prelude.{◌≡◌, ◌<◌, ◌||◌, ◌↔◌, ℕ, None, IsTrue, IfOk, length};
 ghost use Rattle.known_targets.specs.Sets.{is_member};
@@ -11,16 +11,16 @@ use crate::sides::{Question, node_of};
 use known_targets::{KnownTarget, TargetSet};
 use std::alloc::{AllocError, Global};
 
-/// For each package the targets at which it is there, built for the target and built for the host.
+/// For each package, the targets on which it is in the build, for the target and for the host.
 #[derive(Drop)]
 pub struct PackageSets {
     sets: Vec<TargetSet>,
 }
 
 impl PackageSets {
-    /// The targets at which the package at this place is there, built for this side.
+    /// Returns the targets on which the package at an index is in the build for this side.
     pub fn on(&self, index: usize, side: Side) -> TargetSet
-        // The answer is the set of the package for the side.
+        // The result is the set of the package for the side.
         ensures { (k : ℕ) → k < COUNT → is_member result k ≡ is_on self.now index side k }
     {
         if index > self.sets.len() / 2 {
@@ -33,9 +33,9 @@ impl PackageSets {
         self.sets[node]
     }
 
-    /// The targets at which the package at this place is there.
+    /// Returns the targets on which the package at an index is in the build.
     pub fn at(&self, index: usize) -> TargetSet
-        // The answer has the targets of both sides.
+        // The result has the targets of both sides.
         ensures { (k : ℕ) → k < COUNT → is_member result k ≡ is_at self.now index k }
     {
         self.on(index, Side::Target)
@@ -43,20 +43,23 @@ impl PackageSets {
     }
 }
 
-/// The targets at which each package is there, by the dependencies that lead to it from the roots.
+/// Returns for each package the targets on which it is in the build: those on which dependencies lead to it from a
+/// root.
 ///
-/// Without a host each dependency is asked of the target. With one, what a build script or a procedural macro needs is
-/// asked of the host. It refuses only where memory is refused. A dependency on no package is passed over.
+/// Without a host, the condition of each dependency is decided for the target. With one, the conditions of what build
+/// scripts and procedural macros need are decided for the host. A dependency on no package is ignored. Fails only if
+/// memory is refused.
 pub fn present_packages(
     alloc: Global,
     packages: &[Package],
     kinds: Kinds,
     host: Option<KnownTarget>,
 ) -> Result<PackageSets, AllocError>
-    // A target is in the set of a package, for a side, exactly if dependencies that hold lead there from a root.
+    // A target is in the set of a package, for a side, exactly if dependencies whose conditions are true lead there
+    // from a root.
     ensures exact { IfOk result (λ sets. (n : Sided) (k : ℕ) → n.0 < length packages.now → k < COUNT
         → IsTrue (is_on sets n.0 n.1 k) ↔ IsThereOn packages.now kinds host k n) }
-    // Without a host, each dependency is asked of the target.
+    // Without a host, the condition of each dependency is decided for the target.
     ensures without_host { host ≡ None → IfOk result (λ sets. (p k : ℕ) → p < length packages.now → k < COUNT
         → IsTrue (is_at sets p k) ↔ IsThere packages.now kinds k p) }
 {

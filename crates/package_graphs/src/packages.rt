@@ -1,4 +1,4 @@
-//! Packages, and what they depend on.
+//! Packages and their dependencies.
 
 ghost use Rattle.std.specs.Prelude.{◌≡◌};
 ghost use Rattle.package_graphs.specs.Kinds.{is_followed};
@@ -6,7 +6,7 @@ ghost use Rattle.package_graphs.specs.Packages.{is_of_host, side};
 
 use known_targets::TargetSet;
 
-/// What a dependency is for.
+/// The kind of a dependency: what it is for.
 #[derive(Clone, Copy, Drop)]
 pub enum Kind {
     /// For the package itself.
@@ -17,7 +17,7 @@ pub enum Kind {
     Dev,
 }
 
-/// The kinds of dependencies that are followed.
+/// The dependency kinds that are followed.
 #[derive(Clone, Copy, Drop)]
 pub struct Kinds {
     pub normal: bool,
@@ -26,7 +26,7 @@ pub struct Kinds {
 }
 
 impl Kinds {
-    /// Whether a dependency of this kind is followed. A dev-dependency is followed from a root alone.
+    /// Returns whether a dependency of this kind is followed. Dev-dependencies are followed only from roots.
     pub fn follow(self, is_root: bool, kind: Kind) -> bool
         ensures { result ≡ is_followed self is_root kind }
     {
@@ -38,26 +38,26 @@ impl Kinds {
     }
 }
 
-/// A dependency on another package, at the targets at which its condition holds.
+/// A dependency on another package, with the targets on which its condition is true.
 #[derive(Clone, Copy, Drop)]
 pub struct Dependency {
-    /// The place of the other package.
+    /// The index of the other package.
     pub to: usize,
     pub kind: Kind,
     pub holds: TargetSet,
 }
 
-/// A package, by its place in a list.
+/// A package, which is referred to by its index in a list.
 #[derive(Drop)]
 pub struct Package {
-    /// Whether it is asked for by itself.
+    /// True if the package is a root.
     pub is_root: bool,
-    /// Whether it is a procedural macro.
+    /// True if the package is a procedural macro.
     pub is_macro: bool,
     pub dependencies: Vec<Dependency>,
 }
 
-/// What a package is built for.
+/// The side for which a package is built.
 #[derive(Clone, Copy, Drop)]
 pub enum Side {
     /// For the target.
@@ -67,7 +67,7 @@ pub enum Side {
 }
 
 impl Side {
-    /// The side of what is built for the host, or is not.
+    /// Returns the host's side if `is_for_host`, and otherwise the target's.
     pub fn new(is_for_host: bool) -> Side
         ensures { result ≡ side is_for_host }
     {
@@ -78,8 +78,8 @@ impl Side {
         }
     }
 
-    /// Whether a dependency of this kind, of a package on this side, is one of the host: what the host needs, and what
-    /// a build script does.
+    /// Returns whether a dependency of this kind, of a package on this side, is decided for the host: what the host
+    /// needs, and what a build script needs.
     pub fn asks_host(self, kind: Kind) -> bool
         ensures { result ≡ is_of_host self kind }
     {

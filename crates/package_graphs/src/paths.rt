@@ -1,4 +1,4 @@
-//! Why a package is there: a shortest path of dependencies from a root.
+//! Shortest dependency paths from a root to a package.
 
 ghost use Rattle.std.specs.Prelude.{◌≡◌, ◌<◌, ◌≤◌, IsTrue, IfOk, IfSome, IfNone, length};
 ghost use Rattle.known_targets.specs.Sets.{place};
@@ -14,27 +14,27 @@ use crate::sides::{Question, node_of};
 use known_targets::KnownTarget;
 use std::alloc::{AllocError, Global};
 
-/// A step from a package along one of its dependencies, by their places.
+/// A step from a package along one of its dependencies, both given by their indexes.
 #[derive(Clone, Copy, Debug, PartialEq, Eq, Drop)]
 pub struct Step {
     pub from: usize,
     pub dependency: usize,
 }
 
-/// A package, and what it is built for.
+/// A package by its index, and the side for which it is built.
 type Place = (usize, Side);
 
-/// What no distance is.
+/// The value that stands for no distance.
 const FAR: usize = usize::MAX;
 
-/// How far from the roots each package is, on both sides, and by which step it was reached first.
+/// The distance of each package from the roots, on both sides, and the step by which it was reached first.
 #[derive(Drop)]
 struct Spread {
     distances: Vec<usize>,
     reached_by: Vec<Option<(usize, Step)>>,
 }
 
-/// What is asked of packages at one target.
+/// A search among packages on one target.
 #[derive(Clone, Copy)]
 struct Search<'a> {
     question: Question,
@@ -42,9 +42,9 @@ struct Search<'a> {
     at: KnownTarget,
 }
 
-/// The steps of a shortest path from a root to the package at this place, each along a dependency that holds at the
-/// target; no steps lead to a root. Nothing where none was found. `packages`, `kinds` and `host` are those of
-/// `present_packages`. It refuses only where memory is refused.
+/// Returns the steps of a shortest path from a root to the package at index `to`, each along a dependency whose
+/// condition is true on the target. For a root there are no steps. Returns `None` if no path was found. `packages`,
+/// `kinds` and `host` are those of `present_packages`. Fails only if memory is refused.
 pub fn shortest_path(
     alloc: Global,
     packages: &[Package],
@@ -53,7 +53,7 @@ pub fn shortest_path(
     at: KnownTarget,
     to: usize,
 ) -> Result<Option<Vec<Step>>, AllocError>
-    // The steps lead from a root to the package at the target, and no fewer steps do.
+    // The steps lead from a root to the package on the target, and no fewer steps do.
     ensures { IfOk result (λ found. IfSome found
         (λ steps. IsShortest packages.now kinds host (place at) steps.items to)) }
 {
@@ -72,12 +72,12 @@ pub fn shortest_path(
 }
 
 impl Spread {
-    /// The distance of a node.
+    /// Returns the distance of a node.
     fn distance(&self, node: usize) -> usize {
         self.distances.get(node).copied().unwrap_or(FAR)
     }
 
-    /// The steps that were gone to the package, or some others where none were.
+    /// Returns the steps by which the package was reached, or some other steps if it was not reached.
     fn steps_to(&self, alloc: Global, to: usize) -> Result<Vec<Step>, AllocError> {
         let mut steps = Vec::new(alloc);
         if to > self.distances.len() / 2 {
@@ -103,7 +103,8 @@ impl Spread {
 }
 
 impl<'a> Search<'a> {
-    /// What a dependency leads to; nothing where it is not followed, does not hold, or leads to no package.
+    /// Returns where a dependency leads, or `None` if it is not followed, its condition is false, or it leads to no
+    /// package.
     fn step_along(&self, from: Place, dependency: &Dependency) -> Option<Place>
         requires { IsQuestion self.now.question }
         ensures leads { IfSome result (λ n. LeadsAlong self.now dependency.now from n) }
@@ -134,7 +135,7 @@ impl<'a> Search<'a> {
         ))
     }
 
-    /// Where a root is; nothing for what is no root.
+    /// Returns the place of a root, or `None` for a package that is not a root.
     fn start(&self, index: usize) -> Option<Place>
         ensures { IfSome result (λ n. (n.0 ≡ index) × StartsOn self.now.packages.now self.now.question.host n) }
     {
@@ -147,7 +148,7 @@ impl<'a> Search<'a> {
         ))
     }
 
-    /// Goes from the roots to all that is reached, nearest first.
+    /// Visits all places that are reached from the roots, nearest first.
     fn spread(&self, alloc: Global) -> Result<Spread, AllocError>
         requires { IsQuestion self.now.question }
     {
@@ -177,7 +178,7 @@ impl<'a> Search<'a> {
         Ok(spread)
     }
 
-    /// Reaches what the dependencies of a package lead to.
+    /// Visits the places that the dependencies of a package lead to.
     fn go_on(
         &self,
         place: Place,
@@ -205,7 +206,7 @@ impl<'a> Search<'a> {
         Ok(())
     }
 
-    /// Whether the steps lead from a root to the package.
+    /// Returns whether the steps lead from a root to the package.
     fn leads_to(&self, steps: &[Step], to: usize) -> bool
         requires { IsQuestion self.now.question }
         ensures { IsTrue result → Leads self.now steps.now to }
@@ -216,7 +217,7 @@ impl<'a> Search<'a> {
         }
     }
 
-    /// Where the steps lead from a root; without steps the package at this place has to be one.
+    /// Returns where the steps lead from a root. Without steps, the package at index `to` has to be a root.
     fn end_of(&self, steps: &[Step], to: usize) -> Option<Place>
         requires { IsQuestion self.now.question }
         ensures { IfSome result (λ n. IsPathOf self.now steps.now n) }
@@ -232,7 +233,7 @@ impl<'a> Search<'a> {
         Some(place)
     }
 
-    /// Where a step from a place leads.
+    /// Returns where a step from a place leads.
     fn go(&self, place: Place, step: Step) -> Option<Place>
         requires { IsQuestion self.now.question }
         ensures { IfSome result (λ n. IsStepOf self.now step place n) }
@@ -248,7 +249,7 @@ impl<'a> Search<'a> {
         self.step_along(place, &dependencies[step.dependency])
     }
 
-    /// Whether the distances show that no fewer steps lead to the package.
+    /// Returns whether the distances show that no fewer steps lead to the package.
     fn is_no_nearer(&self, distances: &[usize], steps: usize, to: usize) -> bool
         requires { IsQuestion self.now.question }
         ensures { IsTrue result → (others : Steps) → Leads self.now others to → steps ≤ length others }
@@ -270,8 +271,8 @@ impl<'a> Search<'a> {
         steps <= distance_at(distances, (to, Side::Host))
     }
 
-    /// Whether a root is at no distance, and what the dependencies of a package lead to is no farther than one step
-    /// from it.
+    /// Returns whether the place has no distance if it is a root, and each place that its dependencies lead to is at
+    /// most one step farther.
     fn are_near(&self, distances: &[usize], place: Place) -> bool
         requires { IsQuestion self.now.question }
         ensures { IsTrue result → IsNear self.now distances.now place }
@@ -291,7 +292,7 @@ impl<'a> Search<'a> {
         true
     }
 
-    /// Whether what a dependency leads to is no farther than this.
+    /// Returns whether the place that a dependency leads to has at most this distance.
     fn is_within(
         &self,
         distances: &[usize],
@@ -308,7 +309,7 @@ impl<'a> Search<'a> {
         }
     }
 
-    /// Whether the package is a root that is built for this side.
+    /// Returns whether the package is a root that is built for this side.
     fn is_start(&self, index: usize, side: Side) -> bool
         ensures { StartsOn self.now.packages.now self.now.question.host (index, side) → IsTrue result }
     {
@@ -323,7 +324,7 @@ impl<'a> Search<'a> {
     }
 }
 
-/// The dependencies of the package at this place; none past the end.
+/// Returns the dependencies of the package at an index. There are none past the end.
 fn dependencies_of(packages: &[Package], index: usize) -> &[Dependency]
     ensures { result.now ≡ dependencies packages.now index }
 {
@@ -333,7 +334,7 @@ fn dependencies_of(packages: &[Package], index: usize) -> &[Dependency]
     }
 }
 
-/// The distance of a place; 0 past the end.
+/// Returns the distance of a place, or 0 past the end.
 fn distance_at(distances: &[usize], place: Place) -> usize
     ensures { result ≡ distance distances.now place }
 {
@@ -347,7 +348,7 @@ fn distance_at(distances: &[usize], place: Place) -> usize
     }
 }
 
-/// Notes how a place was reached, where it was not reached before.
+/// Records how a place was reached, unless it was reached before.
 fn reach(
     spread: &mut Spread,
     waiting: &mut Vec<Place>,

@@ -1,4 +1,4 @@
-//! The targets at which each node is there.
+//! The targets on which each node is reached.
 
 ghost use Rattle.std.specs.Prelude.{◌≡◌, ◌<◌, ◌+◌, ◌*◌, ◌≤◌, ◌↔◌, ℕ, true, false, ◌&&◌, ◌||◌, ◌==◌, IsTrue, IfOk};
 ghost use Rattle.std.specs.Prelude.{OnOk};
@@ -15,14 +15,15 @@ use crate::queue::Queue;
 use known_targets::TargetSet;
 use std::alloc::{AllocError, Global};
 
-/// For each node the targets at which it is there: those at which edges lead from a root to it.
+/// Returns for each node the targets on which it is reached: those on which edges lead to it from a root.
 ///
-/// It goes over the edges of a node again only after its set has grown. It refuses only where memory is refused. A root
-/// that is no node is passed over, and so is an edge to none.
+/// The edges of a node are visited again only after its set has grown. A root that is not a node is ignored, and so is
+/// an edge to none. Fails only if memory is refused.
 pub fn present(alloc: Global, graph: &Graph, roots: &[usize]) -> Result<Vec<TargetSet>, AllocError>
     // Each node has a set.
     ensures count { IfOk result (λ sets. vec_len sets ≡ length (edge_lists graph.now)) }
-    // A target is in the set of a node exactly if edges lead there from a root, each of which holds at it.
+    // A target is in the set of a node exactly if edges lead there from a root, and the target is in the set of each of
+    // them.
     ensures exact { IfOk result (λ sets. (n k : ℕ) → n < length (edge_lists graph.now) → k < COUNT
         → IsTrue (is_in sets.items n k) ↔ IsPresent (edge_lists graph.now) roots.now k n) }
 {
@@ -30,21 +31,23 @@ pub fn present(alloc: Global, graph: &Graph, roots: &[usize]) -> Result<Vec<Targ
     Ok(sets)
 }
 
-/// The targets at which each node is there, and how often its edges were gone over.
+/// The targets on which each node is reached, and how often its edges were visited.
 #[derive(Drop)]
 pub struct Counted {
     pub sets: Vec<TargetSet>,
     pub rounds: Vec<usize>,
 }
 
-/// What `present` answers, and for each node how often its edges were gone over: at most once for each known target.
+/// Returns what `present` returns, and for each node how often its edges were visited: at most once for each known
+/// target. Fails only if memory is refused.
 pub fn present_counted(alloc: Global, graph: &Graph, roots: &[usize]) -> Result<Counted, AllocError>
     // Each node has a set.
     ensures count { IfOk result (λ c. vec_len c.sets ≡ length (edge_lists graph.now)) }
-    // A target is in the set of a node exactly if edges lead there from a root, each of which holds at it.
+    // A target is in the set of a node exactly if edges lead there from a root, and the target is in the set of each of
+    // them.
     ensures exact { IfOk result (λ c. (n k : ℕ) → n < length (edge_lists graph.now) → k < COUNT
         → IsTrue (is_in c.sets.items n k) ↔ IsPresent (edge_lists graph.now) roots.now k n) }
-    // The edges of a node are gone over at most as often as there are known targets.
+    // The edges of a node are visited at most as often as there are known targets.
     ensures rounds { IfOk result (λ c. (n : ℕ) → slice_index c.rounds.items n ≤ COUNT) }
 {
     let mut sets = vec![in alloc; TargetSet::none(); graph.len()]?;
@@ -63,7 +66,7 @@ pub fn present_counted(alloc: Global, graph: &Graph, roots: &[usize]) -> Result<
     Ok(Counted { sets, rounds })
 }
 
-/// Adds targets to the set of a node. Where the set grows, the node waits.
+/// Adds targets to the set of a node. If the set grows, the node is queued.
 fn add(
     sets: &mut Vec<TargetSet>,
     queue: &mut Queue,
@@ -95,14 +98,14 @@ fn add(
     Ok(())
 }
 
-/// The targets at which an edge leads on from a node that is there at these.
+/// Returns the targets on which an edge leads on from a node that is reached on these targets.
 fn along(from: TargetSet, edge: &Edge) -> TargetSet
     ensures { (k : ℕ) → k < COUNT → is_member result k ≡ (is_member from k && is_member edge.now.holds k) }
 {
     from.intersection(edge.holds)
 }
 
-/// Goes over the edges of a node.
+/// Visits the edges of a node.
 fn go_over(
     graph: &Graph,
     node: usize,

@@ -1,4 +1,4 @@
-//! The nodes whose edges are to be gone over, each once in a list.
+//! A queue of the nodes whose edges have to be visited, each at most once.
 
 ghost use Rattle.std.specs.Prelude.{◌≡◌, ◌<◌, ◌+◌, ◌≤◌, ℕ, true, false, not, ◌&&◌, ◌||◌, ◌==◌, IfOk, OnOk, IfNone};
 ghost use Rattle.std.specs.Prelude.{IfSome};
@@ -9,7 +9,7 @@ ghost use Rattle.package_graphs.specs.Inside.Spreading.{waits, IsQueue, node_cou
 use std::alloc::{AllocError, Global};
 use std::collections::VecDeque;
 
-/// Nodes in the order in which they are gone over, and for each node whether it is among them.
+/// The queued nodes in their order, and for each node whether it is queued.
 #[derive(Drop)]
 pub struct Queue {
     nodes: VecDeque<usize>,
@@ -17,7 +17,7 @@ pub struct Queue {
 }
 
 impl Queue {
-    /// No node of so many waits.
+    /// Returns an empty queue for `count` nodes.
     pub fn new(alloc: Global, count: usize) -> Result<Queue, AllocError>
         ensures queue { IfOk result IsQueue }
         ensures count { IfOk result (λ queue. node_count queue ≡ count) }
@@ -30,7 +30,7 @@ impl Queue {
         })
     }
 
-    /// Lets the node wait.
+    /// Queues a node, unless it is queued already.
     pub fn add(&mut self, node: usize) -> Result<(), AllocError>
         requires queue { IsQueue self.old }
         requires known { node < node_count self.old }
@@ -46,7 +46,7 @@ impl Queue {
         Ok(())
     }
 
-    /// The node that waits longest. It waits no more.
+    /// Removes and returns the node that was queued first.
     pub fn next(&mut self) -> Option<usize>
         requires { IsQueue self.old }
         ensures queue { IsQueue self.new }

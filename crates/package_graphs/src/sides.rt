@@ -1,4 +1,4 @@
-//! The graph of packages on both sides: for each package a node for the target, and one for the host.
+//! The graph of packages on both sides. Each package has a node for the target, and one for the host.
 
 ghost use Rattle.std.specs.Prelude.{◌≡◌, ◌<◌, ◌^◌, IfOk, length};
 ghost use Rattle.known_targets.specs.Sets.{is_member};
@@ -12,18 +12,18 @@ use crate::packages::{Dependency, Kind, Kinds, Package, Side};
 use known_targets::{KnownTarget, TargetSet};
 use std::alloc::{AllocError, Global};
 
-/// What is asked of packages: by which kinds, and of which host.
+/// The dependency kinds and the host of a query.
 #[derive(Clone, Copy, Drop)]
 pub struct Question {
     pub kinds: Kinds,
     pub host: Option<KnownTarget>,
-    /// All targets, where a dependency is asked of the host and holds there.
+    /// All targets, for a dependency that is decided for the host and true there.
     pub always: TargetSet,
-    /// No target, where it does not.
+    /// No target, for a dependency that is decided for the host and false there.
     pub never: TargetSet,
 }
 
-/// The place of a package's node among those of all packages.
+/// Returns the number of a package's node for a side.
 pub fn node_of(index: usize, side: Side) -> usize
     requires { index < 2 ^ 62 }
     ensures { result ≡ node_of index side }
@@ -35,7 +35,7 @@ pub fn node_of(index: usize, side: Side) -> usize
 }
 
 impl Question {
-    /// What is asked by these kinds, and of this host.
+    /// Returns the query for these kinds and this host.
     pub fn new(kinds: Kinds, host: Option<KnownTarget>) -> Question
         ensures sets { IsQuestion result }
         ensures kinds { result.kinds ≡ kinds }
@@ -49,7 +49,7 @@ impl Question {
         }
     }
 
-    /// What a package is built for that a dependency leads to.
+    /// Returns the side for which a package is built that a dependency leads to.
     pub fn side_after(&self, from: Side, kind: Kind, is_macro: bool) -> Side
         ensures { result ≡ side_after self.now.host from kind is_macro }
     {
@@ -59,7 +59,7 @@ impl Question {
         }
     }
 
-    /// What a root is built for.
+    /// Returns the side for which a root is built.
     pub fn first_side(&self, is_macro: bool) -> Side
         ensures { result ≡ first_side self.now.host is_macro }
     {
@@ -69,7 +69,8 @@ impl Question {
         }
     }
 
-    /// Where a dependency holds: everywhere or nowhere, where it is asked of the host.
+    /// Returns the targets on which a dependency is followed by its condition: all or none, if it is decided for the
+    /// host.
     pub fn holds_by(&self, from: Side, dependency: &Dependency) -> TargetSet
         ensures { result ≡ holds_by self.now.host self.now.always self.now.never from dependency.now }
     {
@@ -87,7 +88,7 @@ impl Question {
         }
     }
 
-    /// The edge of a dependency.
+    /// Returns the edge of a dependency.
     fn edge_of(&self, packages: &[Package], from: Side, dependency: &Dependency) -> Edge
         requires { dependency.now.to < length packages.now }
         ensures { result ≡ edge_of self.now packages.now from dependency.now }
@@ -100,7 +101,7 @@ impl Question {
         }
     }
 
-    /// The edges that begin at a package's node: one for each dependency that is followed to a package.
+    /// Returns the edges that begin at a package's node: one for each dependency that is followed to a package.
     fn edges_on(
         &self,
         alloc: Global,
@@ -120,7 +121,7 @@ impl Question {
         Ok(edges)
     }
 
-    /// The graph of both sides.
+    /// Returns the graph of both sides.
     pub fn graph(&self, alloc: Global, packages: &[Package]) -> Result<Graph, AllocError>
         ensures { IfOk result (λ graph. edge_lists graph ≡ numbered self.now packages.now packages.now) }
     {
@@ -132,7 +133,7 @@ impl Question {
         Ok(graph)
     }
 
-    /// The nodes of the roots.
+    /// Returns the nodes of the roots.
     pub fn roots(&self, alloc: Global, packages: &[Package]) -> Result<Vec<usize>, AllocError>
         ensures { IfOk result (λ roots. AreFirst self.now packages.now (length packages.now) roots.items) }
     {

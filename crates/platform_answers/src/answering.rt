@@ -1,4 +1,4 @@
-//! The output as a function of the input's bytes.
+//! The output as a function of the bytes of the input.
 ghost use Rattle.std.specs.Prelude.{◌≡◌, ◌++◌, ◌-◌, ℕ, List, IfOk, IfErr, OnOk, codes, drop, flat_map, map};
 ghost use Rattle.std.specs.Prelude.{string_bytes};
 ghost use Rattle.cargo_platform.specs.Trees.{value_of, condition_of};
@@ -20,14 +20,14 @@ use crate::reading::{Gathered, MOST_BYTES};
 use cargo_platform::{Cfg, FactIndex, FactsError, ParseError, Platform, ReadError, read_facts};
 use std::alloc::{AllocError, Global};
 
-/// What is to be written, and how the run ends then.
+/// The text to write, and the outcome of the run then.
 #[derive(Drop)]
 pub struct Answer {
     pub text: String,
     pub outcome: Outcome,
 }
 
-/// What the lines ask: whether a target with this name and these facts meets the condition.
+/// A query: whether the condition is true on a target with this name and these facts.
 #[derive(Drop)]
 struct Query<'a> {
     platform: Platform,
@@ -35,18 +35,18 @@ struct Query<'a> {
     facts: Vec<Cfg>,
 }
 
-/// Why the lines ask nothing.
+/// The reason why the lines are not a query.
 #[derive(Drop)]
 enum Refusal {
-    /// The line of this number is refused, with this error.
+    /// The line with this number is rejected, with this error.
     Line(usize, ParseError),
     Memory(AllocError),
 }
 
-/// What stands for the manifest in the warnings on keywords.
+/// The text that stands for the manifest in the warnings on keywords.
 const MANIFEST: &str = "-";
 
-/// The first line of a text, without what ends it, and the text after it.
+/// Returns the first line of a text, without its line end, and the text after it.
 fn split_line(text: &str) -> (&str, &str)
     ensures line { result.0.now ≡ line_at (lines_of text.now) 1 }
     ensures after { lines_of result.1.now ≡ drop 1 (lines_of text.now) }
@@ -57,7 +57,7 @@ fn split_line(text: &str) -> (&str, &str)
     }
 }
 
-/// Reads line 1 as a condition.
+/// Parses line 1 as a condition.
 fn read_condition(alloc: Global, text: &str) -> Result<Platform, Refusal>
     ensures condition { IfOk result (λ p. IsConditionText text.now (condition_of p)) }
     ensures refused { IfErr result
@@ -71,8 +71,8 @@ fn read_condition(alloc: Global, text: &str) -> Result<Platform, Refusal>
     }
 }
 
-/// Reads each line of the text as a fact. The number of a refused line is that in the input, where two lines stand
-/// before them.
+/// Parses each line of the text as a fact. The number of a rejected line is the one in the input, which has two lines
+/// before the text.
 fn read_fact_lines(alloc: Global, text: &str) -> Result<Vec<Cfg>, Refusal>
     ensures facts { IfOk result (λ facts. SpellFacts (lines_of text.now) (map value_of facts.items)) }
     ensures refused { IfErr result
@@ -87,7 +87,7 @@ fn read_fact_lines(alloc: Global, text: &str) -> Result<Vec<Cfg>, Refusal>
     }
 }
 
-/// Reads what the lines of the text ask.
+/// Parses the lines of the text as a query.
 fn read_query(alloc: Global, text: &str) -> Result<Query<'_>, Refusal>
     ensures query { IfOk result
         (λ q. IsQuery (lines_of text.now) (condition_of q.platform) (map value_of q.facts.items)) }
@@ -108,7 +108,7 @@ fn read_query(alloc: Global, text: &str) -> Result<Query<'_>, Refusal>
     })
 }
 
-/// The answer that is this one line, for an input that asks nothing.
+/// Returns the answer that consists of this one line, for an input that is not a query.
 fn refuse(alloc: Global, text: &str) -> Result<Answer, AllocError>
     ensures { IfOk result (λ a. IsRefusedAs text.now (string_bytes a.text) a.outcome) }
 {
@@ -118,7 +118,7 @@ fn refuse(alloc: Global, text: &str) -> Result<Answer, AllocError>
     })
 }
 
-/// The answer to lines of which this one is the first that is refused.
+/// Returns the answer to lines of which this one is the first that is rejected.
 fn refuse_line(alloc: Global, number: usize, error: &ParseError) -> Result<Answer, AllocError>
     ensures { IfOk result
         (λ a. IsRefusedAs (refused_line number (orig_of error.now) (fault_in error.now))
@@ -130,7 +130,7 @@ fn refuse_line(alloc: Global, number: usize, error: &ParseError) -> Result<Answe
     })
 }
 
-/// Whether the target with this name meets the condition.
+/// Returns whether the condition is true on the target with this name.
 fn is_match(alloc: Global, query: &Query<'_>, name: &str) -> Result<bool, AllocError>
     ensures { IfOk result
         (λ b. b ≡ is_match name.now (map value_of query.now.facts.items) (condition_of query.now.platform)) }
@@ -144,7 +144,7 @@ fn is_match(alloc: Global, query: &Query<'_>, name: &str) -> Result<bool, AllocE
     }
 }
 
-/// How it is said whether a condition is met, and how the run ends then.
+/// Returns the word that says whether a condition is true, and the outcome of the run then.
 fn verdict(is_met: bool) -> (&'static str, Outcome)
     ensures word { result.0.now ≡ match_word is_met }
     ensures outcome { result.1 ≡ match_outcome is_met }
@@ -156,7 +156,7 @@ fn verdict(is_met: bool) -> (&'static str, Outcome)
     }
 }
 
-/// The lines on a condition, as it prints, and on whether it is met.
+/// Returns the lines with a condition in canonical form, and with whether it is true.
 fn met_lines(alloc: Global, platform: &Platform, word: &str) -> Result<String, AllocError>
     ensures ok { IfOk result
         (λ t. string_bytes t ≡ line (codes "condition: " ++ print_condition (condition_of platform.now)) ++ line
@@ -168,7 +168,7 @@ fn met_lines(alloc: Global, platform: &Platform, word: &str) -> Result<String, A
     Ok(text)
 }
 
-/// The warnings on a condition, those on attributes first.
+/// Returns the warnings on a condition, those on attributes first.
 fn warnings_on(alloc: Global, platform: &Platform) -> Result<Vec<String>, AllocError>
     ensures { IfOk result (λ v. texts v ≡ warnings (condition_of platform.now)) }
 {
@@ -192,7 +192,7 @@ fn push_warnings(text: &mut String, warnings: &[String]) -> Result<(), AllocErro
     Ok(())
 }
 
-/// The answer to what accepted lines ask of the target with this name.
+/// Returns the answer to a query about the target with this name.
 fn answer_query(alloc: Global, query: &Query<'_>, name: &str) -> Result<Answer, AllocError>
     ensures { IfOk result
         (λ a. IsAnswerToQuery name.now (condition_of query.now.platform) (map value_of query.now.facts.items)
@@ -205,7 +205,7 @@ fn answer_query(alloc: Global, query: &Query<'_>, name: &str) -> Result<Answer, 
     Ok(Answer { text, outcome })
 }
 
-/// The answer to the lines of a text.
+/// Returns the answer to the lines of a text.
 fn answer_lines(alloc: Global, text: &str) -> Result<Answer, AllocError>
     ensures { IfOk result (λ a. IsAnswerToLines (lines_of text.now) (string_bytes a.text) a.outcome) }
 {
@@ -216,7 +216,7 @@ fn answer_lines(alloc: Global, text: &str) -> Result<Answer, AllocError>
     }
 }
 
-/// The answer to an input that is too long.
+/// Returns the answer to an input that is too long.
 fn too_long(alloc: Global) -> Result<Answer, AllocError>
     ensures { IfOk result
         (λ a. IsRefusedAs (codes "input is longer than 1048576 bytes") (string_bytes a.text) a.outcome) }
@@ -224,7 +224,7 @@ fn too_long(alloc: Global) -> Result<Answer, AllocError>
     refuse(alloc, "input is longer than 1048576 bytes")
 }
 
-/// The answer to an input of these bytes.
+/// Returns the answer to an input of these bytes.
 fn answer_bytes(alloc: Global, bytes: &[u8]) -> Result<Answer, AllocError>
     ensures { IfOk result (λ a. IsAnswer bytes.now (string_bytes a.text) a.outcome) }
 {
@@ -237,7 +237,7 @@ fn answer_bytes(alloc: Global, bytes: &[u8]) -> Result<Answer, AllocError>
     answer_lines(alloc, text)
 }
 
-/// The answer to what was read.
+/// Returns the answer to the input that was read. Fails if memory is refused.
 pub fn answer_to(alloc: Global, gathered: Gathered) -> Result<Answer, AllocError>
     ensures { IfOk result (λ a. (bs : List ℕ) → IsGathered gathered bs → IsAnswer bs (string_bytes a.text) a.outcome) }
 {

@@ -1,7 +1,7 @@
-//! A reader and a writer that count what was asked of them and how it went.
+//! A reader and a writer that count the calls that they get, and the results of these.
 //!
-//! No clause can say how many calls of the wrapped reader or writer are made for one of these, nor with which piece.
-//! The tests compare the counts with the calls that a reader and a writer got.
+//! No clause can say how many calls of the wrapped reader or writer are made for one of these calls, nor with which
+//! piece. The tests compare the counts with the calls that a reader and a writer got.
 ghost use Rattle.std.specs.Prelude.{◌≡◌, ◌≢◌, ◌↔◌, ◌<◌, IsTrue, IfOk, IfErr, OnOk, length};
 ghost use Rattle.std.specs.Io.{ReadsAtMost, WritesAtMost};
 ghost use Rattle.std.specs.Io.KnownBytes.{Keeps, ReadConsumes, WriteAppends};
@@ -14,10 +14,10 @@ ghost use Rattle.platform_answers.specs.Counts.{after_flush, after_interrupted_f
 use std::io;
 use std::io::{ErrorKind, Read, Write};
 
-/// What reads came to. Each count stays at its greatest value once it is there.
+/// The counts of reads. Each count stays at its greatest value once it has reached it.
 #[derive(Clone, Copy, Debug, PartialEq, Eq)]
 pub struct ReadCounts {
-    /// The reads that were asked for.
+    /// The reads that were requested.
     pub reads: u64,
     /// The bytes that the reads had room for.
     pub room: u64,
@@ -25,16 +25,16 @@ pub struct ReadCounts {
     pub interrupted_reads: u64,
     /// The reads that failed otherwise.
     pub failed_reads: u64,
-    /// The bytes that the reads brought.
+    /// The bytes that the reads returned.
     pub bytes: u64,
-    /// The reads that brought no byte.
+    /// The reads that returned no byte.
     pub ends: u64,
 }
 
-/// What writes and flushes came to. Each count stays at its greatest value once it is there.
+/// The counts of writes and flushes. Each count stays at its greatest value once it has reached it.
 #[derive(Clone, Copy, Debug, PartialEq, Eq)]
 pub struct WriteCounts {
-    /// The writes that were asked for.
+    /// The writes that were requested.
     pub writes: u64,
     /// The writes that were interrupted.
     pub interrupted_writes: u64,
@@ -42,13 +42,13 @@ pub struct WriteCounts {
     pub failed_writes: u64,
     /// The writes that took no byte of a piece that is not empty.
     pub empty_writes: u64,
-    /// The flushes that were asked for.
+    /// The flushes that were requested.
     pub flushes: u64,
     /// The flushes that were interrupted.
     pub interrupted_flushes: u64,
     /// The flushes that failed otherwise.
     pub failed_flushes: u64,
-    /// The writes that a flush came after.
+    /// The writes before the last flush.
     pub flushed_writes: u64,
 }
 
@@ -66,7 +66,7 @@ pub struct Output<W> {
     counts: WriteCounts,
 }
 
-/// Whether the call was only interrupted, and may be made again.
+/// Returns whether the call was only interrupted, and can be made again.
 pub fn is_interrupted(e: &io::Error) -> bool
     ensures { IsTrue result ↔ (error_kind e.now ≡ ErrorKind.Interrupted) }
 {
@@ -74,7 +74,7 @@ pub fn is_interrupted(e: &io::Error) -> bool
 }
 
 impl<R> Input<R> {
-    /// Wraps the reader, of which nothing was asked yet.
+    /// Wraps a reader, with all counts at 0.
     pub fn new(reader: R) -> Input<R>
         ensures reader { reader_of result ≡ reader }
         ensures counts { read_counts result ≡ no_reads }
@@ -92,42 +92,42 @@ impl<R> Input<R> {
         }
     }
 
-    /// The reads that were asked for.
+    /// Returns the number of reads that were requested.
     pub fn reads(&self) -> u64
         ensures { result ≡ (read_counts self.now).reads }
     {
         self.counts.reads
     }
 
-    /// The bytes that the reads had room for.
+    /// Returns the number of bytes that the reads had room for.
     pub fn room(&self) -> u64
         ensures { result ≡ (read_counts self.now).room }
     {
         self.counts.room
     }
 
-    /// The reads that were interrupted.
+    /// Returns the number of reads that were interrupted.
     pub fn interrupted_reads(&self) -> u64
         ensures { result ≡ (read_counts self.now).interrupted_reads }
     {
         self.counts.interrupted_reads
     }
 
-    /// The reads that failed otherwise.
+    /// Returns the number of reads that failed otherwise.
     pub fn failed_reads(&self) -> u64
         ensures { result ≡ (read_counts self.now).failed_reads }
     {
         self.counts.failed_reads
     }
 
-    /// The bytes that the reads brought.
+    /// Returns the number of bytes that the reads returned.
     pub fn bytes(&self) -> u64
         ensures { result ≡ (read_counts self.now).bytes }
     {
         self.counts.bytes
     }
 
-    /// The reads that brought no byte.
+    /// Returns the number of reads that returned no byte.
     pub fn ends(&self) -> u64
         ensures { result ≡ (read_counts self.now).ends }
     {
@@ -136,8 +136,8 @@ impl<R> Input<R> {
 }
 
 impl<R: Read> Input<R> {
-    /// Reads into the piece, which is not empty, and counts one read and its room. The answer is how many bytes it
-    /// brought, and 0 at the end. An error is counted by its kind.
+    /// Reads into the piece, which is not empty, and counts one read and its room. Returns the number of bytes that
+    /// were read, which is 0 at the end. An error is counted by its kind.
     pub fn read(&mut self, piece: &mut [u8]) -> io::Result<usize>
         requires { 0 < length piece.old }
         ensures bound { ReadsAtMost result piece.new }
@@ -178,7 +178,7 @@ impl<R: Read> Input<R> {
 }
 
 impl<W> Output<W> {
-    /// Wraps the writer, of which nothing was asked yet.
+    /// Wraps a writer, with all counts at 0.
     pub fn new(writer: W) -> Output<W>
         ensures writer { writer_of result ≡ writer }
         ensures counts { write_counts result ≡ no_writes }
@@ -198,56 +198,56 @@ impl<W> Output<W> {
         }
     }
 
-    /// The writes that were asked for.
+    /// Returns the number of writes that were requested.
     pub fn writes(&self) -> u64
         ensures { result ≡ (write_counts self.now).writes }
     {
         self.counts.writes
     }
 
-    /// The writes that were interrupted.
+    /// Returns the number of writes that were interrupted.
     pub fn interrupted_writes(&self) -> u64
         ensures { result ≡ (write_counts self.now).interrupted_writes }
     {
         self.counts.interrupted_writes
     }
 
-    /// The writes that failed otherwise.
+    /// Returns the number of writes that failed otherwise.
     pub fn failed_writes(&self) -> u64
         ensures { result ≡ (write_counts self.now).failed_writes }
     {
         self.counts.failed_writes
     }
 
-    /// The writes that took no byte of a piece that is not empty.
+    /// Returns the number of writes that took no byte of a piece that is not empty.
     pub fn empty_writes(&self) -> u64
         ensures { result ≡ (write_counts self.now).empty_writes }
     {
         self.counts.empty_writes
     }
 
-    /// The flushes that were asked for.
+    /// Returns the number of flushes that were requested.
     pub fn flushes(&self) -> u64
         ensures { result ≡ (write_counts self.now).flushes }
     {
         self.counts.flushes
     }
 
-    /// The flushes that were interrupted.
+    /// Returns the number of flushes that were interrupted.
     pub fn interrupted_flushes(&self) -> u64
         ensures { result ≡ (write_counts self.now).interrupted_flushes }
     {
         self.counts.interrupted_flushes
     }
 
-    /// The flushes that failed otherwise.
+    /// Returns the number of flushes that failed otherwise.
     pub fn failed_flushes(&self) -> u64
         ensures { result ≡ (write_counts self.now).failed_flushes }
     {
         self.counts.failed_flushes
     }
 
-    /// The writes that a flush came after.
+    /// Returns the number of writes before the last flush.
     pub fn flushed_writes(&self) -> u64
         ensures { result ≡ (write_counts self.now).flushed_writes }
     {
@@ -256,8 +256,8 @@ impl<W> Output<W> {
 }
 
 impl<W: Write> Output<W> {
-    /// Writes the piece, and counts one write. The answer is how many of its bytes were taken: none of a piece that has
-    /// some makes an empty write. An error is counted by its kind.
+    /// Writes the piece, and counts one write. Returns the number of its bytes that were taken; a write that takes none
+    /// of a piece that is not empty is counted as an empty write. An error is counted by its kind.
     pub fn write(&mut self, piece: &[u8]) -> io::Result<usize>
         ensures bound { WritesAtMost result piece.now }
         ensures bytes { WriteAppends (W.contents (writer_of self.old))

@@ -1,4 +1,4 @@
-//! The truth of an expression, with no stack for its depth.
+//! The truth value of an expression, without using stack for its depth.
 
 ghost use Rattle.std.specs.Prelude.{◌≡◌, IfOk};
 ghost use Rattle.cargo_platform.specs.Trees.{tree_of};
@@ -27,7 +27,7 @@ impl<'a, F: Facts> Fold for Evaluation<'a, F> {
 
     type Part = bool;
 
-    /// Nothing is kept of the members so far: each has the neutral truth.
+    /// No value is kept for the members so far: each has the neutral truth value.
     type Members = ();
 
     ghost makes = { λ v e is_true. is_true ≡ truth (F.meant v.facts.now) e };
@@ -48,7 +48,7 @@ impl<'a, F: Facts> Fold for Evaluation<'a, F> {
 
     fn no_members(&self, _neutral: bool) {}
 
-    /// The first member without the neutral truth settles the group.
+    /// The first member without the neutral truth value decides the group.
     #[tactic(auto, using(crate::proofs::Truths::one_more, crate::proofs::Truths::settled))]
     fn add(
         &self,

@@ -1,4 +1,4 @@
-//! What `platform_check` reads, answers and writes, over any reader and writer.
+//! The input, the answers and the output of `platform_check`, over any reader and writer.
 #![tactic(auto)]
 
 ghost use Rattle.std.specs.Prelude.{◌≡◌, ◌≤◌, ℕ, List, IfOk, IsErrOf};
@@ -18,18 +18,18 @@ use answering::Answer;
 use std::alloc::Global;
 use std::io::{Read, Write};
 
-/// How a run ended.
+/// The outcome of a run.
 #[derive(Clone, Copy, Debug, PartialEq, Eq)]
 pub enum Outcome {
-    /// The target meets the condition.
+    /// The condition is true on the target.
     Match,
-    /// It does not.
+    /// The condition is false on the target.
     NoMatch,
-    /// The input asks nothing: it is too long, no UTF-8, or one of its lines is refused.
+    /// The input is not a query: it is too long or not UTF-8, or one of its lines is rejected.
     Refused,
 }
 
-/// What kept a run from an outcome.
+/// The reason why a run has no outcome.
 #[derive(Clone, Copy, Debug, PartialEq, Eq)]
 pub enum RunError {
     Read,
@@ -37,23 +37,29 @@ pub enum RunError {
     Memory,
 }
 
-/// Reads the input to its end, or until it is known to be too long, and writes the whole output, and flushes it once.
+/// Reads the input to its end, or until it is known to be too long, writes the whole output, and flushes it once.
 ///
 /// The input has at most 1,048,576 bytes of UTF-8 text, and a newline ends a line. Line 1 is a condition as a
 /// dependency table of Cargo has it: a target's name, or `cfg(all(unix, target_os = "linux"))`. Line 2 is the name of
-/// the target, taken as it stands, and each further line is a fact of it as `rustc --print cfg` prints them, as `unix`
-/// or `target_os="linux"`. A line that is missing is empty. See "Platform specific dependencies" in Cargo's reference.
+/// the target, taken as it is, and each further line is a fact of the target as `rustc --print cfg` prints it, such as
+/// `unix` or `target_os="linux"`. A missing line is empty. See [platform specific
+/// dependencies](https://doc.rust-lang.org/cargo/reference/specifying-dependencies.html#platform-specific-dependencies)
+/// in Cargo's reference.
 ///
-/// The output is a line `condition: ` with the condition as it prints, a line `match: yes` or `match: no`, and for each
-/// warning on the condition `warning: ` and its text, those on attributes first. Of an input that is refused, because
-/// it is too long, no UTF-8, or has a line that can't be read, it is one line that says why; the first such line
-/// counts.
+/// The output is a line `condition: ` with the condition in canonical form, a line `match: yes` or `match: no`, and for
+/// each warning on the condition a line `warning: ` with its text, those on attributes first. If the input is rejected,
+/// because it is too long, is not UTF-8 or has a line that cannot be parsed, the output is one line that says why; the
+/// first such line counts.
 ///
-/// Each read has room for 4,096 bytes. An interrupted read or write is asked again. `RunError::Read`: a read failed
-/// otherwise, or 1,048,578 reads brought neither the end nor a byte too many. `RunError::Write`: a write failed
-/// otherwise or took nothing, one write more than the output has bytes did not take all of it, or the flush failed.
-/// `RunError::Memory`: memory was refused for what had come, or once the end was met. After `Read` and `Memory` nothing
-/// was written, and after `Write` a beginning of the output.
+/// Each read has room for 4,096 bytes. An interrupted read or write is repeated.
+///
+/// # Errors
+///
+/// Returns `RunError::Read` if a read failed otherwise, or if 1,048,578 reads returned neither the end nor a byte too
+/// many. Returns `RunError::Write` if a write failed otherwise or took nothing, if one write more than the output has
+/// bytes did not take all of it, or if the flush failed. Returns `RunError::Memory` if memory was refused, for bytes
+/// that were read or once the end was reached. After `Read` and `Memory` nothing was written, and after `Write` a
+/// beginning of the output.
 pub fn run<R: Read, W: Write>(
     alloc: Global,
     input: &mut counted::Input<R>,
@@ -67,20 +73,20 @@ pub fn run<R: Read, W: Write>(
         × IsInput (R.remaining (reader_of input.old)) (R.remaining (reader_of input.new)) (read_counts input.new) bs
         × Answers (W.contents (writer_of output.old)) (W.contents (writer_of output.new)) (write_counts output.new)
         outcome bs) }
-    // With `Write`, a beginning of the output was written. A write or the flush failed, or as many writes as bytes and
-    // one were made, more than one of them interrupted.
+    // With `Write`, a beginning of the output was written. A write or the flush failed, or one write more than the
+    // output has bytes was made, and more than one of the writes were interrupted.
     ensures write { IsErrOf result RunError.Write → (bs : List ℕ)
         × IsInput (R.remaining (reader_of input.old)) (R.remaining (reader_of input.new)) (read_counts input.new) bs
         × BreaksOff (W.contents (writer_of output.old)) (W.contents (writer_of output.new)) (write_counts output.new)
         bs }
-    // With `Read`, a read failed, or the most reads, 1,048,578, brought neither the end nor a byte too many.
+    // With `Read`, a read failed, or the maximum of 1,048,578 reads returned neither the end nor a byte too many.
     ensures read { IsErrOf result RunError.Read → HasReadFault (read_counts input.new) }
     ensures within { (read_counts input.new).reads ≤ 1_048_578 }
     // After `Read` and `Memory` nothing was written.
     ensures read_silent { IsErrOf result RunError.Read → output.new ≡ output.old }
     // Each read has room for 4,096 bytes.
     ensures room { HadWholeRoom (read_counts input.new) }
-    // With `Memory`, no read had failed, and some byte or the end had come.
+    // With `Memory`, no read had failed, and some byte or the end had been read.
     ensures memory { IsErrOf result RunError.Memory → MayWantMemory (read_counts input.new) }
     // After `Read` and `Memory` nothing was written.
     ensures memory_silent { IsErrOf result RunError.Memory → output.new ≡ output.old }

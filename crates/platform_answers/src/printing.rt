@@ -1,4 +1,4 @@
-//! A condition as it prints, with no stack for its depth.
+//! The canonical form of a condition, without using stack for its depth.
 
 ghost use Rattle.std.specs.Prelude.{◌≡◌, ◌≤◌, ◌+◌, ◌*◌, [], ◌∷◌, ◌++◌, IfOk, OnOk, MatchOption, string_bytes};
 ghost use Rattle.cargo_platform.specs.Trees.{tree_of, condition_of};
@@ -10,7 +10,7 @@ use cargo_platform::{CfgExpr, Platform};
 use std::alloc::{AllocError, Global};
 use std::slice;
 
-/// Appends a condition as it prints. The groups around a part are kept in memory. It fails only if memory is refused.
+/// Appends a condition in canonical form. The groups around a part are kept in memory. Fails only if memory is refused.
 pub fn push_condition(
     alloc: Global,
     platform: &Platform,
@@ -29,7 +29,7 @@ pub fn push_condition(
     }
 }
 
-/// Appends an expression as it prints.
+/// Appends an expression in canonical form.
 fn push_expression(alloc: Global, e: &CfgExpr, text: &mut String) -> Result<(), AllocError>
     ensures { OnOk result (string_bytes text.new ≡ string_bytes text.old ++ print (tree_of e.now)) }
 {
@@ -46,14 +46,15 @@ fn push_expression(alloc: Global, e: &CfgExpr, text: &mut String) -> Result<(), 
     }
 }
 
-/// The groups around the expression at hand: of each the members after that expression, the innermost group last.
+/// The groups around the current expression. Each has the members after that expression, and the innermost group is the
+/// last one.
 #[derive(Drop)]
 struct OpenGroups<'a> {
     groups: Vec<&'a [CfgExpr]>,
 }
 
 impl<'a> OpenGroups<'a> {
-    /// No groups.
+    /// Returns no groups.
     fn new(alloc: Global) -> OpenGroups<'a>
         ensures { stack result ≡ [] }
     {
@@ -70,7 +71,7 @@ impl<'a> OpenGroups<'a> {
         Ok(())
     }
 
-    /// Takes the innermost group.
+    /// Removes and returns the innermost group.
     fn pop(&mut self) -> Option<&'a [CfgExpr]>
         ensures { MatchOption result (stack self.old ≡ []) (λ members. stack self.old ≡ members ∷ stack self.new) }
     {
@@ -78,8 +79,8 @@ impl<'a> OpenGroups<'a> {
     }
 }
 
-/// Appends what stands before the first member of a group, and returns that member; or appends the whole of an
-/// expression that has none.
+/// Appends what precedes the first member of a group, and returns that member, or appends the whole of an expression
+/// that has no members.
 fn begin<'a>(
     e: &'a CfgExpr,
     groups: &mut OpenGroups<'a>,
@@ -119,7 +120,7 @@ fn begin<'a>(
     }
 }
 
-/// Appends what stands before the next member of a group, and returns that member; or closes the group.
+/// Appends what precedes the next member of a group, and returns that member, or closes the group.
 fn go_on<'a>(
     separator: &str,
     members: &'a [CfgExpr],

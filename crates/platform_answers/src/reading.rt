@@ -1,4 +1,4 @@
-//! The whole input, read within the limits.
+//! Reads the whole input within the limits.
 ghost use Rattle.std.specs.Prelude.{◌≡◌, ◌≤◌, ℕ, List, IfOk, IsErrOf};
 ghost use Rattle.platform_answers.specs.Counts.{reader_of, read_counts, no_reads};
 ghost use Rattle.platform_answers.specs.Reading.{IsGathered, IsInput, HasReadFault, MayWantMemory, HadWholeRoom};
@@ -8,29 +8,31 @@ use crate::{RunError, counted};
 use std::alloc::Global;
 use std::io::Read;
 
-/// The most bytes that an input may have.
+/// The maximum number of bytes of an input.
 pub const MOST_BYTES: usize = 1_048_576;
 
-/// The most reads that are made.
+/// The maximum number of reads.
 pub const MOST_READS: u64 = 1_048_578;
 
-/// The bytes of one read at most.
+/// The maximum number of bytes of one read.
 const PIECE: usize = 4096;
 
-/// What was read.
+/// The input that was read.
 #[derive(Drop)]
 pub enum Gathered {
     /// All bytes up to the end.
     Whole(Vec<u8>),
-    /// More bytes than an input may have.
+    /// More bytes than an input can have.
     TooLong,
 }
 
 /// Reads to the end, or until the input is known to be too long, with room for 4,096 bytes each time. An interrupted
-/// read is asked again.
+/// read is repeated.
 ///
-/// `RunError::Read`: a read failed otherwise, or all reads that may be made brought neither the end nor a byte too
-/// many. `RunError::Memory`: the bytes found no memory.
+/// # Errors
+///
+/// Returns `RunError::Read` if a read failed otherwise, or if the maximum number of reads returned neither the end nor
+/// a byte too many. Returns `RunError::Memory` if there is no memory for the bytes.
 pub fn gather<R: Read>(alloc: Global, input: &mut counted::Input<R>) -> Result<Gathered, RunError>
     requires { read_counts input.old ≡ no_reads }
     ensures brought { IfOk result (λ g. (bs : List ℕ) × IsGathered g bs

@@ -1,4 +1,4 @@
-//! The whole output, written within the limits.
+//! Writes the whole output within the limits.
 ghost use Rattle.std.specs.Prelude.{◌≡◌, ◌≤◌, ◌+◌, IsErr, OnOk, OnErr, length};
 ghost use Rattle.std.specs.Io.KnownBytes.{Appends};
 ghost use Rattle.platform_answers.specs.Counts.{writer_of, write_counts, no_writes};
@@ -8,12 +8,11 @@ use crate::counted;
 use crate::counted::is_interrupted;
 use std::io::Write;
 
-/// Some of the output was not taken, or it was not flushed.
+/// The error of an output that was not taken as a whole, or not flushed.
 #[derive(Clone, Copy, Debug, PartialEq, Eq)]
 pub struct Unwritten;
 
-/// Hands over all that is left until all is taken, in at most one write more than there are bytes. An interrupted
-/// write is asked again.
+/// Writes until all is taken, with at most one write more than there are bytes. An interrupted write is repeated.
 fn hand_over<W: Write>(output: &mut counted::Output<W>, text: &[u8]) -> Result<(), Unwritten>
     requires { write_counts output.old ≡ no_writes }
     ensures written { OnOk result
@@ -48,8 +47,10 @@ fn hand_over<W: Write>(output: &mut counted::Output<W>, text: &[u8]) -> Result<(
 
 /// Writes all of the text, and flushes once.
 ///
-/// `Unwritten`: a write failed otherwise than by an interruption or took nothing, one write more than the text has
-/// bytes did not take all of it, or the flush failed.
+/// # Errors
+///
+/// Returns `Unwritten` if a write failed other than by an interruption or took nothing, if one write more than the text
+/// has bytes did not take all of it, or if the flush failed.
 pub fn write_out<W: Write>(output: &mut counted::Output<W>, text: &[u8]) -> Result<(), Unwritten>
     requires { write_counts output.old ≡ no_writes }
     ensures written { OnOk result

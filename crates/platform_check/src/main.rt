@@ -1,4 +1,5 @@
-// Reads a condition of Cargo's dependency tables, a target's name and its facts, and says whether the target meets it.
+// Reads a condition of Cargo's dependency tables, a target's name and its facts, and prints whether the condition is
+// true on the target.
 #![tactic(auto)]
 
 use platform_answers::{Outcome, counted, run};

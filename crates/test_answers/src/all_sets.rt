@@ -1,17 +1,17 @@
-//! Answers by trying all sets of facts, one by one: the judge of what is decided and of exact answers.
+//! Answers found by trying all sets of facts, one by one, with which decisions and exact answers are compared.
 
 use cargo_platform::{Cfg, CfgExpr, Facts, Listed, Platform};
 use exact_answers::Known;
 use std::alloc::{AllocError, Global};
 use test_rows::Fault;
 
-/// More facts than this are not tried.
+/// The maximum number of facts that are tried.
 const MOST: usize = 8;
 
-/// A target's name that is in no row.
+/// The name of a target that is in no row.
 const OTHER: &str = "another";
 
-/// The facts, and of the others those whose bit is set.
+/// Returns the facts, and those of `others` whose bit is set.
 fn with_bits(alloc: Global, facts: &[Cfg], others: &[Cfg], bits: u32) -> Result<Vec<Cfg>, Fault> {
     let mut set = Vec::new(alloc);
     for fact in facts {
@@ -27,7 +27,7 @@ fn with_bits(alloc: Global, facts: &[Cfg], others: &[Cfg], bits: u32) -> Result<
     Ok(set)
 }
 
-/// The number of sets of so many facts.
+/// Returns the number of sets of `count` facts.
 fn sets_of(count: usize) -> Result<u32, Fault> {
     if count > MOST {
         return Err(Fault::Row("there are too many facts to try all sets"));
@@ -39,7 +39,7 @@ fn sets_of(count: usize) -> Result<u32, Fault> {
     Ok(sets)
 }
 
-/// The facts but for those of a name or key that one of the others has.
+/// Returns the facts except those with a name or key that one of the others has.
 pub fn without(alloc: Global, facts: &[Cfg], others: &[Cfg]) -> Result<Vec<Cfg>, Fault> {
     let mut left = Vec::new(alloc);
     for fact in facts {
@@ -50,7 +50,7 @@ pub fn without(alloc: Global, facts: &[Cfg], others: &[Cfg]) -> Result<Vec<Cfg>,
     Ok(left)
 }
 
-/// The truth of an expression over every completion, where it is the same over all.
+/// Returns the truth value of an expression over every completion, if it is the same over all of them.
 pub fn over_completions(
     alloc: Global,
     e: &CfgExpr,
@@ -74,7 +74,7 @@ pub fn over_completions(
     })
 }
 
-/// Adds the names and pairs of an expression that are not among those of the list. It takes no stack for a level.
+/// Appends the names and pairs of an expression that are not in the list. Its levels take no stack.
 fn collect(alloc: Global, e: &CfgExpr, pairs: &mut Vec<Cfg>) -> Result<(), Fault> {
     let mut left: Vec<&CfgExpr> = Vec::new(alloc);
     left.push(e).map_err(AllocError::from)?;
@@ -96,7 +96,7 @@ fn collect(alloc: Global, e: &CfgExpr, pairs: &mut Vec<Cfg>) -> Result<(), Fault
     Ok(())
 }
 
-/// Adds a pair, if it is not among those of the list.
+/// Appends a pair that is not in the list.
 fn add(alloc: Global, c: &Cfg, pairs: &mut Vec<Cfg>) -> Result<(), Fault> {
     for pair in &*pairs {
         if pair == c {
@@ -126,7 +126,7 @@ fn has(facts: &[Cfg], fact: &Cfg) -> bool {
     Listed(facts).holds(fact)
 }
 
-/// Whether two facts are different values of one key.
+/// Returns whether two facts are different values of one key.
 fn are_rivals(a: &Cfg, b: &Cfg) -> bool {
     match (a, b) {
         (Cfg::KeyPair(key, value), Cfg::KeyPair(other, with)) => {
@@ -136,7 +136,7 @@ fn are_rivals(a: &Cfg, b: &Cfg) -> bool {
     }
 }
 
-/// Whether a fact may stand in a set, beside each of its others.
+/// Returns whether a fact may be in a set with the others of the set.
 fn may_stand(known: &Known<'_>, fact: &Cfg, set: &[Cfg]) -> bool {
     let is_listed = has(known.facts, fact);
     if is_among(name_of(fact), known.complete) && !is_listed {
@@ -153,7 +153,7 @@ fn may_stand(known: &Known<'_>, fact: &Cfg, set: &[Cfg]) -> bool {
     true
 }
 
-/// Whether the set is possible, by the words of the documents.
+/// Returns whether the set is possible, by the definition on the pages.
 fn is_possible(known: &Known<'_>, set: &[Cfg]) -> bool {
     for fact in known.facts {
         if !has(set, fact) {
@@ -168,7 +168,7 @@ fn is_possible(known: &Known<'_>, set: &[Cfg]) -> bool {
     known.assumed.matches(set)
 }
 
-/// A question on one condition or two.
+/// A question about one condition or two.
 #[derive(Drop)]
 pub struct Question<'a> {
     pub kind: &'a str,
@@ -177,7 +177,7 @@ pub struct Question<'a> {
 }
 
 impl<'a> Question<'a> {
-    /// Whether a target is an example for `can` and `met`, and for the other questions a counterexample.
+    /// Returns whether a target is an example for `can` and `met`, or a counterexample for the other questions.
     fn is_sought(&self, name: &str, set: &[Cfg]) -> bool {
         let first = self.first.matches(name, set);
         let second = self.second.matches(name, set);
@@ -190,12 +190,13 @@ impl<'a> Question<'a> {
         }
     }
 
-    /// Whether a target of this name, or of one that is in neither condition, is possible and sought.
+    /// Returns whether a target with this name, or with one that is in neither condition, is possible and is such an
+    /// example.
     pub fn is_found(&self, known: &Known<'_>, name: Option<&str>, set: &[Cfg]) -> bool {
         is_possible(known, set) && self.is_sought(name.unwrap_or(OTHER), set)
     }
 
-    /// Whether a target with these facts is sought, by some name.
+    /// Returns whether a target with these facts is such an example, with some name.
     fn is_sought_by_name(&self, set: &[Cfg]) -> bool {
         for condition in [&self.first, &self.second] {
             if let Platform::Name(name) = condition
@@ -207,7 +208,7 @@ impl<'a> Question<'a> {
         self.is_sought(OTHER, set)
     }
 
-    /// The listed facts, and the pairs of the conditions and of what is assumed.
+    /// Returns the listed facts, and the pairs of the conditions and of the assumption.
     fn pairs(&self, alloc: Global, known: &Known<'_>) -> Result<Vec<Cfg>, Fault> {
         let mut pairs = Vec::new(alloc);
         for fact in known.facts {
@@ -222,7 +223,7 @@ impl<'a> Question<'a> {
         Ok(pairs)
     }
 
-    /// Whether a possible target is one that is sought.
+    /// Returns whether a possible target is such an example.
     pub fn is_met(&self, alloc: Global, known: &Known<'_>) -> Result<bool, Fault> {
         let pairs = self.pairs(alloc, known)?;
         for bits in 0..sets_of(pairs.len())? {

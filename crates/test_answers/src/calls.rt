@@ -1,4 +1,4 @@
-//! The rule of families, and the names of the targets at which a condition holds where names and keys are open.
+//! The rule of families, and the names of the targets on which a condition is true if names and keys are open.
 
 use crate::targets::names;
 use exact_answers::family_rule;

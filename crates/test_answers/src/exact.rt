@@ -1,4 +1,4 @@
-//! Exact answers, each beside what trying all sets of facts gives.
+//! Exact answers, each compared with the result of trying all sets of facts.
 
 use crate::all_sets::Question;
 use crate::row_facts;
@@ -15,7 +15,7 @@ use test_rows::fields::Fields;
 use test_rows::forms::{self, word};
 use test_rows::texts::{platform, spelled};
 
-/// What is known of a target, as a setting has it: facts, complete names, keys with one value, and what is assumed.
+/// The knowledge about a target in a setting: facts, complete names, keys with one value, and an assumption.
 #[derive(Drop)]
 struct Held<'a> {
     facts: Vec<Cfg>,
@@ -35,7 +35,7 @@ impl<'a> Held<'a> {
     }
 }
 
-/// The keys with one value: those that are named, where `rustc` stands for those of rustc.
+/// Returns the keys with one value: those that are named, where `rustc` stands for those of rustc.
 fn keys<'a>(alloc: Global, words: &[&'a str]) -> Result<Vec<&'a str>, Fault> {
     let mut keys = Vec::new(alloc);
     for word in words {
@@ -50,7 +50,7 @@ fn keys<'a>(alloc: Global, words: &[&'a str]) -> Result<Vec<&'a str>, Fault> {
     Ok(keys)
 }
 
-/// What is set under a name.
+/// Returns the knowledge that is set under a name.
 fn set_under<'a>(alloc: Global, fields: &mut Fields<'a>) -> Result<Held<'a>, Fault> {
     let name = fields.need()?;
     let Some(mut set) = fields.set(name) else {
@@ -68,7 +68,7 @@ fn set_under<'a>(alloc: Global, fields: &mut Fields<'a>) -> Result<Held<'a>, Fau
     })
 }
 
-/// What is assumed, as the last word of a setting has it: the rule of families, a text or nothing.
+/// Returns the assumption that the last word of a setting gives: the rule of families, a text, or nothing.
 fn assumed(alloc: Global, word: Option<&str>) -> Result<CfgExpr, Fault> {
     match word {
         None => Ok(CfgExpr::True),
@@ -77,7 +77,7 @@ fn assumed(alloc: Global, word: Option<&str>) -> Result<CfgExpr, Fault> {
     }
 }
 
-/// The kind of the question, and behind a `.` how it is asked and told.
+/// Returns the answer to a row. `call` is the kind of the question, and after a `.` how it is asked and printed.
 pub fn answer(alloc: Global, call: &str, fields: &mut Fields<'_>) -> Result<String, Fault> {
     let (kind, more) = call.split_once('.').unwrap_or((call, ""));
     let budget = if more == "within" {
@@ -108,7 +108,7 @@ fn answered(
     }
 }
 
-/// The answer on expressions within a budget.
+/// Returns the answer on expressions within a budget.
 fn within(
     alloc: Global,
     question: &Question<'_>,
@@ -120,7 +120,7 @@ fn within(
     judged(alloc, question, known, &found, more)
 }
 
-/// Expressions are asked as conditions, but by the calls for expressions.
+/// Returns a question. Expressions are asked as conditions, but by the calls for expressions.
 fn question<'a>(
     alloc: Global,
     kind: &'a str,
@@ -158,7 +158,7 @@ fn condition(
     Ok(Platform::Cfg(spelled(alloc, &text)?))
 }
 
-/// Whether a target was found that is an example, or a counterexample.
+/// The target that was found, which is an example or a counterexample, if there is one.
 #[derive(Drop)]
 enum Found {
     Target(PossibleTarget),
@@ -227,7 +227,8 @@ fn of_targets(alloc: Global, question: &Question<'_>, known: &Known<'_>) -> Resu
     }
 }
 
-/// The answer, where trying all names and sets gives the same, and the target is one that is possible and sought.
+/// Returns the answer, if trying all names and sets has the same result, and the target is possible and such an
+/// example.
 fn judged(
     alloc: Global,
     question: &Question<'_>,
@@ -259,7 +260,7 @@ fn told(alloc: Global, kind: &str, found: &Found, more: &str) -> Result<String, 
     }
 }
 
-/// The name, or `-`, and the facts of the target.
+/// Returns the name of the target, or `-`, and its facts.
 fn shown(alloc: Global, target: &PossibleTarget) -> Result<String, Fault> {
     let facts = forms::values(alloc, &target.facts)?;
     match &target.name {
@@ -268,7 +269,7 @@ fn shown(alloc: Global, target: &PossibleTarget) -> Result<String, Fault> {
     }
 }
 
-/// The least budget that decides the question, and the answer, which the next ones give too.
+/// Returns the smallest budget that decides the question, and the answer, which the next budgets give too.
 fn least(alloc: Global, question: &Question<'_>, known: &Known<'_>) -> Result<String, Fault> {
     let mut before = word(alloc, "undecided")?;
     let mut least = 0u64;

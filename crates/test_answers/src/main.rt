@@ -1,4 +1,4 @@
-//! Runs rows on what is decided of targets that are known in part, on exact answers and on known targets.
+//! Runs rows of tests on decisions for targets that are known in part, on exact answers and on known targets.
 #![tactic(auto)]
 
 mod all_sets;

@@ -1,4 +1,4 @@
-//! What is decided of a target that is known in part, and what is left to ask.
+//! Decisions for a target that is known in part, and residuals.
 
 use crate::all_sets::{over_completions, without};
 use crate::row_facts;
@@ -24,7 +24,7 @@ pub fn answer(alloc: Global, call: &str, fields: &mut Fields<'_>) -> Result<Stri
     }
 }
 
-/// What is known of a target, as a row has it: facts, and complete names.
+/// The knowledge about a target in a row: facts, and complete names.
 #[derive(Drop)]
 struct Held<'a> {
     facts: Vec<Cfg>,
@@ -46,7 +46,7 @@ impl<'a> Held<'a> {
     }
 }
 
-/// What is decided, in a word.
+/// Returns the word for a decision.
 fn decision(decided: Option<bool>) -> &'static str {
     match decided {
         Some(true) => "yes",
@@ -59,12 +59,12 @@ fn decided<K: Knowledge>(e: &CfgExpr, known: &K) -> Option<bool> {
     decide(e, known)
 }
 
-/// What is left of an expression, in print.
+/// Returns the residual of an expression, printed.
 fn print_left<K: Knowledge>(alloc: Global, e: &CfgExpr, known: &K) -> Result<String, AllocError> {
     forms::printed(alloc, &residual(alloc, e, known)?)
 }
 
-/// What is decided, and what is left where that is not the decision.
+/// Returns the decision, and the residual if it is not the decision.
 fn left<K: Knowledge>(alloc: Global, e: &CfgExpr, known: &K) -> Result<String, Fault> {
     let decided = decided(e, known);
     let left = print_left(alloc, e, known)?;
@@ -104,7 +104,8 @@ fn with_single(alloc: Global, fields: &mut Fields<'_>) -> Result<String, Fault> 
     left(alloc, &e, &known)
 }
 
-/// In two steps: what is left by the facts and complete names of the first one is asked by those of the second.
+/// Decides in two steps: the residual by the facts and complete names of the first step is decided by those of the
+/// second.
 fn later(alloc: Global, fields: &mut Fields<'_>) -> Result<String, Fault> {
     let e = spelled(alloc, &fields.text(alloc)?)?;
     let first = Held::read(alloc, fields)?;
@@ -113,7 +114,7 @@ fn later(alloc: Global, fields: &mut Fields<'_>) -> Result<String, Fault> {
     Ok(print_left(alloc, &asked, &second.known())?)
 }
 
-/// Of a condition, where the target's name is known or `-`.
+/// Decides a condition. The name of the target is known, or `-`.
 fn of_key(alloc: Global, fields: &mut Fields<'_>) -> Result<String, Fault> {
     let p = platform(alloc, &fields.text(alloc)?)?;
     let name = match fields.need()? {
@@ -135,8 +136,8 @@ fn key_left(
     leaves(alloc, decided, &left, "cfg(true)", "cfg(false)")
 }
 
-/// What is decided, beside the truth over every completion of the facts that are unknown. No fact is known that has the
-/// name or key of one of these.
+/// Decides an expression, and compares that with its truth value over every completion of the unknown facts. No known
+/// fact has the name or key of one of these.
 fn tried(alloc: Global, fields: &mut Fields<'_>) -> Result<String, Fault> {
     let e = spelled(alloc, &fields.text(alloc)?)?;
     let mut held = Held::read(alloc, fields)?;

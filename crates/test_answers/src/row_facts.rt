@@ -1,4 +1,4 @@
-//! Facts of a row: names and pairs made by hand, and those of the targets that rustc knows.
+//! The facts of a row: names and pairs made by hand, and those of the targets that rustc knows.
 
 use cargo_platform::Cfg;
 use known_targets::KnownTarget;
@@ -7,7 +7,8 @@ use test_rows::Fault;
 use test_rows::fields::Fields;
 use test_rows::made_facts::value;
 
-/// The values of a list. A target's name after `@` stands for its facts, where nothing is set under that name.
+/// Returns the values of a list. The name of a target after `@` stands for its facts, if nothing is set under that
+/// name.
 pub fn values(alloc: Global, fields: &mut Fields<'_>) -> Result<Vec<Cfg>, Fault> {
     let mut all = Vec::new(alloc);
     for word in fields.list(alloc)? {

@@ -30,7 +30,7 @@ pub fn answer(alloc: Global, call: &str, fields: &mut Fields<'_>) -> Result<Stri
     }
 }
 
-/// At which targets a key holds. Those by `targets` and `open` ask each target by itself too.
+/// Returns the targets on which a key is true. For `targets` and `open`, each target is asked by itself too.
 fn of_key(alloc: Global, call: &str, fields: &mut Fields<'_>) -> Result<String, Fault> {
     let p = platform(alloc, &fields.text(alloc)?)?;
     match call {
@@ -40,7 +40,7 @@ fn of_key(alloc: Global, call: &str, fields: &mut Fields<'_>) -> Result<String, 
     }
 }
 
-/// Whether an expression holds over the facts of a target, where a list, an index and the target itself say the same.
+/// Returns whether an expression is true over the facts of a target, if a list, an index and the target itself agree.
 fn over_facts(alloc: Global, fields: &mut Fields<'_>) -> Result<String, Fault> {
     let e = spelled(alloc, &fields.text(alloc)?)?;
     let Some(target) = KnownTarget::by_name(fields.need()?) else {
@@ -54,7 +54,7 @@ fn over_facts(alloc: Global, fields: &mut Fields<'_>) -> Result<String, Fault> {
     Ok(word(alloc, "the facts say one thing, the target another")?)
 }
 
-/// Whether an expression holds over the facts of a target, where a list and an index say the same.
+/// Returns whether an expression is true over the facts of a target, if a list and an index agree.
 fn by_facts(alloc: Global, e: &CfgExpr, target: KnownTarget) -> Result<Option<bool>, AllocError> {
     let facts = target.facts(alloc)?;
     let index = FactIndex::new(alloc, &facts)?;
@@ -65,7 +65,7 @@ fn by_facts(alloc: Global, e: &CfgExpr, target: KnownTarget) -> Result<Option<bo
     Ok(None)
 }
 
-/// How many targets are in each class that the keys tell apart, the smallest first.
+/// Returns the number of targets in each class that the keys distinguish, the smallest first.
 fn sizes_of_classes(alloc: Global, fields: &mut Fields<'_>) -> Result<String, Fault> {
     let sets = sets_of(alloc, &fields.list(alloc)?)?;
     let mut sizes = Vec::new(alloc);
@@ -76,7 +76,7 @@ fn sizes_of_classes(alloc: Global, fields: &mut Fields<'_>) -> Result<String, Fa
     Ok(listed(alloc, &sizes)?)
 }
 
-/// The targets of each key.
+/// Returns the targets of each key.
 fn sets_of(alloc: Global, keys: &[&str]) -> Result<Vec<TargetSet>, Fault> {
     let mut sets = Vec::new(alloc);
     for key in keys {
@@ -99,7 +99,7 @@ fn listed(alloc: Global, sizes: &[usize]) -> Result<String, AllocError> {
     Ok(out)
 }
 
-/// Adds a space behind what was written before, if anything was.
+/// Appends a space, unless nothing was written before.
 fn space(out: &mut String) -> Result<(), AllocError> {
     if out.is_empty() {
         return Ok(());
@@ -112,7 +112,7 @@ fn named(alloc: Global, fields: &mut Fields<'_>) -> Result<String, Fault> {
     Ok(word(alloc, name_of(KnownTarget::by_name(&name)))?)
 }
 
-/// The target's name, `-` where there is none.
+/// Returns the name of the target, or `-` if there is none.
 fn name_of(target: Option<KnownTarget>) -> &'static str {
     match target {
         Some(target) => target.name(),
@@ -120,7 +120,7 @@ fn name_of(target: Option<KnownTarget>) -> &'static str {
     }
 }
 
-/// How many targets are in a set, by each way to count them.
+/// Returns the number of targets in a set, counted in each way.
 fn count(set: TargetSet) -> Result<usize, Fault> {
     let count = set.len();
     if set.iter().count() == count && set.is_empty() == (count == 0) {
@@ -129,7 +129,7 @@ fn count(set: TargetSet) -> Result<usize, Fault> {
     Err(Fault::Row("the counts of a set differ"))
 }
 
-/// Whether each target by itself says the same as the set.
+/// Returns whether each target by itself agrees with the set.
 fn is_of_each(p: &Platform, set: TargetSet) -> bool {
     for target in TargetSet::all().iter() {
         if target.matches(p) != set.contains(target) {
@@ -139,7 +139,7 @@ fn is_of_each(p: &Platform, set: TargetSet) -> bool {
     true
 }
 
-/// How many targets there are, and the first and the last. If wanted, each target is asked by itself too.
+/// Returns the number of targets, and the first and the last one. If `each`, each target is asked by itself too.
 fn counted(alloc: Global, p: &Platform, each: bool) -> Result<String, Fault> {
     let set = matching(alloc, p)?;
     if each && !is_of_each(p, set) {
@@ -151,7 +151,7 @@ fn counted(alloc: Global, p: &Platform, each: bool) -> Result<String, Fault> {
     Ok(format!(in alloc; "{count} {first} {last}")?)
 }
 
-/// The names of the targets of a set.
+/// Returns the names of the targets in a set.
 pub fn names(alloc: Global, set: TargetSet) -> Result<String, Fault> {
     if set.is_empty() {
         return Ok(word(alloc, "none")?);
@@ -164,7 +164,7 @@ pub fn names(alloc: Global, set: TargetSet) -> Result<String, Fault> {
     Ok(out)
 }
 
-/// What is decided of a target by itself, where names and keys are open.
+/// Returns the decision for a target by itself, if names and keys are open.
 fn decided(p: &Platform, keys: &[&str], target: KnownTarget) -> Option<bool> {
     let known = OpenTarget {
         target,
@@ -173,7 +173,7 @@ fn decided(p: &Platform, keys: &[&str], target: KnownTarget) -> Option<bool> {
     decide_platform(p, Some(target.name()), &known)
 }
 
-/// Whether what is decided of each target by itself is what the sets say.
+/// Returns whether the decisions for each target by itself agree with the sets.
 fn is_decided(p: &Platform, keys: &[&str], certain: TargetSet, possible: TargetSet) -> bool {
     for target in TargetSet::all().iter() {
         let decided = decided(p, keys, target);
@@ -186,8 +186,8 @@ fn is_decided(p: &Platform, keys: &[&str], certain: TargetSet, possible: TargetS
     true
 }
 
-/// How many targets a condition holds at for certain, and at how many it may, where names and keys are open. If wanted,
-/// each target is asked by itself too.
+/// Returns the number of targets on which a condition is certainly true, and of those on which it may be, if names and
+/// keys are open. If `each`, each target is asked by itself too.
 fn open(alloc: Global, p: &Platform, keys: &[&str], each: bool) -> Result<String, Fault> {
     let certain = certainly_matching(alloc, p, keys)?;
     let possible = possibly_matching(alloc, p, keys)?;
@@ -199,12 +199,12 @@ fn open(alloc: Global, p: &Platform, keys: &[&str], each: bool) -> Result<String
     Ok(format!(in alloc; "{least} {most}")?)
 }
 
-/// How many of the facts are this one.
+/// Returns how many of the facts are this one.
 fn times(facts: &[KnownFact], fact: &Cfg) -> usize {
     facts.iter().filter(|known| known.fact == *fact).count()
 }
 
-/// How many targets have a fact, which the list of all facts has once or not at all.
+/// Returns the number of targets that have a fact, which the list of all facts has once or not at all.
 fn had(alloc: Global, word_of_fact: &str) -> Result<String, Fault> {
     let fact = test_rows::made_facts::value(alloc, word_of_fact)?;
     let count = count(having(&fact))?;
@@ -214,7 +214,7 @@ fn had(alloc: Global, word_of_fact: &str) -> Result<String, Fault> {
     Ok(format!(in alloc; "{count}")?)
 }
 
-/// The facts of a target, each of which it has, also among those that have the fact.
+/// Returns the facts of a target. The target has each of them, and is also among those that have the fact.
 fn facts_of(alloc: Global, name: &str) -> Result<String, Fault> {
     let Some(target) = KnownTarget::by_name(name) else {
         return Ok(word(alloc, "no target")?);
@@ -228,7 +228,7 @@ fn facts_of(alloc: Global, name: &str) -> Result<String, Fault> {
     Ok(forms::values(alloc, &facts)?)
 }
 
-/// The targets of these names in their order, after which no more come.
+/// Returns the targets with these names in their order, after which no others come.
 fn only(alloc: Global, fields: &mut Fields<'_>) -> Result<String, Fault> {
     let mut set = TargetSet::none();
     for name in &fields.list(alloc)? {
@@ -247,7 +247,7 @@ fn only(alloc: Global, fields: &mut Fields<'_>) -> Result<String, Fault> {
     names(alloc, set)
 }
 
-/// How many values of a key a target has at least, and at most.
+/// Returns the minimum and the maximum number of values of a key that a target has.
 fn values_of(alloc: Global, key: &str) -> Result<String, Fault> {
     let mut least = usize::MAX;
     let mut most = 0;
@@ -267,7 +267,7 @@ fn is_of(fact: &Cfg, key: &str) -> bool {
     }
 }
 
-/// How many names, facts or sets of one target there are, where each of them is as it has to be.
+/// Returns the number of names, facts or sets of one target, if each of them is right.
 fn each(alloc: Global, of: &str) -> Result<String, Fault> {
     match of {
         "name" => each_name(alloc),
@@ -277,7 +277,7 @@ fn each(alloc: Global, of: &str) -> Result<String, Fault> {
     }
 }
 
-/// Each name is found, but neither with a character more nor without its last one.
+/// Checks that each name is found, but neither with one more character nor without its last one.
 fn each_name(alloc: Global) -> Result<String, Fault> {
     for name in known_targets::names() {
         if !is_found_alone(alloc, name)? {
@@ -298,7 +298,7 @@ fn is_found_alone(alloc: Global, name: &str) -> Result<bool, AllocError> {
     )
 }
 
-/// Each fact is listed once, with the targets that have it, of which there are some.
+/// Checks that each fact is listed once, with the targets that have it, of which there is at least one.
 fn each_fact(alloc: Global) -> Result<String, Fault> {
     let facts = all_facts(alloc)?;
     for known in &facts {
@@ -311,7 +311,7 @@ fn each_fact(alloc: Global) -> Result<String, Fault> {
     Ok(format!(in alloc; "{count}")?)
 }
 
-/// Whether the sets of a target and of the others are as they have to be.
+/// Returns whether the sets of a target and of the others are right.
 fn is_parted(target: KnownTarget) -> Result<bool, Fault> {
     let one = TargetSet::only(target);
     let others = one.complement();

@@ -1,4 +1,4 @@
-//! What is told of packages. The rules are those of the page of `spdx_expressions`.
+//! Tests of the reports on packages. The rules are those of the page of `spdx_expressions`.
 
 use licence_audits::{Exception, Finding, Subject, Told, audit};
 use spdx_expressions::{Licence, ReadError};
@@ -6,8 +6,8 @@ use std::alloc::{AllocError, Global};
 use std::process::Abort;
 use std::test::Fail;
 
-/// A package in the build, by its name, version and licence, and what is told of it beside the list `MIT` and the
-/// exception of `tool 2.0.0`.
+/// A package in the build, with its name, version and licence, and the expected report on it for the list `MIT` and the
+/// exception `tool 2.0.0`.
 #[derive(Drop)]
 struct Row {
     name: &'static str,
@@ -61,7 +61,7 @@ const ROWS: [Row; 7] = [
     },
 ];
 
-/// What is told of a package at a place: nothing where it is not told.
+/// Returns the report on the package at an index, or the empty text if there is none.
 fn told_at(told: &[Told], place: usize) -> &'static str {
     for one in told {
         if one.place == place {
@@ -75,7 +75,7 @@ fn told_at(told: &[Told], place: usize) -> &'static str {
     ""
 }
 
-/// What is told of the packages, which are in the build or are not.
+/// Returns the reports on the packages, which are in the build or are not.
 fn audited(alloc: Global, are_present: bool) -> Result<Vec<Told>, AllocError> {
     let mut subjects = Vec::new(alloc);
     for row in &ROWS {
@@ -98,7 +98,7 @@ fn audited(alloc: Global, are_present: bool) -> Result<Vec<Told>, AllocError> {
     audit(alloc, &subjects, &exceptions, &allowed)
 }
 
-/// Asserts how many packages are told.
+/// Asserts the number of reported packages.
 fn assert_count(rt: &impl Abort, told: &[Told], wanted: usize) {
     assert!(rt; told.len() == wanted);
 }

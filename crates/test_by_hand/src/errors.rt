@@ -1,4 +1,4 @@
-//! Errors that are made by hand: what they hold and print.
+//! Tests of errors that are made by hand: what they contain and print.
 
 use cargo_platform::{Cfg, CfgExpr, Ident, ParseError, ParseErrorKind, Platform, ReadError};
 use std::alloc::Global;
@@ -10,18 +10,18 @@ fn owned(rt: &impl Abort, alloc: Global, text: &str) -> String {
     String::from_str(alloc, text).expect(rt, "memory")
 }
 
-/// Asserts what a value prints.
+/// Asserts the text that a value prints.
 fn assert_prints<T: Display>(rt: &impl Abort, alloc: Global, value: &T, wanted: &str) {
     let printed = value.to_string(alloc).expect(rt, "memory");
     assert!(rt; printed.as_str() == wanted, "{wanted}");
 }
 
-/// Asserts what an error of any type prints.
+/// Asserts the text that an error of any type prints.
 fn assert_error_prints<E: Error>(rt: &impl Abort, alloc: Global, error: &E, wanted: &str) {
     assert_prints(rt, alloc, error, wanted);
 }
 
-/// A kind that holds a text.
+/// Returns a kind of error that contains a text.
 fn surplus(rt: &impl Abort, alloc: Global, left: &str) -> ParseErrorKind {
     ParseErrorKind::UnterminatedExpression(owned(rt, alloc, left))
 }
@@ -61,7 +61,7 @@ fn kinds_print(rt: HostRuntime) {
     }
 }
 
-/// Asserts what an error that is made of a text and what is left of it holds and prints, also as a refusal.
+/// Asserts what an error that is made of a text and the rest of it contains and prints, also as a `ReadError`.
 fn assert_made(rt: &impl Abort, alloc: Global, text: &str, left: &str) {
     let error = ParseError::new(alloc, text, surplus(rt, alloc, left)).expect(rt, "memory");
     assert!(rt; error.orig() == text);

@@ -1,4 +1,4 @@
-//! Truth over holders of a user's own.
+//! Tests of truth values over holders of facts that users write.
 
 ghost use Rattle.std.specs.FinSet.{union};
 ghost use Rattle.std.specs.Prelude.{map, codes};
@@ -14,7 +14,7 @@ use std::process::Abort;
 use test_rows::fields::Fields;
 use test_rows::made_facts;
 
-/// Two lists of facts as one set, as those of a target and those of a build.
+/// Two lists of facts as one set, such as those of a target and those of a build.
 #[derive(Drop)]
 struct Joined<'a> {
     target: &'a [Cfg],
@@ -30,7 +30,7 @@ impl<'a> Facts for Joined<'a> {
     }
 }
 
-/// Facts that are kept in no list: `unix` and `target_os = "linux"`, each where its flag is set. The answer is a
+/// Facts that are not kept in a list: `unix` and `target_os = "linux"`, each if its flag is set. The answer is a
 /// function of the name, or of the key and its value.
 #[derive(Drop)]
 struct Flags {
@@ -52,7 +52,7 @@ impl Facts for Flags {
     }
 }
 
-/// A list that counts how often it is asked, and keeps whether it was asked for these values in turn.
+/// A list that counts its queries, and records whether it was asked for these values in turn.
 #[derive(Drop)]
 struct Counting<'a> {
     facts: &'a [Cfg],
@@ -75,7 +75,7 @@ impl<'a> Facts for Counting<'a> {
     }
 }
 
-/// The facts that words stand for.
+/// Returns the facts that words stand for.
 fn facts_of(rt: &impl Abort, alloc: Global, words: &str) -> Vec<Cfg> {
     made_facts::values(alloc, &mut Fields::new(words, &[]))
         .ok()
@@ -86,14 +86,14 @@ fn read(rt: &impl Abort, alloc: Global, text: &str) -> CfgExpr {
     CfgExpr::from_str(alloc, text).expect(rt, text)
 }
 
-/// Whether an expression is true over a holder, if it is the same where asks are counted.
+/// Returns whether an expression is true over a holder, if it is the same when queries are counted.
 fn over<F: Facts>(rt: &impl Abort, e: &CfgExpr, holder: &F) -> bool {
     let answer = e.matches_in(holder);
     assert_eq!(rt; e.matches_counted(holder).0, answer);
     answer
 }
 
-/// An expression, and whether it is true with both flags, and with `unix` alone.
+/// Expressions, each with whether it is true with both flags, and with `unix` alone.
 const FLAGGED: &[(&str, bool, bool)] = &[
     ("unix", true, true),
     ("r#unix", true, true),
@@ -141,7 +141,7 @@ fn two_lists_are_asked(rt: HostRuntime) {
     }
 }
 
-/// An expression, the facts, and the values that are asked for in turn.
+/// Expressions, each with the facts, and the values that are queried in turn.
 const ASKED: &[(&str, &str, &str)] = &[
     ("true", "", ""),
     ("all(a, b, c)", "a", "a b"),
@@ -150,7 +150,7 @@ const ASKED: &[(&str, &str, &str)] = &[
     ("all(any(a, b), any(c, d), e)", "b d e", "a b c d e"),
 ];
 
-/// The holder is asked from left to right, and its own count is the one that is told.
+/// The holder is queried from left to right, and its own count is the one that is reported.
 #[test]
 fn the_holder_is_asked_in_turn(rt: HostRuntime) {
     for (text, words, wanted) in ASKED {

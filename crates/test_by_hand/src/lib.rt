@@ -1,7 +1,7 @@
-//! Tests of what rows can't say. Of the library these are holders of a user's own, errors and kinds of errors that are
-//! made by hand, and the equality of tokens. Of `platform_answers` these are runs over readers and writers that follow
-//! a script, and go wrong. Of `html_pages` and `licence_audits` these are all tests. Rows of texts and their answers are
-//! run by `test_texts`.
+//! Tests that rows cannot express. For the library, these test holders of facts that users write, errors and kinds of
+//! errors that are made by hand, and the equality of tokens. For `platform_answers`, these are runs over readers and
+//! writers that follow a script and go wrong. For `html_pages` and `licence_audits`, these are all tests. `test_texts`
+//! runs the rows of texts with their answers.
 #![tactic(auto)]
 
 #[cfg(test)]

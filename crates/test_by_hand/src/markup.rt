@@ -1,4 +1,4 @@
-//! Texts on pages. The entities are those of the HTML standard, "Named character references".
+//! Tests of texts on pages. The entities are those of the HTML standard, "Named character references".
 
 use html_pages::{Page, escaped};
 use std::alloc::{AllocError, Global};
@@ -15,7 +15,7 @@ const ROWS: [(&str, &str); 6] = [
     ("\u{e9}<\u{1f980}", "\u{e9}&lt;\u{1f980}"),
 ];
 
-/// A page of a text between two pieces of markup.
+/// Returns a page with a text between two pieces of markup.
 fn page_of(alloc: Global, text: &str) -> Result<String, AllocError> {
     let mut page = Page::new(alloc);
     page.push_markup("<p>")?;

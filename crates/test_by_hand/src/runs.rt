@@ -1,4 +1,4 @@
-//! Runs in memory: its answers, and what it makes of readers and writers that go wrong.
+//! Tests of runs in memory: the answers, and runs over readers and writers that go wrong.
 
 use crate::scripted::{
     Calls, Failing, NEVER, ScriptedReader, ScriptedWriter, only, reader_over, reads_of, writer_to,
@@ -11,7 +11,7 @@ use std::io;
 use std::io::{ErrorKind, Read, Write};
 use std::process::Abort;
 
-/// How a run ended, and what was counted of its calls.
+/// The result of a run, and the counts of its calls.
 #[derive(Drop)]
 struct Counted {
     ended: Result<Outcome, RunError>,
@@ -19,7 +19,7 @@ struct Counted {
     writes: WriteCounts,
 }
 
-/// Runs over both, and counts the calls.
+/// Runs over a reader and a writer, and counts the calls.
 fn run_counted<R: Read + Drop, W: Write + Drop>(alloc: Global, reader: R, writer: W) -> Counted {
     let mut input = Input::new(reader);
     let mut output = Output::new(writer);
@@ -47,19 +47,19 @@ fn assert_count(rt: &impl Abort, count: u64, want: u64) {
     assert_eq!(rt; count, want);
 }
 
-/// Asserts that the reader got the very calls that were counted, none with a piece of no bytes.
+/// Asserts that the reader got exactly the calls that were counted, none with an empty piece.
 fn assert_reads(rt: &impl Abort, reader: &ScriptedReader<'_>, counted: ReadCounts) {
     assert_eq!(rt; reader.counts, counted);
     assert_count(rt, reader.empty_pieces, 0);
 }
 
-/// Asserts that the writer got the very calls that were counted, and that each write was handed all that was left.
+/// Asserts that the writer got exactly the calls that were counted, and that each write was given all that remained.
 fn assert_writes(rt: &impl Abort, writer: &ScriptedWriter, counted: WriteCounts) {
     assert_eq!(rt; writer.counts, counted);
     assert_count(rt, writer.partial_writes, 0);
 }
 
-/// Asserts how a run over both ends and what it writes, and of its calls what `assert_reads` and `assert_writes` do.
+/// Asserts the result of a run over both and its output, and of its calls what `assert_reads` and `assert_writes` do.
 fn assert_run(
     rt: &impl Abort,
     alloc: Global,
@@ -75,8 +75,8 @@ fn assert_run(
     assert_written(rt, &writer.got, want);
 }
 
-/// Asserts how a run over the reader ends, and what it writes: all of it in one write, which is flushed, and nothing
-/// where the run fails.
+/// Asserts the result of a run over the reader, and its output: all of it in one write, which is flushed, and nothing
+/// if the run fails.
 fn assert_read(
     rt: &impl Abort,
     alloc: Global,
@@ -91,7 +91,7 @@ fn assert_read(
     assert_count(rt, writer.counts.flushes, calls);
 }
 
-/// Asserts how a run over `LINUX` to the writer ends, after how many writes and flushes, and what it writes.
+/// Asserts the result of a run over `LINUX` to the writer, the number of its writes and flushes, and its output.
 fn assert_linux(
     rt: &impl Abort,
     alloc: Global,
@@ -105,7 +105,7 @@ fn assert_linux(
     assert_count(rt, writer.counts.flushes, flushes);
 }
 
-/// Asserts that a run over a text in memory, and one by the script, ends so after just this was written.
+/// Asserts that a run over a text in memory, and one by the script, have this result and exactly this output.
 fn assert_answers(rt: &impl Abort, alloc: Global, text: &[u8], outcome: Outcome, want: &[u8]) {
     let mut written = Vec::new(alloc);
     let run = run_counted(alloc, text, &mut written);
@@ -114,14 +114,14 @@ fn assert_answers(rt: &impl Abort, alloc: Global, text: &[u8], outcome: Outcome,
     assert_read(rt, alloc, &mut reader_over(text, 0), Ok(outcome), want);
 }
 
-/// Asserts the answer that a row gives: an input, ` => ` and what is written of it. In a row `|` ends a line.
+/// Asserts the answer in a row: an input, ` => ` and its output. In a row, `|` ends a line.
 fn assert_row(rt: &impl Abort, alloc: Global, row: &str, outcome: Outcome) {
     let lines = row.replace(alloc, '|', "\n").expect(rt, "memory");
     let (text, want) = lines.split_once(" => ").expect(rt, row);
     assert_answers(rt, alloc, text.as_bytes(), outcome, want.as_bytes());
 }
 
-/// Asserts the answers that the rows of a table give, and how many rows it has.
+/// Asserts the answers in the rows of a table, and the number of the rows.
 fn assert_rows(rt: &impl Abort, alloc: Global, table: &str, count: u64, outcome: Outcome) {
     assert_count(rt, table.lines().count() as u64, count);
     for row in table.lines() {
@@ -129,32 +129,32 @@ fn assert_rows(rt: &impl Abort, alloc: Global, table: &str, count: u64, outcome:
     }
 }
 
-/// A target that meets the condition by two of its facts.
+/// A target on which the condition is true by two of its facts.
 const LINUX: &[u8] =
     b"cfg(all(unix, target_os = \"linux\"))\nx86_64-unknown-linux-gnu\nunix\ntarget_os=\"linux\"\n";
 
-/// The reads of one byte that `LINUX` takes, the last at its end.
+/// The number of reads of one byte for `LINUX`, the last of which meets the end.
 const LINUX_READS: u64 = 85;
 
-/// The writes of one byte that `LINUX_MEETS` takes.
+/// The number of writes of one byte for `LINUX_MEETS`.
 const LINUX_WRITES: u64 = 58;
 
-/// What is written of `LINUX`, 58 bytes.
+/// The output for `LINUX`, 58 bytes.
 const LINUX_MEETS: &[u8] = b"condition: cfg(all(unix, target_os = \"linux\"))\nmatch: yes\n";
 
-/// What is written of the empty input.
+/// The output for the empty input.
 const NAMELESS: &[u8] = b"condition: \nmatch: yes\n";
 
 const LONG: &[u8] = b"input is longer than 1048576 bytes\n";
 
-/// What is written of so many times `a`: the letters as the condition, and that they do not match.
+/// Returns the output for `count` times `a`: the letters as the condition, and that it is not true.
 fn answer_to_letters(rt: &impl Abort, alloc: Global, count: usize) -> String {
     let letters = "a".repeat(alloc, count).expect(rt, "memory");
     let answer = format!(in alloc; "condition: {letters}\nmatch: no\n");
     answer.expect(rt, "memory")
 }
 
-/// Conditions that are met, in rows as `assert_row` reads them.
+/// Conditions that are true, in rows as `assert_row` reads them.
 const MET: &str = "\
 | => condition: |match: yes|
 cfg( a )|x|r#a| => condition: cfg(a)|match: yes|
@@ -176,7 +176,7 @@ fn conditions_are_met(rt: HostRuntime) {
     assert_rows(&rt, rt.alloc(), MET, 11, Outcome::Match);
 }
 
-/// Conditions that are not met, in rows as `assert_row` reads them.
+/// Conditions that are false, in rows as `assert_row` reads them.
 const NOT_MET: &str = "\
 cfg(unix)|unix| => condition: cfg(unix)|match: no|
 a|| => condition: a|match: no|
@@ -194,7 +194,7 @@ fn conditions_are_not_met(rt: HostRuntime) {
     assert_rows(&rt, rt.alloc(), NOT_MET, 9, Outcome::NoMatch);
 }
 
-/// Inputs whose condition is refused, in rows as `assert_row` reads them.
+/// Inputs whose condition is rejected, in rows as `assert_row` reads them.
 const REFUSED_CONDITIONS: &str = "\
 !foo|x|unix|| => line 1: failed to parse `!foo` as a cfg expression: invalid target specifier: unexpected character \
     ! in target name|
@@ -221,7 +221,7 @@ fn conditions_are_refused(rt: HostRuntime) {
     assert_rows(&rt, rt.alloc(), REFUSED_CONDITIONS, 10, Outcome::Refused);
 }
 
-/// Inputs with a fact that is refused, in rows as `assert_row` reads them.
+/// Inputs with a fact that is rejected, in rows as `assert_row` reads them.
 const REFUSED_FACTS: &str = "\
 cfg(unix)|x|unix|| => line 4: failed to parse `` as a cfg expression: expected identifier, but cfg expression ended|
 a|b|| => line 3: failed to parse `` as a cfg expression: expected identifier, but cfg expression ended|
@@ -243,7 +243,7 @@ fn facts_are_refused(rt: HostRuntime) {
     );
 }
 
-/// Conditions with a warning, which are not met, in rows as `assert_row` reads them.
+/// Conditions with a warning, which are false, in rows as `assert_row` reads them.
 const WARNED_OF: &str = "\
 cfg(any(test, windows))|x|unix| => condition: cfg(any(test, windows))|match: no|warning: Found `test` in \
     `target.'cfg(...)'.dependencies`. This value is not supported for selecting dependencies and will not work as \
@@ -304,7 +304,7 @@ fn a_read_fails(rt: HostRuntime) {
     }
 }
 
-/// Asserts how a run over no byte ends at the limit of reads, where those before `end` are interrupted.
+/// Asserts the result of a run over no byte at the limit of reads, where those before `end` are interrupted.
 fn assert_interrupted_reads(
     rt: &impl Abort,
     alloc: Global,
@@ -331,7 +331,8 @@ fn one_byte_a_read_without_end(rt: HostRuntime) {
     assert_read(&rt, rt.alloc(), &mut reader, Ok(Outcome::Refused), LONG);
 }
 
-/// As many letters as an input may have, one a read, where read 5 is interrupted and those after it before `end`.
+/// Returns a reader of as many letters as an input may have, one per read, where read 5 is interrupted, and so are
+/// those after it before `end`.
 fn most_letters(end: u64) -> ScriptedReader<'static> {
     let mut reader = reader_over(b"", 1_048_576);
     reader.most = 1;
@@ -354,7 +355,7 @@ fn interruptions_at_the_limit_of_reads(rt: HostRuntime) {
     assert_read(&rt, rt.alloc(), &mut twice, Err(RunError::Read), b"");
 }
 
-/// Takes what is written of `LINUX`.
+/// Returns a writer for the output for `LINUX`.
 fn linux_writer(alloc: Global) -> ScriptedWriter {
     writer_to(alloc, LINUX_MEETS.len())
 }

@@ -1,4 +1,4 @@
-//! A reader and a writer for the tests. They follow a script, and count each call that they get by themselves.
+//! A reader and a writer for the tests. They follow a script, and count the calls that they get by themselves.
 
 ghost use Rattle.std.specs.Prelude.{◌≤◌, length};
 
@@ -7,7 +7,7 @@ use std::alloc::Global;
 use std::io;
 use std::io::{ErrorKind, Read, Write};
 
-/// Calls by their numbers, from `first` on and before `end`. The first call is number 1.
+/// Calls by their numbers, from `first` on and before `end`. The first call has number 1.
 #[derive(Clone, Copy)]
 pub struct Calls {
     pub first: u64,
@@ -29,7 +29,7 @@ impl Calls {
     }
 }
 
-/// What an input counted, by the calls that give its counts.
+/// Returns the counts of an input, by the calls that return them.
 pub fn reads_of<R>(input: &Input<R>) -> ReadCounts {
     ReadCounts {
         reads: input.reads(),
@@ -41,7 +41,7 @@ pub fn reads_of<R>(input: &Input<R>) -> ReadCounts {
     }
 }
 
-/// What an output counted, by the calls that give its counts.
+/// Returns the counts of an output, by the calls that return them.
 pub fn writes_of<W>(output: &Output<W>) -> WriteCounts {
     WriteCounts {
         writes: output.writes(),
@@ -63,9 +63,9 @@ pub struct ScriptedReader<'a> {
     pub most: usize,
     pub interrupted: Calls,
     pub failing: Calls,
-    /// What came of the calls so far.
+    /// The counts of the calls so far.
     pub counts: ReadCounts,
-    /// The calls with a piece of no bytes.
+    /// The number of calls with an empty piece.
     pub empty_pieces: u64,
 }
 
@@ -82,7 +82,7 @@ pub fn reader_over(text: &[u8], letters: u64) -> ScriptedReader<'_> {
 }
 
 impl<'a> ScriptedReader<'a> {
-    /// Fills the piece as far as the script does, and answers how far.
+    /// Fills the piece as far as the script does, and returns the number of bytes.
     fn give(&mut self, piece: &mut [u8]) -> usize
         ensures { result ≤ length piece.old }
     {
@@ -139,13 +139,13 @@ pub struct ScriptedWriter {
     pub idle: Calls,
     pub interrupted_flushes: Calls,
     pub failing_flushes: Calls,
-    /// What came of the calls so far.
+    /// The counts of the calls so far.
     pub counts: WriteCounts,
-    /// The writes that were handed something else than all that was left of the output.
+    /// The number of writes that were given something else than all that remained of the output.
     pub partial_writes: u64,
 }
 
-/// Takes an output of this length.
+/// Returns a writer for an output of this length.
 pub fn writer_to(alloc: Global, whole: usize) -> ScriptedWriter {
     ScriptedWriter {
         got: Vec::new(alloc),

@@ -1,4 +1,4 @@
-//! An error that is made by hand lies nowhere.
+//! Tests that an error that is made by hand has no span.
 
 use cargo_platform::{ParseError, ParseErrorKind};
 

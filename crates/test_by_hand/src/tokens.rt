@@ -1,4 +1,4 @@
-//! The equality of tokens, of their places and of what can't be cut.
+//! Tests of the equality of tokens, of their positions and of texts that are not tokens.
 
 use cargo_platform::{Spanned, Token, TokenFault, TokenFaultKind};
 

@@ -4,7 +4,7 @@ use crate::Fault;
 use crate::bars::text_of;
 use std::alloc::{AllocError, Global};
 
-/// Words under a name, which stand where a row has `@name`.
+/// Words under a name, which a row includes by `@name`.
 #[derive(Drop)]
 pub struct Setting {
     name: String,
@@ -12,7 +12,7 @@ pub struct Setting {
 }
 
 impl Setting {
-    /// The setting of a name and the words after it.
+    /// Returns the setting of a name and the words after it.
     pub fn new(alloc: Global, text: &str) -> Result<Setting, AllocError> {
         let (name, words) = text.split_once(' ').unwrap_or((text, ""));
         Ok(Setting {
@@ -22,14 +22,14 @@ impl Setting {
     }
 }
 
-/// What is left of a row.
+/// The rest of a row.
 #[derive(Drop)]
 pub struct Fields<'a> {
     left: &'a str,
     settings: &'a [Setting],
 }
 
-/// Where the first word of a text ends: at a space that is not between bars.
+/// Returns the end of the first word of a text: a space that is not between bars, or the end of the text.
 fn end_of_word(text: &str) -> usize {
     let mut in_bars = false;
     let mut is_escaped = false;
@@ -53,7 +53,7 @@ impl<'a> Fields<'a> {
         }
     }
 
-    /// What is set under a name.
+    /// Returns the words that are set under a name.
     pub fn set(&self, name: &str) -> Option<Fields<'a>> {
         for setting in self.settings {
             if setting.name.as_str() == name {
@@ -63,7 +63,7 @@ impl<'a> Fields<'a> {
         None
     }
 
-    /// The next word. None at the end and before what is stated.
+    /// Returns the next word, or `None` at the end and before the expected answer.
     pub fn word(&mut self) -> Option<&'a str> {
         let left = self.left.trim_start();
         if left.is_empty() || left == "=>" || left.starts_with("=> ") {
@@ -74,7 +74,7 @@ impl<'a> Fields<'a> {
         left.get(..end)
     }
 
-    /// The next word, which has to be there.
+    /// Returns the next word. Fails if there is none.
     pub fn need(&mut self) -> Result<&'a str, Fault> {
         match self.word() {
             Some(word) => Ok(word),
@@ -82,12 +82,12 @@ impl<'a> Fields<'a> {
         }
     }
 
-    /// The next word, which stands between bars, as a text.
+    /// Returns the next word, which is between bars, as a text.
     pub fn text(&mut self, alloc: Global) -> Result<String, Fault> {
         text_of(alloc, self.need()?)
     }
 
-    /// The next word as a number.
+    /// Returns the next word as a number.
     pub fn number(&mut self) -> Result<u64, Fault> {
         match self.need()?.parse::<u64>() {
             Ok(number) => Ok(number),
@@ -95,7 +95,7 @@ impl<'a> Fields<'a> {
         }
     }
 
-    /// The next word of a list, if it has one.
+    /// Returns the next word of a list, if there is one.
     pub fn item(&mut self) -> Option<&'a str> {
         match self.word() {
             Some(";") => None,
@@ -103,7 +103,7 @@ impl<'a> Fields<'a> {
         }
     }
 
-    /// The words up to a `;` or the end. `@name` stands for the words of its setting.
+    /// Returns the words up to a `;` or the end. `@name` stands for the words of its setting.
     pub fn list(&mut self, alloc: Global) -> Result<Vec<&'a str>, Fault> {
         let mut words = Vec::new(alloc);
         for _ in 0..=self.left.len() {
@@ -122,7 +122,7 @@ impl<'a> Fields<'a> {
         Ok(words)
     }
 
-    /// What the row states, after `=>`, if it states anything.
+    /// Returns the expected answer after `=>`, if the row has one.
     pub fn stated(&self) -> Result<Option<&'a str>, Fault> {
         let left = self.left.trim_start();
         if left.is_empty() {

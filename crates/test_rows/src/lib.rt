@@ -1,10 +1,9 @@
-//! Rows of questions with their answers: how a row is read, how answers are written, and what the rows of files come
-//! to.
+//! Data-driven tests: how rows are read, how answers are written, and the results of the rows of files.
 //!
-//! A program that runs rows says what it knows of each kind, by [`Kinds`]. It prints each row that came out otherwise,
-//! with what it gave, and at the end how many came out as stated. A row that states nothing is printed with its answer.
-//! The status is 0 where all came out as stated, 1 where some did not, and 9 where none did but memory was lacking, or
-//! a file can't be read.
+//! A program that runs rows implements [`Kinds`]. It prints each row whose answer is not the expected one, with the
+//! answer, and at the end the number of rows with the expected answer. A row without an expected answer is printed with
+//! its answer. The status is 0 if all rows had their expected answers, 1 if some had not, and 9 if none had a wrong
+//! answer but memory was lacking, or a file cannot be read.
 #![tactic(auto)]
 
 pub mod bars;
@@ -22,11 +21,11 @@ use std::alloc::{AllocError, Global};
 use std::rt::{Env, Files};
 use std::{env, fs, io};
 
-/// Why a row has no answer.
+/// The reason why a row has no answer.
 #[derive(Drop)]
 pub enum Fault {
     Memory,
-    /// The row can't be read, for this reason.
+    /// The row cannot be read, for this reason.
     Row(&'static str),
 }
 
@@ -36,13 +35,13 @@ impl From<AllocError> for Fault {
     }
 }
 
-/// The kinds of rows that a program knows.
+/// The kinds of rows that a program has.
 pub trait Kinds {
-    /// The answer to a row of this kind, whose words are `fields`.
+    /// Returns the answer to a row of this kind, whose words are `fields`.
     fn answer(&self, alloc: Global, kind: &str, fields: &mut Fields<'_>) -> Result<String, Fault>;
 }
 
-/// Runs the rows of a file, and adds what they came to.
+/// Runs the rows of a file, and adds their results.
 fn run_file(
     rt: &(impl Files + Print + AllocGlobal),
     kinds: &impl Kinds,
@@ -70,8 +69,8 @@ fn run_files(
     Ok(())
 }
 
-/// Runs the rows of the files that the program's arguments name, or of standard input where there are none, and prints
-/// what they came to. Gives the status.
+/// Runs the rows of the files that the program's arguments name, or of standard input if there are none, and prints
+/// their results. Returns the status.
 pub fn run_all(rt: &HostRuntime, kinds: &impl Kinds) -> io::Result<u8> {
     let mut counts = Counts::new();
     run_files(rt, kinds, &mut counts)?;

@@ -1,4 +1,4 @@
-//! Names and pairs that are made by hand, of the words of a row.
+//! Names and pairs that are made by hand, from the words of a row.
 
 use crate::Fault;
 use crate::bars::text_of;
@@ -6,7 +6,7 @@ use crate::fields::Fields;
 use cargo_platform::{Cfg, Ident};
 use std::alloc::{AllocError, Global};
 
-/// `foo`, or `r#foo` where the name is marked.
+/// Returns the name of a word: `foo`, or `r#foo` for a marked name.
 pub fn name(alloc: Global, word: &str) -> Result<Ident, AllocError> {
     let (raw, text) = match word.strip_prefix("r#") {
         Some(marked) => (true, marked),
@@ -18,7 +18,7 @@ pub fn name(alloc: Global, word: &str) -> Result<Ident, AllocError> {
     })
 }
 
-/// A name as above, or a key, `=` and a value between bars.
+/// Returns the value of a word: a name as above, or a key, `=` and a value between bars.
 pub fn value(alloc: Global, word: &str) -> Result<Cfg, Fault> {
     match word.split_once('=') {
         Some((key, value)) => Ok(Cfg::KeyPair(name(alloc, key)?, text_of(alloc, value)?)),
@@ -26,7 +26,7 @@ pub fn value(alloc: Global, word: &str) -> Result<Cfg, Fault> {
     }
 }
 
-/// The values of a list.
+/// Returns the values of a list.
 pub fn values(alloc: Global, fields: &mut Fields<'_>) -> Result<Vec<Cfg>, Fault> {
     let mut all = Vec::new(alloc);
     for word in fields.list(alloc)? {

@@ -1,20 +1,20 @@
-//! The rows of a text, and what they come to.
+//! The rows of a text, and their results.
 
 use crate::fields::{Fields, Setting};
 use crate::{Fault, Kinds, sizes};
 use std::alloc::{AllocError, Global};
 use std::io;
 
-/// What a row came to.
+/// The result of a row.
 #[derive(Drop)]
 enum Came {
     AsStated,
     Otherwise(String),
-    /// The row states nothing, and this is its answer.
+    /// The row has no expected answer, and this is its answer.
     Answered(String),
 }
 
-/// How many rows came out as stated, how many otherwise, how many were asked alone, and how many lacked memory.
+/// The numbers of rows that had their expected answers, that had not, that have none, and that lacked memory.
 #[derive(Drop)]
 pub struct Counts {
     asked: u32,
@@ -66,7 +66,7 @@ struct Row {
 }
 
 impl Row {
-    /// Adds a line that goes on with the row. A space stands between the two, but for a line that ends with `\`.
+    /// Appends a line that continues the row. A space separates the two, unless the line before ends with `\`.
     fn add(&mut self, line: &str) -> Result<(), AllocError> {
         match self.text.pop() {
             Some('\\') => {}
@@ -87,8 +87,8 @@ impl Row {
     }
 }
 
-/// Runs each row of a text, and prints those that come out otherwise. A line that begins with a space goes on with the
-/// row before it. A line that is empty or begins with `#` is no row.
+/// Runs each row of a text, and prints those whose answers are not the expected ones. A line that begins with a space
+/// continues the row before it. A line that is empty or begins with `#` is not a row.
 pub fn run(
     rt: &(impl Print + AllocGlobal),
     kinds: &impl Kinds,
@@ -112,7 +112,7 @@ pub fn run(
     run_row(rt, kinds, path, &row, &mut settings, counts)
 }
 
-/// Runs a row that was read whole, or takes what it sets.
+/// Runs a row that was read as a whole, or takes the setting that it has.
 fn run_row(
     rt: &(impl Print + AllocGlobal),
     kinds: &impl Kinds,
@@ -134,7 +134,7 @@ fn run_row(
     count(rt, path, row.number, text, came, counts)
 }
 
-/// Counts a row, and prints it where it came out otherwise.
+/// Counts a row, and prints it if its answer is not the expected one.
 fn count(
     rt: &impl Print,
     path: &str,
@@ -167,7 +167,7 @@ fn count(
     }
 }
 
-/// What a row comes to, where one that begins with `sizes` is a row for each of its sizes.
+/// Returns the result of a row. A row that begins with `sizes` is a row for each of its sizes.
 fn came_to(
     alloc: Global,
     kinds: &impl Kinds,

@@ -1,5 +1,6 @@
-//! Rows at sizes. What grows stands between braces: `{N*ab}` is that text so many times, `{N$m$}` is the same with the
-//! number of each, from 1 on, for `$`, `{N~abc}` is so many of these characters in turn, and `{2N+1}` is a number.
+//! Rows at several sizes. The parts that grow are written in braces: `{N*ab}` is that text N times, `{N$m$}` is the
+//! same with the number of each, from 1 on, for `$`, `{N~abc}` is N of these characters in turn, and `{2N+1}` is a
+//! number.
 
 use crate::Fault;
 use std::alloc::{AllocError, Global};
@@ -12,7 +13,7 @@ const SIZES: [usize; 56] = [
     131073,
 ];
 
-/// The characters of `{N~}`. As their number is odd, something else stands at each power of two.
+/// The characters of `{N~}`. Their number is odd, so that each power of two falls on another one.
 const CHARACTERS: &str = "abcdefghijklmnopqrstuvwxyz_0123456789";
 
 fn number(word: &str) -> Result<usize, Fault> {
@@ -22,7 +23,7 @@ fn number(word: &str) -> Result<usize, Fault> {
     }
 }
 
-/// The sizes of a word: `500` is one, and `1..8193` are those of the list from 1 up to 8193.
+/// Returns the sizes of a word: `500` is one, and `1..8193` are those of the list from 1 up to 8193.
 pub fn named(alloc: Global, word: &str) -> Result<Vec<usize>, Fault> {
     let mut sizes = Vec::new(alloc);
     let Some((first, last)) = word.split_once("..") else {
@@ -42,7 +43,7 @@ pub fn named(alloc: Global, word: &str) -> Result<Vec<usize>, Fault> {
     Ok(sizes)
 }
 
-/// A row at a size, in what it asks and in what it states.
+/// Returns a row at a size, with its question and its expected answer.
 pub fn row_at(alloc: Global, row: &str, size: usize) -> Result<String, Fault> {
     let mut out = String::new(alloc);
     for (at, part) in row.split('{').enumerate() {
@@ -59,7 +60,7 @@ pub fn row_at(alloc: Global, row: &str, size: usize) -> Result<String, Fault> {
     Ok(out)
 }
 
-/// The number of `7`, `N`, `N+1`, `N-1`, `3N` or `3N+1`.
+/// Returns the number of `7`, `N`, `N+1`, `N-1`, `3N` or `3N+1`.
 fn count_at(text: &str, size: usize) -> Option<usize> {
     let Some((factor, more)) = text.split_once('N') else {
         return text.parse::<usize>().ok();
@@ -80,7 +81,7 @@ fn count_at(text: &str, size: usize) -> Option<usize> {
     Some(times.saturating_add(further))
 }
 
-/// Adds what stands between braces.
+/// Appends the part between braces.
 fn add_grown(out: &mut String, grown: &str, size: usize) -> Result<(), Fault> {
     let form = grown.trim_start_matches(|c: char| c.is_ascii_digit()
         || matches!(c, 'N' | '+' | '-'));
@@ -121,7 +122,7 @@ fn add_numbered(out: &mut String, text: &str, number: usize) -> Result<(), Alloc
     Ok(())
 }
 
-/// Adds so many characters, each of one byte, of a text that begins anew at its end.
+/// Appends `count` characters, each of one byte, of a text that is repeated.
 fn add_in_turn(out: &mut String, text: &str, count: usize) -> Result<(), AllocError> {
     let mut left = count;
     for _ in 0..count {

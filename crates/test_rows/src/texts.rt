@@ -1,15 +1,15 @@
-//! Texts of rows that are known to be read.
+//! Texts of rows that are known to be accepted.
 
 use crate::Fault;
 use cargo_platform::{CfgExpr, Platform, ReadError};
 use std::alloc::Global;
 
-/// The expression that a text is known to spell.
+/// Parses a text that is known to be an expression.
 pub fn spelled(alloc: Global, text: &str) -> Result<CfgExpr, Fault> {
     known(CfgExpr::from_str(alloc, text))
 }
 
-/// The condition or the target that a text is known to spell.
+/// Parses a text that is known to be a condition or the name of a target.
 pub fn platform(alloc: Global, text: &str) -> Result<Platform, Fault> {
     known(Platform::from_str(alloc, text))
 }

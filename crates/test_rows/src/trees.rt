@@ -1,4 +1,4 @@
-//! Trees that are made by hand, of the words of a row.
+//! Trees that are made by hand, from the words of a row.
 
 use crate::Fault;
 use crate::fields::Fields;
@@ -6,8 +6,8 @@ use crate::made_facts::value;
 use cargo_platform::CfgExpr;
 use std::alloc::{AllocError, Global};
 
-/// The tree of a list of words, with each form before its parts, and groups with the number of their members:
-/// `any(not(foo), bar)` is `any2 not foo bar`. A name that is the word of a form stands behind `name:`.
+/// Returns the tree of a list of words. Each form precedes its parts, and groups have the number of their members:
+/// `any(not(foo), bar)` is `any2 not foo bar`. A name that is the word of a form is written after `name:`.
 pub fn tree(alloc: Global, fields: &mut Fields<'_>) -> Result<CfgExpr, Fault> {
     let words = fields.list(alloc)?;
     let mut made: Vec<CfgExpr> = Vec::new(alloc);
@@ -25,12 +25,12 @@ fn last(made: &mut Vec<CfgExpr>) -> Result<CfgExpr, Fault> {
     }
 }
 
-/// The number of members, where the word is that of a group.
+/// Returns the number of members, if the word is that of a group.
 fn group(word: &str, form: &str) -> Option<usize> {
     word.strip_prefix(form)?.parse::<usize>().ok()
 }
 
-/// The expression of a word, whose parts are the last ones that were made.
+/// Returns the expression of a word, whose parts are the last ones that were made.
 fn with_parts(alloc: Global, word: &str, made: &mut Vec<CfgExpr>) -> Result<CfgExpr, Fault> {
     if let Some(count) = group(word, "all") {
         return Ok(CfgExpr::All(members(alloc, made, count)?));

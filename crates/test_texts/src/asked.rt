@@ -1,4 +1,4 @@
-//! What the next words of a row ask about.
+//! The conditions that the next words of a row name.
 
 use cargo_platform::{CfgExpr, Platform};
 use std::alloc::Global;
@@ -6,12 +6,12 @@ use test_rows::Fault;
 use test_rows::fields::Fields;
 use test_rows::texts::{platform, spelled};
 
-/// The expression that the next text spells.
+/// Parses the next text as an expression.
 pub fn expression(alloc: Global, fields: &mut Fields<'_>) -> Result<CfgExpr, Fault> {
     spelled(alloc, &fields.text(alloc)?)
 }
 
-/// The condition or the target that the next text spells.
+/// Parses the next text as a condition or the name of a target.
 pub fn key(alloc: Global, fields: &mut Fields<'_>) -> Result<Platform, Fault> {
     platform(alloc, &fields.text(alloc)?)
 }

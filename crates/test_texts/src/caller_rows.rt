@@ -1,4 +1,4 @@
-//! What the callers of the crate `callers` answer.
+//! Rows on the callers of the crate `callers`.
 
 use crate::asked;
 use callers::conditions::audit::{canonical, is_one_key, note, note_hashed};
@@ -22,7 +22,7 @@ use test_rows::forms::{printed, word, yes};
 use test_rows::texts::{platform, spelled};
 use test_rows::{Fault, made_facts};
 
-/// The line that keys stand in.
+/// The line number of keys.
 const LINE: usize = 7;
 
 /// A key that is in no row.
@@ -36,7 +36,7 @@ pub fn answer(alloc: Global, call: &str, fields: &mut Fields<'_>) -> Result<Stri
     of_text(alloc, call, &text, fields)
 }
 
-/// The answer to a row that begins with a text.
+/// Returns the answer to a row that begins with a text.
 fn of_text(
     alloc: Global,
     call: &str,
@@ -65,7 +65,7 @@ fn unix(alloc: Global, fields: &mut Fields<'_>) -> Result<String, Fault> {
     Ok(yes(alloc, is_unix(alloc, &facts)?)?)
 }
 
-/// Whether a key selects a target with these facts.
+/// Returns whether a key selects a target with these facts.
 fn selects(alloc: Global, key: &str, fields: &mut Fields<'_>) -> Result<String, Fault> {
     let target = fields.text(alloc)?;
     let facts = made_facts::values(alloc, fields)?;
@@ -75,7 +75,7 @@ fn selects(alloc: Global, key: &str, fields: &mut Fields<'_>) -> Result<String, 
     }
 }
 
-/// Whether an expression holds over facts as rustc prints them.
+/// Returns whether an expression is true over facts as rustc prints them.
 fn holds(alloc: Global, text: &str, fields: &mut Fields<'_>) -> Result<String, Fault> {
     let e = spelled(alloc, text)?;
     held(alloc, holds_for(alloc, &e, &fields.text(alloc)?))
@@ -105,7 +105,7 @@ fn underline(alloc: Global, key: &str) -> Result<String, Fault> {
     }
 }
 
-/// The key in print, where it is nested no deeper than so.
+/// Returns the printed key, if it is not nested deeper than `most`.
 fn within(alloc: Global, key: &str, most: u64) -> Result<String, Fault> {
     match unless_refused(read_within(alloc, key, most as usize))? {
         Some(Some(platform)) => Ok(barred(alloc, &platform.to_string(alloc)?)?),
@@ -114,7 +114,7 @@ fn within(alloc: Global, key: &str, most: u64) -> Result<String, Fault> {
     }
 }
 
-/// What is answered, or nothing where the text is refused.
+/// Returns the result, or `None` if the text is rejected.
 fn unless_refused<T: Drop>(answer: Result<T, ReadError>) -> Result<Option<T>, Fault> {
     match answer {
         Ok(answer) => Ok(Some(answer)),
@@ -131,7 +131,7 @@ fn held(alloc: Global, answer: Result<bool, FactsError>) -> Result<String, Fault
     }
 }
 
-/// Which of the keys, one a line, apply to a target.
+/// Returns which of the keys, one per line, are true on a target.
 fn planned(alloc: Global, lines: &str, fields: &mut Fields<'_>) -> Result<String, Fault> {
     let target = fields.text(alloc)?;
     let facts = made_facts::values(alloc, fields)?;
@@ -143,7 +143,7 @@ fn planned(alloc: Global, lines: &str, fields: &mut Fields<'_>) -> Result<String
     Ok(out)
 }
 
-/// The keys that stand one a line.
+/// Parses keys, one per line.
 fn keys(alloc: Global, lines: &str) -> Result<Vec<Platform>, Fault> {
     let mut keys = Vec::new(alloc);
     for line in lines.lines() {
@@ -152,7 +152,7 @@ fn keys(alloc: Global, lines: &str) -> Result<Vec<Platform>, Fault> {
     Ok(keys)
 }
 
-/// Licences under keys, in each kind of map.
+/// The licences under keys, in maps of both kinds.
 #[derive(Drop)]
 struct Licences {
     sorted: BTreeMap<Platform, String>,
@@ -160,7 +160,7 @@ struct Licences {
 }
 
 impl Licences {
-    /// `Zlib` under another key, and then `MIT` under this one.
+    /// Returns maps with `Zlib` under another key, and then `MIT` under this one.
     fn of(alloc: Global, key: &str) -> Result<Licences, Fault> {
         let mut licences = Licences {
             sorted: BTreeMap::new(alloc),
@@ -185,7 +185,7 @@ impl Licences {
         Ok(())
     }
 
-    /// Adds the licences under a key.
+    /// Appends the licences under a key.
     fn add(&self, out: &mut String, key: &Platform) -> Result<(), AllocError> {
         add_licence(out, self.sorted.get(key))?;
         add_licence(out, self.hashed.get(key))
@@ -197,8 +197,8 @@ fn add_licence(out: &mut String, licence: Option<&String>) -> Result<(), AllocEr
     out.push_str(licence.map_or("none", |it| it.as_str()))
 }
 
-/// Whether two keys are one, and the licences under the second one and under another, in each kind of map, once `MIT`
-/// is noted under the first, and `Zlib` under that other one.
+/// Returns whether two keys are one, and the licences under the second one and under another key, in maps of both
+/// kinds, once `MIT` is recorded under the first key, and `Zlib` under that other one.
 fn one(alloc: Global, first: &str, fields: &mut Fields<'_>) -> Result<String, Fault> {
     let second = asked::key(alloc, fields)?;
     let licences = Licences::of(alloc, first)?;
@@ -224,7 +224,7 @@ fn refused(alloc: Global, refusal: &ManifestError) -> Result<String, Fault> {
     Ok(out)
 }
 
-/// The members of an `all`, in print.
+/// Returns the members of an `all`, printed.
 fn members(alloc: Global, text: &str) -> Result<String, Fault> {
     match members_of_all(spelled(alloc, text)?) {
         Some(members) => Ok(in_print(alloc, &members)?),
@@ -241,7 +241,7 @@ fn in_print(alloc: Global, members: &[CfgExpr]) -> Result<String, AllocError> {
     Ok(out)
 }
 
-/// Whether an expression is true for a system that is `unix`.
+/// Returns whether an expression is true for a system that is `unix`.
 fn of_system(alloc: Global, text: &str, fields: &mut Fields<'_>) -> Result<String, Fault> {
     let system = System {
         name: fields.text(alloc)?,

@@ -20,7 +20,7 @@ pub fn answer(alloc: Global, call: &str, fields: &mut Fields<'_>) -> Result<Stri
     }
 }
 
-/// What an error says that is made by hand.
+/// Returns what an error that is made by hand says.
 fn made(alloc: Global, text: &str, kind: ParseErrorKind) -> Result<String, Fault> {
     let error = ParseError::new(alloc, text, kind)?;
     let mut out = word(alloc, "made")?;
@@ -28,7 +28,7 @@ fn made(alloc: Global, text: &str, kind: ParseErrorKind) -> Result<String, Fault
     Ok(out)
 }
 
-/// The trees that an expression is taken apart into.
+/// Returns the trees into which an expression is taken apart.
 fn parts(alloc: Global, e: CfgExpr) -> Result<String, AllocError> {
     match e.into_parts() {
         CfgExprParts::Not(negated) => tree(alloc, &Box::into_inner(negated)),

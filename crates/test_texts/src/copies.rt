@@ -1,4 +1,4 @@
-//! Copies: what each prints, that of a name or a pair behind what a text holds.
+//! Copies, and what they print. The copy of a name or pair is printed after a text.
 
 use cargo_platform::{CfgExpr, Platform};
 use std::alloc::{AllocError, Global};
@@ -48,7 +48,7 @@ fn expression(alloc: Global, fields: &mut Fields<'_>) -> Result<String, Fault> {
     Ok(word(alloc, answer)?)
 }
 
-/// Adds what a copy prints behind what a text holds.
+/// Appends what a copy prints to a text.
 fn printed<T: Display>(alloc: Global, mut out: String, copy: &T) -> Result<String, Fault> {
     if !out.is_empty() {
         out.push_str(" prints ")?;
@@ -62,8 +62,8 @@ fn printed<T: Display>(alloc: Global, mut out: String, copy: &T) -> Result<Strin
     Ok(out)
 }
 
-/// Whether the copy of the expression that a text spells prints as the text, also for debugging, and as a condition and
-/// its JSON. No level takes stack of the driver.
+/// Returns whether the copy of an expression prints the text that it was parsed from, also for debugging, as a
+/// condition and in its JSON. Its levels take no stack of the test program.
 fn prints_itself(alloc: Global, text: &str) -> Result<bool, Fault> {
     let copy = spelled(alloc, text)?.clone(alloc)?;
     Ok(is_print(alloc, &copy, text)? && is_condition(alloc, copy, text)?)

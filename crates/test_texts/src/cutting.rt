@@ -1,4 +1,4 @@
-//! Texts that are cut into tokens.
+//! The tokens of texts.
 
 use cargo_platform::{
     Spanned, Token, TokenFault, TokenFaultKind, Tokenizer, nesting, nesting_beyond,
@@ -21,8 +21,8 @@ pub fn answer(alloc: Global, call: &str, fields: &mut Fields<'_>) -> Result<Stri
     }
 }
 
-/// The tokens of a text with their places, or what they are called, and the fault after them. Before each what is left
-/// of the text has to begin with it, and they have to be as many as the iterator counts.
+/// Returns the tokens of a text with their spans, or their names, and the error after them. The rest of the text has to
+/// begin with each token, and there have to be as many tokens as the iterator counts.
 fn tokens(alloc: Global, text: &str, is_called: bool) -> Result<String, Fault> {
     let mut out = String::new(alloc);
     let mut tokens = Tokenizer::new(text);
@@ -60,7 +60,7 @@ fn tokens(alloc: Global, text: &str, is_called: bool) -> Result<String, Fault> {
     }
 }
 
-/// Adds what is said to be left where that is not so.
+/// Appends what is said to remain, if that is wrong.
 fn add_surplus(out: &mut String, left: Option<&str>) -> Result<(), AllocError> {
     match left {
         Some(left) => add_text_of(out, ", but left is ", left),
@@ -120,7 +120,7 @@ fn add_fault(out: &mut String, fault: TokenFault) -> Result<(), AllocError> {
     write!(out, "@{at}")
 }
 
-/// What is left of a text after so many items, asked twice.
+/// Returns the rest of a text after `count` items, which is queried twice.
 fn left(alloc: Global, text: &str, count: u64) -> Result<String, Fault> {
     let mut tokens = Tokenizer::new(text);
     for _ in 0..count {
@@ -135,13 +135,13 @@ fn left(alloc: Global, text: &str, count: u64) -> Result<String, Fault> {
     }
 }
 
-/// How deep a text is nested.
+/// Returns the nesting depth of a text.
 fn nesting_of(alloc: Global, text: &str) -> Result<String, AllocError> {
     let nested = nesting(text);
     format!(in alloc; "{nested}")
 }
 
-/// Where a text is nested deeper than so.
+/// Returns where a text is nested deeper than `most`.
 fn beyond(alloc: Global, text: &str, most: u64) -> Result<String, Fault> {
     match nesting_beyond(text, most as usize) {
         Some(at) => Ok(format!(in alloc; "@{at}")?),

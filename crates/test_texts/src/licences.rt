@@ -1,5 +1,5 @@
-//! What a text is as a licence expression: its print, and whether it is satisfied where `a` is allowed, where `b` is,
-//! and where both are; or where its fault lies, and what it is.
+//! Texts as licence expressions: what they print, and whether they are satisfied if `a` is allowed, if `b` is, and if
+//! both are; or the span and the reason of the error.
 
 use spdx_expressions::{Licence, LicenceExpression, ParseError, ReadError};
 use std::alloc::{AllocError, Global};
@@ -20,7 +20,7 @@ pub fn answer(alloc: Global, call: &str, fields: &mut Fields<'_>) -> Result<Stri
     }
 }
 
-/// The list of some licences.
+/// Returns the list of some licences.
 fn entries(alloc: Global, texts: &[&str]) -> Result<Vec<Licence>, AllocError> {
     let mut allowed = Vec::new(alloc);
     for text in texts {
@@ -33,7 +33,7 @@ fn entries(alloc: Global, texts: &[&str]) -> Result<Vec<Licence>, AllocError> {
     Ok(allowed)
 }
 
-/// What an expression prints, and over which lists it is satisfied.
+/// Returns what an expression prints, and which lists satisfy it.
 fn satisfied(alloc: Global, read: &LicenceExpression) -> Result<String, AllocError> {
     let mut out = String::new(alloc);
     add_text(&mut out, &printed(alloc, read)?)?;
@@ -44,7 +44,7 @@ fn satisfied(alloc: Global, read: &LicenceExpression) -> Result<String, AllocErr
     Ok(out)
 }
 
-/// Where a fault lies, and what it is.
+/// Returns the span and the reason of an error.
 fn refused(alloc: Global, fault: &ParseError) -> Result<String, AllocError> {
     let start = fault.span.start;
     let end = fault.span.end;

@@ -1,5 +1,5 @@
-//! Runs rows on the library: what is read of texts, printed, matched, compared and warned about, also at each size; and
-//! on licence expressions.
+//! Runs the rows of tests on the library: texts that are parsed, printed, matched, compared and warned about, also at
+//! each size, and on licence expressions.
 #![tactic(auto)]
 
 mod asked;

@@ -1,4 +1,4 @@
-//! What holds over facts, by each kind of holder, and how often these are asked.
+//! Truth values over facts, by each kind of holder, and the numbers of queries.
 
 use crate::asked;
 use cargo_platform::{Cfg, CfgExpr, FactIndex, Facts, Listed};
@@ -32,7 +32,7 @@ fn has_fact<F: Facts>(facts: &F, fact: &Cfg) -> bool {
     facts.holds(fact)
 }
 
-/// Whether an expression holds over facts, if each holder says the same.
+/// Returns whether an expression is true over facts, if all holders agree.
 fn over_each(alloc: Global, fields: &mut Fields<'_>) -> Result<String, Fault> {
     let e = asked::expression(alloc, fields)?;
     let facts = made_facts::values(alloc, fields)?;
@@ -56,7 +56,7 @@ fn agreed(alloc: Global, answer: bool, is_same: bool) -> Result<String, Fault> {
     Ok(word(alloc, "one holder says yes, another no")?)
 }
 
-/// Whether an expression holds over listed facts, and how often the list is asked.
+/// Returns whether an expression is true over listed facts, and the number of queries of the list.
 fn asks(alloc: Global, fields: &mut Fields<'_>) -> Result<String, Fault> {
     let e = asked::expression(alloc, fields)?;
     let facts = made_facts::values(alloc, fields)?;
@@ -64,7 +64,7 @@ fn asks(alloc: Global, fields: &mut Fields<'_>) -> Result<String, Fault> {
     told(alloc, answer, count)
 }
 
-/// Whether an expression holds over an index of facts, and how often that is asked.
+/// Returns whether an expression is true over an index of facts, and the number of queries of the index.
 fn by_index(alloc: Global, fields: &mut Fields<'_>) -> Result<String, Fault> {
     let e = asked::expression(alloc, fields)?;
     let index = FactIndex::new(alloc, &made_facts::values(alloc, fields)?)?;
@@ -77,7 +77,7 @@ fn told(alloc: Global, answer: bool, count: u128) -> Result<String, Fault> {
     Ok(format!(in alloc; "{word}, {count} asks")?)
 }
 
-/// Whether a condition selects a target, and how often its facts are asked.
+/// Returns whether a condition selects a target, and the number of queries of its facts.
 fn at_target(alloc: Global, fields: &mut Fields<'_>) -> Result<String, Fault> {
     let p = asked::key(alloc, fields)?;
     let name = fields.text(alloc)?;
@@ -89,14 +89,14 @@ fn at_target(alloc: Global, fields: &mut Fields<'_>) -> Result<String, Fault> {
     told(alloc, answer, asks.count())
 }
 
-/// Whether the text of a condition holds over facts.
+/// Returns whether the text of a condition is true over facts.
 fn by_key(alloc: Global, fields: &mut Fields<'_>) -> Result<String, Fault> {
     let key = fields.text(alloc)?;
     let facts = made_facts::values(alloc, fields)?;
     Ok(yes(alloc, CfgExpr::matches_key(alloc, &key, &facts)?)?)
 }
 
-/// Whether a name or a pair is among the facts.
+/// Returns whether a name or pair is one of the facts.
 fn has(alloc: Global, fields: &mut Fields<'_>) -> Result<String, Fault> {
     let fact = made_facts::value(alloc, fields.need()?)?;
     let facts = made_facts::values(alloc, fields)?;

@@ -45,7 +45,7 @@ fn of_names(alloc: Global, fields: &mut Fields<'_>) -> Result<String, Fault> {
     stands(alloc, &a, &made_facts::name(alloc, fields.need()?)?)
 }
 
-/// Whether a name is that of a text.
+/// Returns whether a name is that of a text.
 fn is_name(alloc: Global, fields: &mut Fields<'_>) -> Result<String, Fault> {
     let name = made_facts::name(alloc, fields.need()?)?;
     let text = fields.text(alloc)?;
@@ -58,7 +58,7 @@ fn hash_of<T: Hash>(x: &T) -> u64 {
     state.finish()
 }
 
-/// How the first stands to the second, if all comparisons and the hashes agree.
+/// Returns how the first value compares with the second one, if all comparisons and the hashes agree.
 fn stands<T: Ord + Hash>(alloc: Global, a: &T, b: &T) -> Result<String, Fault> {
     let order = a.cmp(b);
     if !is_agreed(a, b, order) {
@@ -79,7 +79,7 @@ fn is_agreed<T: Ord + Hash>(a: &T, b: &T, order: Ordering) -> bool {
         && (hash_of(a) == hash_of(b)) == order.is_eq()
 }
 
-/// The values as keys of a map in their order, and how many keys a hashed map has.
+/// Returns the values as keys of a map in their order, and the number of keys in a hash map.
 fn in_maps(alloc: Global, fields: &mut Fields<'_>) -> Result<String, Fault> {
     let mut sorted: BTreeMap<Cfg, usize> = BTreeMap::new(alloc);
     let mut hashed: HashMap<Cfg, usize> = HashMap::new(alloc);
@@ -104,7 +104,7 @@ fn in_order(
     Ok(out)
 }
 
-/// The expressions of a list of texts.
+/// Returns the expressions of a list of texts.
 fn expressions(alloc: Global, fields: &mut Fields<'_>) -> Result<Vec<CfgExpr>, Fault> {
     let mut all = Vec::new(alloc);
     for word in fields.list(alloc)? {
@@ -118,7 +118,8 @@ fn expression(alloc: Global, word: &str) -> Result<CfgExpr, Fault> {
     spelled(alloc, &text_of(alloc, word)?)
 }
 
-/// For each that is asked, the number of the last one that was put in under it, in maps of both kinds.
+/// Returns for each expression that is looked up the number of the last one that was inserted under it, in maps of both
+/// kinds.
 fn found(alloc: Global, fields: &mut Fields<'_>) -> Result<String, Fault> {
     let mut sorted: BTreeMap<CfgExpr, usize> = BTreeMap::new(alloc);
     let mut hashed: HashMap<CfgExpr, usize> = HashMap::new(alloc);

@@ -1,4 +1,4 @@
-//! Texts that are read, or refused, and what is printed of trees.
+//! Texts that are accepted or rejected, and what trees print.
 
 use cargo_platform::{
     Cfg, CfgExpr, FactsError, JsonError, ParseError, Platform, ReadError, read_facts,
@@ -11,8 +11,8 @@ use test_rows::forms::{self, add_error, add_other, add_printed, add_span, refuse
 use test_rows::texts::{platform, spelled};
 use test_rows::{Fault, trees};
 
-/// A text is looked at no more often than this for each of its characters and for its end. `.ci/second-reader` takes
-/// the number from here.
+/// The maximum number of character reads for each character of a text, and for its end. `.ci/second-reader` takes the
+/// number from here.
 const LOOKS_A_CHARACTER: u128 = 12;
 
 pub fn answer(alloc: Global, call: &str, fields: &mut Fields<'_>) -> Result<String, Fault> {
@@ -38,7 +38,8 @@ fn of_text(alloc: Global, call: &str, text: &str) -> Result<String, Fault> {
     }
 }
 
-/// The tree of an expression and what it prints, if not the text. Its print and its copy have to give the same tree.
+/// Returns the tree of an expression, and what it prints if that is not the text. What it prints and its copy have to
+/// have the same tree.
 fn expression(alloc: Global, text: &str) -> Result<String, Fault> {
     match CfgExpr::from_str(alloc, text) {
         Ok(e) => read_expression(alloc, &e, text),
@@ -54,7 +55,7 @@ fn read_expression(alloc: Global, e: &CfgExpr, text: &str) -> Result<String, Fau
     Ok(out)
 }
 
-/// Adds what an expression prints, if not the text, and the tree of that, if not the same.
+/// Appends what an expression prints, if it is not the text, and the tree of that, if it is not the same.
 fn add_again(
     alloc: Global,
     out: &mut String,
@@ -69,7 +70,7 @@ fn add_again(
     Ok(())
 }
 
-/// Adds the tree of a copy, if not the same.
+/// Appends the tree of a copy, if it is not the same.
 fn add_copy(alloc: Global, out: &mut String, e: &CfgExpr, form: &str) -> Result<(), AllocError> {
     let copy = tree(alloc, &e.clone(alloc)?)?;
     add_other(out, ", but copies as ", &copy, form)
@@ -87,7 +88,8 @@ fn fact(alloc: Global, text: &str) -> Result<String, Fault> {
     }
 }
 
-/// The target or the condition. Of a refused one also where the fault lies in the key, where its part is another text.
+/// Returns the target or the condition. If a key is rejected with an error whose text is only a part of the key, also
+/// returns the span of the error in the key.
 fn key(alloc: Global, text: &str) -> Result<String, Fault> {
     match Platform::from_str(alloc, text) {
         Ok(p) => Ok(read_key(alloc, &p, text)?),
@@ -122,8 +124,8 @@ fn add_place(out: &mut String, error: &ParseError, key: &str) -> Result<(), Faul
     Ok(())
 }
 
-/// The facts of the lines, or the number of the first line that spells none, with its error, and where that lies in the
-/// whole text.
+/// Returns the facts in the lines, or the number of the first line that is not a fact, with its error, and the span of
+/// that in the whole text.
 fn lines(alloc: Global, text: &str) -> Result<String, Fault> {
     match read_facts(alloc, text) {
         Ok(facts) => Ok(forms::values(alloc, &facts)?),
@@ -155,7 +157,7 @@ fn refused_line(alloc: Global, refusal: &FactsError, text: &str) -> Result<Strin
     }
 }
 
-/// Whether a text is read, and how often it is looked at.
+/// Returns whether a text is accepted, and the number of character reads.
 fn counted(alloc: Global, text: &str) -> Result<(bool, u128), Fault> {
     let (read, looks) = CfgExpr::from_str_counted(alloc, text);
     match read {
@@ -171,8 +173,8 @@ fn looks(alloc: Global, text: &str) -> Result<String, Fault> {
     Ok(format!(in alloc; "{word}, {count} looks")?)
 }
 
-/// Whether a text is read, and how often it is looked at where that is out of bounds: a text that is read is looked at
-/// at least once at each character and at its end.
+/// Returns whether a text is accepted, and the number of character reads if it is out of bounds: an accepted text has
+/// at least one read of each character and of its end.
 fn bounds(alloc: Global, text: &str) -> Result<String, Fault> {
     let (is_read, count) = counted(alloc, text)?;
     let mut out = word(alloc, if is_read { "read" } else { "refused" })?;
@@ -184,7 +186,7 @@ fn bounds(alloc: Global, text: &str) -> Result<String, Fault> {
     Ok(out)
 }
 
-/// The text that is the JSON of a condition, which has to read back as what prints so.
+/// Returns the text that is the JSON of a condition. Reading the JSON has to have the same result as parsing that text.
 fn json(alloc: Global, text: &str) -> Result<String, Fault> {
     let value = platform(alloc, text)?.to_json(alloc)?;
     match value.as_str() {
@@ -201,7 +203,7 @@ fn written_json(alloc: Global, value: &Value, written: &str) -> Result<String, F
     Ok(out)
 }
 
-/// What a JSON value stands for. The text is known to be JSON, so that only memory can be lacking.
+/// Returns what a JSON value stands for. The text is known to be JSON, so that only memory can be lacking.
 fn from_json(alloc: Global, json: &str) -> Result<String, Fault> {
     match Value::from_str(alloc, json) {
         Ok(value) => from_value(alloc, &value),
@@ -229,7 +231,7 @@ fn refused_value(alloc: Global, refusal: &JsonError, text: &str) -> Result<Strin
     }
 }
 
-/// What a tree that is made by hand prints, also in a condition. Its copy has to be the same.
+/// Returns what a tree that is made by hand prints, also in a condition. Its copy has to be the same.
 fn print(alloc: Global, e: CfgExpr) -> Result<String, Fault> {
     let printed = forms::printed(alloc, &e)?;
     let mut out = barred(alloc, &printed)?;
@@ -238,7 +240,7 @@ fn print(alloc: Global, e: CfgExpr) -> Result<String, Fault> {
     Ok(out)
 }
 
-/// Adds what a condition prints, if not that of its expression.
+/// Appends what a condition prints, if that is not what its expression prints.
 fn add_condition(
     alloc: Global,
     out: &mut String,
@@ -249,7 +251,7 @@ fn add_condition(
     add_printed(alloc, out, ", but as a condition ", p, &wanted)
 }
 
-/// What a target of this name prints.
+/// Returns what a target with this name prints.
 fn print_target(alloc: Global, name: String) -> Result<String, Fault> {
     let printed = forms::printed(alloc, &Platform::Name(name))?;
     Ok(barred(alloc, &printed)?)

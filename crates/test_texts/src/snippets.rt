@@ -1,4 +1,4 @@
-//! What people are shown of a refused text.
+//! The snippets of rejected texts.
 
 use cargo_platform::{CfgExpr, ParseError, Platform, ReadError, shown_start, shown_text};
 use std::alloc::Global;
@@ -17,7 +17,7 @@ pub fn answer(alloc: Global, call: &str, fields: &mut Fields<'_>) -> Result<Stri
     }
 }
 
-/// The error of a text that is known to be refused.
+/// Returns the error of a text that is known to be rejected.
 fn error_of(refusal: Option<ReadError>) -> Result<ParseError, Fault> {
     match refusal {
         Some(ReadError::Parse(error)) => Ok(error),
@@ -31,7 +31,7 @@ fn of_expression(alloc: Global, text: &str) -> Result<String, Fault> {
     lines(alloc, error.snippet(alloc)?)
 }
 
-/// The lines on a key. In another key the error has none.
+/// Returns the lines of the snippet of a key. In another key, the error has none.
 fn of_key(alloc: Global, key: &str) -> Result<String, Fault> {
     let error = error_of(Platform::from_str(alloc, key).err())?;
     let mut out = lines(alloc, error.snippet_in(alloc, key)?)?;
@@ -48,7 +48,7 @@ fn lines(alloc: Global, snippet: Option<String>) -> Result<String, Fault> {
     }
 }
 
-/// A text as it is shown in whole, and its start.
+/// Returns a text as it is displayed as a whole, and its start.
 fn shown(alloc: Global, text: &str) -> Result<String, Fault> {
     let mut out = barred(alloc, &shown_text(alloc, text)?)?;
     out.push(' ')?;

@@ -1,4 +1,4 @@
-//! Texts that are read several times. `.ci/refusals` takes from it how many allocations a reading makes.
+//! Texts that are parsed several times. `.ci/refusals` takes from it how many allocations a parse makes.
 
 use cargo_platform::{Cfg, CfgExpr, FactsError, Platform, ReadError, read_facts};
 use std::alloc::Global;
@@ -6,7 +6,8 @@ use test_rows::Fault;
 use test_rows::fields::Fields;
 use test_rows::forms::word;
 
-/// Whether a text is read, which is read as often as the row says. Each time what was read before is let go.
+/// Returns whether a text is accepted, which is parsed as often as the row says. Each time, the result before is
+/// dropped.
 pub fn answer(alloc: Global, call: &str, fields: &mut Fields<'_>) -> Result<String, Fault> {
     let times = fields.number()?;
     let text = fields.text(alloc)?;

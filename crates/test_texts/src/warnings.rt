@@ -1,4 +1,4 @@
-//! What is warned about in conditions.
+//! The warnings on conditions.
 
 use crate::asked;
 use cargo_platform::Platform;
@@ -20,7 +20,7 @@ const ON_FEATURE: &str =
     dependencies and will not work as expected. Use the [features] section instead: \
     https://doc.rust-lang.org/cargo/reference/features.html";
 
-/// What stands before a warning of the row's own.
+/// The warning that is in the list before the others.
 const BEFORE: &str = "w";
 
 pub fn answer(alloc: Global, call: &str, fields: &mut Fields<'_>) -> Result<String, Fault> {
@@ -46,7 +46,7 @@ fn of_target(alloc: Global, fields: &mut Fields<'_>) -> Result<String, Fault> {
     Ok(out)
 }
 
-/// The warnings on a tree that is made by hand.
+/// Returns the warnings on a tree that is made by hand.
 fn of_keywords(alloc: Global, fields: &mut Fields<'_>) -> Result<String, Fault> {
     let path = fields.text(alloc)?;
     let e = trees::tree(alloc, fields)?;
@@ -58,14 +58,15 @@ fn of_read_keywords(alloc: Global, fields: &mut Fields<'_>) -> Result<String, Fa
     keywords(alloc, &Platform::Cfg(e), "-")
 }
 
-/// A list with one warning in it. What is added has to stand behind it, and nothing where memory is lacking.
+/// Returns a list with one warning in it. What is added has to come after it, and nothing is added if memory is
+/// lacking.
 fn begun(alloc: Global) -> Result<Vec<String>, Fault> {
     let mut found = Vec::new(alloc);
     found.push(word(alloc, BEFORE)?).map_err(AllocError::from)?;
     Ok(found)
 }
 
-/// The warnings that were added.
+/// Returns the warnings that were added.
 fn added(found: &[String]) -> Result<&[String], Fault> {
     match found {
         [first, rest @ ..] if first.as_str() == BEFORE => Ok(rest),
@@ -73,7 +74,7 @@ fn added(found: &[String]) -> Result<&[String], Fault> {
     }
 }
 
-/// What came of a walk that was refused memory.
+/// Returns the result of a walk that was refused memory.
 fn left_behind(found: &[String]) -> Fault {
     match found {
         [only] if only.as_str() == BEFORE => Fault::Memory,
@@ -81,7 +82,7 @@ fn left_behind(found: &[String]) -> Fault {
     }
 }
 
-/// The words that attributes are warned about by.
+/// Returns the words of the warnings on attributes.
 fn attributes(alloc: Global, p: &Platform) -> Result<String, Fault> {
     let mut found = begun(alloc)?;
     if p.check_cfg_attributes(alloc, &mut found).is_err() {
@@ -126,7 +127,7 @@ fn add_attribute(out: &mut String, warning: &str) -> Result<(), AllocError> {
     }
 }
 
-/// The keywords that are warned about, each after what it stands in.
+/// Returns the keywords of the warnings, each after what contains it.
 fn keywords(alloc: Global, p: &Platform, path: &str) -> Result<String, Fault> {
     let mut found = begun(alloc)?;
     if p.check_cfg_keywords(alloc, &mut found, path).is_err() {
@@ -161,7 +162,7 @@ fn add_keyword(
     add_text(out, warning)
 }
 
-/// What stands behind the printed form in the warning on a keyword.
+/// Returns the text after the printed form in the warning on a keyword.
 fn behind(alloc: Global, keyword: &str) -> Result<String, AllocError> {
     format!(in alloc;
         ")` is deprecated as `{keyword}` is a keyword and not an identifier \

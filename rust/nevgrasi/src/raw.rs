@@ -7,42 +7,42 @@
 pub struct Outcome {
     /// One of the constants above.
     pub code: u32,
-    /// Which text of the call is refused, no UTF-8 or too deep: 0 is its first.
+    /// The index, from 0 on, of the text of the call that is rejected, not UTF-8 or too deep.
     pub argument: u32,
     /// The answer of a call that answers yes or no.
     pub holds: bool,
-    /// Whether the first text of an example is its name.
+    /// True if the first text of an example is its name.
     pub is_named: bool,
-    /// How many bytes the answer or the message has. The buffer is written where it has as many.
+    /// The number of bytes of the answer or the message. They are written if the buffer has as many.
     pub needed: usize,
-    /// The first byte of a fault, in the text that is refused.
+    /// The first byte of the error, in the text that is rejected.
     pub start: usize,
-    /// The byte after the fault.
+    /// The byte after the error.
     pub end: usize,
 }
 
-/// The answer is there.
+/// The call has an answer.
 pub const DONE: u32 = 0;
-/// A text is refused: the buffer has the message, and `start` and `end` are the bytes of the fault in the text.
+/// A text is rejected: the buffer has the message, and the bytes from `start` to `end` of the text are the error.
 pub const REFUSED: u32 = 1;
-/// A text is no UTF-8.
+/// A text is not UTF-8.
 pub const NOT_UTF8: u32 = 2;
-/// The bytes are no flat condition, or no flat facts.
+/// The bytes are not a flat condition, or not flat facts.
 pub const NOT_FLAT: u32 = 3;
 /// Memory was refused.
 pub const NO_MEMORY: u32 = 4;
 /// The budget is used up.
 pub const UNDECIDED: u32 = 5;
-/// More parentheses than `MOST_OPEN` are open at once, or more groups of a flat condition.
+/// More than `MOST_OPEN` parentheses are open at once, or a flat condition has more than `MOST_FLAT_BYTES` bytes.
 pub const TOO_DEEP: u32 = 6;
-/// No known target has this name or place.
+/// No known target has this name or index.
 pub const UNKNOWN_TARGET: u32 = 7;
-/// How many parentheses of a text may be open at once. Matching, printing and comparing take stack for a group that
-/// others follow: some 100 bytes for each of so many.
+/// The maximum number of parentheses of a text that can be open at once. Matching, printing and comparing use some 100
+/// bytes of stack for each open group that others follow.
 pub const MOST_OPEN: usize = 10000;
-/// How many bytes a flat condition may have, since it may hold one group for each 17 of them.
+/// The maximum number of bytes of a flat condition, which can contain one group for each 17 of them.
 pub const MOST_FLAT_BYTES: usize = 680000;
-/// The version of the interface: it rises whenever a caller of an earlier one may break.
+/// The version of the interface. It rises whenever a caller of an earlier version may break.
 pub const ABI: u32 = 2;
 /// How many targets there are.
 pub const TARGETS: usize = 320;
@@ -50,15 +50,15 @@ pub const TARGETS: usize = 320;
 pub const WORDS: usize = 5;
 
 extern "C" {
-    /// Answers the version of the interface. A caller that was compiled with another `NEVGRASI_ABI` should not go on.
+    /// Returns the version of the interface. A caller that was compiled with another `NEVGRASI_ABI` should not go on.
     pub fn nevgrasi_abi() -> u32;
-    /// Writes the version of the library, as three numbers with dots between them.
+    /// Writes the version of the library: three numbers with dots between them.
     pub fn nevgrasi_version(
         out: *mut u8,
         out_length: usize,
         outcome: *mut Outcome,
     ) -> u32;
-    /// Writes the canonical text of the condition that a key spells: its print, which spells the same condition.
+    /// Writes the canonical text of a key's condition, which spells the same condition.
     pub fn nevgrasi_canonical(
         key: *const u8,
         key_length: usize,
@@ -66,8 +66,8 @@ extern "C" {
         out_length: usize,
         outcome: *mut Outcome,
     ) -> u32;
-    /// Shows where a key is refused: with `REFUSED` it writes two lines, the key and carets under its fault. `DONE`,
-    /// with no bytes, where the key spells a condition.
+    /// Shows the error of a rejected key: with `REFUSED`, writes two lines, the key and carets under the error. Returns
+    /// `DONE`, with no bytes, if the key is a condition.
     pub fn nevgrasi_fault(
         key: *const u8,
         key_length: usize,
@@ -75,8 +75,8 @@ extern "C" {
         out_length: usize,
         outcome: *mut Outcome,
     ) -> u32;
-    /// Answers by `holds` whether a key applies to the target of this name, with the facts of these lines, as `rustc
-    /// --print cfg` prints them. `argument` 2 tells that a line is refused.
+    /// Decides whether a key is true on the target with this name and the facts in these lines, which are as `rustc
+    /// --print cfg` prints them. `holds` is the answer. With `REFUSED`, `argument` 2 means that a line is not a fact.
     pub fn nevgrasi_matches(
         key: *const u8,
         key_length: usize,
@@ -88,7 +88,8 @@ extern "C" {
         out_length: usize,
         outcome: *mut Outcome,
     ) -> u32;
-    /// Answers the known targets at which a key holds: the target at place `k` is bit `k % 64` of word `k / 64`.
+    /// Sets `words` to the known targets on which a key is true: bit `k % 64` of word `k / 64` is the target at index
+    /// `k`.
     pub fn nevgrasi_targets(
         key: *const u8,
         key_length: usize,
@@ -97,14 +98,14 @@ extern "C" {
         out_length: usize,
         outcome: *mut Outcome,
     ) -> u32;
-    /// Writes the name of the known target at this place, or answers `UNKNOWN_TARGET`. The names are sorted.
+    /// Writes the name of the known target at an index, or returns `UNKNOWN_TARGET`. The names are sorted.
     pub fn nevgrasi_target_name(
         place: usize,
         out: *mut u8,
         out_length: usize,
         outcome: *mut Outcome,
     ) -> u32;
-    /// Writes the facts of the known target of this name, one a line, as `nevgrasi_matches` reads them; or answers
+    /// Writes the facts of the known target with this name, one per line, as `nevgrasi_matches` reads them, or returns
     /// `UNKNOWN_TARGET`.
     pub fn nevgrasi_facts(
         name: *const u8,
@@ -113,8 +114,8 @@ extern "C" {
         out_length: usize,
         outcome: *mut Outcome,
     ) -> u32;
-    /// Answers by `holds` whether the second key holds wherever the first does, over every set of facts that rustc's
-    /// rules allow. Of a no it writes an example.
+    /// Decides whether the second key is true wherever the first is, over every set of facts that rustc's rules allow.
+    /// `holds` is the answer. If it is false, writes a counterexample.
     pub fn nevgrasi_implies(
         first: *const u8,
         first_length: usize,
@@ -125,7 +126,8 @@ extern "C" {
         out_length: usize,
         outcome: *mut Outcome,
     ) -> u32;
-    /// The same of whether both keys hold at the same targets.
+    /// Decides whether both keys are true on the same targets, over every set of facts that rustc's rules allow.
+    /// `holds` is the answer. If it is false, writes a counterexample.
     pub fn nevgrasi_equivalent(
         first: *const u8,
         first_length: usize,
@@ -136,7 +138,8 @@ extern "C" {
         out_length: usize,
         outcome: *mut Outcome,
     ) -> u32;
-    /// The same of whether the keys hold together nowhere.
+    /// Decides whether the keys are true together on no target, over every set of facts that rustc's rules allow.
+    /// `holds` is the answer. If it is false, writes a counterexample.
     pub fn nevgrasi_excludes(
         first: *const u8,
         first_length: usize,
@@ -147,8 +150,8 @@ extern "C" {
         out_length: usize,
         outcome: *mut Outcome,
     ) -> u32;
-    /// Answers by `holds` whether a key can hold, over some set of facts that rustc's rules allow. Of a yes it writes
-    /// an example.
+    /// Decides whether a key can be true, over some set of facts that rustc's rules allow. `holds` is the answer. If it
+    /// is true, writes an example.
     pub fn nevgrasi_can_hold(
         key: *const u8,
         key_length: usize,
@@ -157,7 +160,7 @@ extern "C" {
         out_length: usize,
         outcome: *mut Outcome,
     ) -> u32;
-    /// Writes the flat condition that a key spells: bytes that the caller keeps in its place.
+    /// Writes the flat form of a key's condition: bytes that the caller can keep in place of the key.
     pub fn nevgrasi_read_key(
         key: *const u8,
         key_length: usize,
@@ -173,7 +176,8 @@ extern "C" {
         out_length: usize,
         outcome: *mut Outcome,
     ) -> u32;
-    /// Answers by `holds` whether a flat condition holds for the target of this name, with these flat facts.
+    /// Decides whether a flat condition is true on the target with this name and these flat facts. `holds` is the
+    /// answer.
     pub fn nevgrasi_flat_matches(
         flat: *const u8,
         flat_length: usize,
@@ -183,10 +187,10 @@ extern "C" {
         flat_facts_length: usize,
         outcome: *mut Outcome,
     ) -> u32;
-    /// Writes at which known targets each package of a graph is in the build: a line of JSON for each package, as the
-    /// program `manifest_check graph --json` prints them. The document is what `cargo metadata --format-version 1`
-    /// printed. Builds run on the host, a known target of this name, and with an empty name on the target itself. With
-    /// `REFUSED` it writes why the document can't be used, and tells no span.
+    /// Writes a line of JSON for each package of a graph, with the known targets on which it is in the build, as the
+    /// program `manifest_check graph --json` prints them. The document is the output of `cargo metadata --format-
+    /// version 1`. Builds run on the host, a known target with this name, or on the target itself if the name is empty.
+    /// With `REFUSED`, writes why the document cannot be used, and sets no span.
     pub fn nevgrasi_graph(
         document: *const u8,
         document_length: usize,

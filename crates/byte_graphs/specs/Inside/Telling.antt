@@ -1,4 +1,4 @@
--- What is rightly told of a document.
+-- The correct result for a document.
 use Rattle.std.specs.Prelude.{ℕ, List}
 use Rattle.serde_json.specs.Data.{Data}
 use Rattle.byte_graphs.specs.declared.documents.Told.{Told}

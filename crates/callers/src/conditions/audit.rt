@@ -1,4 +1,4 @@
-//! Conditions as keys of maps, and their canonical texts, as an audit of licences wants them.
+//! Conditions as keys of maps, and their canonical texts, as a licence audit needs them.
 
 ghost use Rattle.std.specs.Prelude.{◌≡◌, ◌↔◌, IsTrue, IfOk, OnOk, OnErr, string_bytes};
 ghost use Rattle.cargo_platform.specs.Trees.{Condition, condition_of};
@@ -13,7 +13,7 @@ use cargo_platform::{Platform, ReadError, laws};
 use std::alloc::{AllocError, Global};
 use std::collections::{BTreeMap, HashMap};
 
-/// Whether two conditions are one key of a map: they are where they are the same but for raw marks.
+/// Returns whether two conditions are the same key of a map: they are if they differ only in raw marks.
 pub fn is_one_key(a: &Platform, b: &Platform) -> bool
     ensures { IsTrue result ↔ (condition_key (condition_of a.now) ≡ condition_key (condition_of b.now)) }
 {
@@ -21,8 +21,8 @@ pub fn is_one_key(a: &Platform, b: &Platform) -> bool
     a == b
 }
 
-/// Notes the licence of what is taken under a condition. It then stands under each condition with the same key, and
-/// under every other one stands what stood there.
+/// Records the licence of what is used under a condition. The map then has the licence for each condition with the same
+/// key, and for every other condition what it had before.
 pub fn note(
     licences: &mut BTreeMap<Platform, String>,
     condition: Platform,
@@ -37,7 +37,7 @@ pub fn note(
     Ok(())
 }
 
-/// The same with a map by hashes.
+/// Records a licence as `note` does, in a hash map.
 pub fn note_hashed(
     hashed: &mut HashMap<Platform, String>,
     condition: Platform,
@@ -52,7 +52,7 @@ pub fn note_hashed(
     Ok(())
 }
 
-/// The canonical text of a key: the print of the condition that the key spells. It spells that condition too.
+/// Returns the canonical text of a key, which spells the same condition as the key.
 pub fn canonical(alloc: Global, key: &str) -> Result<String, ReadError>
     ensures canonical { IfOk result (λ text. (p : Condition) × IsConditionText key.now p
         × (string_bytes text ≡ print_condition p) × IsConditionText (string_bytes text) p) }

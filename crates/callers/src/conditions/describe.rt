@@ -1,4 +1,4 @@
-//! A line on a key of a manifest.
+//! Describes a key of a manifest in one line.
 
 ghost use Rattle.std.specs.Prelude.{IfOk, map, string_bytes};
 ghost use Rattle.cargo_platform.specs.Trees.{value_of};
@@ -8,7 +8,8 @@ ghost use Rattle.callers.specs.Reports.{IsLineOn};
 use cargo_platform::{Cfg, Platform, ReadError};
 use std::alloc::{AllocError, Global};
 
-/// The key in its canonical form and whether it applies to a target, by its name and facts; or the key's fault.
+/// Returns the canonical form of a key, and whether it is true on a target, given by its name and facts; or the error
+/// of the key.
 pub fn describe(alloc: Global, key: &str, target: &str, facts: &[Cfg]) -> Result<String, AllocError>
     ensures { IfOk result
         (λ line. IsLineOn key.now target.now (fact_set (map value_of facts.now)) (string_bytes line)) }

@@ -1,4 +1,4 @@
-//! What a key asks that stands in the code.
+//! Evaluates a key that is written in the code.
 
 ghost use Rattle.std.specs.Prelude.{◌≡◌, IfOk, codes, map};
 ghost use Rattle.std.specs.FinSet.{contains};
@@ -9,7 +9,7 @@ ghost use Rattle.cargo_platform.specs.Holders.{name_fact};
 use cargo_platform::{Cfg, CfgExpr};
 use std::alloc::{AllocError, Global};
 
-/// Whether `cfg(unix)` applies: whether the name `unix` is among the facts.
+/// Returns whether `cfg(unix)` is true: whether the name `unix` is one of the facts.
 pub fn is_unix(alloc: Global, facts: &[Cfg]) -> Result<bool, AllocError>
     ensures { IfOk result (λ yes. yes ≡ contains (fact_set (map value_of facts.now)) (name_fact (codes "unix"))) }
 {

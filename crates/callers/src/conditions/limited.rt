@@ -1,4 +1,4 @@
-//! A key that is read only where it is not nested too deep.
+//! Parses a key only if it is not nested too deep.
 
 ghost use Rattle.std.specs.Prelude.{IfOk, IfSome, IfNone};
 ghost use Rattle.cargo_platform.specs.Trees.{condition_of};
@@ -8,7 +8,7 @@ ghost use Rattle.cargo_platform.specs.Nesting.{IsNestedWithin, IsNestedBeyond};
 use cargo_platform::{Platform, ReadError, nesting_beyond};
 use std::alloc::Global;
 
-/// The condition that a key spells, or `None` where more than so many of its parentheses are open at once.
+/// Returns the condition of a key, or `None` if more than `most` of its parentheses are open at once.
 pub fn read_within(alloc: Global, key: &str, most: usize) -> Result<Option<Platform>, ReadError>
     ensures condition { IfOk result (λ found. IfSome found (λ p. IsConditionText key.now (condition_of p))) }
     ensures within { IfOk result (λ found. IfSome found (λ _. IsNestedWithin key.now most)) }

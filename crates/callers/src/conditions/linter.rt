@@ -7,7 +7,7 @@ ghost use Rattle.callers.specs.Reports.{IsReport};
 use cargo_platform::{Platform, ReadError};
 use std::alloc::{AllocError, Global};
 
-/// Appends the texts, a line each.
+/// Appends the texts, one per line.
 fn push_lines(report: &mut String, texts: &[String]) -> Result<(), AllocError>
     ensures { OnOk result (string_bytes report.new
         ≡ string_bytes report.old ++ ended (map (λ t. string_bytes t) texts.now)) }
@@ -19,8 +19,8 @@ fn push_lines(report: &mut String, texts: &[String]) -> Result<(), AllocError>
     Ok(())
 }
 
-/// The report on a key of this manifest: the condition in its canonical form and Cargo's warnings about it, a line
-/// each, or the line that tells why the key is refused.
+/// Returns the report on a key of this manifest: the condition in canonical form and Cargo's warnings about it, one per
+/// line, or the line that says why the key is rejected.
 pub fn lint(alloc: Global, manifest: &str, key: &str) -> Result<String, AllocError>
     ensures { IfOk result (λ report. IsReport manifest.now key.now (string_bytes report)) }
 {

@@ -1,11 +1,11 @@
-//! An expression taken apart, as a tool wants it that goes on with the conditions in it one by one.
+//! Takes an expression apart, for a tool that goes on with its members one by one.
 
 ghost use Rattle.std.specs.Prelude.{◌≡◌, MatchOption, map};
 ghost use Rattle.cargo_platform.specs.Trees.{All, Trees, tree_of, trees_of};
 
 use cargo_platform::{CfgExpr, CfgExprParts};
 
-/// The members of an `all`, moved out of it. Any other expression has none.
+/// Moves the members out of an `all`. Returns `None` for any other expression.
 pub fn members_of_all(expression: CfgExpr) -> Option<Vec<CfgExpr>>
     ensures { MatchOption result
         ((es : Trees) → tree_of expression ≡ All es → ⊥)

@@ -1,4 +1,4 @@
-//! A reader with an error of its own, which says where the key stands.
+//! A reader with an error type of its own, which has the line of the key.
 
 ghost use Rattle.std.specs.Prelude.{◌≡◌, IfOk, IfErr};
 ghost use Rattle.cargo_platform.specs.Trees.{Condition, condition_of};
@@ -9,14 +9,14 @@ use cargo_platform::{ParseError, Platform, ReadError};
 use std::alloc::{AllocError, Global};
 use std::fmt;
 
-/// Why a manifest is refused.
+/// The reason why a manifest is rejected.
 #[derive(Debug, Drop)]
 pub enum ManifestError {
-    /// The key of a target's table is refused.
+    /// The key of a target's table is rejected.
     Key {
-        /// The number of the key's line.
+        /// The line number of the key.
         line: usize,
-        /// What is wrong with the key.
+        /// The error of the key.
         error: ParseError,
     },
     /// Memory was refused.
@@ -36,7 +36,7 @@ impl fmt::Display for ManifestError {
     }
 }
 
-/// Reads the key that stands in this line. A key is refused only if it spells no condition.
+/// Parses the key in this line. A key is rejected only if it is not a condition.
 pub fn read_key(alloc: Global, line: usize, key: &str) -> Result<Platform, ManifestError>
     ensures read { IfOk result (λ p. IsConditionText key.now (condition_of p)) }
     ensures refused { IfErr result (IsErrorOf line key.now) }

@@ -1,4 +1,4 @@
-//! A holder of facts that are kept in no list.
+//! A holder of facts that are not kept in a list.
 
 ghost use Rattle.std.specs.Prelude.{codes, string_bytes};
 ghost use Rattle.std.specs.FinSet.{union};
@@ -6,7 +6,7 @@ ghost use Rattle.cargo_platform.specs.Holders.{name_fact, pair_fact, only, where
 
 use cargo_platform::{Cfg, Facts};
 
-/// What is known of a target: its system, which is the value of `target_os`, and whether the name `unix` is a fact.
+/// The facts of a target: its system, which is the value of `target_os`, and whether the name `unix` is a fact.
 #[derive(Debug, Drop)]
 pub struct System {
     pub name: String,

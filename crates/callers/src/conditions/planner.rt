@@ -7,8 +7,8 @@ ghost use Rattle.cargo_platform.specs.Facts.{fact_set, truth_of_condition};
 use cargo_platform::{Cfg, FactIndex, Facts, Platform};
 use std::alloc::{AllocError, Global};
 
-/// Whether each condition applies to the target of this name and these facts, in the order of the conditions. The facts
-/// are put in order once.
+/// Returns whether each condition is true on the target with this name and these facts, in the order of the conditions.
+/// The facts are sorted once.
 pub fn plan(
     alloc: Global,
     target: &str,
@@ -27,7 +27,7 @@ pub fn plan(
     Ok(plan)
 }
 
-/// Whether the condition applies to the target.
+/// Returns whether the condition is true on the target.
 fn applies<F: Facts>(condition: &Platform, target: &str, facts: &F) -> bool
     ensures { result ≡ truth_of_condition target.now (F.meant facts.now) (condition_of condition.now) }
 {

@@ -1,4 +1,4 @@
-//! Whether a condition holds for a target, by what `rustc --print cfg` printed for it.
+//! Evaluates a condition on a target, from the output of `rustc --print cfg` for it.
 
 ghost use Rattle.std.specs.Prelude.{◌≡◌, List, IfOk};
 ghost use Rattle.cargo_platform.specs.Trees.{CfgValue, tree_of};
@@ -12,8 +12,8 @@ ghost use Rattle.cargo_platform.specs.Errors.{orig_of, fault_in};
 use cargo_platform::{CfgExpr, FactsError, read_facts};
 use std::alloc::Global;
 
-/// Whether the condition is true over the facts that the printed lines spell. The error is of the first line that
-/// spells no fact, and has its number and its fault.
+/// Returns whether the condition is true over the facts in the printed lines. The error is that of the first line that
+/// is not a fact, with the number of that line.
 pub fn holds_for(alloc: Global, condition: &CfgExpr, printed: &str) -> Result<bool, FactsError>
     ensures holds { IfOk result (λ yes. (facts : List CfgValue) × SpellFacts (lines_of printed.now) facts
         × (yes ≡ truth (fact_set facts) (tree_of condition.now))) }

@@ -1,12 +1,12 @@
-//! A second reader of expressions, by recursive descent over the library's tokens. It is written from the grammar in
-//! the library's GRAMMAR page and calls nothing of the library but `Tokenizer`; tests compare it with the library's
-//! own reader, which keeps a stack of open groups.
+//! A second parser of expressions, by recursive descent over the library's tokens. It is written from the grammar in
+//! the library's GRAMMAR page and calls nothing of the library but `Tokenizer`. Tests compare it with the library's own
+//! parser, which keeps a stack of open groups.
 
 use cargo_platform::{Cfg, CfgExpr, Ident, Token, Tokenizer};
 use std::alloc::Global;
 use std::process::Abort;
 
-/// The tree of an expression, or `None` if the text is refused.
+/// Returns the tree of an expression, or `None` if the text is rejected.
 pub fn read(rt: &impl Abort, alloc: Global, text: &str) -> Option<CfgExpr> {
     let mut tokens = Vec::new(alloc);
     for item in Tokenizer::new(text) {
@@ -22,7 +22,7 @@ pub fn read(rt: &impl Abort, alloc: Global, text: &str) -> Option<CfgExpr> {
     }
 }
 
-/// Reads an expression from the front of the tokens, and returns it with the tokens after it. `depth` is more than the
+/// Parses an expression at the front of the tokens, and returns it with the tokens after it. `depth` is more than the
 /// number of tokens, since each level of the recursion begins with a token.
 #[cycle(reader)]
 fn expression<'t, 'a>(
@@ -53,7 +53,7 @@ fn expression<'t, 'a>(
     }
 }
 
-/// Reads what follows the word `not`.
+/// Parses what follows the word `not`.
 #[cycle(reader)]
 fn negation<'t, 'a>(
     rt: &impl Abort,
@@ -68,7 +68,7 @@ fn negation<'t, 'a>(
     Some((CfgExpr::Not(inner), rest))
 }
 
-/// Reads the members of a group, with both parentheses.
+/// Parses the members of a group, with both parentheses.
 #[cycle(reader)]
 fn members<'t, 'a>(
     rt: &impl Abort,
@@ -92,7 +92,7 @@ fn members<'t, 'a>(
     panic!(rt; "more members than tokens")
 }
 
-/// Reads what follows the identifier of a name or a pair.
+/// Parses what follows the identifier of a name or a pair.
 fn value<'t, 'a>(
     rt: &impl Abort,
     alloc: Global,
@@ -112,7 +112,7 @@ fn value<'t, 'a>(
     }
 }
 
-/// The tokens after the first one, if the first one is `wanted`.
+/// Returns the tokens after the first one, if the first one is `wanted`.
 fn after<'t, 'a>(wanted: Token<'a>, tokens: &'t [Token<'a>]) -> Option<&'t [Token<'a>]> {
     match tokens {
         [first, rest @ ..] if *first == wanted => Some(rest),

@@ -1,4 +1,4 @@
-//! Which dependencies a target selects.
+//! Evaluates which dependencies a target selects.
 
 ghost use Rattle.std.specs.Prelude.{◌↔◌, IsTrue, IfOk, map};
 ghost use Rattle.cargo_platform.specs.Trees.{Condition, condition_of, value_of};
@@ -9,7 +9,7 @@ ghost use Rattle.cargo_platform.specs.Errors.{IfParse, orig_of, fault_in};
 use cargo_platform::{Cfg, Platform, ReadError};
 use std::alloc::Global;
 
-/// Whether a dependency under this key of a manifest is selected for a target, by its name and facts.
+/// Returns whether a dependency under this key of a manifest is selected for a target, given by its name and facts.
 pub fn is_selected(alloc: Global, key: &str, target: &str, facts: &[Cfg]) -> Result<bool, ReadError>
     ensures selected { IfOk result (λ yes. (p : Condition) × IsConditionText key.now p
         × (IsTrue yes ↔ IsTrueCondition target.now (fact_set (map value_of facts.now)) p)) }

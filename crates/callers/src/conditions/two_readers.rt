@@ -1,11 +1,11 @@
-//! The library's reader of expressions and the recursive one answer alike, on all short texts and on longer ones.
+//! Tests that the library's parser of expressions and the recursive one agree, on all short texts and on longer ones.
 
 use super::recursive_reader;
 use cargo_platform::{Cfg, CfgExpr, Ident, ReadError};
 use std::alloc::{AllocError, Global};
 use std::process::Abort;
 
-/// How many texts both readers accept, and how many both refuse.
+/// The numbers of texts that both parsers accept, and that both reject.
 #[derive(Debug, Clone, Copy, PartialEq, Eq)]
 struct Answers {
     accepted: usize,
@@ -18,7 +18,7 @@ impl Answers {
         refused: 0,
     };
 
-    /// Asserts that both readers answer a text alike, and counts the answer.
+    /// Asserts that both parsers agree on a text, and counts the result.
     fn add(&mut self, rt: &impl Abort, alloc: Global, text: &str) {
         let plain = recursive_reader::read(rt, alloc, text);
         match CfgExpr::from_str(alloc, text) {
@@ -35,13 +35,13 @@ impl Answers {
         }
     }
 
-    /// Asserts how many texts were accepted and refused.
+    /// Asserts how many texts were accepted and rejected.
     fn assert(self, rt: &impl Abort, accepted: usize, refused: usize) {
         assert_eq!(rt; self, Answers { accepted, refused });
     }
 }
 
-/// Whether two trees are the same in all parts, raw marks included. Their equality does not see marks.
+/// Returns whether two trees are the same in all parts, including raw marks, which their equality ignores.
 #[cycle(same)]
 fn is_same(a: &CfgExpr, b: &CfgExpr) -> bool {
     match (a, b) {
@@ -79,7 +79,7 @@ fn is_same_name(a: &Ident, b: &Ident) -> bool {
     a.raw == b.raw && a.name == b.name
 }
 
-/// Pairs of texts whose trees are equal but for marks, or differ in one part.
+/// Pairs of texts whose trees are equal except for marks, or differ in one part.
 const DIFFERENT: [[&str; 2]; 10] = [
     ["a", "r#a"],
     ["k = \"v\"", "r#k = \"v\""],
@@ -109,7 +109,7 @@ const PIECES: [&str; 11] = [
     "a", "all", "any", "not", "true", "r#true", "=", "\"v\"", "(", ")", ",",
 ];
 
-/// How many texts of so many pieces there are, from none on.
+/// The number of texts of each number of pieces, from 0 on.
 const COUNTS: [usize; 6] = [1, 11, 121, 1_331, 14_641, 161_051];
 
 /// Writes a text of `length` pieces, each with a space after it: the digits of `number`, from the lowest on.
@@ -143,22 +143,22 @@ const OPENINGS: [&str; 3] = ["all(", "any(", "not("];
 
 const LEAVES: [&str; 6] = ["a", "r#true", "true", "false", "r#all = \"v\"", "k=\"(,\""];
 
-/// How many pieces a drawn text has at most, before its groups are closed.
+/// The maximum number of pieces of a random text, before its groups are closed.
 const MOST_PIECES: usize = 60;
 
-/// A text that is drawn by a linear congruential generator, whose upper bits count.
+/// A random text, made by a linear congruential generator of which the upper bits are used.
 #[derive(Drop)]
 struct Drawn {
     state: u64,
     text: String,
-    /// How many groups are open.
+    /// The number of open groups.
     open: usize,
-    /// Whether a member comes next, or what stands behind one.
+    /// True if a member comes next, and false if what follows a member does.
     is_member_next: bool,
 }
 
 impl Drawn {
-    /// The next number of the generator.
+    /// Returns the next number of the generator.
     fn number(&mut self) -> usize {
         self.state = self
             .state
@@ -167,7 +167,8 @@ impl Drawn {
         (self.state >> 33) as usize
     }
 
-    /// Draws the next piece. It mostly goes on with a text that is accepted, and is any piece in one of 32 cases.
+    /// Returns a random next piece. It mostly continues a text that is accepted, and in one of 32 cases it is any
+    /// piece.
     fn piece(&mut self) -> &'static str {
         match (self.number() % 32, self.is_member_next) {
             (0, _) => PIECES[self.number() % 11],
@@ -191,8 +192,8 @@ impl Drawn {
         }
     }
 
-    /// Draws pieces, with up to two spaces behind each, until no group is open or there are enough. Says whether no
-    /// group is open.
+    /// Appends random pieces, each followed by up to two spaces, until no group is open or there are enough. Returns
+    /// whether no group is open.
     fn add_pieces(&mut self) -> Result<bool, AllocError> {
         for _ in 0..MOST_PIECES {
             let piece = self.piece();
@@ -207,7 +208,7 @@ impl Drawn {
         Ok(false)
     }
 
-    /// Draws a text.
+    /// Makes a random text.
     fn draw(&mut self) -> Result<(), AllocError> {
         self.text.clear();
         let opening = OPENINGS[self.number() % 3];

@@ -1,4 +1,4 @@
-//! A refused key, with carets under what is wrong with it.
+//! Shows a rejected key with carets under its error.
 
 ghost use Rattle.std.specs.Prelude.{IfOk};
 ghost use Rattle.callers.specs.Underline.{IsUnderlined};
@@ -6,7 +6,7 @@ ghost use Rattle.callers.specs.Underline.{IsUnderlined};
 use cargo_platform::{Platform, ReadError, laws};
 use std::alloc::{AllocError, Global};
 
-/// Two lines that show where the key is refused, or `None` where it spells a condition.
+/// Returns two lines that show the error of a rejected key, or `None` if the key is a condition.
 pub fn underlined(alloc: Global, key: &str) -> Result<Option<String>, AllocError>
     ensures { IfOk result (λ lines. IsUnderlined key.now lines) }
 {

@@ -9,7 +9,7 @@ use known_targets::KnownTarget;
 use package_graphs::{Kinds, Package, present_packages};
 use std::alloc::{AllocError, Global};
 
-/// Whether an auditor may pass over a package: where no build on this host needs it, at any known target.
+/// Returns whether an auditor may skip a package: no build on this host needs it, for any known target.
 pub fn is_never_built(
     alloc: Global,
     packages: &[Package],

@@ -1,4 +1,4 @@
-//! Graphs with cycles, several edges and none.
+//! Tests of graphs with cycles, with several edges and with none.
 
 use super::support::{assert_at, targets};
 use known_targets::TargetSet;
@@ -6,7 +6,7 @@ use package_graphs::{Edge, Graph, present};
 use std::alloc::Global;
 use std::process::Abort;
 
-/// Adds an edge that holds where the condition does.
+/// Adds an edge on the targets on which the condition is true.
 fn edge(rt: &impl Abort, alloc: Global, graph: &mut Graph, from: usize, to: usize, text: &str) {
     let holds = targets(rt, alloc, text);
     if from < graph.len() {
@@ -15,12 +15,12 @@ fn edge(rt: &impl Abort, alloc: Global, graph: &mut Graph, from: usize, to: usiz
     }
 }
 
-/// The targets of each node.
+/// Returns the targets of each node.
 fn sets(rt: &impl Abort, alloc: Global, graph: &Graph, roots: &[usize]) -> Vec<TargetSet> {
     present(alloc, graph, roots).expect(rt, "memory")
 }
 
-/// The set at a place.
+/// Returns the set at an index.
 fn at(rt: &impl Abort, sets: &[TargetSet], index: usize) -> TargetSet {
     *sets.get(index).expect(rt, "a node")
 }

@@ -1,4 +1,4 @@
-//! What build scripts and procedural macros need is asked of the host.
+//! Tests that what build scripts and procedural macros need is decided for the host.
 
 use super::support::{all_kinds, assert_at, depend, package, targets};
 use crate::support::target;
@@ -7,7 +7,7 @@ use package_graphs::{Kind, Package, PackageSets, present_packages};
 use std::alloc::Global;
 use std::process::Abort;
 
-/// A root with a macro on Windows and a build script on Unix; the macro needs the last package on Unix.
+/// Returns a root with a macro on Windows and a build script on Unix; the macro needs the last package on Unix.
 fn packages(rt: &impl Abort, alloc: Global) -> [Package; 4] {
     let mut root = package(alloc, true, false);
     depend(

@@ -1,4 +1,4 @@
-//! What the tests share.
+//! Helpers of several tests.
 
 use cargo_platform::Platform;
 use known_targets::{TargetSet, matching};
@@ -6,19 +6,19 @@ use package_graphs::{Dependency, Kind, Kinds, Package};
 use std::alloc::Global;
 use std::process::Abort;
 
-/// The targets at which the condition holds that the text spells.
+/// Returns the targets on which the condition of a text is true.
 pub fn targets(rt: &impl Abort, alloc: Global, text: &str) -> TargetSet {
     let platform = Platform::from_str(alloc, text).expect(rt, text);
     matching(alloc, &platform).expect(rt, text)
 }
 
-/// Asserts that a set has the targets at which the condition holds.
+/// Asserts that a set has exactly the targets on which the condition is true.
 pub fn assert_at(rt: &impl Abort, alloc: Global, set: TargetSet, text: &str) {
     let wanted = targets(rt, alloc, text);
     assert!(rt; set.equals(wanted), "{text}");
 }
 
-/// All kinds.
+/// Returns all dependency kinds.
 pub fn all_kinds() -> Kinds {
     Kinds {
         normal: true,
@@ -27,7 +27,7 @@ pub fn all_kinds() -> Kinds {
     }
 }
 
-/// A package with no dependency yet.
+/// Returns a package without dependencies.
 pub fn package(alloc: Global, is_root: bool, is_macro: bool) -> Package {
     Package {
         is_root,

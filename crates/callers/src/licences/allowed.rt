@@ -1,8 +1,8 @@
-//! What is satisfied over a list, by the truth tables of `AND` and `OR` and the rules of README.
+//! Tests which expressions a list satisfies, by the truth tables of `AND` and `OR` and the rules of README.
 
 use super::support::is_satisfied;
 
-/// Expressions with one allowed entry under which they are satisfied.
+/// Expressions, each with one allowed entry that satisfies it.
 const SATISFIED: [(&str, &str); 9] = [
     ("MIT OR Apache-2.0", "Apache-2.0"),
     ("mit/ISC", "MIT"),
@@ -18,7 +18,7 @@ const SATISFIED: [(&str, &str); 9] = [
     ("(((MIT)))", "MIT"),
 ];
 
-/// Expressions with one allowed entry under which they are not.
+/// Expressions, each with one allowed entry that does not satisfy it.
 const UNSATISFIED: [(&str, &str); 8] = [
     ("MIT AND Apache-2.0", "MIT"),
     ("a AND (b OR c)", "c"),

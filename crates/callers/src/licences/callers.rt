@@ -8,7 +8,7 @@ ghost use Rattle.spdx_expressions.specs.Allowed.{is_allowed, truth};
 use spdx_expressions::{Licence, LicenceExpression, ReadError};
 use std::alloc::Global;
 
-/// Whether what a manifest's `license` asks for is allowed; or the fault of that text.
+/// Returns whether the licence that a manifest's `license` requires is allowed, or the error of that text.
 pub fn may_be_used(alloc: Global, license: &str, allowed: &[Licence]) -> Result<bool, ReadError>
     ensures { IfOk result (λ yes. (t : Tree) × IsTreeText license.now t
         × (yes ≡ truth (is_allowed (map term_of allowed.now)) t)) }

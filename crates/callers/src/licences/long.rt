@@ -1,12 +1,12 @@
-//! Texts of many brackets and operators.
+//! Tests of texts with many brackets and operators.
 
 use super::support::is_satisfied;
 use std::alloc::{AllocError, Global};
 
-/// How many of each.
+/// The number of each.
 const COUNT: usize = 1_000_000;
 
-/// A text, with what stands before and behind it so many times.
+/// Returns a text between `COUNT` copies of `before` and `COUNT` copies of `behind`.
 fn repeated(alloc: Global, before: &str, text: &str, behind: &str) -> Result<String, AllocError> {
     let mut whole = String::new(alloc);
     for _ in 0..COUNT {

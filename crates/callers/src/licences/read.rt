@@ -1,9 +1,9 @@
-//! What is read and printed, and which texts are refused where.
+//! Tests which texts are accepted, how they print, and where the others are rejected.
 
 use super::support::{assert_expression, assert_licence};
 
-/// `license` of packages of crates.io, as `cargo metadata` told them of two programs' builds. That a slash prints as
-/// `OR` is by Cargo's reference, and the spaces are by the annex.
+/// The field `license` of packages of crates.io, as `cargo metadata` printed it for the builds of two programs. By
+/// Cargo's reference a slash prints as `OR`, and the spaces are by the annex.
 const REAL: [(&str, &str); 9] = [
     ("MIT", "MIT"),
     ("MIT OR Apache-2.0", "MIT OR Apache-2.0"),
@@ -45,7 +45,7 @@ const FORMS: [(&str, &str); 7] = [
     ("a AND b OR c AND(d OR e)", "a AND b OR c AND (d OR e)"),
 ];
 
-/// Texts that are none, each with the first token that does not fit, by the grammar of the annex.
+/// Texts that are not expressions, each with the first token that does not fit, by the grammar of the annex.
 const FAULTS: [(&str, &str); 16] = [
     ("", "0..0: expected a licence or `(`, found the end"),
     ("  ", "2..2: expected a licence or `(`, found the end"),

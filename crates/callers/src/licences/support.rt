@@ -1,10 +1,10 @@
-//! What the tests share.
+//! Helpers of several tests.
 
 use spdx_expressions::{Licence, LicenceExpression, ReadError};
 use std::alloc::{AllocError, Global};
 use std::process::Abort;
 
-/// What a refusal is printed as: where, and what.
+/// Formats an error: its position and its message.
 fn refusal(alloc: Global, error: &ReadError) -> Result<String, AllocError> {
     match error {
         ReadError::Parse(fault) => {
@@ -18,7 +18,7 @@ fn refusal(alloc: Global, error: &ReadError) -> Result<String, AllocError> {
     }
 }
 
-/// How an expression prints, or its fault.
+/// Returns the canonical text of an expression, or its error.
 fn expression(alloc: Global, text: &str) -> Result<String, AllocError> {
     match LicenceExpression::from_str(alloc, text) {
         Ok(read) => format!(in alloc; "{read}"),
@@ -26,7 +26,7 @@ fn expression(alloc: Global, text: &str) -> Result<String, AllocError> {
     }
 }
 
-/// How a licence prints, or its fault.
+/// Returns the canonical text of a licence, or its error.
 fn licence(alloc: Global, text: &str) -> Result<String, AllocError> {
     match Licence::from_str(alloc, text) {
         Ok(read) => format!(in alloc; "{read}"),
@@ -34,19 +34,19 @@ fn licence(alloc: Global, text: &str) -> Result<String, AllocError> {
     }
 }
 
-/// Asserts what a text is as an expression.
+/// Asserts the result of parsing a text as an expression.
 pub fn assert_expression(rt: &impl Abort, alloc: Global, text: &str, wanted: &str) {
     let shown = expression(alloc, text).expect(rt, "memory");
     assert!(rt; shown.as_str() == wanted, "{text}: {shown}");
 }
 
-/// Asserts what a text is as one licence.
+/// Asserts the result of parsing a text as one licence.
 pub fn assert_licence(rt: &impl Abort, alloc: Global, text: &str, wanted: &str) {
     let shown = licence(alloc, text).expect(rt, "memory");
     assert!(rt; shown.as_str() == wanted, "{text}: {shown}");
 }
 
-/// Whether an expression is satisfied where one licence is allowed.
+/// Returns whether an expression is satisfied if these entries are allowed.
 pub fn is_satisfied(rt: &impl Abort, alloc: Global, text: &str, entries: &[&str]) -> bool {
     let mut allowed = Vec::new(alloc);
     for entry in entries {

@@ -3,8 +3,8 @@
 use manifest_lints::{Document, Report, Words, lint};
 use std::alloc::{AllocError, Global};
 
-/// The findings on the keys of a manifest, in the order in which they appear in its text, or the one on a `target` that
-/// is no table.
+/// Returns the diagnostics on the keys of a manifest, in the order in which they appear in its text, or the one on a
+/// `target` that is not a table.
 pub fn report_on(alloc: Global, manifest: &Document) -> Result<Report<'_>, AllocError> {
     let words = Words::new(alloc)?;
     lint(alloc, manifest, &words)

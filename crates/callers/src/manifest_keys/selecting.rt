@@ -11,7 +11,8 @@ use partial_facts::Knowledge;
 use std::alloc::{AllocError, Global};
 use toml::Table;
 
-/// Whether an audit may leave out what stands under a condition: where the target does not select it, whatever is open.
+/// Returns whether an audit may leave out what is under a condition: the target does not select it, whichever open
+/// facts are set.
 pub fn may_leave_out<K: Knowledge>(
     alloc: Global,
     platform: &Platform,
@@ -27,7 +28,7 @@ pub fn may_leave_out<K: Knowledge>(
     }
 }
 
-/// The names of the dependencies that a known target selects, built on a host of the same kind.
+/// Returns the names of the dependencies that a known target selects, built on a host of the same kind.
 pub fn selected_names<'a>(
     alloc: Global,
     manifest: &'a Table,

@@ -1,4 +1,4 @@
-//! The callers, on a small manifest.
+//! Tests of the callers, on a small manifest.
 
 use super::reporting::report_on;
 use super::selecting::{may_leave_out, selected_names};

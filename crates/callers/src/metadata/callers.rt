@@ -8,7 +8,7 @@ use cargo_metadata::{Refusal, read};
 use serde_json::Value;
 use std::alloc::Global;
 
-/// How many packages a document has.
+/// Returns the number of packages of a document.
 pub fn package_count(alloc: Global, document: &Value) -> Result<usize, Refusal>
     ensures { IfOk result (λ count. HasSoManyPackages (view document.now) count) }
 {

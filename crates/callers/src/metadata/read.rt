@@ -1,10 +1,10 @@
-//! A document that is read.
+//! Tests of a document that is accepted.
 
 use super::support::{document, is_text};
 use cargo_metadata::{Kind, Metadata, read};
 use std::process::Abort;
 
-/// Two packages, one of them a procedural macro; the other depends on it in two ways. Unknown fields stand between.
+/// Two packages, one of them a procedural macro; the other depends on it in two ways. There are unknown fields between.
 const DOCUMENT: &str = r#"{"version": 1, "extra": {"deep": [[]]}, "workspace_members": ["a 1"],
     "packages": [
         {"id": "a 1", "name": "a", "version": "1.0.0", "license": null, "targets": [{"kind": ["lib"]}]},
@@ -15,7 +15,7 @@ const DOCUMENT: &str = r#"{"version": 1, "extra": {"deep": [[]]}, "workspace_mem
             {"kind": null, "target": "cfg(unix)"}, {"kind": "build", "target": null}]}]},
         {"id": "m 2", "deps": []}]}}"#;
 
-/// Asserts what the packages are.
+/// Asserts the packages that were read.
 fn assert_packages(rt: &impl Abort, metadata: &Metadata) {
     let first = metadata.packages.get(0).expect(rt, "a package");
     assert!(rt; first.name == "a" && !first.is_macro && first.license.is_none());
@@ -24,7 +24,7 @@ fn assert_packages(rt: &impl Abort, metadata: &Metadata) {
     assert!(rt; is_text(second.license, "MIT"));
 }
 
-/// Asserts what the nodes are.
+/// Asserts the nodes that were read.
 fn assert_nodes(rt: &impl Abort, metadata: &Metadata) {
     let node = metadata.nodes.get(0).expect(rt, "a node");
     let dependency = node.dependencies.get(0).expect(rt, "a dependency");

@@ -1,8 +1,8 @@
-//! Documents that are refused, and the words for it.
+//! Tests of documents that are rejected, and of the messages.
 
 use super::support::{assert_graph_refused, assert_refused};
 
-/// Documents, each with its refusal.
+/// Documents, each with its message.
 const DOCUMENTS: [(&str, &str); 8] = [
     ("[]", "version: 1 is wanted"),
     (r#"{"version": 2}"#, "version: 1 is wanted"),
@@ -29,7 +29,7 @@ const DOCUMENTS: [(&str, &str); 8] = [
     ),
 ];
 
-/// What stands at `resolve`, each with its refusal.
+/// Values of `resolve`, each with its message.
 const GRAPHS: [(&str, &str); 6] = [
     ("{}", ".nodes: a list is wanted"),
     (r#"{"nodes": [{}]}"#, ".nodes[0].id: a text is wanted"),

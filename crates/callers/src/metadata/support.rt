@@ -1,16 +1,16 @@
-//! What the tests share.
+//! Helpers of several tests.
 
 use cargo_metadata::read;
 use serde_json::Value;
 use std::alloc::Global;
 use std::process::Abort;
 
-/// The value that the text is.
+/// Parses a text as JSON.
 pub fn document(rt: &impl Abort, alloc: Global, text: &str) -> Value {
     Value::from_str(alloc, text).expect(rt, text)
 }
 
-/// Asserts that a document is refused with these words.
+/// Asserts that a document is rejected with this message.
 pub fn assert_refused(rt: &impl Abort, alloc: Global, text: &str, wanted: &str) {
     let value = document(rt, alloc, text);
     let shown = match read(alloc, &value) {
@@ -21,7 +21,7 @@ pub fn assert_refused(rt: &impl Abort, alloc: Global, text: &str, wanted: &str) 
     assert!(rt; shown.as_str() == wanted, "{text}: {shown}");
 }
 
-/// Asserts that a document is refused with these words on what stands at `resolve`.
+/// Asserts that a document with this value of `resolve` is rejected with this message.
 pub fn assert_graph_refused(rt: &impl Abort, alloc: Global, resolve: &str, wanted: &str) {
     let text = format!(in alloc;
         "{{\"version\": 1, \"packages\": [], \"workspace_members\": [], \"resolve\": {resolve}}}"
@@ -31,7 +31,7 @@ pub fn assert_graph_refused(rt: &impl Abort, alloc: Global, resolve: &str, wante
     assert_refused(rt, alloc, text.as_str(), wanted.as_str());
 }
 
-/// Whether it is this text.
+/// Returns whether there is a text, and it is `wanted`.
 pub fn is_text(found: Option<&str>, wanted: &str) -> bool {
     match found {
         Some(text) => text == wanted,

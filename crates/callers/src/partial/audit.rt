@@ -1,4 +1,4 @@
-//! Which dependencies an audit may leave out.
+//! Decides which dependencies an audit may leave out.
 
 ghost use Rattle.std.specs.Prelude.{◌≡◌, ◌↔◌, IsTrue, Some, false};
 ghost use Rattle.cargo_platform.specs.Trees.{tree_of};
@@ -8,8 +8,8 @@ ghost use Rattle.partial_facts.specs.Kleene.{kleene};
 use cargo_platform::CfgExpr;
 use partial_facts::{Knowledge, decide};
 
-/// Whether an audit may leave out a dependency under this condition: where `decide` says no, and so no target that the
-/// audit covers selects it.
+/// Returns whether an audit may leave out a dependency under this condition: `decide` says no, so that no target that
+/// the audit covers selects it.
 pub fn may_leave_out<K: Knowledge>(e: &CfgExpr, covered: &K) -> bool
     ensures exact { IsTrue result ↔ (kleene (K.told covered.now) (tree_of e.now) ≡ Some false) }
     ensures sound { IsTrue result → (s : FactSet) → K.allows covered.now s → truth s (tree_of e.now) ≡ false }

@@ -1,4 +1,4 @@
-//! What follows from the flags of a command line.
+//! Decides conditions by the flags of a command line.
 
 ghost use Rattle.std.specs.Prelude.{◌≡◌, [], IfSome, map};
 ghost use Rattle.cargo_platform.specs.Trees.{tree_of, value_of};
@@ -9,8 +9,8 @@ ghost use Rattle.partial_facts.specs.OneValued.{IsOneValued, one_valued_told};
 use cargo_platform::{Cfg, CfgExpr};
 use partial_facts::{OneValued, decide};
 
-/// What the condition is for each target that has the facts of the flags, as `target_os = "linux"`, and of each key in
-/// `single` no value beside those.
+/// Returns the truth value of the condition on each target that has the facts of the flags, such as `target_os =
+/// "linux"`, and no other value of a key in `single`, if it is the same on all of them.
 pub fn by_flags(e: &CfgExpr, flags: &[Cfg], single: &[&str]) -> Option<bool>
     ensures exact { result
         ≡ kleene (one_valued_told (map value_of flags.now) [] (map (λ t. t.now) single.now)) (tree_of e.now) }

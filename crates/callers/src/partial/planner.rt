@@ -14,7 +14,7 @@ use cargo_platform::{Cfg, CfgExpr, ReadError, laws};
 use partial_facts::{Knowledge, residual};
 use std::alloc::{AllocError, Global};
 
-/// The text of what is left of the condition to ask, which is to be stored: the print of the residual.
+/// Returns the residual of the condition as a text, which can be stored.
 pub fn plan<K: Knowledge>(alloc: Global, e: &CfgExpr, known: &K) -> Result<String, AllocError>
     requires { IsWellFormed (tree_of e.now) }
     ensures stored { IfOk result
@@ -27,7 +27,7 @@ pub fn plan<K: Knowledge>(alloc: Global, e: &CfgExpr, known: &K) -> Result<Strin
     text_of(alloc, &left)
 }
 
-/// Asks a stored text over the facts of a target, once they are known.
+/// Evaluates a stored text over the facts of a target, once they are known.
 pub fn ask(alloc: Global, text: &str, facts: &[Cfg]) -> Result<bool, ReadError>
     ensures answer { IfOk result (λ yes. (d : Tree) → IsTreeText text.now d
         → yes ≡ truth (fact_set (map value_of facts.now)) d) }

@@ -1,4 +1,4 @@
-//! A condition that is reduced in two steps, as more becomes known of a target.
+//! Reduces a condition in two steps, as more becomes known about a target.
 
 ghost use Rattle.std.specs.Prelude.{◌≡◌, Some, IfOk, map};
 ghost use Rattle.cargo_platform.specs.Trees.{value_of, condition_of};
@@ -10,8 +10,9 @@ use cargo_platform::{Cfg, Platform};
 use partial_facts::{Partial, laws, residual_platform};
 use std::alloc::{AllocError, Global};
 
-/// What is left of the condition to ask. Its first step knows facts of the target alone. The second one knows the
-/// target's name too, and which names and keys have all their facts listed. Both together leave what is left at once.
+/// Returns the residual of the condition. The first step knows only facts of the target. The second one also knows the
+/// name of the target, and which names and keys have all their facts listed. Both steps together have the same result
+/// as the second one alone.
 pub fn left_in_two_steps(
     alloc: Global,
     platform: &Platform,

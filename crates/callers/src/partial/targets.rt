@@ -1,4 +1,4 @@
-//! What is known of a target that is one of several.
+//! The knowledge about a target that is one of several.
 
 ghost use Rattle.std.specs.Prelude.{◌≡◌, ◌∷◌, Contains, IfSome};
 ghost use Rattle.cargo_platform.specs.Trees.{tree_of};
@@ -40,7 +40,7 @@ impl<'a> Knowledge for OneOf<'a> {
     ghost sound = { λ k s p is. agreed_sound (set_of k.first.now) (sets_of k.others.now) s p is };
 }
 
-/// What the condition is for all the targets, where that follows from what their facts have in common.
+/// Returns the truth value of the condition on all the targets, if it follows from what their facts have in common.
 pub fn for_all(e: &CfgExpr, targets: &OneOf<'_>) -> Option<bool>
     ensures exact { result
         ≡ kleene (agreed_on (set_of targets.now.first.now) (sets_of targets.now.others.now)) (tree_of e.now) }

@@ -1,4 +1,4 @@
-//! What the callers make of a 64-bit Linux, of several targets, and of a few flags.
+//! Tests of the callers on a 64-bit Linux, on several targets, and on a few flags.
 
 use super::audit::may_leave_out;
 use super::flags::by_flags;
@@ -14,7 +14,8 @@ use std::process::Abort;
 /// Facts of a 64-bit Linux.
 const LINUX: &str = "unix\ntarget_os = \"linux\"\ntarget_pointer_width = \"64\"";
 
-/// These facts, and all that there are of some names and keys. Features and custom cfgs are not among them.
+/// Returns the knowledge that these facts are set, and no others with the name or key `target_os`, `unix` or `windows`.
+/// Features and custom cfgs stay open.
 fn listed(facts: &[Cfg]) -> Partial<'_> {
     Partial {
         facts,
@@ -22,7 +23,7 @@ fn listed(facts: &[Cfg]) -> Partial<'_> {
     }
 }
 
-/// The facts that the lines of the text spell.
+/// Returns the facts in the lines of a text.
 fn facts(rt: &impl Abort, alloc: Global, lines: &str) -> Vec<Cfg> {
     let mut facts = Vec::new(alloc);
     for line in lines.lines() {
@@ -32,12 +33,12 @@ fn facts(rt: &impl Abort, alloc: Global, lines: &str) -> Vec<Cfg> {
     facts
 }
 
-/// Asserts what is decided of the text.
+/// Asserts what is decided for a text.
 fn assert_decision(rt: &impl Abort, text: &str, decided: Option<bool>, wanted: Option<bool>) {
     assert!(rt; decided == wanted, "{text}");
 }
 
-/// Asserts what a plan's text answers for these facts.
+/// Asserts the answer of a plan's text over these facts.
 fn assert_asked(rt: &impl Abort, alloc: Global, plan: &str, lines: &str, wanted: bool) {
     let facts = facts(rt, alloc, lines);
     let asked = ask(alloc, plan, &facts).expect(rt, plan);
@@ -72,7 +73,7 @@ fn an_audit_leaves_out_what_no_target_selects(rt: HostRuntime) {
     assert_left_out(&rt, rt.alloc(), "loom", false);
 }
 
-/// Asserts what an expression is for a 64-bit Linux and a macOS.
+/// Asserts the truth value of an expression on a 64-bit Linux and a macOS.
 fn assert_for_both(rt: &impl Abort, alloc: Global, text: &str, wanted: Option<bool>) {
     let linux = facts(rt, alloc, LINUX);
     let macos = facts(rt, alloc, "unix\ntarget_os = \"macos\"");
@@ -95,7 +96,7 @@ fn what_several_targets_have_in_common(rt: HostRuntime) {
     assert_for_both(&rt, alloc, "any(target_os = \"linux\", unix)", Some(true));
 }
 
-/// Asserts what is left of a condition for WASI's first target, of which `windows` is known in the second step alone.
+/// Asserts the residual of a condition for WASI's first target, where only the second step knows about `windows`.
 fn assert_left(rt: &impl Abort, alloc: Global, text: &str, wanted: &str) {
     let facts = facts(rt, alloc, "target_os = \"wasi\"");
     let platform = Platform::from_str(alloc, text).expect(rt, text);
@@ -115,7 +116,7 @@ fn what_is_left_in_two_steps(rt: HostRuntime) {
     assert_left(&rt, alloc, "cfg(not(windows))", "cfg(true)");
 }
 
-/// Asserts what the flag of an architecture decides, where each key of rustc has one value or none has.
+/// Asserts what the flag of an architecture decides, if each key of rustc has one value or none has.
 fn assert_by_flag(
     rt: &impl Abort,
     alloc: Global,

@@ -1,4 +1,4 @@
-//! Which dependencies are covered by another one.
+//! Decides which dependencies are covered by another one.
 
 ghost use Rattle.std.specs.Prelude.{◌≡◌, true, false, IfOk};
 ghost use Rattle.cargo_platform.specs.Trees.{tree_of, tree, none};
@@ -9,18 +9,18 @@ use cargo_platform::{Cfg, CfgExpr};
 use exact_answers::{Known, MustHold, implies};
 use std::alloc::{AllocError, Global};
 
-/// What an audit says of a condition and one that is audited already.
+/// The result of comparing a condition with one that is audited already.
 #[derive(Drop)]
 pub enum Cover {
-    /// Whatever selects the first one selects the audited one.
+    /// Whatever selects the first one also selects the audited one.
     Covered,
-    /// These facts select the first one alone.
+    /// These facts select only the first one.
     Missed(Vec<Cfg>),
-    /// It took too many splits.
+    /// The decision took too many case splits.
     Unclear,
 }
 
-/// Whether an audit of what `audited` selects covers what `e` selects.
+/// Decides whether an audit of what `audited` selects covers what `e` selects.
 pub fn is_covered<'a>(
     alloc: Global,
     e: &'a CfgExpr,

@@ -1,4 +1,5 @@
-//! What goals of `goal_diagrams` come to. Which names hold is odd or even in number, in whatever order they are told.
+//! Tests of the outcomes of goals in `goal_diagrams`. An expression says whether an odd or an even number of names are
+//! set, in any order of the names.
 
 use crate::support::expression;
 use cargo_platform::{Cfg, ReadError};
@@ -8,16 +9,16 @@ use std::alloc::{AllocError, Global};
 use std::process::Abort;
 use std::test::Fail;
 
-/// An odd number of three names holds.
+/// An expression that is true if an odd number of three names are set.
 const ODD: &str =
     "any(all(a, any(all(b, c), all(not(b), not(c)))), all(not(a), any(all(b, not(c)), all(not(b), c))))";
 
-/// The same in another order.
+/// The same expression in another order.
 const ODD_TOO: &str =
     "any(all(c, any(all(a, b), all(not(a), not(b)))), all(not(c), any(all(a, not(b)), all(not(a), b))))";
 
-/// Two expressions, of which the first has to be true and the other to have this truth, and what comes of it within so
-/// many nodes. `unix` is a fact, and no other name is but for `a`, `b` and `c`.
+/// Two expressions, of which the first has to be true and the other to have this truth value, and the outcome within a
+/// number of nodes. `unix` is a fact, and of the other names only `a`, `b` and `c` can be.
 #[derive(Drop)]
 struct Row {
     first: &'static str,
@@ -86,10 +87,10 @@ const ROWS: [Row; 8] = [
     },
 ];
 
-/// The pairs that nodes ask for.
+/// The pairs that nodes decide.
 const PAIRS: [&str; 5] = ["a", "b", "c", "target_os = \"one\"", "target_os = \"two\""];
 
-/// The names and pairs that texts spell.
+/// Parses names and pairs.
 fn values(alloc: Global, texts: &[&str]) -> Result<Vec<Cfg>, AllocError> {
     let mut found = Vec::new(alloc);
     for text in texts {
@@ -102,7 +103,7 @@ fn values(alloc: Global, texts: &[&str]) -> Result<Vec<Cfg>, AllocError> {
     Ok(found)
 }
 
-/// What is found of goals within so many nodes, where `unix` is known to be a fact.
+/// Returns the outcome of goals within a number of nodes, if `unix` is known to be a fact.
 fn found_among(
     alloc: Global,
     goals: &[Goal<'_>],
@@ -122,7 +123,7 @@ fn found_among(
     find_way(alloc, goals, &asked, &known, &["target_os"], most_nodes)
 }
 
-/// The facts that a way chooses, and `unix`.
+/// Returns the facts that a path chooses, and `unix`.
 fn chosen_facts(alloc: Global, pairs: &[Cfg], choices: &[Choice]) -> Result<Vec<Cfg>, AllocError> {
     let mut facts = values(alloc, &["unix"])?;
     for choice in choices {
@@ -135,7 +136,7 @@ fn chosen_facts(alloc: Global, pairs: &[Cfg], choices: &[Choice]) -> Result<Vec<
     Ok(facts)
 }
 
-/// What comes of a row. A way is one where the expressions have their truths over its facts.
+/// Returns the outcome of a row. A path counts as one if the expressions have their truth values over its facts.
 fn outcome_of(rt: &impl Abort, alloc: Global, row: &Row) -> Result<&'static str, AllocError> {
     let first = expression(rt, alloc, row.first);
     let other = expression(rt, alloc, row.other);
@@ -163,7 +164,7 @@ fn outcome_of(rt: &impl Abort, alloc: Global, row: &Row) -> Result<&'static str,
     }
 }
 
-/// Asserts what comes of a row.
+/// Asserts the outcome of a row.
 fn assert_outcome(rt: &impl Abort, outcome: &str, row: &Row) {
     assert!(rt; outcome == row.outcome, "{}, {}", row.first, row.other);
 }

@@ -1,4 +1,4 @@
-//! Whether a dependency may move from one key to another.
+//! Decides whether a dependency may move from one key to another.
 
 ghost use Rattle.std.specs.Prelude.{◌≡◌, [], ◌∷◌, IfOk};
 ghost use Rattle.cargo_platform.specs.Trees.{condition_of};
@@ -10,18 +10,18 @@ use cargo_platform::Platform;
 use exact_answers::{Known, MustSelect, PossibleTarget, implies_platform};
 use std::alloc::{AllocError, Global};
 
-/// What becomes of a dependency that moves.
+/// The result of moving a dependency.
 #[derive(Drop)]
 pub enum Move {
     /// Each possible target that had it keeps it.
     Safe,
     /// This target loses it.
     Loses(PossibleTarget),
-    /// It took too many splits.
+    /// The decision took too many case splits.
     Unclear,
 }
 
-/// Whether each possible target that selects the key `from` selects the key `to` too.
+/// Decides whether each possible target that selects the key `from` also selects the key `to`.
 pub fn may_move<'a>(
     alloc: Global,
     from: &'a Platform,

@@ -1,4 +1,4 @@
-//! What a linter and an audit say where nothing is known, and what a move from key to key comes to.
+//! Tests of a linter and an audit without any knowledge of facts, and of a move from key to key.
 
 use super::audit::{Cover, is_covered};
 use super::keys::{Move, may_move};
@@ -31,7 +31,7 @@ fn a_linter_says_what_never_holds(rt: HostRuntime) {
     assert_never(&rt, rt.alloc(), "any(loom, not(loom))", false);
 }
 
-/// Asserts whether `unix` covers the text, by what the audit says: covered, the number of facts that are missed, or
+/// Asserts whether `unix` covers the text, by the result of the audit: covered, the number of facts that are missed, or
 /// unclear.
 fn assert_cover(rt: &impl Abort, alloc: Global, text: &str, budget: u64, wanted: Option<usize>) {
     let anything = CfgExpr::True;
@@ -53,7 +53,7 @@ fn an_audit_says_what_is_covered(rt: HostRuntime) {
     assert_cover(&rt, rt.alloc(), "any(loom, not(loom))", 0, None);
 }
 
-/// Asserts what a dependency's move from one key to the other comes to: `safe`, `unclear`, or the name of the target
+/// Asserts the result of moving a dependency from one key to the other: `safe`, `unclear`, or the name of the target
 /// that loses it, or `any`, and the number of its facts.
 fn assert_move(
     rt: &impl Abort,

@@ -15,8 +15,8 @@ use known_targets::{COUNT, KnownTarget, OpenTarget, possibly_matching};
 use partial_facts::decide;
 use std::alloc::{AllocError, Global};
 
-/// Whether a linter may say that the condition holds at no known target, whatever the facts of these names and keys
-/// are: where it is decided to be false at each of them.
+/// Returns whether a linter may say that the condition is true on no known target, whichever facts with these names and
+/// keys are set: it is decided to be false on each of them.
 pub fn holds_nowhere(
     alloc: Global,
     platform: &Platform,
@@ -32,7 +32,8 @@ pub fn holds_nowhere(
     Ok(possibly_matching(alloc, platform, open_keys)?.is_empty())
 }
 
-/// What the expression is for the target under any flags, where that follows from the facts that no flag changes.
+/// Returns the truth value of the expression on the target under any flags, if it follows from the facts that no flag
+/// changes.
 pub fn under_any_flags(e: &CfgExpr, target: KnownTarget, open_keys: &[&str]) -> Option<bool>
     ensures exact { result ≡ kleene (open_told (target_facts (place target)) (names_of open_keys.now)) (tree_of e.now) }
     ensures sound { (s : FactSet) → IsSameButOpen (target_facts (place target)) (names_of open_keys.now) s

@@ -1,4 +1,4 @@
-//! What the callers say where `loom` is open.
+//! Tests of the callers where `loom` is open.
 
 use super::callers::{holds_nowhere, under_any_flags};
 use crate::support::{expression, target};

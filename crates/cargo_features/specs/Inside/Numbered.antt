@@ -1,4 +1,4 @@
--- Claims as numbers: of each package those from its first one on, two for each fact.
+-- Claims as numbers: those about a package are consecutive, two for each fact.
 use Rattle.std.specs.Prelude.{◌≡◌, ◌<◌, ℕ, ◌+◌, ◌*◌, Bool, true, cond, List, length, take, sum_by, slice_index}
 use Rattle.std.specs.List.{slice_index_or}
 use Rattle.known_targets.specs.Sets.{is_member}
@@ -31,7 +31,7 @@ place_of packages (claim.Feature p from f) = first_of packages p + node_of (f + 
 place_of packages (claim.Dependency p from d) =
     first_of packages p + node_of ((feature_count packages p + d) + 2) from
 
--- the number of a claim; past the end where it is not known
+-- the number of a claim, or a number past the end if the claim is not known
 abbrev pub number : List Package → Claim → ℕ
 number packages c = cond (is_known packages c) (place_of packages c) (count_of packages)
 

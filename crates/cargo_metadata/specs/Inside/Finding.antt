@@ -1,4 +1,4 @@
--- What is known once the ids are found.
+-- The knowledge once the ids are found.
 use Rattle.std.specs.Prelude.{◌≡◌, ◌<◌, ℕ, List, length, Contains, IsSome}
 use Rattle.std.specs.List.{slice_index_or}
 use Rattle.cargo_metadata.specs.declared.metadata.Metadata.{Metadata}
@@ -25,7 +25,7 @@ pub record AreNodesFound (m : Metadata) (nodes : Places) (ds : List Described) :
   pub found : AreFound nodes (node_ids m.nodes.items)
   pub described : AreDescribed m ds (length m.nodes.items)
 
--- a text has a place exactly if it is one of the first n members, which are nodes
+-- a text has an index exactly if it is one of the first n members, which are nodes
 pub record AreMembersAmong (m : Metadata) (members : Places) (n : ℕ) : Type 0 where
   pub nodes : AreMembers m n
   pub sound : (q : List ℕ) → IsSome (place_at members q) → Contains (member_ids m.members.items) q
@@ -34,7 +34,7 @@ pub record AreMembersAmong (m : Metadata) (members : Places) (n : ℕ) : Type 0 
 abbrev pub AreMembersFound : Metadata → Places → Type 0
 AreMembersFound m members = AreMembersAmong m members (length m.members.items)
 
--- what is known of the first n nodes
+-- the knowledge about the first n nodes
 pub record AreNodesSoFar (m : Metadata) (nodes : Places) (ds : List Described) (n : ℕ) : Type 0 where
   pub index : IsIndex (place_at nodes) (node_ids m.nodes.items) n
   pub known : (i : ℕ) → i < n → Contains (package_ids m.packages.items) (id_at (node_ids m.nodes.items) i)

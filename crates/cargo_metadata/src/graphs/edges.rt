@@ -1,4 +1,4 @@
-//! Dependencies of a node, with the places that they lead to and the targets at which they hold.
+//! The dependencies of a node, with the indexes that they lead to and the targets on which their conditions are true.
 
 ghost use Rattle.std.specs.Prelude.{◌≡◌, ℕ, List, MatchResult};
 ghost use Rattle.cargo_metadata.specs.Links.{HoldsWhere, kind_of, AreEdgesOf};
@@ -14,14 +14,14 @@ use known_targets::{TargetSet, matching};
 use package_graphs::{Dependency, Kind};
 use std::alloc::{AllocError, Global};
 
-/// Why a condition has no set of targets.
+/// The reason why a condition has no set of targets.
 #[derive(Drop)]
 pub enum NoSet {
     Refused(ParseError),
     Memory(AllocError),
 }
 
-/// The targets at which a condition holds: all without one.
+/// Returns the targets on which a condition is true. Without a condition, these are all targets.
 fn holds_at(alloc: Global, condition: Option<&str>) -> Result<TargetSet, NoSet>
     ensures { MatchResult result (λ set. HoldsWhere condition.entry set) (λ no_set. IsNoSet condition.entry no_set) }
 {
@@ -39,7 +39,7 @@ fn holds_at(alloc: Global, condition: Option<&str>) -> Result<TargetSet, NoSet>
     }
 }
 
-/// The kind of a dependency of a graph.
+/// Returns the kind of a dependency of a graph.
 fn kind_of(kind: WrittenKind) -> Kind
     ensures { result ≡ kind_of kind }
 {
@@ -50,7 +50,7 @@ fn kind_of(kind: WrittenKind) -> Kind
     }
 }
 
-/// What is wrong with a dependency whose condition at this place has no set of targets.
+/// Returns the error of a dependency whose condition at this index has no set of targets.
 fn wrong_at(index: usize, no_set: NoSet) -> InDependency
     ensures { result ≡ wrong_at index no_set }
 {
@@ -92,7 +92,7 @@ fn add_kinds<'a>(
     Ok(())
 }
 
-/// The edges of a node, or the first of its dependencies that has something wrong.
+/// Returns the edges of a node. Fails with the index of the first dependency that has an error, and with that error.
 pub fn edges_of<'a>(
     alloc: Global,
     nodes: &Places<'a>,

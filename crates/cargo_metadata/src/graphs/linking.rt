@@ -1,4 +1,4 @@
-//! A document as a graph of packages.
+//! Links a document into a graph of packages.
 
 ghost use Rattle.std.specs.Prelude.{MatchResult};
 ghost use Rattle.cargo_metadata.specs.Ids.{package_ids, node_ids};
@@ -17,15 +17,15 @@ use std::alloc::{AllocError, Global};
 /// The packages of a graph, in the order of the document's nodes.
 #[derive(Drop)]
 pub struct Linked<'a> {
-    /// Each as the document describes it.
+    /// The packages as the document describes them.
     pub described: Vec<Described<'a>>,
-    /// Each with the places that its dependencies lead to and the targets at which they hold. The roots are the
-    /// workspace's members.
+    /// The packages with the indexes that their dependencies lead to, and the targets on which the conditions of these
+    /// are true. The roots are the members of the workspace.
     pub packages: Vec<Package>,
 }
 
-/// The graph that a document is, or the first fault: of the ids of packages, of nodes and of members, and then of the
-/// nodes' dependencies. It refuses for memory too.
+/// Returns the graph of a document. Fails with its first error, of the ids of packages, of nodes and of members, and
+/// then of the nodes' dependencies, and if memory is refused.
 pub fn link<'a>(alloc: Global, metadata: &Metadata<'a>) -> Result<Linked<'a>, Refusal>
     ensures { MatchResult result (λ linked. IsLinked metadata.now linked) (λ refusal. IsUnlinked metadata.now refusal) }
 {
@@ -35,7 +35,7 @@ pub fn link<'a>(alloc: Global, metadata: &Metadata<'a>) -> Result<Linked<'a>, Re
     graph_of(alloc, metadata, described, &nodes, &members)
 }
 
-/// The places of the packages' ids.
+/// Returns the indexes of the packages by id.
 fn package_places<'a>(alloc: Global, metadata: &Metadata<'a>) -> Result<Places<'a>, Refusal>
     ensures { MatchResult result (λ places. AreFound places (package_ids metadata.now.packages.items))
         (λ refusal. IsUnlinked metadata.now refusal) }
@@ -51,7 +51,7 @@ fn package_places<'a>(alloc: Global, metadata: &Metadata<'a>) -> Result<Places<'
     Ok(places)
 }
 
-/// The places of the nodes' ids, and the package of each.
+/// Returns the indexes of the nodes by id, and the package of each node.
 fn node_places<'a>(
     alloc: Global,
     packages: &Places<'a>,
@@ -80,7 +80,7 @@ fn node_places<'a>(
     Ok((places, described))
 }
 
-/// The places of the members' ids.
+/// Returns the indexes of the members by id.
 fn member_places<'a>(
     alloc: Global,
     nodes: &Places<'a>,
@@ -104,7 +104,7 @@ fn member_places<'a>(
     Ok(places)
 }
 
-/// The graph, of packages that were found.
+/// Returns the graph of the packages that were found.
 fn graph_of<'a>(
     alloc: Global,
     metadata: &Metadata<'a>,

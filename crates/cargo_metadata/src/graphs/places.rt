@@ -1,4 +1,4 @@
-//! The places of ids.
+//! Indexes by id.
 
 ghost use Rattle.std.specs.Prelude.{◌≡◌, None, IfOk, OnOk, List, ℕ};
 ghost use Rattle.cargo_metadata.specs.Inside.Places.{place_at, place_with};
@@ -6,14 +6,14 @@ ghost use Rattle.cargo_metadata.specs.Inside.Places.{place_at, place_with};
 use std::alloc::{AllocError, Global};
 use std::collections::BTreeMap;
 
-/// For ids the places at which they first came.
+/// The index at which each id was added first.
 #[derive(Drop)]
 pub struct Places<'a> {
     first: BTreeMap<&'a str, usize>,
 }
 
 impl<'a> Places<'a> {
-    /// The places of no ids.
+    /// Returns an empty table.
     pub fn new(alloc: Global) -> Places<'a>
         ensures { (q : List ℕ) → place_at result q ≡ None }
     {
@@ -22,14 +22,15 @@ impl<'a> Places<'a> {
         }
     }
 
-    /// The place of an id.
+    /// Returns the index of an id.
     pub fn find(&self, id: &'a str) -> Option<usize>
         ensures { result ≡ place_at self.now id.now }
     {
         self.first.get(&id).copied()
     }
 
-    /// Adds an id at a place, and answers an earlier place of it, which stays.
+    /// Adds an id with its index. If the id was added before, returns its earlier index, which stays. Fails if memory
+    /// is refused.
     pub fn add(&mut self, id: &'a str, place: usize) -> Result<Option<usize>, AllocError>
         ensures earlier { IfOk result (λ earlier. earlier ≡ place_at self.old id.now) }
         ensures added { OnOk result ((q : List ℕ) → place_at self.new q ≡ place_with self.old id.now place q) }

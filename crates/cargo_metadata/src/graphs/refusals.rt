@@ -1,4 +1,4 @@
-//! Why a document is no graph.
+//! The reasons why a document is not a graph.
 
 ghost use Rattle.std.specs.Prelude.{◌≡◌};
 ghost use Rattle.cargo_metadata.specs.Refusals.{is_memory};
@@ -6,34 +6,35 @@ ghost use Rattle.cargo_metadata.specs.Refusals.{is_memory};
 use cargo_platform::ParseError;
 use std::alloc::AllocError;
 
-/// What is wrong with a dependency.
+/// The error of a dependency.
 #[derive(Debug, Drop)]
 pub enum InDependency {
     /// No node has the id that `pkg` names.
     NoNode,
-    /// The condition at this place of `dep_kinds` is refused, with this fault.
+    /// The condition at this index of `dep_kinds` is rejected, with this error.
     Condition(usize, ParseError),
     Memory(AllocError),
 }
 
-/// Why a document is no graph: the first fault, in the order of these variants, and of places within one.
+/// The reason why a document is not a graph. The ids of packages are checked first, then those of nodes and those of
+/// members, and then the dependencies, each in the order of the document.
 #[derive(Debug, Drop)]
 pub enum Refusal {
     /// A package has the id of an earlier one.
     SamePackage { first: usize, again: usize },
-    /// No package has the id of the node at this place.
+    /// No package has the id of the node at this index.
     NoPackage(usize),
     /// A node has the id of an earlier one.
     SameNode { first: usize, again: usize },
-    /// No node has the id of the member at this place.
+    /// No node has the id of the member at this index.
     NoMember(usize),
-    /// The node at the first place has something wrong with the dependency at the second.
+    /// The dependency at the second index, of the node at the first, has an error.
     Dependency(usize, usize, InDependency),
     Memory(AllocError),
 }
 
 impl Refusal {
-    /// Whether memory was refused, also for a condition.
+    /// Returns whether memory was refused, also for a condition.
     pub fn is_memory(&self) -> bool
         ensures { result ≡ is_memory self.now }
     {

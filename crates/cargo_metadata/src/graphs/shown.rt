@@ -1,4 +1,4 @@
-//! Refusals, as people read them: the path in the document, and what is wrong there. No text of the document is shown.
+//! The messages of refusals: the path in the document, and the error there. They contain no text of the document.
 
 use super::refusals::{InDependency, Refusal};
 use std::fmt::{self, Display, Formatter, Write};

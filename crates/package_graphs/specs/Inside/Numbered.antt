@@ -20,7 +20,7 @@ pub record IsQuestion (q : Question) : Type 0 where
   pub all : (k : ℕ) → k < COUNT → is_member q.always k ≡ true
   pub none : (k : ℕ) → k < COUNT → is_member q.never k ≡ false
 
--- where a dependency holds: everywhere or nowhere, where it is asked of the host
+-- the targets of a dependency: all or none, if it is decided for the host
 abbrev pub holds_by : Option KnownTarget → TargetSet → TargetSet → Side → Dependency → TargetSet
 holds_by None always never from d = d.holds
 holds_by (Some host) always never from d =
@@ -45,7 +45,7 @@ abbrev pub numbered : Question → List Package → List Package → Edges
 numbered q packages units =
     flat_map (λ unit. edges_on q packages unit Target ∷ edges_on q packages unit Host ∷ []) units
 
--- the nodes of the roots among so many packages
+-- the nodes of the roots among the first `count` packages
 pub record AreFirst (q : Question) (packages : List Package) (count : ℕ) (roots : List ℕ) : Type 0 where
   pub sound : (r : ℕ) → Contains roots r
       → (p : ℕ) × IsTrue (is_root packages p) × (r ≡ node_of p (first_side q.host (is_macro packages p)))

@@ -1,4 +1,4 @@
--- What is known while a path is searched, of the packages and the target of the search.
+-- The knowledge during a search for a path, of the packages and the target of the search.
 use Rattle.std.specs.Prelude.{◌≡◌, ◌<◌, ◌≤◌, ◌+◌, ℕ, List, length, All}
 use Rattle.std.specs.List.{slice_index_or}
 use Rattle.known_targets.specs.Sets.{place}
@@ -23,12 +23,12 @@ Leads s steps p = LeadTo s.packages.now s.question.kinds s.question.host (place 
 abbrev pub distance : List ℕ → Sided → ℕ
 distance ds n = slice_index_or ds (node_of n.0 n.1) 0
 
--- what the dependency d leads to from m is no farther than this
+-- the place that the dependency d leads to from m has at most this distance
 abbrev pub IsWithin : Search → List ℕ → Sided → ℕ → Dependency → Type 0
 IsWithin s ds m most d =
     (n : Sided) → LeadsAlong s d m n → n.0 < length s.packages.now → distance ds n ≤ most
 
--- a root is at the distance 0, and what a dependency of m leads to is no farther than one step from m
+-- a root has the distance 0, and the place that a dependency of m leads to is at most one step farther than m
 pub record IsNear (s : Search) (ds : List ℕ) (m : Sided) : Type 0 where
   pub root : StartsOn s.packages.now s.question.host m → distance ds m ≡ 0
   pub next : All (λ d. IsWithin s ds m (distance ds m + 1) d) (dependencies s.packages.now m.0)

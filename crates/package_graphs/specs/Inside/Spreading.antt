@@ -1,4 +1,4 @@
--- What holds while targets are carried along edges: which nodes wait to be gone over, and what is still missing.
+-- Invariants while targets are carried along edges: the nodes that are queued, and what is still missing.
 use Rattle.std.specs.Prelude.{◌≡◌, ◌<◌, ℕ, zero, suc, ◌+◌, Bool, true, false, cond, List, length, sum_by, Contains}
 use Rattle.std.specs.Prelude.{All, map, slice_index}
 use Rattle.std.specs.List.{slice_index_or}
@@ -15,7 +15,7 @@ waits queue n = slice_index_or queue.waiting.items n false
 abbrev pub node_count : Queue → ℕ
 node_count queue = length queue.waiting.items
 
--- the nodes of the list are known; those that wait are in it, each once, and no others are
+-- the nodes of the list are known; those that are queued are in it, each once, and no others are
 pub record IsList (waiting : List Bool) (nodes : List ℕ) : Type 0 where
   pub known : All (λ n. n < length waiting) nodes
   pub listed : (n : ℕ) → slice_index_or waiting n false ≡ true → Contains nodes n
@@ -25,7 +25,7 @@ pub record IsList (waiting : List Bool) (nodes : List ℕ) : Type 0 where
 abbrev pub IsQueue : Queue → Type 0
 IsQueue queue = IsList queue.waiting.items queue.nodes.items
 
--- how many of the first numbers do not pass
+-- the number of the first numbers that do not pass
 unfoldable pub count_lacking : ℕ → (ℕ → Bool) → ℕ
 count_lacking zero p = 0
 count_lacking (suc n) p = cond (p n) 0 1 + count_lacking n p
@@ -33,16 +33,16 @@ count_lacking (suc n) p = cond (p n) 0 1 + count_lacking n p
 abbrev pub lacking : TargetSet → ℕ
 lacking set = count_lacking COUNT (is_member set)
 
--- how many members could still be added to all the sets
+-- the number of members that could still be added to all the sets
 abbrev pub missing : List TargetSet → ℕ
 missing sets = sum_by lacking sets
 
--- where the edge holds, the targets of the node m are those of its end too
+-- if the edge has a target of the node m, the end of the edge has it too
 abbrev pub IsCarried : ℕ → (ℕ → ℕ → Bool) → ℕ → Edge → Type 0
 IsCarried count at m edge = (k : ℕ) → k < COUNT → edge.to < count → at m k ≡ true → is_member edge.holds k ≡ true
     → at edge.to k ≡ true
 
--- so many edges of a node are gone over, with what its set has now
+-- the first `many` edges of a node are visited, with the current set of the node
 abbrev pub AreCarried : Edges → (ℕ → ℕ → Bool) → ℕ → ℕ → Type 0
 AreCarried graph at m many = (j : ℕ) → j < many → (d : Edge) → j < length (edges_from graph m)
     → IsCarried (length graph) at m (slice_index_or (edges_from graph m) j d)
@@ -51,10 +51,10 @@ AreCarried graph at m many = (j : ℕ) → j < many → (d : Edge) → j < lengt
 abbrev pub AreSound : Edges → List ℕ → (ℕ → ℕ → Bool) → Type 0
 AreSound graph roots at = (n k : ℕ) → k < COUNT → at n k ≡ true → IsPresent graph roots k n
 
--- how many members the set of a node lacks
+-- the number of members that the set of a node lacks
 abbrev pub lacking_at : List TargetSet → ℕ → ℕ
 lacking_at sets n = slice_index_or (map lacking sets) n 0
 
--- how often the edges of a node may yet be gone over
+-- how often the edges of a node can still be visited
 abbrev pub rounds_left : List TargetSet → Queue → ℕ → ℕ
 rounds_left sets queue n = lacking_at sets n + cond (waits queue n) 1 0
