@@ -109,7 +109,8 @@ install-library:
 	install -m 644 $(C_LIBRARY)/libnevgrasi.a "$(FOLDER)/lib"
 	cp -P --remove-destination $(C_LIBRARY)/libnevgrasi.so* "$(FOLDER)/lib"
 	sed "s|@PREFIX@|$(PREFIX)|" include/nevgrasi.pc > "$(FOLDER)/lib/pkgconfig/nevgrasi.pc"
-	install -m 644 python/nevgrasi/*.py $(C_LIBRARY)/libnevgrasi.so "$(DESTDIR)$(PYTHON_FOLDER)/nevgrasi"
+	install -m 644 python/nevgrasi/*.py python/nevgrasi/py.typed $(C_LIBRARY)/libnevgrasi.so \
+		"$(DESTDIR)$(PYTHON_FOLDER)/nevgrasi"
 	@echo "the Python package is in $(PYTHON_FOLDER), where $(PYTHON) finds it"
 
 wheel: rt

@@ -110,7 +110,7 @@ def _load() -> ctypes.CDLL:
 _LIBRARY = _load()
 
 
-def _bytes(text: str | bytes) -> list:
+def _bytes(text: str | bytes) -> list[typing.Any]:
     """The two arguments that a text is."""
     data = text if isinstance(text, bytes) else text.encode()
     return [data, ctypes.c_size_t(len(data))]
@@ -202,7 +202,7 @@ class Key:
         True
         """
         outcome, _ = _answer("nevgrasi_matches", *_bytes(self.text), *_bytes(name), *_bytes(_lines(facts)))
-        return outcome.holds
+        return bool(outcome.holds)
 
     def targets(self) -> list[str]:
         """The targets of rustc 1.95.0 at which the key holds.
@@ -273,7 +273,7 @@ class Condition:
         return _answer("nevgrasi_flat_print", *_bytes(self.flat))[1].decode()
 
 
-def graph(document: str | bytes, host: str | None = None) -> list[dict]:
+def graph(document: str | bytes, host: str | None = None) -> list[dict[str, typing.Any]]:
     """At which known targets each package is in the build, of what `cargo metadata --format-version 1` printed.
 
     An object for each package, as `manifest_check graph --json` prints them: `at` is "all", or names of targets. With a
