@@ -9,7 +9,8 @@
 #             and completions; where a C compiler is, it does what `make install-c` does too. UNPROVED=yes proves
 #             nothing, and installs the programs alone, marked as unproved builds
 # make c-library  proves and builds the library for C, and says where it is
-# make install-c PREFIX=..  puts the library for C, its header, a file for pkg-config and the Python package in place
+# make install-c PREFIX=..  proves, builds and installs the library for C, shared and static, its header, a file for
+#             pkg-config, and the Python package where PYTHON looks for packages
 # make wheel  builds a wheel of the Python package, with the shared library in it, into out/wheel
 # make dist   one archive of the programs, the library for C and the wheel, of what it proves and builds, into out/dist
 # make take INTO=FOLDER CRATES=".."  copies crates into another repository, with those that they stand on
@@ -30,13 +31,15 @@
 # make pages      what the pages say, beside what it is said of; `.ci/promises --write` makes their lists anew
 # make depths     the programs on the deepest conditions that their inputs hold
 .PHONY: try lint run test prove mutants build install install-programs say-how-long c-library install-c \
-	wheel dist take measure targets fmt fits refusals second-reader statuses manifests workspaces graphs \
+	install-library wheel dist take measure targets fmt fits refusals second-reader statuses manifests workspaces graphs \
 	relations cargo-select try-c pages depths rt
 
 PROGRAM := crates/platform_check
 CHECK := crates/manifest_check
 UNPROVED_BUILDS := out/unproved/platform_check/platform_check out/unproved/manifest_check/manifest_check
 PREFIX ?= /usr/local
+# Not every shell replaces a tilde that is not the first character of a word.
+override PREFIX := $(patsubst ~/%,$(HOME)/%,$(PREFIX))
 MANIFEST ?= Cargo.toml
 
 rt:
@@ -88,19 +91,27 @@ install: say-how-long build install-programs
 	@! command -v $(CC) > /dev/null || $(MAKE) --no-print-directory install-c
 endif
 
-C_LIBRARY := crates/nevgrasi_c/out
-PYTHON_FOLDER ?= $(PREFIX)/lib/python3/dist-packages
+C_LIBRARY ?= crates/nevgrasi_c/out
+PYTHON ?= python3
 
 c-library: rt
-	@.ci/c-library --shared $(C_LIBRARY)
-	@echo "the library is $(C_LIBRARY)/libnevgrasi.so"
+	@.ci/c-library --library $(C_LIBRARY)
+	@echo "the libraries are $(C_LIBRARY)/libnevgrasi.so and $(C_LIBRARY)/libnevgrasi.a"
 
-install-c: c-library
-	install -d "$(DESTDIR)$(PREFIX)/lib/pkgconfig" "$(DESTDIR)$(PREFIX)/include" "$(DESTDIR)$(PYTHON_FOLDER)/nevgrasi"
-	install -m 644 include/nevgrasi.h "$(DESTDIR)$(PREFIX)/include"
-	install -m 644 $(C_LIBRARY)/libnevgrasi.so "$(DESTDIR)$(PREFIX)/lib"
-	sed "s|@PREFIX@|$(PREFIX)|" include/nevgrasi.pc > "$(DESTDIR)$(PREFIX)/lib/pkgconfig/nevgrasi.pc"
-	install -m 644 python/nevgrasi/__init__.py $(C_LIBRARY)/libnevgrasi.so "$(DESTDIR)$(PYTHON_FOLDER)/nevgrasi"
+install-c: c-library install-library
+
+# Installs the library that was built in the folder C_LIBRARY.
+install-library: FOLDER = $(DESTDIR)$(PREFIX)
+install-library: PYTHON_FOLDER ?= $(shell $(PYTHON) .ci/python_folder.py "$(PREFIX)")
+install-library:
+	install -d "$(FOLDER)/lib/pkgconfig" "$(FOLDER)/include" "$(DESTDIR)$(PYTHON_FOLDER)/nevgrasi"
+	install -m 644 include/nevgrasi.h "$(FOLDER)/include"
+	install -m 644 $(C_LIBRARY)/libnevgrasi.a "$(FOLDER)/lib"
+	cp -P --remove-destination $(C_LIBRARY)/libnevgrasi.so* "$(FOLDER)/lib"
+	sed "s|@PREFIX@|$(PREFIX)|" include/nevgrasi.pc > "$(FOLDER)/lib/pkgconfig/nevgrasi.pc"
+	install -m 644 python/nevgrasi/*.py python/nevgrasi/py.typed $(C_LIBRARY)/libnevgrasi.so \
+		"$(DESTDIR)$(PYTHON_FOLDER)/nevgrasi"
+	@echo "the Python package is in $(PYTHON_FOLDER), where $(PYTHON) finds it"
 
 wheel: rt
 	@.ci/c-library --wheel out/wheel

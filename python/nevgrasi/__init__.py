@@ -3,11 +3,16 @@
 >>> Key('cfg( all(unix,not(target_os="macos"),) )').canonical
 'cfg(all(unix, not(target_os = "macos")))'
 >>> Key("cfg(unix)").implies('cfg(target_os = "linux")')
-Answer(holds=False, example=Example(name=None, facts=['target_family = "unix"', 'unix']))
+Answer(holds=False, example=Example(name=None, facts=('target_family = "unix"', 'unix')))
+>>> Key("cfg(unix)").condition().matches(facts_of("x86_64-unknown-linux-gnu"))
+True
 >>> Key('cfg(all(unix windows))')
 Traceback (most recent call last):
     ...
 nevgrasi.Fault: failed to parse `all(unix windows)` as a cfg expression: expected `)`, found an identifier
+
+A `Key`, a `Condition`, `Facts` and a `Fault` are values: they can be compared, sorted, hashed, copied and pickled, and
+`repr` prints what creates them. An argument of another type raises `TypeError`.
 
 The shared library is `libnevgrasi.so` beside this file, or the one that the variable NEVGRASI_LIBRARY of the
 environment names. A call makes no other system call than for memory, and threads may call at once.
@@ -15,33 +20,51 @@ environment names. A call makes no other system call than for memory, and thread
 from __future__ import annotations
 
 import ctypes
+import functools
 import json
-import os
-import pathlib
+import re
 import typing
 
-__all__ = ["Answer", "Condition", "Example", "Fault", "Key", "TooDeep", "Undecided", "UnknownTarget", "facts_of",
-           "graph", "known_targets", "version"]  # fmt: skip
+from . import _library
+from ._library import Outcome, call, of_bytes, of_text, wrong_type
 
-ABI = 2
-DONE, REFUSED, NOT_UTF8, NOT_FLAT, NO_MEMORY, UNDECIDED, TOO_DEEP, UNKNOWN_TARGET = range(8)
-TARGETS, WORDS = 320, 5
+__all__ = ["Answer", "Condition", "Example", "Facts", "Fault", "Key", "Package", "TooDeep", "Undecided",
+           "UnknownTarget", "facts_of", "graph", "keys_at", "known_targets", "version"]  # fmt: skip
 
 # How many pairs a comparison may split on before it is undecided.
 BUDGET = 10_000
 
 
-class Outcome(ctypes.Structure):
-    """How a call ended."""
+@functools.total_ordering
+class _Value:
+    """A value that equals and hashes by its parts, and sorts by its place. It is compared with its own type alone."""
 
-    _fields_ = [
-        ("code", ctypes.c_uint32), ("argument", ctypes.c_uint32), ("holds", ctypes.c_bool),
-        ("is_named", ctypes.c_bool), ("needed", ctypes.c_size_t), ("start", ctypes.c_size_t), ("end", ctypes.c_size_t),
-    ]  # fmt: skip
+    __slots__ = ()
+
+    def _parts(self) -> tuple[typing.Any, ...]:
+        """Returns what makes two values of this type equal."""
+        raise NotImplementedError
+
+    def _place(self) -> tuple[typing.Any, ...]:
+        """Returns by what values of this type are sorted. Equal values have equal places, and others do not."""
+        return self._parts()
+
+    def __eq__(self, other: object) -> bool:
+        if not isinstance(other, _Value) or type(other) is not type(self):
+            return NotImplemented
+        return self._parts() == other._parts()
+
+    def __lt__(self, other: object) -> bool:
+        if not isinstance(other, _Value) or type(other) is not type(self):
+            return NotImplemented
+        return self._place() < other._place()
+
+    def __hash__(self) -> int:
+        return hash(self._parts())
 
 
-class Fault(ValueError):
-    """A text that is refused.
+class Fault(_Value, ValueError):
+    """An error of a text, with the bytes at which it lies. Faults sort by these.
 
     >>> try:
     ...     Key("cfg(all(a b))")
@@ -53,39 +76,55 @@ class Fault(ValueError):
               ^ expected `)`, found an identifier
     """
 
+    #: The message, without the place of the error.
+    message: str
+    #: The first byte of the error in the text, in UTF-8.
+    start: int
+    #: The byte after the error.
+    end: int
+    #: Two lines that show the key, and carets below the error. A text that is no key has none.
+    snippet: str | None
+
     def __init__(self, message: str, start: int, end: int, snippet: str | None = None) -> None:
         super().__init__(message)
-        #: The bytes of the fault in the text, in UTF-8.
-        self.start, self.end = start, end
-        #: Two lines that show the key and the fault; of a line of facts None.
-        self.snippet = snippet
+        self.message, self.start, self.end, self.snippet = message, start, end, snippet
+
+    def _parts(self) -> tuple[int, int, str, bool, str]:
+        return self.start, self.end, self.message, self.snippet is not None, self.snippet or ""
+
+    def __repr__(self) -> str:
+        shown = "" if self.snippet is None else f", {self.snippet!r}"
+        return f"{type(self).__name__}({self.message!r}, {self.start}, {self.end}{shown})"
+
+    def __reduce__(self) -> tuple[typing.Any, ...]:
+        return type(self), (self.message, self.start, self.end, self.snippet)
 
 
 class TooDeep(ValueError):
-    """More parentheses are open at once than the library takes stack for."""
+    """A text has more parentheses open at once than the library takes stack for."""
 
 
 class Undecided(Exception):
-    """A comparison took more splits than its budget."""
+    """A comparison took more case splits than its budget."""
 
 
 class UnknownTarget(LookupError):
-    """No known target has the name."""
+    """No known target has this name."""
 
 
 class Example(typing.NamedTuple):
-    """A target that is possible: its name, where it matters, and its facts, sorted.
+    """A possible target: its name, if the answer depends on it, and its facts, sorted.
 
     >>> Key('cfg(a = "two\\nlines")').can_hold().example.facts
-    ['a = "two\\nlines"']
+    ('a = "two\\nlines"',)
     """
 
     name: str | None
-    facts: list[str]
+    facts: tuple[str, ...]
 
 
 class Answer(typing.NamedTuple):
-    """A yes or a no, and an example where one tells why.
+    """A yes or a no, and an example that shows why, if there is one.
 
     >>> bool(Key("cfg(unix)").excludes("cfg(windows)"))
     False
@@ -98,128 +137,149 @@ class Answer(typing.NamedTuple):
         return self.holds
 
 
-def _load() -> ctypes.CDLL:
-    """The shared library, of the interface that this file is written for."""
-    beside = pathlib.Path(__file__).with_name("libnevgrasi.so")
-    library = ctypes.CDLL(os.environ.get("NEVGRASI_LIBRARY") or str(beside))
-    if library.nevgrasi_abi() != ABI:
-        raise ImportError(f"{library._name} has another interface than {ABI}")
-    return library
+class Package(typing.TypedDict):
+    """A package of a graph, as `manifest_check graph --json` prints it."""
+
+    #: The name and version.
+    package: str
+    id: str
+    #: The expression of its licence.
+    license: str | None
+    #: On how many known targets it is in the build.
+    targets: int
+    #: Which known targets these are, or "all".
+    at: str | list[str]
+    #: The dependency kinds that reach it.
+    kinds: list[str]
 
 
-_LIBRARY = _load()
+# What the codes stand for that are no answer, but for a text that is rejected.
+_ERRORS: dict[int, tuple[type[Exception], str]] = {
+    _library.NO_MEMORY: (MemoryError, "an allocation failed"),
+    _library.UNDECIDED: (Undecided, "the budget is used up"),
+    _library.TOO_DEEP: (TooDeep, "too many parentheses are open"),
+    _library.NOT_FLAT: (ValueError, "no flat condition"),
+    _library.NOT_UTF8: (ValueError, "no UTF-8"),
+    _library.UNKNOWN_TARGET: (UnknownTarget, "no known target has the name"),
+}
 
 
-def _bytes(text: str | bytes) -> list:
-    """The two arguments that a text is."""
-    data = text if isinstance(text, bytes) else text.encode()
-    return [data, ctypes.c_size_t(len(data))]
-
-
-def _call(name: str, *before: object, room: int = 512) -> tuple[Outcome, bytes]:
-    """A call that writes to a buffer, made again where the buffer was too short; and what it wrote."""
-    outcome = Outcome()
-    while True:
-        out = ctypes.create_string_buffer(room)
-        getattr(_LIBRARY, name)(*before, out, ctypes.c_size_t(room), ctypes.byref(outcome))
-        if outcome.needed <= room:
-            return outcome, out.raw[: outcome.needed]
-        room = outcome.needed
-
-
-def _refuse(outcome: Outcome) -> None:
-    """Raises what a code stands for that is no answer, and no refusal."""
-    known = {NO_MEMORY: MemoryError(), UNDECIDED: Undecided(), TOO_DEEP: TooDeep("too many parentheses are open"),
-             NOT_FLAT: ValueError("no flat condition"), NOT_UTF8: ValueError("no UTF-8"),
-             UNKNOWN_TARGET: UnknownTarget("no known target has the name")}  # fmt: skip
-    if outcome.code in known:
-        raise known[outcome.code]
-
-
-def _answer(name: str, *before: object) -> tuple[Outcome, bytes]:
-    """A call that refuses no text any more."""
-    outcome, written = _call(name, *before)
-    _refuse(outcome)
-    if outcome.code == REFUSED:
+def _check(outcome: Outcome, written: bytes) -> bytes:
+    """Returns what a call wrote. Raises what its code stands for if that is no answer."""
+    if outcome.code == _library.DONE:
+        return written
+    if outcome.code == _library.REFUSED:
         raise Fault(written.decode(), outcome.start, outcome.end)
-    return outcome, written
+    error, message = _ERRORS[outcome.code]
+    raise error(message)
 
 
-def _lines(facts: typing.Iterable[str] | str) -> str:
-    """The lines of facts."""
-    if isinstance(facts, str):
-        return facts
-    lines = list(facts)
-    if any("\n" in fact for fact in lines):
-        raise ValueError("a fact has more than one line")
-    return "".join(f"{fact}\n" for fact in lines)
+def _answer(name: str, *arguments: object) -> bytes:
+    """Makes a call and returns what it wrote. Raises if that is no answer."""
+    return _check(*call(name, *arguments))
 
 
-def _texts(written: bytes) -> list[str]:
-    """Texts, each behind its length."""
+def _compared(name: str, has_example: bool, *arguments: object) -> Answer:
+    """Makes a call that compares. If it answers `has_example`, it wrote an example."""
+    outcome, written = call(name, *arguments)
+    _check(outcome, written)
+    if outcome.holds != has_example:
+        return Answer(outcome.holds, None)
     texts = []
     while written:
         end = 8 + int.from_bytes(written[:8], "little")
         texts.append(written[8:end].decode())
         written = written[end:]
-    return texts
+    name_of_target = texts.pop(0) if outcome.is_named else None
+    return Answer(outcome.holds, Example(name_of_target, tuple(sorted(texts))))
 
 
-def _compared(outcome: Outcome, written: bytes, has_example: bool) -> Answer:
-    """An answer, with its example where it has one."""
-    if outcome.holds != has_example:
-        return Answer(outcome.holds, None)
-    texts = _texts(written)
-    name = texts.pop(0) if outcome.is_named else None
-    return Answer(outcome.holds, Example(name, sorted(texts)))
+def _budget(splits: int) -> ctypes.c_uint64:
+    """Returns the argument for a budget."""
+    if not isinstance(splits, int):
+        raise wrong_type("a budget", "an int", splits)
+    if not 0 <= splits < 1 << 64:
+        raise ValueError("a budget has to be at least 0, and less than 2 ** 64")
+    return ctypes.c_uint64(splits)
 
 
-class Key:
+class Key(_Value):
     """The key of a table `[target.KEY.dependencies]`.
 
-    Creating one raises `Fault` where the text spells no condition.
+    Keys are equal if they have the same canonical form, and they are sorted by it. What they mean is compared by
+    `equivalent`.
+
+    >>> Key("cfg( unix )") == Key("cfg(unix)")
+    True
+    >>> sorted({Key("cfg(windows)"), Key("cfg(unix)"), Key("cfg( unix )")})
+    [Key('cfg(unix)'), Key('cfg(windows)')]
     """
 
+    __slots__ = ("_text", "_canonical")
+
     def __init__(self, text: str) -> None:
-        self.text = text
-        outcome, written = _call("nevgrasi_canonical", *_bytes(text))
-        if outcome.code == REFUSED:
-            _, snippet = _call("nevgrasi_fault", *_bytes(text))
+        """Reads a key. Raises `Fault` if the text is no key, and `TooDeep`."""
+        outcome, written = call("nevgrasi_canonical", *of_text(text, "a key"))
+        if outcome.code == _library.REFUSED:
+            _, snippet = call("nevgrasi_fault", *of_text(text))
             raise Fault(written.decode(), outcome.start, outcome.end, snippet.decode())
-        _refuse(outcome)
-        #: The text as the library prints it, which spells the same condition.
-        self.canonical = written.decode()
+        self._text, self._canonical = text, _check(outcome, written).decode()
+
+    @property
+    def text(self) -> str:
+        """The text that was read."""
+        return self._text
+
+    @property
+    def canonical(self) -> str:
+        """The canonical form, which is a key for the same condition."""
+        return self._canonical
+
+    def _parts(self) -> tuple[str]:
+        return (self._canonical,)
+
+    def __str__(self) -> str:
+        return self._canonical
 
     def __repr__(self) -> str:
-        return f"Key({self.text!r})"
+        return f"{type(self).__name__}({self._text!r})"
+
+    def __reduce__(self) -> tuple[typing.Any, ...]:
+        return type(self), (self._text,)
 
     def matches(self, name: str, facts: typing.Iterable[str] | str) -> bool:
-        """Whether the key applies to the target of this name, with facts as `rustc --print cfg` prints them.
+        """Returns whether the key applies to the target of this name with these facts.
 
-        The facts are one text of lines, or texts of one line each; `ValueError` where one has more.
+        The facts are `Facts`, or one text of lines as `rustc --print cfg` prints them, or texts of one line each.
+        Raises `Fault` if a line is no fact, and `ValueError` if a text of one line has more. `Condition.matches` is
+        faster if you ask for the same facts again.
 
         >>> Key("cfg(unix)").matches("x86_64-unknown-linux-gnu", ["unix", 'target_os="linux"'])
         True
         """
-        outcome, _ = _answer("nevgrasi_matches", *_bytes(self.text), *_bytes(name), *_bytes(_lines(facts)))
-        return outcome.holds
+        lines = of_text(_lines(facts))
+        outcome, written = call("nevgrasi_matches", *of_text(self._text), *of_text(name, "a name"), *lines)
+        _check(outcome, written)
+        return bool(outcome.holds)
 
     def targets(self) -> list[str]:
-        """The targets of rustc 1.95.0 at which the key holds.
+        """Returns the known targets, those of rustc 1.95.0, on which the key is true.
 
         >>> Key('cfg(all(target_os = "ios", target_env = "macabi"))').targets()
         ['aarch64-apple-ios-macabi', 'x86_64-apple-ios-macabi']
         """
-        words = (ctypes.c_uint64 * WORDS)()
-        _answer("nevgrasi_targets", *_bytes(self.text), words)
+        words = (ctypes.c_uint64 * _library.WORDS)()
+        _answer("nevgrasi_targets", *of_text(self._text), words)
         return [name for place, name in enumerate(known_targets()) if words[place // 64] >> (place % 64) & 1]
 
-    def _relates(self, call: str, other: Key | str, budget: int) -> Answer:
-        text = other.text if isinstance(other, Key) else other
-        return _compared(*_answer(call, *_bytes(self.text), *_bytes(text), ctypes.c_uint64(budget)), False)
+    def _relates(self, call_name: str, other: Key | str, budget: int) -> Answer:
+        texts = [*of_text(self._text), *of_text(_text_of(other))]
+        return _compared(call_name, False, *texts, _budget(budget))
 
     def implies(self, other: Key | str, budget: int = BUDGET) -> Answer:
-        """Whether the other key holds wherever this one does, over every set of facts that rustc's rules allow.
+        """Returns whether the other key is true wherever this one is, for every set of facts that rustc's rules allow.
+
+        Raises `Undecided` if that takes more than `budget` case splits.
 
         >>> Key('cfg(target_family = "unix")').implies("cfg(unix)")
         Answer(holds=True, example=None)
@@ -227,7 +287,7 @@ class Key:
         return self._relates("nevgrasi_implies", other, budget)
 
     def equivalent(self, other: Key | str, budget: int = BUDGET) -> Answer:
-        """Whether both keys hold at the same targets.
+        """Returns whether both keys are true on the same targets. Raises as `implies` does.
 
         >>> Key("cfg(unix)").equivalent('cfg(target_family = "unix")').holds
         True
@@ -235,7 +295,7 @@ class Key:
         return self._relates("nevgrasi_equivalent", other, budget)
 
     def excludes(self, other: Key | str, budget: int = BUDGET) -> Answer:
-        """Whether the keys hold together nowhere.
+        """Returns whether no target exists on which both keys are true. Raises as `implies` does.
 
         >>> Key('cfg(target_os = "linux")').excludes('cfg(target_os = "macos")').holds
         True
@@ -243,80 +303,370 @@ class Key:
         return self._relates("nevgrasi_excludes", other, budget)
 
     def can_hold(self, budget: int = BUDGET) -> Answer:
-        """Whether the key can hold, over some set of facts that rustc's rules allow.
+        """Returns whether the key is true for some set of facts that rustc's rules allow. Raises as `implies` does.
 
         >>> Key("cfg(all(unix, not(unix)))").can_hold()
         Answer(holds=False, example=None)
         """
-        return _compared(*_answer("nevgrasi_can_hold", *_bytes(self.text), ctypes.c_uint64(budget)), True)
+        return _compared("nevgrasi_can_hold", True, *of_text(self._text), _budget(budget))
 
     def condition(self) -> Condition:
-        """The condition, read once: bytes that may be kept and sent.
+        """Returns the condition of the key, which can be matched often and has its parts.
 
-        >>> Key("cfg(unix)").condition().flat == b"unix" + (4).to_bytes(8, "little") + bytes(8) + bytes(1)
-        True
+        >>> Key("cfg(unix)").condition()
+        Condition('cfg(unix)')
         """
-        return Condition(_answer("nevgrasi_read_key", *_bytes(self.text))[1])
+        return Condition(self._text)
 
 
-class Condition:
-    """A flat condition. Bytes that are none are refused when a call is made with them.
+def _text_of(key: Key | str) -> str:
+    """Returns the text of a key, which may be one already."""
+    if not isinstance(key, (Key, str)):
+        raise wrong_type("a key", "a Key or a str", key)
+    return key.text if isinstance(key, Key) else key
 
-    >>> str(Condition(Key("cfg( unix )").condition().flat))
-    'cfg(unix)'
+
+class _Node(typing.NamedTuple):
+    """What a condition is, and of what it consists."""
+
+    kind: str
+    name: str | None
+    value: str | None
+    is_raw: bool
+    members: tuple[Condition, ...]
+
+
+# What the tags of a flat condition mean, and how long a record is without its texts.
+_KINDS = ("name", "name", "pair", "pair", "true", "false", "not", "all", "any", "target")
+_RAW, _PAIRS, _TRUTHS, _GROUPS = (1, 3), (2, 3), (4, 5), (6, 7, 8)
+_RECORD = 17
+
+
+class Condition(_Value):
+    """A parsed key. It is created from the text of a key, or from the bytes of a flat condition.
+
+    `str` prints the canonical form. Conditions are equal if they consist of the same parts, and they are sorted by
+    their canonical forms. Bytes that are no flat condition raise `ValueError`.
+
+    >>> condition = Condition('cfg(all(unix, not(target_os="macos")))')
+    >>> print(condition)
+    cfg(all(unix, not(target_os = "macos")))
+    >>> condition.kind, [it.kind for it in condition.members]
+    ('all', ['name', 'not'])
+    >>> fact = condition.members[1].members[0]
+    >>> fact, fact.kind, fact.name, fact.value
+    (Condition('cfg(target_os = "macos")'), 'pair', 'target_os', 'macos')
+    >>> Condition(condition.flat) == condition
+    True
     """
 
-    def __init__(self, flat: bytes) -> None:
-        self.flat = flat
+    # The bytes from `_start` to `_end` of `_whole` are the flat condition. A member's are those of the whole condition.
+    __slots__ = ("_whole", "_start", "_end", "_canonical", "_node")
+    _canonical: str | None
+    _node: _Node | None
+
+    def __init__(self, given: str | bytes) -> None:
+        """Reads a key or a flat condition. Raises `Fault` if the text is no key, and `TooDeep`."""
+        if isinstance(given, bytes):
+            flat, self._canonical = given, _answer("nevgrasi_flat_print", *of_bytes(given)).decode()
+        else:
+            flat, self._canonical = Condition._flat_of(given), None
+        self._whole, self._start, self._end, self._node = flat, 0, len(flat), None
+
+    @staticmethod
+    def _flat_of(key: str) -> bytes:
+        """Returns the flat condition of a key."""
+        if not isinstance(key, str):
+            raise wrong_type("a condition", "a str or bytes", key)
+        outcome, written = call("nevgrasi_read_key", *of_text(key))
+        if outcome.code == _library.REFUSED:
+            Key(key)  # which raises the same fault, with its snippet
+        return _check(outcome, written)
+
+    @property
+    def flat(self) -> bytes:
+        """The flat condition: bytes that you can copy, send and store.
+
+        >>> Condition("cfg(unix)").flat == b"unix" + (4).to_bytes(8, "little") + bytes(8) + bytes(1)
+        True
+        """
+        return self._whole[self._start : self._end]
+
+    @property
+    def canonical(self) -> str:
+        """The canonical form, which is a key for this condition."""
+        if self._canonical is None:
+            self._canonical = _answer("nevgrasi_flat_print", *of_bytes(self.flat)).decode()
+        return self._canonical
+
+    @property
+    def kind(self) -> str:
+        """What it is: "name", "pair", "true", "false", "not", "all", "any", or, for the name of a target, "target"."""
+        return self._read().kind
+
+    @property
+    def name(self) -> str | None:
+        """The name of a fact without `r#`, the name of a pair, or the name of a target."""
+        return self._read().name
+
+    @property
+    def value(self) -> str | None:
+        """The value of a pair."""
+        return self._read().value
+
+    @property
+    def is_raw(self) -> bool:
+        """Whether the name of a fact is written with `r#`, which no match depends on."""
+        return self._read().is_raw
+
+    @property
+    def members(self) -> tuple[Condition, ...]:
+        """The conditions in `not(..)`, `all(..)` or `any(..)`, in their order."""
+        return self._read().members
+
+    def matches(self, facts: typing.Iterable[str] | str) -> bool:
+        """Returns whether the condition is true for these facts. The name of a target is compared with `Facts.name`.
+
+        `Facts` are parsed once. Other facts are parsed in each call: one text of lines, or texts of one line each.
+
+        >>> linux = facts_of("x86_64-unknown-linux-gnu")
+        >>> Condition('cfg(target_os = "linux")').matches(linux), Condition("x86_64-unknown-linux-gnu").matches(linux)
+        (True, True)
+        >>> Condition("cfg(windows)").matches(["unix"])
+        False
+        """
+        found = facts if isinstance(facts, Facts) else Facts(facts)
+        outcome = Outcome()
+        arguments = [*of_bytes(self.flat), *of_text(found.name), *of_bytes(found.flat)]
+        _library.LIBRARY.nevgrasi_flat_matches(*arguments, ctypes.byref(outcome))
+        _check(outcome, b"")
+        return bool(outcome.holds)
+
+    def _read(self) -> _Node:
+        """Returns the parts. Records are read from the last to the first, since the tag of each is at its end."""
+        if self._node is not None:
+            return self._node
+        flat, end = self.flat, self._end - self._start
+        read: list[Condition] = []
+        while end:
+            tag, texts = flat[end - 1], end - _RECORD
+            first, second = (int.from_bytes(flat[at : at + 8], "little") for at in (texts, texts + 8))
+            if tag in _GROUPS:
+                start, name, value = texts, None, None
+                members = tuple(read.pop() for _ in range(first))
+            else:
+                start, members = texts - first - second, ()
+                name = None if tag in _TRUTHS else flat[start : start + first].decode()
+                value = flat[start + first : texts].decode() if tag in _PAIRS else None
+            node = _Node(_KINDS[tag], name, value, tag in _RAW, members)
+            read.append(Condition._of(flat, start, members[-1]._end if members else end, node))
+            end = start
+        self._node = read[0]._node
+        assert self._node is not None
+        return self._node
+
+    @classmethod
+    def _of(cls, whole: bytes, start: int, end: int, node: _Node) -> Condition:
+        """Returns the condition of these parts, which was read already."""
+        made = cls.__new__(cls)
+        made._whole, made._start, made._end, made._canonical, made._node = whole, start, end, None, node
+        return made
+
+    def _parts(self) -> tuple[bytes]:
+        return (self.flat,)
+
+    def _place(self) -> tuple[str, bytes]:
+        return self.canonical, self.flat
 
     def __str__(self) -> str:
-        return _answer("nevgrasi_flat_print", *_bytes(self.flat))[1].decode()
+        return self.canonical
+
+    def __repr__(self) -> str:
+        try:
+            is_so = Condition(self.canonical) == self
+        except ValueError:
+            is_so = False
+        return f"{type(self).__name__}({self.canonical if is_so else self.flat!r})"
+
+    def __reduce__(self) -> tuple[typing.Any, ...]:
+        return type(self), (self.flat,)
 
 
-def graph(document: str | bytes, host: str | None = None) -> list[dict]:
-    """At which known targets each package is in the build, of what `cargo metadata --format-version 1` printed.
+# A fact as the library reads it: its name without `r#`, and its value.
+_FACT = re.compile(r' *(?:r#)?([A-Za-z_][A-Za-z0-9_]*) *(?:= *"([^"]*)" *)?')
 
-    An object for each package, as `manifest_check graph --json` prints them: `at` is "all", or names of targets. With a
-    host, a known target, builds run there; without one on the target itself. A document that can't be used raises
-    `Fault`.
+
+def _line(fact: re.Match[str]) -> str:
+    """Returns a fact as rustc prints it."""
+    return fact[1] if fact[2] is None else f'{fact[1]}="{fact[2]}"'
+
+
+def _record(fact: re.Match[str]) -> bytes:
+    """Returns a fact as a record of flat facts."""
+    texts = [(text or "").encode() for text in fact.groups()]
+    tag = 0 if fact[2] is None else 2
+    return b"".join([*texts, *(len(it).to_bytes(8, "little") for it in texts), bytes([tag])])
+
+
+def _lines(facts: typing.Iterable[str] | str) -> str:
+    """Returns the text of the lines of facts."""
+    if isinstance(facts, Facts):
+        facts = facts.lines
+    if isinstance(facts, str):
+        return facts
+    lines = list(facts)
+    for fact in lines:
+        if not isinstance(fact, str):
+            raise wrong_type("a fact", "a str", fact)
+        if "\n" in fact:
+            raise ValueError("a fact has more than one line")
+    return "".join(f"{fact}\n" for fact in lines)
+
+
+class Facts(_Value):
+    """The `cfg` facts of a target, and its name. They are parsed once, to match many conditions.
+
+    They are created from one text of lines, as `rustc --print cfg` prints them, or from texts of one line each. To
+    iterate over them gives their lines as rustc prints them: sorted, and without spaces. Facts are equal if these lines
+    are, and the names of their targets. They are sorted by their names, and then by their lines.
+
+    >>> facts = Facts(["unix", 'target_os = "linux"', 'target_os="linux"'])
+    >>> list(facts)
+    ['target_os="linux"', 'unix']
+    >>> facts == Facts('target_os="linux"\\nunix\\n')
+    True
+    >>> 'target_os = "linux"' in facts, "windows" in facts
+    (True, False)
+    >>> Facts(["unix", "a ="])
+    Traceback (most recent call last):
+        ...
+    nevgrasi.Fault: line 2: failed to parse `a =` as a cfg expression: expected a string, but cfg expression ended
+    """
+
+    __slots__ = ("_name", "_lines", "_flat")
+
+    def __init__(self, facts: typing.Iterable[str] | str, name: str = "") -> None:
+        """Parses facts. Raises `Fault` if a line is no fact, and `ValueError` if a text of one line has more."""
+        text = _lines(facts)
+        _answer("nevgrasi_matches", *of_text("cfg(all())"), *of_text(name, "a name"), *of_text(text))
+        read = (_FACT.fullmatch(line) for line in text.split("\n") if line)
+        found = {_line(it): _record(it) for it in read if it}
+        self._name, self._lines = name, tuple(sorted(found))
+        self._flat = b"".join(found[line] for line in self._lines)
+
+    @property
+    def name(self) -> str:
+        """The name of the target, which is empty if none was given."""
+        return self._name
+
+    @property
+    def lines(self) -> tuple[str, ...]:
+        """The lines as rustc prints them."""
+        return self._lines
+
+    @property
+    def flat(self) -> bytes:
+        """The flat facts, as the call `nevgrasi_flat_matches` takes them."""
+        return self._flat
+
+    def _parts(self) -> tuple[str, tuple[str, ...]]:
+        return self._name, self._lines
+
+    def __iter__(self) -> typing.Iterator[str]:
+        return iter(self._lines)
+
+    def __len__(self) -> int:
+        return len(self._lines)
+
+    def __contains__(self, fact: object) -> bool:
+        found = _FACT.fullmatch(fact) if isinstance(fact, str) else None
+        return found is not None and _line(found) in self._lines
+
+    def __str__(self) -> str:
+        return "\n".join(self._lines)
+
+    def __repr__(self) -> str:
+        named = f", {self._name!r}" if self._name else ""
+        return f"{type(self).__name__}({[*self._lines]!r}{named})"
+
+    def __reduce__(self) -> tuple[typing.Any, ...]:
+        return type(self), (self._lines, self._name)
+
+
+def graph(document: str | bytes, host: str | None = None) -> list[Package]:
+    """Returns on which known targets each package is in the build.
+
+    The document is what `cargo metadata --format-version 1` printed. The packages are those that
+    `manifest_check graph --json` prints. Builds run on the host, which is a known target, or on the target itself.
+    Raises `Fault`, which has no place, if the document can't be used, `UnknownTarget` for the host, and `TooDeep`.
 
     >>> nodes = [{"id": "a", "deps": []}]
     >>> packages = [{"id": "a", "name": "a", "version": "1.0.0", "targets": []}]
     >>> graph(json.dumps({"version": 1, "packages": packages, "workspace_members": ["a"], "resolve": {"nodes": nodes}}))
     [{'package': 'a 1.0.0', 'id': 'a', 'license': None, 'targets': 320, 'at': 'all', 'kinds': []}]
     """
-    _, written = _answer("nevgrasi_graph", *_bytes(document), *_bytes(host or ""))
+    if not isinstance(document, (str, bytes)):
+        raise wrong_type("a document", "a str or bytes", document)
+    given = of_bytes(document) if isinstance(document, bytes) else of_text(document)
+    written = _answer("nevgrasi_graph", *given, *of_text("" if host is None else host, "a host"))
     return [json.loads(line) for line in written.split(b"\n")[:-1]]
 
 
 def version() -> str:
-    """The version of the library.
+    """Returns the version of the library.
 
     >>> len(version().split("."))
     3
     """
-    return _answer("nevgrasi_version")[1].decode()
+    return _answer("nevgrasi_version").decode()
 
 
 _NAMES: list[str] = []
 
 
 def known_targets() -> list[str]:
-    """The names of the targets that rustc 1.95.0 knows, sorted.
+    """Returns the names of the targets that rustc 1.95.0 knows, sorted.
 
     >>> len(known_targets())
     320
     """
     if not _NAMES:
-        names = [_answer("nevgrasi_target_name", ctypes.c_size_t(place))[1].decode() for place in range(TARGETS)]
-        _NAMES[:] = names
+        places = range(_library.TARGETS)
+        _NAMES[:] = [_answer("nevgrasi_target_name", ctypes.c_size_t(place)).decode() for place in places]
     return list(_NAMES)
 
 
-def facts_of(name: str) -> list[str]:
-    """The facts of the known target of this name.
+def facts_of(name: str) -> Facts:
+    """Returns the facts of the known target of this name: those that `rustc --print cfg --target NAME` prints.
 
-    >>> 'target_os = "linux"' in facts_of("x86_64-unknown-linux-gnu")
-    True
+    Raises `UnknownTarget`.
+
+    >>> print(facts_of("avr-none"))
+    debug_assertions
+    panic="unwind"
+    target_abi=""
+    target_arch="avr"
+    target_endian="little"
+    target_env=""
+    target_os="none"
+    target_pointer_width="16"
+    target_vendor="unknown"
     """
-    return _answer("nevgrasi_facts", *_bytes(name))[1].decode().splitlines()
+    return Facts(_answer("nevgrasi_facts", *of_text(name, "a name")).decode(), name)
+
+
+_KeyOrText = typing.TypeVar("_KeyOrText", bound=typing.Union[Key, str])
+
+
+def keys_at(keys: typing.Iterable[_KeyOrText], target: Facts | str) -> list[_KeyOrText]:
+    """Returns those of these keys that are true on a target: a known target, by its name, or one with these facts.
+
+    This is a loop in Python over `Condition.matches`, which makes two calls for each key. The facts are parsed once.
+    Raises `Fault` if a text is no key, `UnknownTarget`, and `TooDeep`.
+
+    >>> keys_at(["cfg(unix)", "cfg(windows)", "x86_64-unknown-linux-gnu"], "x86_64-unknown-linux-gnu")
+    ['cfg(unix)', 'x86_64-unknown-linux-gnu']
+    """
+    facts = target if isinstance(target, Facts) else facts_of(target)
+    texts = ((key, _text_of(key)) for key in keys)
+    return [key for key, text in texts if Condition(text).matches(facts)]
