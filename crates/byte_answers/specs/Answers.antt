@@ -1,4 +1,4 @@
--- What is answered on texts, and on flat bytes.
+-- The answers on texts, and on flat bytes.
 use Rattle.std.specs.Prelude.{◌≡◌, ℕ, Bool, IsTrue, ◌↔◌, ◌<◌, List, map}
 use Rattle.cargo_platform.specs.Trees.{Condition, CfgValue}
 use Rattle.cargo_platform.specs.Platforms.{IsConditionText}
@@ -13,44 +13,44 @@ use Rattle.known_targets.specs.declared.table.TheConstants.{COUNT}
 use Rattle.byte_answers.specs.Outcomes.{IsWritten}
 use Rattle.byte_answers.specs.Flat.{flat_condition, flat_values, IsOfTexts, AreOfTexts}
 
--- the buffer is given the canonical text of the condition that the key spells
+-- the canonical text of the key's condition is written to the buffer
 abbrev pub IsCanonical : List ℕ → ℕ → List ℕ → List ℕ → Type 0
 IsCanonical key needed old new =
     (p : Condition) × IsConditionText key p × IsWritten (print_condition p) needed old new
 
--- it is given the flat form of that condition
+-- the flat form of the key's condition is written to the buffer
 abbrev pub IsFlatOf : List ℕ → ℕ → List ℕ → List ℕ → Type 0
 IsFlatOf key needed old new =
     (p : Condition) × (IsConditionText key p × IsOfTexts p × IsWritten (flat_condition p) needed old new)
 
--- whether the condition that the key spells holds for a target of this name, with the facts that the lines spell
+-- whether the key's condition is true on a target with this name and the facts in the lines
 abbrev pub IsMatch : List ℕ → List ℕ → List ℕ → Bool → Type 0
 IsMatch key name lines holds =
     (p : Condition) × ((facts : List CfgValue) × (IsConditionText key p × SpellFacts (lines_of lines) facts
     × (holds ≡ truth_of_condition name (fact_set facts) p)))
 
--- the same of flat bytes
+-- the same for flat bytes
 abbrev pub IsFlatMatch : List ℕ → List ℕ → List ℕ → Bool → Type 0
 IsFlatMatch flat name flat_facts holds =
     (p : Condition) × ((facts : List CfgValue) × (IsOfTexts p × (flat_condition p ≡ flat)
     × AreOfTexts facts × (flat_values facts ≡ flat_facts) × (holds ≡ truth_of_condition name (fact_set facts) p)))
 
--- the bits of the known targets at which the condition that the key spells holds
+-- the bits of the known targets on which the key's condition is true
 abbrev pub AreTargets : List ℕ → List ℕ → Type 0
 AreTargets key words =
     (p : Condition) × (IsConditionText key p × ((k : ℕ) → k < COUNT
     → IsTrue (has words k) ↔ IsTrueCondition (target_name k) (target_facts k) p))
 
--- the buffer is given the text of the condition of these bytes
+-- the canonical text of the condition of these bytes is written to the buffer
 abbrev pub IsPrint : List ℕ → ℕ → List ℕ → List ℕ → Type 0
 IsPrint flat needed old new =
     (p : Condition) × (IsOfTexts p × (flat_condition p ≡ flat) × IsWritten (print_condition p) needed old new)
 
--- facts as they are printed, one a line
+-- facts as they are printed, one per line
 abbrev pub fact_lines : List CfgValue → List ℕ
 fact_lines facts = ended (map print_value facts)
 
--- the buffer is given the facts of the known target of this name
+-- the facts of the known target with this name are written to the buffer
 abbrev pub AreFactsOf : List ℕ → ℕ → List ℕ → List ℕ → Type 0
 AreFactsOf name needed old new =
     (k : ℕ) × ((k < COUNT) × (target_name k ≡ name) × IsWritten (fact_lines (facts_in k table_keys)) needed old new)

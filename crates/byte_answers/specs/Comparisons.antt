@@ -1,4 +1,4 @@
--- What is answered of one condition beside another, over every set of facts that rustc's rules allow.
+-- The answers on relations of two conditions, over every set of facts that rustc's rules allow.
 use Rattle.std.specs.Prelude.{◌≡◌, ℕ, Bool, true, false, ◌↔◌, List, [], ◌∷◌, ◌++◌, Option, Some, None, map}
 use Rattle.std.specs.Prelude.{String, string_bytes}
 use Rattle.std.specs.declared.alloc.Global.{Global}
@@ -17,26 +17,26 @@ use Rattle.byte_answers.specs.declared.relations.Relation.TheVariants.{Implies, 
 use Rattle.byte_answers.specs.Counted.{counted, counted_facts}
 use Rattle.byte_answers.specs.Outcomes.{IsWritten}
 
--- no fact is known, and what is possible keeps rustc's rules: one value of the keys that have one, and families
+-- no fact is known, and the possible sets keep rustc's rules: one value for the keys that have one, and families
 pub record KnowsOnlyRules (k : Known) : Type 0 where
   pub facts : k.facts.now ≡ []
   pub complete : k.complete.now ≡ []
   pub single : map (λ t. t.now) k.single.now ≡ map (λ t. t.now) ONE_VALUED.now
   pub families : (s : FactSet) → (truth s (tree_of k.assumed.now) ≡ true) ↔ KeepsFamilyRule s
 
--- how two conditions stand to each other where the one is true as A says, and the other as B says
+-- the relation of two conditions, if the one is true as A says, and the other as B says
 abbrev pub Stands : Relation → Type 0 → Type 0 → Type 0
 Stands Implies A B = A → B
 Stands Equivalent A B = A ↔ B
 Stands Excludes A B = A → B → ⊥
 
--- how they stand where the relation fails
+-- the failure of the relation
 abbrev pub Fails : Relation → Type 0 → Type 0 → Type 0
 Fails Implies A B = A × (B → ⊥)
 Fails Equivalent A B = (A ↔ B) → ⊥
 Fails Excludes A B = A × B
 
--- a name behind its length, where there is one
+-- a name preceded by its length, if there is one
 abbrev pub counted_name : Option (String Global) → List ℕ
 counted_name None = []
 counted_name (Some name) = counted (string_bytes name)
@@ -45,13 +45,13 @@ abbrev pub has_name : Option (String Global) → Bool
 has_name None = false
 has_name (Some name) = true
 
--- the buffer is given the example: its name, where it has one, and its facts, each behind its length
+-- the example is written to the buffer: its name, if it has one, and its facts, each preceded by its length
 abbrev pub IsWrittenExample : PossibleTarget → Outcome → List ℕ → List ℕ → Type 0
 IsWrittenExample t o old new =
     (o.is_named ≡ has_name t.name)
     × IsWritten (counted_name t.name ++ counted_facts (map value_of t.facts.items)) o.needed old new
 
--- P holds for a target that is possible, and the buffer is given it
+-- P holds for a target that is possible, and that is written to the buffer
 abbrev pub HasExample : Known → List Condition → (List ℕ → FactSet → Type 0) → Outcome → List ℕ → List ℕ → Type 0
 HasExample k cs P o old new = (t : PossibleTarget) × (IsExample t k cs P × IsWrittenExample t o old new)
 
@@ -59,7 +59,7 @@ HasExample k cs P o old new = (t : PossibleTarget) × (IsExample t k cs P × IsW
 abbrev pub NeedsLarger : List Condition → ℕ → Type 0
 NeedsLarger cs budget = (k : Known) × (KnowsOnlyRules k × NeedsMore k (asked_trees cs) budget)
 
--- of two conditions: a yes is so at each possible target, and of a no there is an example
+-- for two conditions: yes means that it is so on each possible target, and no has a counterexample
 abbrev pub SaysRelated : Relation → Condition → Condition → Outcome → List ℕ → List ℕ → Type 0
 SaysRelated r p q o old new =
     (k : Known) × (KnowsOnlyRules k
@@ -67,23 +67,23 @@ SaysRelated r p q o old new =
     × (o.holds ≡ false
     → HasExample k (p ∷ q ∷ []) (λ name s. Fails r (IsTrueCondition name s p) (IsTrueCondition name s q)) o old new))
 
--- the same of keys
+-- the same for keys
 abbrev pub AreRelated : Relation → List ℕ → List ℕ → Outcome → List ℕ → List ℕ → Type 0
 AreRelated r a b o old new =
     (p q : Condition) × (IsConditionText a p × IsConditionText b q × SaysRelated r p q o old new)
 
--- of one condition: of a yes there is an example, and a no is so at each possible target
+-- for one condition: yes has an example, and no means that it is so on each possible target
 abbrev pub SaysPossible : Condition → Outcome → List ℕ → List ℕ → Type 0
 SaysPossible p o old new =
     (k : Known) × (KnowsOnlyRules k
     × (o.holds ≡ true → HasExample k (p ∷ []) (λ name s. IsTrueCondition name s p) o old new)
     × (o.holds ≡ false → ForEach k (λ name s. IsTrueCondition name s p → ⊥)))
 
--- the same of a key
+-- the same for a key
 abbrev pub IsPossibleKey : List ℕ → Outcome → List ℕ → List ℕ → Type 0
 IsPossibleKey key o old new = (p : Condition) × (IsConditionText key p × SaysPossible p o old new)
 
--- the budget is too small to compare two keys, and to ask about one
+-- the budget is too small to compare two keys, or to decide one
 abbrev pub AreUndecided : List ℕ → List ℕ → ℕ → Type 0
 AreUndecided a b budget =
     (p q : Condition) × (IsConditionText a p × IsConditionText b q × NeedsLarger (p ∷ q ∷ []) budget)

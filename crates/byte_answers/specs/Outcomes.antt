@@ -1,21 +1,21 @@
--- What stands in a caller's buffer, and with which codes calls end.
+-- The contents of a caller's buffer, and the codes that calls return.
 use Rattle.std.specs.Prelude.{◌≡◌, ◌≤◌, ◌<◌, ℕ, Bool, ◌||◌, ◌==◌, List, ◌++◌, length, drop}
 use Rattle.byte_answers.specs.declared.outcome.Outcome.{Outcome}
 use Rattle.byte_answers.specs.declared.outcome.TheConstants.{DONE, REFUSED, NOT_UTF8, NOT_FLAT, NO_MEMORY, UNDECIDED}
 use Rattle.byte_answers.specs.declared.outcome.TheConstants.{TOO_DEEP, UNKNOWN_TARGET}
 
--- so many bytes are needed for the text, and where the buffer has them it begins with the text, and is else as it was
+-- the text needs so many bytes; a buffer that has as many begins with the text, and all other bytes are unchanged
 abbrev pub IsWritten : List ℕ → ℕ → List ℕ → List ℕ → Type 0
 IsWritten text needed old new =
     (needed ≡ length text)
     × (length text ≤ length old → new ≡ text ++ drop (length text) old)
     × (length old < length text → new ≡ old)
 
--- no text is written: none is needed, and the buffer is as it was
+-- no text is written: none is needed, and the buffer is unchanged
 abbrev pub IsSilent : Outcome → List ℕ → List ℕ → Type 0
 IsSilent o old new = (o.needed ≡ 0) × (new ≡ old)
 
--- a code of a call that has no answer since a text spells no condition, or memory was refused
+-- a code of a call that has no answer because a text is not a condition, or memory was refused
 abbrev pub is_failure : ℕ → Bool
 is_failure code = code == REFUSED || code == NOT_UTF8 || code == NO_MEMORY || code == TOO_DEEP
 

@@ -1,4 +1,4 @@
--- The records of a flat condition, read from the last one on. Each leaves a tree on a stack, whose top stands first.
+-- The records of a flat condition, read from the last one on. Each leaves a tree on a stack, whose top comes first.
 use Rattle.std.specs.Prelude.{◌≡◌, ⊤, ℕ, Bool, ◌||◌, ◌&&◌, ◌==◌, List, ◌∷◌, ◌++◌, length, map, reverse}
 use Rattle.cargo_platform.specs.declared.cfg.CfgExpr.{CfgExpr}
 use Rattle.cargo_platform.specs.Trees.{CfgValue, Tree, Not, All, Any, Value, True, False, tree_of, trees_of, value_of}
@@ -56,12 +56,12 @@ IsPieceOfTexts negation = ⊤
 IsPieceOfTexts (all_of n) = ⊤
 IsPieceOfTexts (any_of n) = ⊤
 
--- whether a record without texts may have this tag and these numbers
+-- true if a record without texts may have this tag and these numbers
 abbrev pub is_group : ℕ → ℕ → ℕ → Bool
 is_group tag a b =
     b == 0 && ((tag == 4 && a == 0) || (tag == 5 && a == 0) || (tag == 6 && a == 1) || tag == 7 || tag == 8)
 
--- what a piece makes of a stack
+-- the effect of a piece on a stack
 abbrev pub Leaves : Piece → List Tree → List Tree → Type 0
 Leaves (leaf c) old new = new ≡ Value c ∷ old
 Leaves yes old new = new ≡ True ∷ old
@@ -72,7 +72,7 @@ Leaves (all_of n) old new =
 Leaves (any_of n) old new =
     (es rest : List Tree) × ((length es ≡ n) × (old ≡ es ++ rest) × (new ≡ Any (trees_of es) ∷ rest))
 
--- what a record of the program stands for, and its stack
+-- the piece that a record of the program stands for, and its stack
 abbrev pub piece_of : Record → Piece
 piece_of (kept.Value c) = leaf (value_of c)
 piece_of kept.True = yes

@@ -1,4 +1,4 @@
--- What a refused text is answered.
+-- The answers on a rejected text.
 use Rattle.std.specs.Prelude.{◌≡◌, ⊤, ℕ, List, [], ◌++◌, codes, Option, Some, None, String, string_bytes}
 use Rattle.std.specs.Fmt.{decimal}
 use Rattle.std.specs.declared.alloc.Global.{Global}
@@ -21,31 +21,33 @@ abbrev pub AreEnds : Option (Range ℕ) → ℕ → ℕ → Type 0
 AreEnds None start end = (start ≡ 0) × (end ≡ 0)
 AreEnds (Some span) start end = (start ≡ span.start) × (end ≡ span.end)
 
--- the key is refused: the buffer is given the text of the error, and the outcome has the ends of its span in the key
+-- the key is rejected: the message of the error is written to the buffer, and the outcome has the ends of its span in
+-- the key
 abbrev pub IsRefusal : List ℕ → Outcome → List ℕ → List ℕ → Type 0
 IsRefusal key o old new =
     (orig : List ℕ) × ((fault : Fault) × ((span at : Option (Range ℕ)) × (IsRefusedConditionAt key orig fault span
     × IsSpanInKey key orig fault span at × AreEnds at o.start o.end
     × IsWritten (print_error orig fault) o.needed old new)))
 
--- the text of a snippet, where there is one
+-- the text of a snippet, if there is one
 abbrev pub shown_lines : Option (String Global) → List ℕ
 shown_lines None = []
 shown_lines (Some snippet) = string_bytes snippet
 
--- the key is refused: the buffer is given the snippet that shows it, and the outcome has the ends of the span
+-- the key is rejected: the snippet that shows the error is written to the buffer, and the outcome has the ends of the
+-- span
 abbrev pub IsShownRefusal : List ℕ → Outcome → List ℕ → List ℕ → Type 0
 IsShownRefusal key o old new =
     (orig : List ℕ) × ((fault : Fault) × ((span at : Option (Range ℕ)) × ((snippet : Option (String Global))
     × (IsRefusedConditionAt key orig fault span × IsSpanInKey key orig fault span at × AreEnds at o.start o.end
     × IsSnippetOfKey key orig fault span snippet × IsWritten (shown_lines snippet) o.needed old new))))
 
--- the message of a line of facts that is refused
+-- the message on a line of facts that is rejected
 abbrev pub print_refused_line : ℕ → List ℕ → Fault → List ℕ
 print_refused_line n line fault = codes "line " ++ decimal n ++ codes ": " ++ print_error line fault
 
--- a line spells no fact: the buffer is given the message on the first such line, with its number, and the outcome has
--- the ends of the fault's span in all lines
+-- a line is not a fact: the message on the first such line, with its number, is written to the buffer, and the outcome
+-- has the ends of the error's span in all lines
 abbrev pub IsRefusedLine : List ℕ → Outcome → List ℕ → List ℕ → Type 0
 IsRefusedLine lines o old new =
     (n : ℕ) × ((line : List ℕ) × ((fault : Fault) × ((span at : Option (Range ℕ)) × (IsFirstNoFact (lines_of lines) n
@@ -53,7 +55,7 @@ IsRefusedLine lines o old new =
     × IsSpanBy (BeginsLine lines n line) line span at × AreEnds at o.start o.end
     × IsWritten (print_refused_line n line fault) o.needed old new))))
 
--- the error is of these lines: it has the number of the first that spells no fact, with its fault and span
+-- the error is of these lines: it has the number of the first line that is not a fact, with its error and span
 abbrev pub IsErrorOfLines : List ℕ → FactsError → Type 0
 IsErrorOfLines lines (Line n e) =
     IsFirstNoFact (lines_of lines) n × (orig_of e ≡ line_at (lines_of lines) n)

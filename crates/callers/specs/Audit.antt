@@ -1,4 +1,4 @@
--- What a map of licences has after one was noted.
+-- The contents of a map of licences after one was recorded.
 use Rattle.std.specs.Prelude.{◌≡◌, Some, String}
 use Rattle.std.specs.declared.alloc.Global.{Global}
 use Rattle.std.specs.Ordering.{on, eq_by_cmp}
@@ -8,11 +8,11 @@ use Rattle.cargo_platform.specs.declared.Platform.{Platform}
 use Rattle.cargo_platform.specs.Trees.{condition_of}
 use Rattle.cargo_platform.specs.Key.{condition_key, condition_cmp}
 
--- the two conditions are one key of a map
+-- the two conditions are the same key of a map
 abbrev pub IsOneKey : Platform → Platform → Type 0
 IsOneKey p q = condition_key (condition_of p) ≡ condition_key (condition_of q)
 
--- each condition that is one key with this one has the licence
+-- each condition that is the same key as this one has the licence
 abbrev pub HasLicenceWhere : Platform → String Global → ordered.BTreeMap Platform (String Global) → Type 0
 HasLicenceWhere p licence m =
     (q : Platform) → IsOneKey p q → ordered.get (on condition_of condition_cmp) m q ≡ Some licence
@@ -30,7 +30,7 @@ HasAsBefore old new =
     (q : Platform) → ordered.get (on condition_of condition_cmp) new q
     ≡ ordered.get (on condition_of condition_cmp) old q
 
--- the same of a map by hashes
+-- the same for a hash map
 abbrev pub HasHashedLicenceWhere : {S : Type 0} → Platform → String Global → hashed.HashMap Platform (String Global) S
     → Type 0
 HasHashedLicenceWhere p licence m =

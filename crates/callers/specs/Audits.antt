@@ -1,4 +1,4 @@
--- What an audit says.
+-- The results of an audit.
 use Rattle.std.specs.Prelude.{map}
 use Rattle.cargo_platform.specs.Trees.{Trees, value_of}
 use Rattle.cargo_platform.specs.Facts.{FactSet}
@@ -7,7 +7,8 @@ use Rattle.exact_answers.specs.declared.known.Known.{Known}
 use Rattle.callers.specs.declared.relations.audit.Cover.{Cover}
 use Rattle.callers.specs.declared.relations.audit.Cover.TheVariants as cover
 
--- on the expressions es: where it is covered, Q holds over each possible set; where it is not, P holds over the facts
+-- for the expressions es: if the result is covered, Q holds over each possible set, and if it is not, P holds over the
+-- facts
 abbrev pub SaysCover : Cover → Known → Trees → (FactSet → Type 0) → (FactSet → Type 0) → Type 0
 SaysCover cover.Covered k es P Q = OverEach k Q
 SaysCover (cover.Missed facts) k es P Q = AreExample k es P (map value_of facts.items)

@@ -1,4 +1,4 @@
--- What an error of a manifest says.
+-- The contents of an error of a manifest.
 use Rattle.std.specs.Prelude.{◌≡◌, ℕ, List, ◌++◌, codes, Option, Some, None}
 use Rattle.std.specs.Fmt.{decimal}
 use Rattle.cargo_platform.specs.Trees.{Condition}
@@ -8,13 +8,13 @@ use Rattle.cargo_platform.specs.Print.{print_error}
 use Rattle.callers.specs.declared.conditions.own_error.ManifestError.{ManifestError}
 use Rattle.callers.specs.declared.conditions.own_error.ManifestError.TheVariants.{Key, Memory}
 
--- the key of this line spells no condition, and the error has its fault
+-- the key in this line is not a condition, and the error is that of the key
 abbrev pub IsErrorOf : ℕ → List ℕ → ManifestError → Type 0
 IsErrorOf line key (Key n e) =
     (n ≡ line) × ((p : Condition) → IsConditionText key p → ⊥) × IsRefusedCondition key (orig_of e) (fault_in e)
 IsErrorOf line key (Memory e) = Unit {0}
 
--- what an error prints: the file, the line of the key, and the text of its fault; nothing of an allocation failure
+-- the text of an error: the file, the line of the key, and the text of its error; none for an allocation failure
 abbrev pub print_manifest_error : ManifestError → Option (List ℕ)
 print_manifest_error (Key n e) =
     Some (codes "Cargo.toml:" ++ (decimal n ++ (codes ": " ++ print_error (orig_of e) (fault_in e))))

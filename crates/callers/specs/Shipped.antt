@@ -1,4 +1,4 @@
--- The kinds of dependencies that a build needs.
+-- The dependency kinds that a build needs.
 use Rattle.std.specs.Prelude.{true, false}
 use Rattle.package_graphs.specs.Packages.{KindSet}
 

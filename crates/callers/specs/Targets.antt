@@ -1,4 +1,4 @@
--- Several sets of facts, of which one is a target's.
+-- Several sets of facts, one of which is that of a target.
 use Rattle.std.specs.Prelude.{◌≡◌, ◌⊎◌, Bool, true, false, List, [], ◌∷◌, map, Option, Some, None, IfSome, Contains}
 use Rattle.std.specs.Prelude.{refl}
 use Rattle.std.proofs.Common.{Bor, inl, inr, ap, subst, arith}
@@ -16,7 +16,7 @@ set_of facts = fact_set (map value_of facts)
 abbrev pub sets_of : List (Bor (List Cfg)) → List FactSet
 sets_of targets = map (λ t. set_of t.now) targets
 
--- the truth that all have
+-- the truth value that all have
 abbrev pub agreed : Bool → List Bool → Option Bool
 agreed b [] = Some b
 agreed true (true ∷ cs) = agreed true cs

@@ -1,4 +1,4 @@
--- What is shown of a key.
+-- The lines that are shown for a key.
 use Rattle.std.specs.Prelude.{◌≡◌, ℕ, List, Option, Some, None, String, string_bytes}
 use Rattle.std.specs.declared.alloc.Global.{Global}
 use Rattle.std.specs.declared.ops.Range.{Range}
@@ -8,7 +8,7 @@ use Rattle.cargo_platform.specs.FaultLaws.{IsSpanIn}
 use Rattle.cargo_platform.specs.Platforms.{IsConditionText, IsRefusedCondition}
 use Rattle.cargo_platform.specs.Snippets.{lines}
 
--- nothing of a key that spells a condition, and of any other the two lines of its fault, with a span that lies in it
+-- none for a key that is a condition, and for any other key the two lines of its error, with a span inside it
 abbrev pub IsUnderlined : List ℕ → Option (String Global) → Type 0
 IsUnderlined key None = (p : Condition) × IsConditionText key p
 IsUnderlined key (Some shown) =

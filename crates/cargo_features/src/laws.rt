@@ -8,14 +8,15 @@ ghost use Rattle.cargo_features.specs.Holding.{Holds};
 ghost use Rattle.cargo_features.specs.declared.claims.Claim.{Claim};
 ghost use Rattle.cargo_features.specs.declared.claims.Claim.TheVariants as claim;
 
-/// A package that a build uses is in the build by the graph of the packages: features only leave packages out.
+/// A package that a build uses is also in the build by the graph of the packages alone: features only leave packages
+/// out.
 pub fn what_is_used_is_there()
     ensures { (build : Built) (packages : Declared) (graph : Graph) (k p : ℕ) (side : BuiltFor)
         → IsGraphOf packages graph → Holds build packages k (claim.Used p side)
         → IsThereOn graph build.kinds (Some build.host) k (p, side) }
 {}
 
-/// What resolver 2 turns on or uses, resolver 1 turns on or uses too, if sides are not kept apart.
+/// Resolver 1 turns on or uses everything that resolver 2 does, if sides are not kept apart.
 pub fn resolver_1_has_what_resolver_2_has()
     ensures { (kinds : KindSet) (host : HostTarget) (packages : Declared) (k : ℕ) (c : Claim)
         → Holds (resolver_2 kinds host) packages k c → Holds (resolver_1 kinds host) packages k (joined c) }

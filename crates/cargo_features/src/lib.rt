@@ -1,4 +1,4 @@
-//! What the features of packages turn on, as Cargo resolves them, and the known targets on which a build then uses each
+//! The features of packages that are on, as Cargo resolves them, and the known targets on which a build then uses each
 //! package.
 #![tactic(auto)]
 

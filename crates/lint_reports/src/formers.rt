@@ -41,7 +41,8 @@ impl<'a> Project<'a> {
         }
     }
 
-    /// Returns whether the project itself declares a target of this name.
+    /// Returns whether a target of this name is known in addition, by the settings of the package or the workspace, or
+    /// by `targets`.
     fn knows_target(&self, name: &str) -> bool {
         self.of_package.knows_target(name)
             || self.of_workspace.knows_target(name)

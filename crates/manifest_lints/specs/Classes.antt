@@ -1,4 +1,4 @@
--- Classes of conditions. Those that are as true share one, and are compared.
+-- Classes of conditions. Equivalent conditions share a class, and are compared.
 use Rattle.std.specs.Prelude.{◌≡◌, ◌<◌, ◌≤◌, ◌^◌, ℕ, false, IsTrue, [], ◌∷◌, ◌++◌, length, get_or}
 use Rattle.std.specs.Prelude.{Option, Some, None, Vec, Contains, cond}
 use Rattle.std.specs.declared.alloc.Global.{Global}
@@ -20,7 +20,8 @@ use Rattle.manifest_lints.specs.declared.earlier.Part.TheVariants as parts
 use Rattle.manifest_lints.specs.declared.earlier.Earlier.{Earlier}
 use Rattle.manifest_lints.specs.declared.earlier.Keys.{Keys}
 
--- what a class says of an expression: at which known targets it is true, and over which of the sets that are tried
+-- the contents of the class of an expression: the known targets on which it is true, and its truth values over the
+-- sampled sets
 pub record IsClassOf (e : Tree) (class : Class) : Type 0 where
   pub long : length class.targets ≡ WORDS
   pub small : (i : ℕ) → get_or class.targets i 0 < 2 ^ 64
@@ -30,25 +31,25 @@ pub record IsClassOf (e : Tree) (class : Class) : Type 0 where
   pub over_samples : AreTruths (holds_beside None) e class.truths
   pub whole : class.part ≡ parts.All
 
--- ---- where members stand
+-- ---- the positions of members
 
 abbrev pub ClassMap : Type 0
 ClassMap = BTreeMap Class (Vec ℕ Global)
 
--- the place is put behind those of the class, and nowhere else
+-- the index is added at the end of those of the class, and nowhere else
 abbrev pub PutsIn : ClassMap → ClassMap → Class → ℕ → Type 0
 PutsIn old new class n =
     (q : Class) → places_in (ordered.get class_cmp new q)
     ≡ places_in (ordered.get class_cmp old q) ++ cond (is_eq (class_cmp class q)) (n ∷ []) []
 
--- one more member stands in its class, and in the part of its class
+-- one more member is in its class, and in its part of the class
 pub record PutsMember (old new : Keys) (m : Member) (class : Class) (number : Option ℕ) : Type 0 where
   pub pushed : new.members.items ≡ old.members.items ++ m ∷ []
   pub kept : (q : Class) (n : ℕ) → Contains (places_of old q) n → Contains (places_of new q) n
   pub in_class : Contains (places_of new class) (length old.members.items)
   pub in_part : Contains (places_of new (part_of class number)) (length old.members.items)
 
--- the member at a place is an expression that stands there
+-- the member at an index is an expression in its class
 pub record IsClassed (keys : Keys) (m : Member) (n : ℕ) : Type 0 where
   pub tree : Tree
   pub is_tree : condition_of m.1.now ≡ Expression tree
@@ -62,16 +63,16 @@ pub record IsClassed (keys : Keys) (m : Member) (n : ℕ) : Type 0 where
 abbrev pub AreClassed : Keys → Type 0
 AreClassed keys = (m : Member) (n : ℕ) → IsMemberAt keys m n → IsClassed keys m n
 
--- ---- what is told of members
+-- ---- the relation to members
 
--- of all that share the class and the number none is as true
+-- none of those that share the class and the number is equivalent
 abbrev pub AreUnlike : Known → Keys → Condition → Class → Option ℕ → Type 0
 AreUnlike k keys c class None = NoneIsEquivalent k keys c (places_of keys class)
 AreUnlike k keys c class (Some number) =
     NoneIsEquivalent k keys c (places_of keys (part_of class (Some number)))
     × NoneIsEquivalent k keys c (places_of keys (part_of class None))
 
--- where an expression is told to be unlike earlier ones, no member is as true
+-- if the result says that an expression is unlike earlier ones, no member is equivalent
 abbrev pub TellsNoneEquivalent : Known → Keys → Condition → Earlier → Type 0
 TellsNoneEquivalent k keys c r =
     IsTrue (is_unlike r) → (e : Tree) → c ≡ Expression e → (m : Member) (n : ℕ) → IsMemberAt keys m n

@@ -1,4 +1,4 @@
--- How a condition stands to earlier ones: which is the same, raw marks aside, and which are as true.
+-- The relation of a condition to earlier ones: which is the same, apart from raw marks, and which are equivalent.
 use Rattle.std.specs.Prelude.{◌≡◌, ◌⊎◌, ◌↔◌, ◌<◌, ℕ, Bool, true, false, IsTrue, List, [], ◌∷◌, ◌++◌, length, get_or}
 use Rattle.std.specs.Prelude.{Option, Some, None, IfSome, Vec}
 use Rattle.std.specs.declared.alloc.Global.{Global}
@@ -45,7 +45,7 @@ is_unlike earlier.Unlike = true
 is_unlike (earlier.Equivalent first) = false
 is_unlike earlier.Undecided = false
 
--- the place of the earlier key that is said to be the same, and of the one that is said to be as true
+-- the index of the earlier key that is said to be the same, and of the one that is said to be equivalent
 abbrev pub same_place : Earlier → Option ℕ
 same_place (earlier.Same first) = Some first
 same_place earlier.Unlike = None
@@ -58,11 +58,11 @@ equivalent_place earlier.Unlike = None
 equivalent_place (earlier.Equivalent first) = Some first
 equivalent_place earlier.Undecided = None
 
--- the place that was noted for a condition, if one was
+-- the index that was recorded for a condition, if there is one
 abbrev pub noted : Keys → Bor Platform → Option ℕ
 noted keys q = ordered.get (λ a b. condition_cmp (condition_of a.now) (condition_of b.now)) keys.seen q
 
--- a condition is noted at a place besides those that were, unless it was: then nothing changes
+-- a condition is recorded at an index in addition to the others, unless it was recorded: then nothing changes
 abbrev pub NotesBy : Option ℕ → Keys → Keys → ℕ → Condition → Type 0
 NotesBy (Some first) old new n c = (q : Bor Platform) → noted new q ≡ noted old q
 NotesBy None old new n c =
@@ -73,24 +73,24 @@ NotesBy None old new n c =
 abbrev pub Notes : Keys → Keys → ℕ → Bor Platform → Type 0
 Notes old new n p = NotesBy (noted old p) old new n (condition_of p.now)
 
--- ---- conditions that are as true
+-- ---- equivalent conditions
 
 abbrev pub AreEquivalent : Known → Condition → Condition → Type 0
 AreEquivalent k c d = ForEach k (λ name s. IsTrueCondition name s c ↔ IsTrueCondition name s d)
 
--- a condition that later ones are compared with, of the key at this place, is as true
+-- a condition that later ones are compared with, of the key at this index, is equivalent
 abbrev pub HasEquivalentMember : Known → Keys → Condition → ℕ → Type 0
 HasEquivalentMember k keys c n =
     Any (λ m. (m.0 ≡ n) × AreEquivalent k (condition_of m.1.now) c) keys.members.items
 
--- why it may not be known whether one of them is: the splits are too few for one, or there are too many
+-- the reason why it may not be known whether one of them is: there are too few case splits for one, or too many of them
 abbrev pub MayBeUndecided : Known → Option ℕ → Keys → Condition → Type 0
 MayBeUndecided k None keys c = Unit {0}
 MayBeUndecided k (Some splits) keys c =
     Any (λ m. NeedsMore k (asked_trees (condition_of m.1.now ∷ c ∷ [])) splits) keys.members.items
     ⊎ (MOST < length keys.members.items)
 
--- what is told beside the members: none is the same, one is as true, or that is not known
+-- the result beside the members: none is the same, one is equivalent, or that is not known
 abbrev pub TellsNoSame : Earlier → Type 0
 TellsNoSame r = same_place r ≡ None
 
@@ -100,16 +100,16 @@ TellsEquivalent k keys c r = IfSome (equivalent_place r) (HasEquivalentMember k 
 abbrev pub TellsUndecided : Known → Option ℕ → Keys → Condition → Earlier → Type 0
 TellsUndecided k budget keys c r = IsTrue (is_undecided r) → MayBeUndecided k budget keys c
 
--- ---- what is compared
+-- ---- the conditions that are compared
 
 abbrev pub Member : Type 0
 Member = ℕ × Bor Platform
 
--- the member stands at this place among them
+-- the member has this index among them
 abbrev pub IsMemberAt : Keys → Member → ℕ → Type 0
 IsMemberAt keys m n = (n < length keys.members.items) × ((other : Member) → get_or keys.members.items n other ≡ m)
 
--- none that stands at one of these places is as true
+-- none of those with these indexes is equivalent
 abbrev pub NoneIsEquivalent : Known → Keys → Condition → List ℕ → Type 0
 NoneIsEquivalent k keys c ns =
     All (λ n. (m : Member) → IsMemberAt keys m n → AreEquivalent k (condition_of m.1.now) c → ⊥) ns
@@ -118,11 +118,11 @@ abbrev pub places_in : Option (Vec ℕ Global) → List ℕ
 places_in None = []
 places_in (Some places) = places.items
 
--- the order of classes, which tells each from the others
+-- the order of classes, which distinguishes each from the others
 abbrev pub class_cmp : Class → Class → Ordering
 class_cmp = (class_ord.ghosts).cmp
 
--- the places of the members of a class
+-- the indexes of the members of a class
 abbrev pub places_of : Keys → Class → List ℕ
 places_of keys class = places_in (ordered.get class_cmp keys.classes class)
 
@@ -131,11 +131,11 @@ abbrev pub part_of : Class → Option ℕ → Class
 part_of class (Some number) = record class { part = parts.Numbered number }
 part_of class None = record class { part = parts.NotNumbered }
 
--- where a key is told to be unlike those of a class, none of them is as true
+-- if the result says that a key is unlike those of a class, none of them is equivalent
 abbrev pub TellsUnlike : Known → Keys → Condition → Class → Earlier → Type 0
 TellsUnlike k keys c class r = IsTrue (is_unlike r) → NoneIsEquivalent k keys c (places_of keys class)
 
--- to these none is added, or one
+-- none is added to these, or one
 abbrev pub AddsMember : Keys → Keys → ℕ → Bor Platform → Type 0
 AddsMember old new n p =
     (new.members.items ≡ old.members.items) ⊎ (new.members.items ≡ old.members.items ++ (n, p) ∷ [])
@@ -143,7 +143,7 @@ AddsMember old new n p =
 abbrev pub IsExpression : Condition → Type 0
 IsExpression c = (e : Tree) × (c ≡ Expression e)
 
--- later ones are compared with an expression that is told to be unlike all
+-- later conditions are compared with an expression that is unlike all by the result
 abbrev pub PutsUnlike : Keys → Keys → ℕ → Bor Platform → Earlier → Type 0
 PutsUnlike old new n p r =
     IsTrue (is_unlike r) → IsExpression (condition_of p.now)

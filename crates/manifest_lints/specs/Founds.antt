@@ -1,4 +1,4 @@
--- What is answered of a key, and the codes that hold of it. What is promised of a report hangs on none of these words.
+-- The answers about a key, and the lints that apply to it. The promises about a report do not depend on these words.
 use Rattle.std.specs.Prelude.{◌<◌, List, IsTrue, length}
 use Rattle.cargo_platform.specs.Trees.{Condition}
 use Rattle.exact_answers.specs.declared.known.Known.{Known}
@@ -14,7 +14,7 @@ use Rattle.manifest_lints.specs.declared.found.Answers.{Answers}
 use Rattle.manifest_lints.specs.declared.found.Found.{Found}
 use Rattle.manifest_lints.specs.Reports.{Settles, SettlesFew}
 
--- the answers on a condition by itself are right
+-- the answers about a condition by itself are right
 pub record AnswersFor (k : Known) (ds : List DeclaredEntry) (c : Condition) (a : Answers) : Type 0 where
   pub never : Settles a.is_open a.never (IsNever k c) (CanHold k c)
   pub always : Settles a.is_open a.always (IsAlways k c) (CanFail k c)
@@ -22,7 +22,7 @@ pub record AnswersFor (k : Known) (ds : List DeclaredEntry) (c : Condition) (a :
   pub everywhere : SettlesFew (open_in (sorted_in ds c)) a.everywhere (IsEverywhere (open_in (sorted_in ds c)) c)
   pub many : MANY < length (open_in (sorted_in ds c)) → IsTrue a.is_open
 
--- the codes that hold of a key: those of its answers, and those that hold of it by itself
+-- the lints that apply to a key: by its answers, and by the key itself
 abbrev pub found_codes : Found → CodeSet
 found_codes f code.Never = f.answers.never
 found_codes f code.Nowhere = f.answers.nowhere

@@ -1,4 +1,4 @@
--- No `equivalent` is missed: of which earlier keys it is known that they are not as true.
+-- No `equivalent` is missed: the earlier keys that are known not to be equivalent.
 use Rattle.std.specs.Prelude.{◌⊎◌, ℕ, List, Contains}
 use Rattle.std.specs.List.{Any}
 use Rattle.cargo_platform.specs.Trees.{Condition, condition_of}
@@ -11,13 +11,13 @@ use Rattle.manifest_lints.specs.Truths.{IsNever, IsAlways, CanHold, CanFail}
 use Rattle.manifest_lints.specs.declared.earlier.Keys.{Keys}
 use Rattle.manifest_lints.specs.Sames.{HasSame, IsSpelledAt}
 
--- the key at this place spells the condition, no key before it spells the same, and nothing of it is left open
+-- the key at this index is the condition, no key before it is the same, and nothing about it is left open
 pub record IsSettledAt (es : List Entry) (ns : List ℕ) (d : Condition) (n : ℕ) : Type 0 where
   pub one : IsSpelledAt es d n
   pub first : HasSame one.before d → ⊥
   pub settled : Contains ns n → ⊥
 
--- no settled key before one is as true, where none is the same and the condition is neither never nor always true
+-- no settled key before one is equivalent, if none is the same and the condition is neither never nor always true
 abbrev pub MissesNone : Known → List Entry → List ℕ → Condition → Type 0
 MissesNone k es ns c =
     AllowsRustcs k → CanHold k c → CanFail k c → (HasSame es c → ⊥)
@@ -25,7 +25,7 @@ MissesNone k es ns c =
 
 -- ---- what is kept of the keys so far
 
--- a condition is as true as one that later ones are compared with, or need not be compared
+-- a condition is equivalent to one that later ones are compared with, or need not be compared
 abbrev pub IsCovered : Known → Keys → Condition → Type 0
 IsCovered k keys d =
     Any (λ m. AreEquivalent k (condition_of m.1.now) d) keys.members.items ⊎ (IsNever k d ⊎ IsAlways k d)

@@ -1,4 +1,4 @@
--- The number of a condition: what its truths hang on where a key has a value that no known target has.
+-- The number of a condition, which depends on its truth values if a key has a value that no known target has.
 use Rattle.std.specs.Prelude.{◌≡◌, ◌<◌, ◌^◌, ◌+◌, ◌*◌, ◌%◌, ℕ, Bool, true, false, not, ◌&&◌, cond, nat_eq, bit_or}
 use Rattle.std.specs.Prelude.{zero, suc, List, [], ◌∷◌, ◌++◌, length, map, Option, Some, None, bytes_eq}
 use Rattle.std.specs.Borrow.{Bor}
@@ -35,13 +35,13 @@ same_pair p q = bytes_eq p.name q.name && same_value p.value q.value
 abbrev pub has_pair : List Pair → Pair → Bool
 has_pair ps p = list_any (same_pair p) ps
 
--- those that are found, and behind them the unknown values of these pairs that are not among them, each once
+-- those that were found, followed by the unknown values of these pairs that are not among them, each once
 abbrev pub unknown_beside : List Pair → List Pair → List Pair
 unknown_beside found [] = found
 unknown_beside found (p ∷ ps) =
     unknown_beside (cond (is_unknown_value p && not (has_pair found p)) (found ++ p ∷ []) found) ps
 
--- the unknown values that a tree asks for, each once
+-- the unknown values in a tree, each once
 abbrev pub unknown_values : Tree → List Pair
 unknown_values e = unknown_beside [] (map pair_of (values e))
 
@@ -51,20 +51,20 @@ pair_at x = record { name = x.0.now; value = Some x.1.now }
 
 -- ---- numbers
 
--- the word whose first bits are what this tells
+-- the word whose first bits are the values of `tells`
 unfoldable pub first_bits : ℕ → (ℕ → Bool) → ℕ
 first_bits zero tells = 0
 first_bits (suc n) tells = cond (tells n) (bit_or (first_bits n tells) (1 * 2 ^ n % 2 ^ 64)) (first_bits n tells)
 
--- the truths of a tree over the sets that are tried, where a key has this value alone, or none
+-- the truth values of a tree over the sampled sets, if a key has only this value, or none
 abbrev pub truths_with : List ℕ → Option (List ℕ) → Tree → ℕ
 truths_with name only e = first_bits 64 (λ l. truth_by (holds_with name only l) e)
 
--- the number of these truths with a value: 0 where they are those without it
+-- the number of these truth values with a value: 0 if they are the same as those without it
 unfoldable pub apart : ℕ → ℕ → Pair → ℕ
 apart with_it without p = cond (nat_eq with_it without) 0 (spread (mixed_value (mixed (spread with_it) p.name) p.value))
 
--- what the truths of a tree hang on at a value
+-- the number of a tree for a value
 abbrev pub apart_of : Tree → Pair → ℕ
 apart_of e p = apart (truths_with p.name p.value e) (truths_with p.name None e) p
 
@@ -72,7 +72,7 @@ apart_of e p = apart (truths_with p.name p.value e) (truths_with p.name None e) 
 abbrev pub summed : (Pair → ℕ) → ℕ → List Pair → ℕ
 summed f sum ps = fold (λ a p. (a + f p) % 2 ^ 64) sum ps
 
--- the number of a tree; it has none where it asks for many unknown values
+-- the number of a tree; it has none if it has too many unknown values
 abbrev pub IsNumberOf : Tree → Option ℕ → Type 0
 IsNumberOf e None = FEW < length (unknown_values e)
 IsNumberOf e (Some n) = n ≡ summed (apart_of e) 0 (unknown_values e)

@@ -1,4 +1,4 @@
--- What is found of the keys of a manifest, code by code, and which findings are told of them.
+-- The results for the keys of a manifest, lint by lint, and the diagnostics that are reported on them.
 use Rattle.std.specs.Prelude.{◌≡◌, ◌≤◌, ◌<◌, ◌⊎◌, ◌↔◌, ℕ, Bool, false, not, IsTrue, List}
 use Rattle.std.specs.Prelude.{[], ◌∷◌, ◌++◌, map, length, get_or, cond, bytes_eq, string_bytes, Option, Some, None}
 use Rattle.std.specs.Prelude.{IfSome}
@@ -38,23 +38,23 @@ use Rattle.manifest_lints.specs.Truths.{budget_of, NeedsMoreFor}
 use Rattle.manifest_lints.specs.Sames.{HasOne, HasSame, HasEquivalent, NamesRightly, named_place}
 use Rattle.manifest_lints.specs.Missed.{MissesNone}
 
--- ---- the table: when a code holds of a key
+-- ---- the table: when a lint applies to a key
 
--- it holds only where it is right; and where it does not hold, and nothing is open, this is so
+-- it applies only if it is right; and if it does not apply, and nothing is open, this is so
 abbrev pub Settles : Bool → Bool → Type 0 → Type 0 → Type 0
 Settles is_open b Is IsNot = (IsTrue b → Is) × (b ≡ false → is_open ≡ false → IsNot)
 
--- it holds where it is right, and only there, unless too many names are open
+-- it applies exactly if it is right, unless too many names are open
 abbrev pub SettlesFew : List (List ℕ) → Bool → Type 0 → Type 0
 SettlesFew open_keys b Is = (IsTrue b → Is) × (length open_keys ≤ MANY → Is → IsTrue b)
 
--- how many splits are made for a condition
+-- the number of case splits for a condition
 abbrev pub budget_in : List DeclaredEntry → Condition → ℕ
 budget_in ds c = budget_of (length (sorted_in ds c))
 
--- why something may be left open of a key after others that spells a condition: too many parentheses lie in one
--- another, or too many names and keys are open; the splits are too few for the condition, or for it beside that of a
--- key before it; or too many keys stand before it
+-- the reason why something may be left open about a key after others that is a condition: too many parentheses are
+-- nested, or too many names and keys are open; there are too few case splits for the condition, or for comparing it
+-- with that of a key before it; or there are too many keys before it
 pub data MayBeOpen (k : Known) (ds : List DeclaredEntry) (es : List Entry) (text : List ℕ) (c : Condition) : Type 0
   where
     too_deep : IsNestedBeyond text LEVELS → MayBeOpen k ds es text c
@@ -63,8 +63,8 @@ pub data MayBeOpen (k : Known) (ds : List DeclaredEntry) (es : List Entry) (text
     few_beside : HasOne (λ d. NeedsMore k (asked_trees (d ∷ c ∷ [])) (budget_in ds c)) es → MayBeOpen k ds es text c
     many_before : MOST < length es → MayBeOpen k ds es text c
 
--- by what is known of each target and what is declared, of a key after others that spells a condition, of which
--- something is left open or not: whether a code holds
+-- whether a lint applies to a key after others that is a condition, about which something is left open or not, given
+-- the knowledge about each target and the declarations
 abbrev pub Holds : Known → List DeclaredEntry → List Entry → Entry → Condition → Bool → Code → Bool → Type 0
 Holds k ds es e c is_open code.Refused b = b ≡ false
 Holds k ds es e c is_open code.NoTable b = b ≡ is_no_table e.1
@@ -83,15 +83,15 @@ Holds k ds es e c is_open code.Everywhere b =
 Holds k ds es e c is_open code.Custom b = b ≡ has_sort sort.Custom (sorted_in ds c)
 Holds k ds es e c is_open code.NotCanonical b = b ≡ not (bytes_eq (print_condition c) e.0)
 
--- the same of a key that spells none, and that Cargo refuses or reads
+-- the same for a key that is not a condition, and that Cargo rejects or accepts
 abbrev pub HoldsUnspelled : Bool → Entry → Code → Bool → Type 0
 HoldsUnspelled is_refused e code.Refused b = b ≡ is_refused
 HoldsUnspelled is_refused e code.NoTable b = b ≡ is_no_table e.1
 HoldsUnspelled is_refused e code.ReadOtherwise b = b ≡ not is_refused
 HoldsUnspelled is_refused e _ b = b ≡ false
 
--- the codes that hold of a key that spells a condition, after keys of which those at some places are left open; which
--- earlier key is named, and whether something is left open; and the same of a key that spells none
+-- the lints that apply to a key that is a condition, after keys of which those at some indexes are left open; the
+-- earlier key that is named, and whether something is left open; and the same for a key that is not a condition
 pub record IsFoundSpelled (k : Known) (ds : List DeclaredEntry) (es : List Entry) (ns : List ℕ) (e : Entry)
     (codes : CodeSet) (earlier : Earlier) (is_open : Bool) : Type 0 where
   pub condition : Condition
@@ -113,37 +113,37 @@ abbrev pub IsFound : Known → List DeclaredEntry → List Entry → List ℕ �
 IsFound k ds es ns e codes earlier is_open =
     IsFoundSpelled k ds es ns e codes earlier is_open ⊎ IsFoundUnspelled e codes earlier is_open
 
--- ---- the findings
+-- ---- the diagnostics
 
--- the finding of a code on the key at a place, where it is told
+-- the diagnostic of a lint on the key at an index, if it is reported
 abbrev pub told_mark : ℕ → CodeSet → Code → List Mark
 told_mark n codes c = cond (is_told codes c) ((Some n, c) ∷ []) []
 
--- what is told of the key at a place
+-- the diagnostics on the key at an index
 abbrev pub told_marks : ℕ → CodeSet → List Mark
 told_marks n codes = map (λ c. (Some n, c)) (told_codes codes)
 
--- the place of a key, where it is left open
+-- the index of a key, if it is left open
 abbrev pub left_open : ℕ → Bool → List ℕ
 left_open n is_open = cond is_open (n ∷ []) []
 
--- the message of a finding `same` or `equivalent` ends with the text of the key at the place that is named
+-- the message of a diagnostic `same` or `equivalent` ends with the text of the key at the index that is named
 abbrev pub NamesEarlier : List Entry → Earlier → Finding → Type 0
 NamesEarlier es earlier f =
     IfSome (named_place earlier) (λ n. (d : Entry) → NamesKey f.code (get_or es n d).0 (string_bytes f.message))
 
--- what is known of a key by itself, beside what is declared
+-- the properties of a key by itself, given the declarations
 pub record IsKnownOf (ds : List DeclaredEntry) (e : Entry) (key : KnownKey) : Type 0 where
   pub read : ReadKey
   pub entry : entry_read read ≡ e
   pub spells : IsRead read
   pub known : IsKnown ds read key
 
--- the message shows the names and numbers of what is known of the key
+-- the message has the names and numbers of the key's properties
 abbrev pub ShowsKey : KnownKey → Finding → Type 0
 ShowsKey key f = Shows f.code key f.suggestion (string_bytes f.message)
 
--- the findings on a key after others are those that are told of it; they name that key, and show what is known of it
+-- the diagnostics on a key after others are those that are reported on it; they name that key, and show its properties
 pub record AreTold (ds : List DeclaredEntry) (es : List Entry) (e : Entry) (codes : CodeSet) (earlier : Earlier)
     (fs : List Finding) : Type 0 where
   pub marks_are : marks fs ≡ told_marks (length es) codes
@@ -152,8 +152,8 @@ pub record AreTold (ds : List DeclaredEntry) (es : List Entry) (e : Entry) (code
   pub known : IsKnownOf ds e key
   pub shown : All (ShowsKey key) fs
 
--- the findings on some keys are those that are told of each, in the order of the keys; and the places are those of the
--- keys that are left open
+-- the diagnostics on some keys are those that are reported on each, in the order of the keys, and the indexes are those
+-- of the keys that are left open
 pub data AreFindingsOn (k : Known) (ds : List DeclaredEntry) : List Entry → List Finding → List ℕ → Type 0 where
   on_none : AreFindingsOn k ds [] [] []
   on_more : (es : List Entry) (e : Entry) (codes : CodeSet) (earlier : Earlier) (is_open : Bool)
@@ -161,11 +161,12 @@ pub data AreFindingsOn (k : Known) (ds : List DeclaredEntry) : List Entry → Li
       → IsFound k ds es ns e codes earlier is_open → AreTold ds es e codes earlier told
       → AreFindingsOn k ds (es ++ e ∷ []) (fs ++ told) (ns ++ left_open (length es) is_open)
 
--- the same, by what is known of each target
+-- the same, given the knowledge about each target
 abbrev pub AreFindings : List DeclaredEntry → List Entry → List Finding → List ℕ → Type 0
 AreFindings ds es fs ns = (k : Known) × (AllowsRustcs k × AreFindingsOn k ds es fs ns)
 
--- behind the old findings stand those with these marks, which name this other key, and show what is known of the key
+-- the old diagnostics are followed by those with these marks, which name this other key, and show the properties of the
+-- key
 pub record AddsFindings (ms : List Mark) (other : List ℕ) (key : KnownKey) (old new : List Finding) : Type 0 where
   pub added : List Finding
   pub are : new ≡ old ++ added
@@ -175,7 +176,7 @@ pub record AddsFindings (ms : List Mark) (other : List ℕ) (key : KnownKey) (ol
 
 -- ---- the report
 
--- of a table at `target`: its keys in some order, and the findings on them
+-- for a table `target`: its keys in some order, and the diagnostics on them
 abbrev pub IsReportOn : Members → List Entry → Report → Type 0
 IsReportOn ms es r =
     IsPermutation es (map entry_read r.keys.items)
@@ -184,11 +185,11 @@ IsReportOn ms es r =
     × IsDeclaredBy ms ds
     × AreFindings ds (map entry_read r.keys.items) r.findings.items r.undecided.items)
 
--- of no table: no keys, and these findings
+-- without a table: no keys, and these diagnostics
 abbrev pub IsReportOf : List Mark → Report → Type 0
 IsReportOf ms r = (r.keys.items ≡ []) × (marks r.findings.items ≡ ms) × (r.undecided.items ≡ [])
 
--- of a manifest, by what stands at its `target`: a table, nothing, or what is no table
+-- for a manifest, by the value of its `target`: a table, none, or not a table
 abbrev pub IsReport : Members → Option (Option (List Entry)) → Report → Type 0
 IsReport ms (Some (Some es)) r = IsReportOn ms es r
 IsReport ms (Some None) r = IsReportOf ((None, code.NoTable) ∷ []) r

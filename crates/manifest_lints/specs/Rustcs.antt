@@ -6,8 +6,8 @@ use Rattle.exact_answers.specs.declared.known.Known.{Known}
 use Rattle.exact_answers.specs.Possible.{HasOneValue, IsAllowed}
 use Rattle.exact_answers.specs.Families.{KeepsFamilyRule}
 
--- a set of facts that rustc may set: a key with one value has one at most, and names of families go with the pairs of
--- `target_family`
+-- a set of facts that rustc may set: a key with one value has at most one, and names of families are consistent with
+-- the pairs of `target_family`
 abbrev pub IsRustcs : FactSet → Type 0
 IsRustcs s = HasOneValue (fact_set []) (map (λ t. t.now) ONE_VALUED.now) s × KeepsFamilyRule s
 

@@ -1,4 +1,4 @@
--- The same conditions at earlier keys, raw marks aside, and those that are as true.
+-- The conditions of earlier keys that are the same, apart from raw marks, and those that are equivalent.
 use Rattle.std.specs.Prelude.{◌≡◌, ◌⊎◌, ◌≤◌, ℕ, List, [], ◌∷◌, ◌++◌, length, Option, Some, None}
 use Rattle.std.specs.List.{All}
 use Rattle.std.specs.Borrow.{Bor}
@@ -13,16 +13,16 @@ use Rattle.manifest_lints.specs.declared.earlier.Keys.{Keys}
 use Rattle.manifest_lints.specs.Earlier.{noted, AreEquivalent}
 use Rattle.manifests.specs.Entries.{Entry}
 
--- the text spells a condition of which something holds
+-- the text is a condition for which P holds
 abbrev pub SpellsOne : (Condition → Type 0) → List ℕ → Type 0
 SpellsOne P text = (d : Condition) × IsConditionText text d × P d
 
--- one of the keys does
+-- one of the keys is such a condition
 abbrev pub HasOne : (Condition → Type 0) → List Entry → Type 0
 HasOne P [] = ⊥
 HasOne P (e ∷ es) = SpellsOne P e.0 ⊎ HasOne P es
 
--- the key at this place does
+-- the key at this index is such a condition
 pub record IsOneAt (P : Condition → Type 0) (es : List Entry) (n : ℕ) : Type 0 where
   pub before : List Entry
   pub key : Entry
@@ -31,7 +31,7 @@ pub record IsOneAt (P : Condition → Type 0) (es : List Entry) (n : ℕ) : Type
   pub place : length before ≡ n
   pub spells : SpellsOne P key.0
 
--- the key at this place does, and no key before it
+-- the key at this index is such a condition, and no key before it is
 pub record IsFirstAt (P : Condition → Type 0) (es : List Entry) (n : ℕ) : Type 0 where
   pub one : IsOneAt P es n
   pub first : HasOne P one.before → ⊥
@@ -46,28 +46,28 @@ IsSameAs c d = condition_key d ≡ condition_key c
 abbrev pub HasSame : List Entry → Condition → Type 0
 HasSame es c = HasOne (IsSameAs c) es
 
--- what is noted for a condition is the place of the first of these keys that spells the same
+-- the index that is recorded for a condition is that of the first of these keys that is the same
 abbrev pub AreNoted : List Entry → Keys → Type 0
 AreNoted es keys = (q : Bor Platform) → IsFirst (IsSameAs (condition_of q.now)) es (noted keys q)
 
--- ---- conditions that are as true
+-- ---- equivalent conditions
 
--- one of the keys spells a condition that is as true as this one for each possible target
+-- one of the keys is a condition that is equivalent to this one on each possible target
 abbrev pub HasEquivalent : Known → List Entry → Condition → Type 0
 HasEquivalent k es c = HasOne (λ d. AreEquivalent k d c) es
 
 abbrev pub IsSpelledAt : List Entry → Condition → ℕ → Type 0
 IsSpelledAt es c n = IsOneAt (λ d. d ≡ c) es n
 
--- each of them is spelled by the key at its place, and there are no more than keys
+-- each of them is the condition of the key at its index, and there are no more of them than keys
 pub record AreMembers (es : List Entry) (keys : Keys) : Type 0 where
   pub spelled : All (λ m. IsSpelledAt es (condition_of m.1.now) m.0) keys.members.items
   pub most : length keys.members.items ≤ length es
 
 -- ---- the key that is named
 
--- the place that an answer names is that of the first key that spells the same condition as this one, or that of a key
--- that spells one which is as true for each possible target
+-- the index that an answer names is that of the first key that is the same condition as this one, or that of a key
+-- whose condition is equivalent on each possible target
 abbrev pub NamesRightly : Known → List Entry → Condition → Earlier → Type 0
 NamesRightly k es c (earlier.Same n) = IsFirstAt (IsSameAs c) es n
 NamesRightly k es c (earlier.Equivalent n) = IsOneAt (λ d. AreEquivalent k d c) es n

@@ -1,4 +1,4 @@
--- What it is for a condition to be never, always, nowhere and everywhere true.
+-- The definitions of conditions that are true never, always, nowhere and everywhere.
 use Rattle.std.specs.Prelude.{◌≡◌, ◌<◌, ℕ, ◌*◌, ◌/◌, max, Bool, true, false, cond, nat_le, List, [], ◌∷◌}
 use Rattle.std.specs.Prelude.{Option, Some}
 use Rattle.cargo_platform.specs.Trees.{Condition}
@@ -15,28 +15,28 @@ use Rattle.manifest_lints.specs.declared.deciding.TheConstants.{FEW, SPLITS}
 use Rattle.manifest_lints.specs.declared.deciding.Decided.{Decided}
 use Rattle.manifest_lints.specs.declared.deciding.Decided.TheVariants as decided
 
--- it holds for no target that is possible
+-- it is true for no possible target
 abbrev pub IsNever : Known → Condition → Type 0
 IsNever k c = ForEach k (λ name s. IsTrueCondition name s c → ⊥)
 
--- it holds for each target that is possible
+-- it is true for each possible target
 abbrev pub IsAlways : Known → Condition → Type 0
 IsAlways k c = ForEach k (λ name s. IsTrueCondition name s c)
 
--- it holds for some target that is possible, by a name and a set of facts
+-- it is true for some possible target, given by a name and a set of facts
 abbrev pub CanHold : Known → Condition → Type 0
 CanHold k c = (name : List ℕ) × (s : FactSet) × IsAllowed k s × IsTrueCondition name s c
 
--- it fails for some target that is possible
+-- it is false for some possible target
 abbrev pub CanFail : Known → Condition → Type 0
 CanFail k c = (name : List ℕ) × (s : FactSet) × IsAllowed k s × (IsTrueCondition name s c → ⊥)
 
--- it can be as true as this
+-- it can have this truth value
 abbrev pub CanBe : Bool → Known → Condition → Type 0
 CanBe true k c = CanHold k c
 CanBe false k c = CanFail k c
 
--- what is said of whether it never holds, and of whether it always does
+-- the meaning of the answers to whether it is never true, and whether it always is
 abbrev pub SaysNever : Decided → Known → Condition → Type 0
 SaysNever decided.Yes k c = IsNever k c
 SaysNever decided.No k c = CanHold k c
@@ -47,7 +47,7 @@ SaysAlways decided.Yes k c = IsAlways k c
 SaysAlways decided.No k c = CanFail k c
 SaysAlways decided.Unknown k c = Unit {0}
 
--- the same of whether it is never as true as this
+-- the same for whether it never has this truth value
 abbrev pub SaysNeverIs : Bool → Decided → Known → Condition → Type 0
 SaysNeverIs true d k c = SaysNever d k c
 SaysNeverIs false d k c = SaysAlways d k c
@@ -62,15 +62,15 @@ is_unknown decided.Yes = false
 is_unknown decided.No = false
 is_unknown decided.Unknown = true
 
--- how many splits a search of a condition with so many names and pairs may make
+-- the maximum number of case splits in a search for a condition of so many names and pairs
 abbrev pub budget_of : ℕ → ℕ
 budget_of facts = cond (nat_le facts FEW) SPLITS (max (SPLITS * 64 / facts) 8)
 
--- so many splits are too few for the condition
+-- so many case splits are too few for the condition
 abbrev pub NeedsMoreFor : Known → Condition → ℕ → Type 0
 NeedsMoreFor k c budget = NeedsMore k (asked_trees (c ∷ [])) budget
 
--- whether it holds at a known target, where that does not hang on the facts of open names and keys
+-- its truth value on a known target, if that does not depend on the facts of open names and keys
 abbrev pub at_target : List (List ℕ) → Condition → ℕ → Option Bool
 at_target open_keys c k = kleene_condition (Some (target_name k)) (open_told (target_facts k) open_keys) c
 

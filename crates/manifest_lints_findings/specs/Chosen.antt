@@ -1,4 +1,4 @@
--- Which of the names and pairs that a key asks for are told, and their texts.
+-- The names and pairs in a key that are reported, and their texts.
 use Rattle.std.specs.Prelude.{ℕ, Bool, true, false, not, ◌||◌, ◌&&◌, List, [], ◌∷◌, ◌++◌, codes, cond, bytes_eq}
 use Rattle.std.specs.List.{filter}
 use Rattle.cargo_platform.specs.Trees.{CfgValue, Alone, KeyPair, value_of}
@@ -26,8 +26,8 @@ abbrev pub is_feature : CfgValue → Bool
 is_feature (Alone n) = false
 is_feature (KeyPair k v) = bytes_eq k.name (codes "target_feature")
 
--- the first of its kind in the key, and of a sort, or a raw `true` or `false` alone; what only unstable features of
--- rustc set, or not; and a feature of an architecture, or not
+-- the first of its kind in the key, and of a category, or the name `r#true` or `r#false`; set only by unstable features
+-- of rustc, or not; and a feature of an architecture, or not
 abbrev pub is_chosen : Choice → AskedFact → Bool
 is_chosen (choice.OfSort s) f = f.is_first && is_sort (sort_in f.standing) s
 is_chosen choice.Literal f = f.is_first && is_marked_literal (value_of f.fact.now)
@@ -36,7 +36,7 @@ is_chosen choice.Stable f = not (is_unstable f.standing)
 is_chosen choice.Feature f = is_feature (value_of f.fact.now)
 is_chosen choice.NoFeature f = not (is_feature (value_of f.fact.now))
 
--- those of them, in their order
+-- the selected ones, in their order
 abbrev pub chosen : Choice → List AskedFact → List AskedFact
 chosen c fs = filter (is_chosen c) fs
 
@@ -47,7 +47,7 @@ quoted_value c = quoted_text (print_value c)
 abbrev pub fact_text : AskedFact → List ℕ
 fact_text f = quoted_value (value_of f.fact.now)
 
--- Cargo's words on them, where it was said or not what it says of pairs: that it says once
+-- Cargo's warnings on them; the warning on pairs occurs once, and `is_said` tells whether it has occurred
 abbrev pub warnings_on : Bool → List AskedFact → List (List ℕ)
 warnings_on is_said [] = []
 warnings_on is_said (f ∷ fs) =

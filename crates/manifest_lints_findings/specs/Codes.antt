@@ -1,4 +1,4 @@
--- The codes of findings: their words, how much they weigh, and which hide which.
+-- The lints: their names, their levels, and which of them hide which.
 use Rattle.std.specs.Prelude.{ℕ, Bool, not, ◌&&◌, ◌==◌, cond, codes, List, [], ◌∷◌}
 use Rattle.std.specs.List.{list_any, filter}
 use Rattle.manifest_lints_findings.specs.declared.codes.Code.{Code}
@@ -7,11 +7,11 @@ use Rattle.manifest_lints_findings.specs.declared.codes.TheConstants.{CODES}
 use Rattle.manifest_lints_findings.specs.declared.codes.Level.{Level}
 use Rattle.manifest_lints_findings.specs.declared.codes.Level.TheVariants as level
 
--- a set of codes, as those that hold of a key
+-- a set of lints, such as those that apply to a key
 abbrev pub CodeSet : Type 0
 CodeSet = Code → Bool
 
--- the word for each
+-- the name of each
 abbrev pub code_word : Code → List ℕ
 code_word code.Refused = codes "refused"
 code_word code.NoTable = codes "no-table"
@@ -33,7 +33,7 @@ level_word level.Error = codes "error"
 level_word level.Warning = codes "warning"
 level_word level.Note = codes "note"
 
--- how much a finding of each weighs
+-- the level of each
 abbrev pub code_level : Code → Level
 code_level code.Refused = level.Error
 code_level code.NoTable = level.Error
@@ -50,13 +50,13 @@ code_level code.Everywhere = level.Note
 code_level code.Custom = level.Note
 code_level code.NotCanonical = level.Note
 
--- the same on a condition with so many names and pairs
+-- the level on a condition with so many names and pairs
 abbrev pub finding_level : Code → ℕ → Level
 finding_level code.Never count = cond (count == 0) level.Note level.Warning
 finding_level code.Always count = cond (count == 0) level.Note level.Warning
 finding_level c count = code_level c
 
--- those that hide a finding of the same key, whatever names it tells of
+-- the lints that hide it on the same key, whatever names they report
 abbrev pub hiders : Code → List Code
 hiders code.Nowhere = code.UnknownTarget ∷ code.UnknownFact ∷ code.Never ∷ []
 hiders code.Equivalent = code.Never ∷ code.Always ∷ code.Same ∷ []
@@ -64,10 +64,10 @@ hiders code.Everywhere = code.Always ∷ []
 hiders code.NotCanonical = code.ReadOtherwise ∷ code.UnknownTarget ∷ code.UnknownFact ∷ []
 hiders _ = []
 
--- whether a finding is told: it holds, and none hides it
+-- true if a lint is reported: it applies, and no other lint hides it
 abbrev pub is_told : CodeSet → Code → Bool
 is_told holds c = holds c && not (list_any holds (hiders c))
 
--- the codes that are told of a key, in their order
+-- the lints that are reported on a key, in their order
 abbrev pub told_codes : CodeSet → List Code
 told_codes holds = filter (is_told holds) CODES

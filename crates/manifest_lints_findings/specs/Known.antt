@@ -1,4 +1,4 @@
--- What is known of a key by itself, and which codes hold of it.
+-- The properties of a key by itself, and the lints that apply to it.
 use Rattle.std.specs.Prelude.{◌≡◌, ◌↔◌, ℕ, Bool, true, false, not, ◌||◌, ◌&&◌, List, [], IsTrue, codes, bytes_eq}
 use Rattle.std.specs.Prelude.{string_bytes}
 use Rattle.std.specs.List.{list_any}
@@ -16,7 +16,7 @@ use Rattle.manifest_lints_findings.specs.declared.readings.ReadKey.{ReadKey}
 use Rattle.manifest_lints_findings.specs.declared.readings.Spelled.{Spelled}
 use Rattle.manifest_lints_findings.specs.declared.readings.Spelled.TheVariants as spelled
 
--- a raw `true` or `false` alone, which Cargo reads as a literal
+-- the name `r#true` or `r#false`, which Cargo reads as a literal
 abbrev pub is_marked_literal : CfgValue → Bool
 is_marked_literal (Alone n) = n.raw && (bytes_eq n.name (codes "true") || bytes_eq n.name (codes "false"))
 is_marked_literal (KeyPair k v) = false
@@ -39,7 +39,7 @@ is_condition (spelled.Condition p) = true
 is_condition (spelled.ByCargo m) = false
 is_condition (spelled.Refused e) = false
 
--- what a key asks for, its canonical form, and whether it is the name of a target that is not known
+-- the names and pairs in a key, its canonical form, and whether it is the name of a target that is not known
 abbrev pub sorted_of_spelled : List DeclaredEntry → Spelled → List Sorted
 sorted_of_spelled ds (spelled.Condition p) = sorted_in ds (condition_of p)
 sorted_of_spelled ds (spelled.ByCargo m) = []
@@ -62,7 +62,7 @@ pub record IsKnown (ds : List DeclaredEntry) (r : ReadKey) (k : KnownKey) : Type
   pub canonical : string_bytes k.canonical ≡ print_spelled r.spelled
   pub unknown_target : IsTrue k.is_unknown_target ↔ IsUnknownSpelled r.spelled
 
--- the codes that hold of a key by itself
+-- the lints that apply to a key by itself
 abbrev pub holds_alone : KnownKey → CodeSet
 holds_alone k code.Refused = is_refused k.read.now.spelled
 holds_alone k code.NoTable = not (is_empty_list k.no_tables.items)

@@ -1,10 +1,10 @@
--- The codes by value.
+-- The lints by value.
 use Rattle.std.specs.Prelude.{◌≡◌, List, [], ◌∷◌}
 use Rattle.manifest_lints_findings.specs.declared.codes.Code.{Code}
 use Rattle.manifest_lints_findings.specs.declared.codes.Code.TheVariants as code
 use Rattle.manifest_lints_findings.specs.declared.codes.TheConstants.{CODES}
 
--- all codes, each once, in the order in which they are told of one key
+-- all lints, each once, in the order in which they are reported for one key
 abbrev pub all_codes : List Code
 all_codes =
     code.Refused ∷ code.NoTable ∷ code.ReadOtherwise ∷ code.Unsupported ∷ code.Never ∷ code.UnknownTarget

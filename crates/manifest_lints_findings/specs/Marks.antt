@@ -1,9 +1,9 @@
--- Where findings are told, and which.
+-- The keys and lints of diagnostics.
 use Rattle.std.specs.Prelude.{ℕ, List, map, Option}
 use Rattle.manifest_lints_findings.specs.declared.codes.Code.{Code}
 use Rattle.manifest_lints_findings.specs.declared.findings.Finding.{Finding}
 
--- the place of the key that a finding is on, and its code
+-- the index of the key that a diagnostic is about, and its lint
 abbrev pub Mark : Type 0
 Mark = Option ℕ × Code
 

@@ -1,4 +1,4 @@
--- The names and numbers that a message shows, by the code of its finding. The words between them are free.
+-- The names and numbers that a message contains, by its lint. The words between them are free.
 use Rattle.std.specs.Prelude.{ℕ, false, List, [], ◌∷◌, ◌++◌, codes, take, string_bytes, String}
 use Rattle.std.specs.Prelude.{Option, Some, None}
 use Rattle.std.specs.List.{join_by}
@@ -20,7 +20,7 @@ use Rattle.manifest_lints_findings.specs.declared.readings.Spelled.{Spelled}
 use Rattle.manifest_lints_findings.specs.declared.readings.Spelled.TheVariants as spelled
 use Rattle.manifest_lints_findings.specs.declared.wording.TheConstants.{TOLD}
 
--- the message of a finding on what is the same or as true ends with the earlier key
+-- the message about a key that is the same or equivalent ends with the earlier key
 abbrev pub NamesKey : Code → List ℕ → List ℕ → Type 0
 NamesKey code.Same key message = EndsWith (quoted_text key) message
 NamesKey code.Equivalent key message = EndsWith (quoted_text key) message
@@ -28,16 +28,16 @@ NamesKey _ key message = Unit {0}
 
 -- ---- what is shown of the key itself
 
--- the first names and pairs in quotes, and how many more there are
+-- the first names and pairs in backquotes, and the number of the others
 abbrev pub listing : List AskedFact → List (List ℕ)
 listing fs = first_texts fact_text fs
 
--- the same behind rustc's version, where there are some
+-- the same after rustc's version, if there are some
 abbrev pub listing_of_version : List AskedFact → List (List ℕ)
 listing_of_version [] = []
 listing_of_version (f ∷ fs) = RUSTC_VERSION.now ∷ listing (f ∷ fs)
 
--- the mistaken names and pairs, those of no features first
+-- the mistaken names and pairs, those that are not features first
 abbrev pub mistakes_in : List AskedFact → List (List ℕ)
 mistakes_in fs = listing_of_version (chosen choice.NoFeature fs) ++ listing_of_version (chosen choice.Feature fs)
 
@@ -45,23 +45,23 @@ mistakes_in fs = listing_of_version (chosen choice.NoFeature fs) ++ listing_of_v
 abbrev pub custom_in : List AskedFact → List (List ℕ)
 custom_in fs = listing_of_version (chosen choice.Stable fs) ++ listing_of_version (chosen choice.Unstable fs)
 
--- why it is refused
+-- the reason why it is rejected
 abbrev pub fault_shown : Spelled → List (List ℕ)
 fault_shown (spelled.Refused e) = shown_cut (print_fault (fault_in e)) ∷ []
 fault_shown (spelled.Condition p) = []
 fault_shown (spelled.ByCargo m) = []
 
--- Cargo's first warnings on the key, and how many more there are
+-- Cargo's first warnings on the key, and the number of the others
 abbrev pub cargo_words : Marked → List ℕ
 cargo_words m = shown_whole (join_by (λ s. string_bytes s) (codes " ") (take TOLD m.warnings.items) ++ and_more m.count)
 
--- what Cargo says of it, or the names that lose their raw mark
+-- Cargo's warnings on it, or the names that lose their raw mark
 abbrev pub read_otherwise : Spelled → List AskedFact → List (List ℕ)
 read_otherwise (spelled.ByCargo m) fs = cargo_words m ∷ []
 read_otherwise (spelled.Condition p) fs = listing (chosen choice.Literal fs)
 read_otherwise (spelled.Refused e) fs = listing (chosen choice.Literal fs)
 
--- what Cargo says of names and pairs that do not select dependencies
+-- Cargo's warnings on names and pairs that do not select dependencies
 abbrev pub unsupported_in : List AskedFact → List ℕ
 unsupported_in fs = shown_whole (joined_first (λ t. t) (codes " ") (warnings_on false fs))
 
@@ -70,7 +70,7 @@ abbrev pub meant_shown : Option (String Global) → List (List ℕ)
 meant_shown (Some s) = quoted_text (string_bytes s) ∷ []
 meant_shown None = []
 
--- what the message of a finding of this code on a key shows, where this may stand in the key's place
+-- the texts in the message of a diagnostic of this lint on a key, which `meant` can replace
 abbrev pub shown_texts : Code → KnownKey → Option (String Global) → List (List ℕ)
 shown_texts code.Refused k meant = fault_shown k.read.now.spelled
 shown_texts code.NoTable k meant = first_texts (λ s. string_bytes s) k.no_tables.items
@@ -83,7 +83,7 @@ shown_texts code.Everywhere k meant = RUSTC_VERSION.now ∷ []
 shown_texts code.Custom k meant = custom_in (chosen (choice.OfSort sort.Custom) k.asked.items)
 shown_texts _ k meant = []
 
--- it shows these texts in this order, and of a key that is not canonical ends with its canonical form
+-- the message contains these texts in this order; for a key that is not canonical, it ends with the canonical form
 abbrev pub Shows : Code → KnownKey → Option (String Global) → List ℕ → Type 0
 Shows code.NotCanonical k meant message = EndsWith (quoted_text (string_bytes k.canonical)) message
 Shows c k meant message = Mentions (shown_texts c k meant) message

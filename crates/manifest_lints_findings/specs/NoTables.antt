@@ -1,22 +1,22 @@
--- What under a key of `target` is no table of dependencies.
+-- The parts of the value of a key of `target` that are not dependency tables.
 use Rattle.std.specs.Prelude.{ℕ, Bool, true, false, List, [], ◌∷◌, not, ◌&&◌, ◌||◌, codes, bytes_eq}
 use Rattle.std.specs.Prelude.{Option, Some, None, is_some}
 use Rattle.std.specs.List.{list_any}
 use Rattle.toml.specs.Data.{Data, Members, no_members, member, as_table}
 
--- what Cargo reads under a key
+-- the names that Cargo reads under a key
 abbrev pub is_table_name : List ℕ → Bool
 is_table_name name =
     list_any (bytes_eq name)
     (codes "dependencies" ∷ codes "dev-dependencies" ∷ codes "dev_dependencies" ∷ codes "build-dependencies"
     ∷ codes "build_dependencies" ∷ [])
 
--- whether some member has another name, or is no table
+-- true if some member has another name, or is not a table
 abbrev pub has_no_table : Members → Bool
 has_no_table no_members = false
 has_no_table (member name d ds) = not (is_table_name name && is_some (as_table d)) || has_no_table ds
 
--- whether what stands at a key is no table, or has such a member
+-- true if the value of a key is not a table, or has such a member
 abbrev pub is_no_table_by : Option Members → Bool
 is_no_table_by (Some ds) = has_no_table ds
 is_no_table_by None = true

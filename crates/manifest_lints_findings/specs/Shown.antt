@@ -1,4 +1,5 @@
--- What a finding shows beside its message: where a refused key goes wrong, and a text that may stand in a key's place.
+-- What a diagnostic has besides its message: the position of the error in a rejected key, and a text that can replace a
+-- key.
 use Rattle.std.specs.Prelude.{◌≡◌, ℕ, false, List, [], IsTrue, bytes_eq, None}
 use Rattle.cargo_platform.specs.Trees.{Condition}
 use Rattle.cargo_platform.specs.Errors.{orig_of, fault_in, span_in}
@@ -15,7 +16,7 @@ use Rattle.manifest_lints_findings.specs.declared.known_keys.KnownKey.{KnownKey}
 use Rattle.manifest_lints_findings.specs.declared.readings.Spelled.{Spelled}
 use Rattle.manifest_lints_findings.specs.declared.readings.Spelled.TheVariants as spelled
 
--- of a refused key the span and the two lines are those of its fault, and of any other there are none
+-- for a rejected key, the span and the two lines are those of its error, and for any other key there are none
 abbrev pub IsShownBy : List ℕ → Spelled → Finding → Type 0
 IsShownBy key (spelled.Refused e) f =
     IsSpanInKey key (orig_of e) (fault_in e) (span_in e) f.span
@@ -27,7 +28,7 @@ abbrev pub IsShownOn : Code → KnownKey → Finding → Type 0
 IsShownOn code.Refused k f = IsShownBy k.read.now.text.now k.read.now.spelled f
 IsShownOn c k f = (f.span ≡ None) × (f.snippet ≡ None)
 
--- of this text, which spells the condition, no finding of the code is told
+-- the lint reports nothing on this text, which is the condition
 abbrev pub IsRidOf : Code → List ℕ → Condition → Type 0
 IsRidOf code.UnknownTarget text c = IsUnknownTarget c → ⊥
 IsRidOf code.UnknownFact text c = has_sort sort.Mistaken (sorted_in [] c) ≡ false
@@ -35,6 +36,6 @@ IsRidOf code.ReadOtherwise text c = has_marked_literal (sorted_in [] c) ≡ fals
 IsRidOf code.NotCanonical text c = IsTrue (bytes_eq (print_condition c) text)
 IsRidOf _ text c = ⊥
 
--- the text spells a condition, of which no finding of the code is told
+-- the text is a condition on which the lint reports nothing
 abbrev pub IsMended : Code → List ℕ → Type 0
 IsMended code text = (c : Condition) × IsConditionText text c × IsRidOf code text c

@@ -1,4 +1,4 @@
--- What a key spells.
+-- The meaning of a key.
 use Rattle.std.specs.Prelude.{ℕ, List, Option, Some, None}
 use Rattle.std.specs.Borrow.{Bor}
 use Rattle.cargo_platform.specs.Trees.{Condition, condition_of}
@@ -22,7 +22,7 @@ IsSpelledAs text (spelled.Refused e) = SpellsNothing text
 abbrev pub IsRead : ReadKey → Type 0
 IsRead r = IsSpelledAs r.text.now r.spelled
 
--- what stands at a key; where it stands in no manifest, a table without members
+-- the value of a key; outside of a manifest, a table without members
 abbrev pub data_at : Option (Bor Value) → Data
 data_at (Some v) = view v.now
 data_at None = table no_members

@@ -1,4 +1,4 @@
--- Texts that stand in messages, and lists that are cut.
+-- Texts in messages, and lists that are shortened.
 use Rattle.std.specs.Prelude.{◌≡◌, ℕ, ◌-◌, nat_lt, List, [], ◌∷◌, ◌++◌, codes, cond, length, map, take}
 use Rattle.std.specs.Prelude.{encode_utf8_all}
 use Rattle.std.specs.Fmt.{decimal}
@@ -7,14 +7,14 @@ use Rattle.std.specs.Str.{chars}
 use Rattle.cargo_platform.specs.Snippets.{shown, shown_line}
 use Rattle.manifest_lints_findings.specs.declared.wording.TheConstants.{TOLD}
 
--- a text as it is shown, in whole, and cut
+-- a text as it is displayed, as a whole, and shortened
 abbrev pub shown_whole : List ℕ → List ℕ
 shown_whole text = encode_utf8_all (map shown (chars text))
 
 abbrev pub shown_cut : List ℕ → List ℕ
 shown_cut text = shown_line (chars text) 0 0
 
--- a text in backquotes, as it is shown, and cut
+-- a text in backquotes, as it is displayed, and shortened
 abbrev pub quoted_text : List ℕ → List ℕ
 quoted_text text = codes "`" ++ shown_cut text ++ codes "`"
 
@@ -25,27 +25,27 @@ BeginsWith text message = (words : List ℕ) × (message ≡ text ++ words)
 abbrev pub EndsWith : List ℕ → List ℕ → Type 0
 EndsWith text message = (words : List ℕ) × (message ≡ words ++ text)
 
--- one text stands behind another, with words between them
+-- one text follows another, with words between them
 abbrev pub FollowsIn : List ℕ → List ℕ → List ℕ → Type 0
 FollowsIn message first second = (words : List ℕ) × (message ≡ first ++ (words ++ second))
 
--- the text stands in the message, and this rest behind it
+-- the message contains the text, followed by this rest
 pub record StandsIn (text message rest : List ℕ) : Type 0 where
   pub words : List ℕ
   pub are : message ≡ words ++ (text ++ rest)
 
--- the texts stand in the message, each behind the one before it, and any words between them
+-- the message contains the texts, each after the one before it, with any words between them
 abbrev pub Mentions : List (List ℕ) → List ℕ → Type 0
 Mentions [] message = Unit {0}
 Mentions (t ∷ ts) message = (rest : List ℕ) × StandsIn t message rest × Mentions ts rest
 
--- ---- lists that are cut
+-- ---- lists that are shortened
 
--- how many more there are of so many; nothing where all are told
+-- the number of the others; empty if all are printed
 abbrev pub and_more : ℕ → List ℕ
 and_more all = cond (nat_lt TOLD all) (codes " and " ++ (decimal (all - TOLD) ++ codes " more")) []
 
--- the texts of the first ones with a mark between them, and how many more there are
+-- the texts of the first ones with a separator between them, and the number of the others
 abbrev pub joined_first : {X : Type 0} → (X → List ℕ) → List ℕ → List X → List ℕ
 joined_first text mark xs = join_by text mark (take TOLD xs) ++ and_more (length xs)
 

@@ -1,4 +1,4 @@
--- What is told of a key that stands in no manifest, without a question over every set of facts.
+-- The diagnostics on a key outside of a manifest that need no search over sets of facts.
 use Rattle.std.specs.Prelude.{◌≡◌, ◌↔◌, ℕ, Bool, IsTrue, List, [], ◌∷◌, ◌++◌, cond, Some}
 use Rattle.cargo_platform.specs.Trees.{Condition}
 use Rattle.manifest_lints_standings.specs.declared.standing.Sort.TheVariants as sort
@@ -7,11 +7,11 @@ use Rattle.manifest_lints_findings.specs.Marks.{Mark}
 use Rattle.manifest_lints_findings.specs.declared.codes.Code.{Code}
 use Rattle.manifest_lints_findings.specs.declared.codes.Code.TheVariants as code
 
--- the finding of a code on the key at a place, where it is told
+-- the diagnostic of a lint on the key at an index, if it is reported
 abbrev pub mark_where : ℕ → Bool → Code → List Mark
 mark_where n is_told c = cond is_told ((Some n, c) ∷ []) []
 
--- told are the name of a target that is not known, what is taken for a fact of rustc's, and what only `--cfg` sets
+-- they report the name of a target that is not known, what is taken for a fact of rustc's, and what only `--cfg` sets
 pub record AreUnknown (c : Condition) (ms : List Mark) : Type 0 where
   pub is_unknown : Bool
   pub exactly : IsTrue is_unknown ↔ IsUnknownTarget c

@@ -34,8 +34,7 @@ fn is_same_but_case(text: &[u8], word: &[u8]) -> bool {
 }
 
 /// Returns whether one edit changes a text into a word: one byte is changed, inserted or deleted, or two adjacent bytes
-/// are swapped. A difference in ASCII case only is one edit too. A text of fewer than 3 bytes is not similar to any
-/// word.
+/// are swapped. A difference in ASCII case only is one edit too. Returns `false` for a text of fewer than 3 bytes.
 pub fn is_one_edit(text: &str, word: &str) -> bool {
     if text.len() < SHORTEST || text.len().abs_diff(word.len()) > 1 {
         return false;

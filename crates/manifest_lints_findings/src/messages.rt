@@ -83,7 +83,7 @@ fn no_table_message(alloc: Global, key: &KnownKey<'_>) -> Result<String, AllocEr
     joined(alloc, &key.no_tables, key.no_tables.len(), ", ")
 }
 
-/// The operators and words that people write in conditions of other languages, and a suggestion for each.
+/// The texts that people write in place of the words of a condition, and a suggestion for each.
 const INSTEAD: [(&str, &str); 8] = [
     ("||", "use `any(..)` in place of `||`"),
     ("&&", "use `all(..)` in place of `&&`"),

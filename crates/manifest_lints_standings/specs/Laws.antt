@@ -1,4 +1,4 @@
--- rustc's names and keys, and what else is constant, by value.
+-- The names and keys of rustc, and other constants, by value.
 use Rattle.std.specs.Prelude.{◌≡◌, List, [], ◌∷◌, codes}
 use Rattle.manifest_lints_standings.specs.declared.standing.TheConstants.{SHORTEST}
 use Rattle.manifest_lints_standings.specs.Standings.{valued, flagged, plain_names, named_by_value, flag_names}
@@ -11,7 +11,7 @@ AreValued =
     ≡ codes "target_abi" ∷ codes "target_arch" ∷ codes "target_endian" ∷ codes "target_env" ∷ codes "target_family"
     ∷ codes "target_has_atomic" ∷ codes "target_os" ∷ codes "target_pointer_width" ∷ codes "target_vendor" ∷ []
 
--- the keys of which flags and profiles change the values
+-- the keys whose values depend on flags and profiles
 abbrev pub AreFlagged : Type 0
 AreFlagged = flagged ≡ codes "panic" ∷ codes "target_feature" ∷ []
 
@@ -35,17 +35,17 @@ AreUnstableKeys =
     ≡ codes "fmt_debug" ∷ codes "relocation_model" ∷ codes "sanitize" ∷ codes "target_has_atomic_equal_alignment"
     ∷ codes "target_has_atomic_load_store" ∷ []
 
--- the keys among whose values a name is looked for, in order
+-- the keys whose values are searched for a name, in order
 abbrev pub AreNamedByValue : Type 0
 AreNamedByValue =
     named_by_value
     ≡ codes "target_os" ∷ codes "target_arch" ∷ codes "target_family" ∷ codes "target_env" ∷ codes "target_vendor"
     ∷ codes "target_abi" ∷ codes "target_endian" ∷ codes "target_pointer_width" ∷ codes "panic" ∷ []
 
--- the names and keys that are open of each condition
+-- the names and keys that are open in each condition
 abbrev pub AreOfFlags : Type 0
 AreOfFlags = flag_names ≡ codes "debug_assertions" ∷ codes "panic" ∷ codes "target_feature" ∷ []
 
--- a name of fewer bytes is near to none
+-- a name of fewer bytes is not similar to another one
 abbrev pub IsShortest : Type 0
 IsShortest = SHORTEST ≡ 4

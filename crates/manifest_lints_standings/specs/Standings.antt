@@ -1,4 +1,4 @@
--- What the names and pairs of a condition are to rustc and to Cargo.
+-- The categories of the names and pairs of a condition for rustc and Cargo.
 use Rattle.std.specs.Prelude.{◌≢◌, ◌<◌, ℕ, Bool, true, false, ◌||◌, ◌&&◌, List, [], ◌∷◌, ◌++◌, map, flat_map, length}
 use Rattle.std.specs.Prelude.{cond, codes}
 use Rattle.std.specs.Prelude.{bytes_eq, nat_le, nat_eq}
@@ -55,16 +55,16 @@ target_features = map (λ w. w.now) TARGET_FEATURES
 abbrev pub has_as_value : List ℕ → List ℕ → Bool
 has_as_value text key = is_had table_keys (KeyPair (plain key) text)
 
--- how many edits lead from one text to the other: a character is put in, left out or changed, or two that stand side by
--- side change places
+-- the number of edits from one text to the other: a character is inserted, deleted or changed, or two adjacent ones are
+-- swapped
 abbrev pub edits : List ℕ → List ℕ → ℕ
 edits text word = (osa_table (chars text) (chars word)).last_row (length (chars word))
 
--- one edit leads to the word, and the lengths in bytes differ by one at most
+-- the word is one edit away, and the lengths in bytes differ by at most one
 abbrev pub is_one_edit_from : List ℕ → List ℕ → Bool
 is_one_edit_from text word = nat_le (abs_diff (length word) (length text)) 1 && nat_eq (edits text word) 1
 
--- one edit leads to one of rustc's names or keys
+-- one of rustc's names or keys is one edit away
 abbrev pub is_near_one : List ℕ → Bool
 is_near_one name =
     list_any (is_one_edit_from name) plain_names
@@ -74,20 +74,20 @@ is_near_one name =
 unfoldable pub is_near : List ℕ → Bool
 is_near name = nat_le SHORTEST (length name) && is_near_one name
 
--- a key without `target_`, what a profile sets, or another word for a fact of rustc's
+-- a key without `target_`, a setting of a profile, or another word for a fact of rustc's
 abbrev pub is_taken_for_rustcs : List ℕ → Bool
 is_taken_for_rustcs name = is_named name (map (λ w. w.now) SHORTENED)
     || (is_named name (map (λ w. w.now) OF_PROFILES) || is_named name (map (λ w. w.now) OTHER_WORDS))
 
--- what a name or key is that rustc does not have
+-- the category of a name or key that rustc does not have
 abbrev pub sort_of_other : List ℕ → Sort
 sort_of_other name = cond (is_taken_for_rustcs name) sort.Mistaken (cond (is_near name) sort.Mistaken sort.Custom)
 
--- what a value of `target_feature` is
+-- the category of a value of `target_feature`
 abbrev pub sort_of_feature : List ℕ → Sort
 sort_of_feature value = cond (is_named value target_features) sort.Rustcs sort.Mistaken
 
--- what a pair with this key and value is, by whether some known target has it
+-- the category of a pair with this key and value, by whether some known target has it
 abbrev pub sort_of_pair : List ℕ → List ℕ → Bool → Sort
 sort_of_pair key value had =
     cond (bytes_eq key (codes "feature")) sort.Unsupported
@@ -98,7 +98,7 @@ sort_of_pair key value had =
     (cond (bytes_eq key (codes "target")) sort.Mistaken
     (cond (is_named key unstable_keys) sort.Custom (sort_of_other key)))))))
 
--- what a name or pair is, whatever is declared
+-- the category of a name or pair, whatever is declared
 abbrev pub sort_of : CfgValue → Sort
 sort_of (Alone n) =
     cond (is_unsupported_name n) sort.Unsupported
@@ -109,7 +109,7 @@ sort_of (Alone n) =
     (cond (list_any (has_as_value n.name) named_by_value) sort.Mistaken (sort_of_other n.name))))))
 sort_of (KeyPair k v) = sort_of_pair k.name v (is_had table_keys (KeyPair k v))
 
--- the same of what is declared, or is not
+-- the category, given whether the name or pair is declared
 abbrev pub beside : Bool → Sort → Sort
 beside is_told sort.Rustcs = sort.Rustcs
 beside is_told sort.Unsupported = sort.Unsupported
@@ -141,8 +141,8 @@ is_sort sort.Custom sort.Custom = true
 is_sort sort.Declared sort.Declared = true
 is_sort _ _ = false
 
--- of what Cargo warns of, of what only `--cfg` or an unstable feature sets, and of what is declared, it is open whether
--- a target has it
+-- true if facts of this category are open: those that Cargo warns about, those that only `--cfg` or an unstable feature
+-- sets, and declared ones
 abbrev pub is_open_sort : Sort → Bool
 is_open_sort sort.Rustcs = false
 is_open_sort sort.Unsupported = true
@@ -150,12 +150,12 @@ is_open_sort sort.Mistaken = false
 is_open_sort sort.Custom = true
 is_open_sort sort.Declared = true
 
--- ---- the names and pairs of a condition, each by its sort
+-- ---- the names and pairs of a condition, each with its category
 
 abbrev pub Sorted : Type 0
 Sorted = CfgValue × Sort
 
--- beside what is declared
+-- given the declarations
 abbrev pub sorted_beside : List DeclaredEntry → CfgValue → Sorted
 sorted_beside ds c = (c, beside (is_declared ds c) (sort_of c))
 
@@ -168,11 +168,11 @@ sorted_by fs = map sorted_of fs
 abbrev pub sorted_in : List DeclaredEntry → Condition → List Sorted
 sorted_in ds c = map (sorted_beside ds) (condition_values c)
 
--- one of them is of the sort
+-- one of them is of the category
 abbrev pub has_sort : Sort → List Sorted → Bool
 has_sort s fs = list_any (λ f. is_sort f.1 s) fs
 
--- ---- what is open of a condition
+-- ---- the open names and keys of a condition
 
 abbrev pub flag_names : List (List ℕ)
 flag_names = map (λ w. w.now) OPEN
@@ -181,8 +181,8 @@ flag_names = map (λ w. w.now) OPEN
 abbrev pub opened_by : Sorted → List (List ℕ)
 opened_by f = cond (is_open_sort f.1) ((name_in f.0).name ∷ []) []
 
--- open are the names and keys of flags, those that Cargo warns of, and those that only `--cfg` or an unstable feature
--- sets
+-- the open names and keys: those of flags, those that Cargo warns about, and those that only `--cfg` or an unstable
+-- feature sets
 abbrev pub open_in : List Sorted → List (List ℕ)
 open_in fs = flag_names ++ flat_map opened_by fs
 

@@ -1,4 +1,4 @@
--- What is known of a target by its facts, by facts that are added, and by the names and keys that are open.
+-- The knowledge about a target by its facts, by facts that are added, and by the names and keys that are open.
 use Rattle.std.specs.Prelude.{◌≡◌, ℕ, Bool, true, false, ◌||◌, List, ◌++◌, Option, Some, None, IfSome, IsTrue, map}
 use Rattle.std.specs.FinSet.{contains, contains-from_list}
 use Rattle.std.specs.Ordering.{eq_by_cmp}
@@ -18,7 +18,7 @@ pub record IsAsked (listed added : FactSet) (open_keys : List (List ℕ)) (s : F
   pub same : (p : Pair) → contains added p ≡ false → is_named p.name open_keys ≡ false
       → contains s p ≡ contains listed p
 
--- by whether a pair is added, whether its name or key is open, and whether it is listed
+-- the decision by whether a pair is added, whether its name or key is open, and whether it is listed
 abbrev pub told_by : Bool → Bool → Bool → Option Bool
 told_by true o l = Some true
 told_by false true l = None
@@ -31,7 +31,7 @@ asked_told listed added open_keys p = told_by (contains added p) (is_named p.nam
 abbrev pub asked_example : List CfgValue → List CfgValue → FactSet
 asked_example listed added = fact_set (listed ++ added)
 
--- a pair is in the set of two lists where it is in that of one of them
+-- a pair is in the set of two lists exactly if it is in that of one of them
 joined : (cs ds : List CfgValue) (p : Pair)
     → contains (fact_set (cs ++ ds)) p ≡ (contains (fact_set cs) p || contains (fact_set ds) p)
 joined cs ds p =

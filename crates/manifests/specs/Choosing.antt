@@ -1,4 +1,4 @@
--- What a choice says of the truth of a condition.
+-- The truth value of a condition that a choice stands for.
 use Rattle.std.specs.Prelude.{◌≡◌, ℕ, Bool, true, false, List, Option, Some, None}
 use Rattle.cargo_platform.specs.Trees.{Condition, condition_of}
 use Rattle.cargo_platform.specs.Facts.{Pair}
@@ -6,20 +6,20 @@ use Rattle.partial_facts.specs.Conditions.{kleene_condition, residual_condition}
 use Rattle.manifests.specs.declared.selection.Choice.{Choice}
 use Rattle.manifests.specs.declared.selection.Choice.TheVariants.{Selected, LeftOut, Open}
 
--- selected where it holds, left out where it does not, and open where neither is known
+-- selected if the condition is true, left out if it is false, and open if neither is known
 abbrev pub choice_of : Choice → Option Bool
 choice_of Selected = Some true
 choice_of LeftOut = Some false
 choice_of (Open left) = None
 
--- what is said of the condition that an open choice leaves
+-- P holds for the condition that an open choice leaves
 abbrev pub IfOpen : Choice → (Condition → Type 0) → Type 0
 IfOpen Selected P = Unit {0}
 IfOpen LeftOut P = Unit {0}
 IfOpen (Open left) P = P (condition_of left)
 
--- the choice says what follows of a condition for a target of this name, of which this is told; and where nothing
--- follows, it leaves what is left of the condition
+-- the choice is what follows about a condition for a target with this name and this knowledge; if nothing follows, it
+-- has the residual of the condition
 pub record IsChoiceBy (name : List ℕ) (told : Pair → Option Bool) (c : Condition) (choice : Choice) : Type 0 where
   pub truth : choice_of choice ≡ kleene_condition (Some name) told c
   pub left : IfOpen choice (λ rest. rest ≡ residual_condition (Some name) told c)

@@ -1,4 +1,4 @@
--- The keys of a manifest, in an order of their own.
+-- The keys of a manifest, in some order.
 use Rattle.std.specs.Prelude.{List, Option, Some, None}
 use Rattle.std.specs.List.Sorted.{IsPermutation}
 use Rattle.manifests.specs.Entries.{Entry}
@@ -8,7 +8,7 @@ AreSome None None = Unit {0}
 AreSome (Some es) (Some fs) = IsPermutation es fs
 AreSome _ _ = ⊥
 
--- nothing stands at `target` in both; or no table; or tables with the same entries, in some order
+-- `target` is missing in both, or is not a table in both, or is a table with the same entries in both, in some order
 abbrev pub AreInSomeOrder : Option (Option (List Entry)) → Option (Option (List Entry)) → Type 0
 AreInSomeOrder None None = Unit {0}
 AreInSomeOrder (Some t) (Some u) = AreSome t u

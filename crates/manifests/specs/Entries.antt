@@ -1,10 +1,10 @@
--- The keys of a manifest, each with what stands at it.
+-- The keys of a manifest, each with its value.
 use Rattle.std.specs.Prelude.{ℕ, List}
 use Rattle.toml.specs.Data.{Data}
 use Rattle.toml.specs.View.{view}
 use Rattle.manifests.specs.declared.tables.TargetKey.{TargetKey}
 
--- a key, and what stands at it
+-- a key, and its value
 abbrev pub Entry : Type 0
 Entry = List ℕ × Data
 

@@ -1,4 +1,4 @@
--- How one writes an entry of `check-cfg`, and that what is written so, and nothing else, declares it.
+-- The ways to write an entry of `check-cfg`, and that a text declares an entry exactly if it is written in one of them.
 use Rattle.std.specs.Prelude.{◌≡◌, ◌↔◌, ℕ, Bool, true, false, List, [], ◌∷◌, ◌++◌, map, cond, codes, Some}
 use Rattle.std.specs.List.{list_any}
 use Rattle.cargo_platform.specs.Tokens.{Lexeme, LeftParen, RightParen, Ident, Comma, String}
@@ -23,16 +23,16 @@ pub data WrittenValue : Type 0 where
 pub data WrittenEntry : Type 0 where
   -- `cfg(NAME, .., NAME)`
   Names : (before : List WrittenName) (last : WrittenName) → WrittenEntry
-  -- `cfg(NAME, .., values(VALUE, ..))`, where a comma may end the values, and one may stand behind their parenthesis
+  -- `cfg(NAME, .., values(VALUE, ..))`, where a comma may end the values, and one may follow their parenthesis
   NamesAndValues : (first : WrittenName) (more : List WrittenName) (values : List WrittenValue) (ends behind : Bool)
       → WrittenEntry
 
--- ---- how it is written
+-- ---- how an entry is written
 
 abbrev pub written_name : WrittenName → Lexeme
 written_name n = Ident n.raw n.name
 
--- a comma behind each
+-- a comma after each
 abbrev pub written_names : List WrittenName → List Lexeme
 written_names [] = []
 written_names (n ∷ ns) = written_name n ∷ Comma ∷ written_names ns
@@ -50,12 +50,12 @@ abbrev pub maybe_comma : Bool → List Lexeme
 maybe_comma true = Comma ∷ []
 maybe_comma false = []
 
--- a comma before each, and maybe one at the end
+-- a comma before each, and perhaps one at the end
 abbrev pub written_more : Bool → List WrittenValue → List Lexeme
 written_more ends [] = maybe_comma ends
 written_more ends (v ∷ vs) = Comma ∷ written_value v ++ written_more ends vs
 
--- commas between, and maybe one at the end
+-- commas between them, and perhaps one at the end
 abbrev pub written_values : Bool → List WrittenValue → List Lexeme
 written_values ends [] = []
 written_values ends (v ∷ vs) = written_value v ++ written_more ends vs
@@ -67,9 +67,9 @@ written_entry (NamesAndValues first more values ends behind) =
     opened (codes "cfg") ++ (written_names (first ∷ more) ++ (opened (codes "values")
     ++ (written_values ends values ++ RightParen ∷ (maybe_comma behind ++ RightParen ∷ []))))
 
--- ---- what it means
+-- ---- the meaning of an entry
 
--- raw marks play no part
+-- raw marks are ignored
 abbrev pub names_in : List WrittenName → List (List ℕ)
 names_in ns = map (λ n. n.name) ns
 
@@ -89,11 +89,11 @@ texts_in (Text value ∷ vs) = value ∷ texts_in vs
 texts_in (Any ∷ vs) = texts_in vs
 texts_in (NoValue ∷ vs) = texts_in vs
 
--- with `any()` among them no value or any, and else the texts, and with `none()` among them no value too
+-- with `any()` among them, no value or any; otherwise the texts and, with `none()` among them, no value too
 abbrev pub meant_values : List WrittenValue → DeclaredValues
 meant_values vs = cond (list_any is_any vs) AnyValue (Listed (texts_in vs) (list_any is_none vs))
 
--- names alone may have no value
+-- names without `values` may have no value
 abbrev pub meant_entry : WrittenEntry → DeclaredEntry
 meant_entry (Names before last) = record { names = names_in before ++ last.name ∷ []; values = Listed [] true }
 meant_entry (NamesAndValues first more values ends behind) =
@@ -103,11 +103,11 @@ meant_entry (NamesAndValues first more values ends behind) =
 abbrev pub IsWritten : List Lexeme → DeclaredEntry → Type 0
 IsWritten tokens e = (w : WrittenEntry) × (written_entry w ≡ tokens) × (meant_entry w ≡ e)
 
--- tokens declare an entry exactly where it is written so
+-- tokens declare an entry exactly if it can be written with them
 abbrev pub DeclareWhatIsWritten : List Lexeme → DeclaredEntry → Type 0
 DeclareWhatIsWritten tokens e = declaration tokens ≡ Some e ↔ IsWritten tokens e
 
--- a text declares an entry exactly where it is cut into tokens with which the entry is written
+-- a text declares an entry exactly if its tokens are such that the entry can be written with them
 abbrev pub DeclaresWhatIsWritten : List ℕ → DeclaredEntry → Type 0
 DeclaresWhatIsWritten text e =
     Declares text (Some e) ↔ ((tokens : List Lexeme) × HasTokens text (Some tokens) × IsWritten tokens e)

@@ -1,4 +1,4 @@
--- Which rows a manifest has for a target, and why it has none.
+-- The rows of a manifest for a target, and the reasons why there are none.
 use Rattle.std.specs.Prelude.{◌≡◌, ℕ, Bool, List, [], ◌∷◌, ◌++◌, map, Option, Some, None}
 use Rattle.std.specs.FinSet.{contains}
 use Rattle.std.specs.List.{All}
@@ -24,9 +24,9 @@ use Rattle.manifests.specs.declared.selection.SelectError.TheVariants.{Memory, T
 use Rattle.manifests.specs.declared.tables.Kind.{Kind}
 use Rattle.manifests.specs.declared.tables.Kind.TheVariants.{Normal, Development, Build}
 
--- ---- what is asked
+-- ---- the query
 
--- a target by its name and what is told of its facts, and the host, where that is known
+-- a target by its name and the knowledge about its facts, and the host, if it is known
 pub record Question : Type 0 where
   pub target : List ℕ
   pub told : Pair → Option Bool
@@ -42,13 +42,13 @@ question_of target known host = record {
 
 -- ---- the choice of a dependency
 
--- of the host all facts are known; where no host is known, the condition is left as it is
+-- all facts of the host are known; without a known host, the condition is left as it is
 abbrev pub IsHostChoice : Option KnownTarget → Condition → Choice → Type 0
 IsHostChoice (Some host) c choice =
     IsChoiceBy (target_name (place host)) (λ p. Some (contains (target_facts (place host)) p)) c choice
 IsHostChoice None c choice = (choice_of choice ≡ None) × IfOpen choice (λ rest. rest ≡ c)
 
--- a dependency of a build script is asked of the host, and any other of the target
+-- the condition of a build-dependency is decided for the host, and any other for the target
 abbrev pub IsChoiceFor : Question → Kind → Condition → Choice → Type 0
 IsChoiceFor q Normal c choice = IsChoiceBy q.target q.told c choice
 IsChoiceFor q Development c choice = IsChoiceBy q.target q.told c choice
@@ -56,7 +56,7 @@ IsChoiceFor q Build c choice = IsHostChoice q.host c choice
 
 -- ---- the rows
 
--- a dependency, and what is chosen of it
+-- a dependency, and its choice
 abbrev pub ChosenRow : Type 0
 ChosenRow = DependencyRow × Choice
 
@@ -72,7 +72,7 @@ pub record AreChosen (q : Question) (c : Condition) (ds : List DependencyRow) (r
   pub dependencies : map (λ r. r.0) rows ≡ ds
   pub choices : All (λ r. IsChoiceFor q r.0.kind c r.1) rows
 
--- a key that spells a condition, and at which a table stands
+-- a key that is a condition, and whose value is a table
 pub record IsReadKey (e : Entry) : Type 0 where
   pub condition : Condition
   pub spelled : IsConditionText e.0 condition
@@ -90,19 +90,20 @@ pub data AreRowsOfKeys (q : Question) : List Entry → List ChosenRow → Type 0
   of_more : (es : List Entry) (e : Entry) (before rows : List ChosenRow) → AreRowsOfKeys q es before
       → AreRowsOfKey q e rows → AreRowsOfKeys q (es ++ e ∷ []) (before ++ rows)
 
--- by what stands at `target`: nothing has no rows, a table those of its keys, and anything else is refused
+-- by the value of `target`: without one there are no rows, for a table they are those of its keys, and anything else is
+-- rejected
 abbrev pub AreRowsUnder : Question → Option (Option (List Entry)) → List ChosenRow → Type 0
 AreRowsUnder q None rows = rows ≡ []
 AreRowsUnder q (Some None) rows = ⊥
 AreRowsUnder q (Some (Some es)) rows = AreRowsOfKeys q es rows
 
--- the rows of a manifest: those of the dependencies outside `target`, and behind them those of its keys
+-- the rows of a manifest: those of the dependencies outside `target`, followed by those of its keys
 pub record AreRows (q : Question) (manifest : Members) (rows : List ChosenRow) : Type 0 where
   pub under : List ChosenRow
   pub are : rows ≡ map selected (rows_of None manifest) ++ under
   pub are_under : AreRowsUnder q (target_of manifest) under
 
--- behind the old rows stand such ones, and nothing else
+-- such rows follow the old ones, and nothing else
 pub record Adds (P : List ChosenRow → Type 0) (old new : List Row) : Type 0 where
   pub added : List ChosenRow
   pub are : map chosen_of new ≡ map chosen_of old ++ added
@@ -110,27 +111,27 @@ pub record Adds (P : List ChosenRow → Type 0) (old new : List Row) : Type 0 wh
 
 -- ---- why there are no rows
 
--- the key is this one, which spells a condition, and what stands at it is no table
+-- the key is this one, which is a condition, and its value is not a table
 pub record IsNoTableKey (key : List ℕ) (e : Entry) : Type 0 where
   pub this : e.0 ≡ key
   pub condition : Condition
   pub spelled : IsConditionText key condition
   pub no_table : as_table e.1 ≡ None
 
--- the key is this one, which spells no condition, for this fault at its place
+-- the key is this one, which is not a condition, with this error at its position
 pub record IsRefusedKey (key : List ℕ) (error : ParseError) (e : Entry) : Type 0 where
   pub this : e.0 ≡ key
   pub nothing : (c : Condition) → IsConditionText key c → ⊥
   pub fault : IsRefusedConditionAt key (orig_of error) (fault_in error) (span_in error)
 
--- what an error says of the key that it is on
+-- what an error says of the key that it is about
 abbrev pub IsErrorOn : Entry → SelectError → Type 0
 IsErrorOn e (Memory error) = Unit {0}
 IsErrorOn e TargetIsNoTable = ⊥
 IsErrorOn e (KeyIsNoTable key) = IsNoTableKey key.now e
 IsErrorOn e (Refused key error) = IsRefusedKey key.now error e
 
--- a table stands at `target`; of the first of its keys that is not read this holds
+-- `target` is a table; P holds for the first of its keys that is not accepted
 pub record OfFirstUnread (target : Option (Option (List Entry))) (P : Entry → Type 0) : Type 0 where
   pub before : List Entry
   pub key : Entry
@@ -139,7 +140,7 @@ pub record OfFirstUnread (target : Option (Option (List Entry))) (P : Entry → 
   pub read : All IsReadKey before
   pub holds : P key
 
--- what an error says of what stands at `target`; of memory nothing is said
+-- what an error says of the value of `target`; nothing is said of memory
 abbrev pub IsErrorUnder : Option (Option (List Entry)) → SelectError → Type 0
 IsErrorUnder target (Memory error) = Unit {0}
 IsErrorUnder target TargetIsNoTable = target ≡ Some None

@@ -1,4 +1,4 @@
--- What a token does where it stands in the text of a declaration.
+-- The effect of a token at its position in the text of a declaration.
 use Rattle.std.specs.Prelude.{◌≡◌, ℕ, Bool, true, false, List, [], ◌∷◌, ◌++◌, cond, codes, bytes_eq, Option, Some, None}
 use Rattle.std.specs.Borrow.{Bor}
 use Rattle.cargo_platform.specs.Tokens.{Lexeme, LeftParen, RightParen, Ident}
@@ -11,7 +11,7 @@ use Rattle.manifests.specs.declared.declared.Step.TheVariants as step
 use Rattle.manifests.specs.declared.declared.Turn.{Turn}
 use Rattle.manifests.specs.declared.declared.Turn.TheVariants as turn
 
--- what the values are at a stage, by what is left
+-- the values at a stage, given the remaining tokens
 abbrev pub values_at_stage : Stage → List (List ℕ) → (any none : Bool) → List Lexeme → Option DeclaredValues
 values_at_stage stage.Value texts any none ls = values_from true texts any none ls
 values_at_stage (stage.Parens word) texts any none ls = values_from true texts any none (Ident false word.now ∷ ls)
@@ -19,7 +19,7 @@ values_at_stage (stage.Paren word) texts any none ls =
     values_from true texts any none (Ident false word.now ∷ LeftParen ∷ ls)
 values_at_stage stage.Behind texts any none ls = values_from false texts any none ls
 
--- the same after a token that does this
+-- the values after a token with this effect
 abbrev pub values_after : Step → List (List ℕ) → (any none : Bool) → List Lexeme → Option DeclaredValues
 values_after (step.To next) texts any none ls = values_at_stage next texts any none ls
 values_after (step.Text text) texts any none ls = values_from false (texts ++ text.now ∷ []) any none ls
@@ -34,7 +34,7 @@ Steps at l does =
     (texts : List (List ℕ)) (any none : Bool) (ls : List Lexeme)
     → values_at_stage at texts any none (l ∷ ls) ≡ values_after does texts any none ls
 
--- a word, and what is left
+-- a word, and the remaining tokens
 abbrev pub behind : Option (Bool × Bor (List ℕ)) → List Lexeme → List Lexeme
 behind None ls = ls
 behind (Some w) ls = Ident w.0 w.1.now ∷ ls

@@ -13,16 +13,16 @@ use Rattle.manifests.specs.declared.tables.Targets.TheVariants as targets
 
 -- ---- the keys
 
--- the members of a table, in order, each with what stands at it
+-- the members of a table, in order, each with its value
 abbrev pub entries_of : Members → List Entry
 entries_of no_members = []
 entries_of (member key d ms) = (key, d) ∷ entries_of ms
 
--- what stands at `target`: nothing; no table; or a table, by its entries
+-- the value of `target`: none, not a table, or a table, by its entries
 abbrev pub target_of : Members → Option (Option (List Entry))
 target_of ms = option_map (λ d. option_map entries_of (as_table d)) (get_member (codes "target") ms)
 
--- the same, as it is told
+-- the same, as the call returns it
 abbrev pub target_told : Targets → Option (Option (List Entry))
 target_told targets.Absent = None
 target_told targets.NoTable = Some None
@@ -48,7 +48,7 @@ abbrev pub bool_in : Option Data → Option Bool
 bool_in (Some d) = as_bool d
 bool_in None = None
 
--- whether the value of a dependency says `optional = true`
+-- true if the value of a dependency has `optional = true`
 abbrev pub is_optional : Data → Bool
 is_optional d = is_true (bool_in (get (codes "optional") d))
 
@@ -62,7 +62,7 @@ pub record DependencyRow : Type 0 where
 abbrev pub row_of : Dependency → DependencyRow
 row_of d = record { name = d.name.now; kind = d.kind; key = option_copied d.key; optional = d.optional }
 
--- what stands at today's name of a kind, and where nothing does, what stands at its old name
+-- the value of the current name of a kind or, without one, the value of its former name
 abbrev pub table_of : Kind → Members → Option Data
 table_of kind ms = option_or (get_member (table_name kind) ms) (get_member (old_table_name kind) ms)
 
@@ -72,7 +72,7 @@ member_rows key kind no_members = []
 member_rows key kind (member name d ms) =
     record { name = name; kind = kind; key = key; optional = is_optional d } ∷ member_rows key kind ms
 
--- the dependencies of a kind: the members of its table, and none where no table stands there
+-- the dependencies of a kind: the members of its table, and none if the value is not a table
 abbrev pub kind_rows : Option (List ℕ) → Members → Kind → List DependencyRow
 kind_rows key ms kind = member_rows key kind (unwrap_or (option_and_then as_table (table_of kind ms)) no_members)
 

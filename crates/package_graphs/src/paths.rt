@@ -24,7 +24,7 @@ pub struct Step {
 /// A package by its index, and the side for which it is built.
 type Place = (usize, Side);
 
-/// The value that stands for no distance.
+/// The distance of a place that was not reached.
 const FAR: usize = usize::MAX;
 
 /// The distance of each package from the roots, on both sides, and the step by which it was reached first.
@@ -271,7 +271,7 @@ impl<'a> Search<'a> {
         steps <= distance_at(distances, (to, Side::Host))
     }
 
-    /// Returns whether the place has no distance if it is a root, and each place that its dependencies lead to is at
+    /// Returns whether the place has the distance 0 if it is a root, and each place that its dependencies lead to is at
     /// most one step farther.
     fn are_near(&self, distances: &[usize], place: Place) -> bool
         requires { IsQuestion self.now.question }

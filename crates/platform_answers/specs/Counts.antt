@@ -1,18 +1,18 @@
--- How counts change, and what they are before the first call.
+-- The changes of counts, and the counts before the first call.
 use Rattle.std.specs.Prelude.{ℕ, ◌+◌, ◌-◌, ◌^◌, min, ◌==◌, if◌then◌else◌}
 use Rattle.platform_answers.specs.declared.counted.ReadCounts.{ReadCounts}
 use Rattle.platform_answers.specs.declared.counted.WriteCounts.{WriteCounts}
 use Rattle.platform_answers.specs.declared.counted.Input.{Input}
 use Rattle.platform_answers.specs.declared.counted.Output.{Output}
 
--- the reader that is wrapped, and what its reads came to
+-- the wrapped reader, and the counts of its reads
 abbrev pub reader_of : {R : Type 0} → Input R → R
 reader_of input = input.reader
 
 abbrev pub read_counts : {R : Type 0} → Input R → ReadCounts
 read_counts input = input.counts
 
--- the writer that is wrapped, and what its writes and flushes came to
+-- the wrapped writer, and the counts of its writes and flushes
 abbrev pub writer_of : {W : Type 0} → Output W → W
 writer_of output = output.writer
 
@@ -31,15 +31,15 @@ up count = up_by 1 count
 abbrev pub up_at_zero : ℕ → ℕ → ℕ
 up_at_zero n count = if n == 0 then up count else count
 
--- no read was asked for
+-- no read was requested
 abbrev pub no_reads : ReadCounts
 no_reads = record { reads = 0; room = 0; interrupted_reads = 0; failed_reads = 0; bytes = 0; ends = 0 }
 
--- after a read with room for so many bytes, however it went
+-- after a read with this room, whatever its result
 abbrev pub after_asking : ℕ → ReadCounts → ReadCounts
 after_asking room c = record c { reads = up c.reads; room = up_by room c.room }
 
--- after a read that brought n bytes, at the end none
+-- after a read that returned n bytes, which is 0 at the end
 abbrev pub after_read : ℕ → ℕ → ReadCounts → ReadCounts
 after_read room n c = record (after_asking room c) { bytes = up_by n c.bytes; ends = up_at_zero n c.ends }
 
@@ -51,7 +51,7 @@ after_interrupted_read room c = record (after_asking room c) { interrupted_reads
 abbrev pub after_failed_read : ℕ → ReadCounts → ReadCounts
 after_failed_read room c = record (after_asking room c) { failed_reads = up c.failed_reads }
 
--- neither a write nor a flush was asked for
+-- neither a write nor a flush was requested
 abbrev pub no_writes : WriteCounts
 no_writes = record {
   writes = 0;
@@ -64,8 +64,8 @@ no_writes = record {
   flushed_writes = 0;
 }
 
--- after a write that took n bytes of a piece of so many. A write that takes none is an empty one, where the piece has
--- some.
+-- after a write that took n bytes of a piece of `size`. A write that takes none of a piece that is not empty is an
+-- empty one.
 abbrev pub after_write : ℕ → ℕ → WriteCounts → WriteCounts
 after_write size n c = record c {
   writes = up c.writes;

@@ -1,4 +1,4 @@
--- Laws over the definitions.
+-- Laws about the definitions.
 use Rattle.std.specs.Prelude.{ℕ, ◌≡◌, ◌≤◌, ◌<◌, ◌+◌, ◌-◌, List}
 use Rattle.cargo_platform.specs.Snippets.{first_shown, end_shown}
 use Rattle.platform_answers.specs.declared.Outcome.{Outcome}
@@ -13,7 +13,8 @@ abbrev pub HasOneAnswer : List ℕ → Type 0
 HasOneAnswer bs = (output other : List ℕ) (outcome another : Outcome) → IsAnswer bs output outcome
     → IsAnswer bs other another → (output ≡ other) × (outcome ≡ another)
 
--- ---- what is shown of a text of so many characters, where so many stand before the span and so many in it
+-- ---- the part of a text of `size` characters that is shown, with `before` characters before the span and `inside` in
+-- it
 
 abbrev pub ShowsWhole : ℕ → ℕ → ℕ → Type 0
 ShowsWhole size before inside =

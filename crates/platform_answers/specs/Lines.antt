@@ -2,6 +2,6 @@
 use Rattle.std.specs.Prelude.{ℕ, List, drop}
 pub use Rattle.cargo_platform.specs.Lines.{line, lines_of, line_at}
 
--- each line is a fact from the third one on
+-- the lines of facts: those from the third one on
 abbrev pub fact_lines : List (List ℕ) → List (List ℕ)
 fact_lines ls = drop 2 ls

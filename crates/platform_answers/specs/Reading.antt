@@ -1,4 +1,4 @@
--- What the reading of the whole input answers.
+-- The results of reading the whole input.
 use Rattle.std.specs.Prelude.{ℕ, ◌≡◌, ◌≤◌, ◌<◌, ◌*◌, ◌⊎◌, Option, List, length}
 use Rattle.std.specs.Io.KnownBytes.{Consumes, IsAtEnd}
 use Rattle.platform_answers.specs.declared.counted.ReadCounts.{ReadCounts}
@@ -9,13 +9,13 @@ use Rattle.platform_answers.specs.declared.reading.Gathered.TheVariants.{Whole, 
 abbrev pub IsTooLong : List ℕ → Type 0
 IsTooLong bs = 1_048_576 < length bs
 
--- the whole input is the bytes that were read, and one that is too long is known by one byte too many
+-- the whole input is the bytes that were read, and an input that is too long is known by one byte too many
 abbrev pub IsGathered : Gathered → List ℕ → Type 0
 IsGathered (Whole v) bs = (v.items ≡ bs) × (length bs ≤ 1_048_576)
 IsGathered TooLong bs = IsTooLong bs
 
--- these bytes were read and counted, no read failed otherwise than by an interruption, and one read met the end, where
--- the reader stood; where they are too many, no read met an end
+-- these bytes were read and counted, no read failed other than by an interruption, and one read met the end, where the
+-- reader was; if there are too many, no read met an end
 pub record IsInput (old new : Option (List ℕ)) (counts : ReadCounts) (bs : List ℕ) : Type 0 where
   pub given : Consumes old new bs
   pub counted : counts.bytes ≡ length bs
@@ -23,14 +23,14 @@ pub record IsInput (old new : Option (List ℕ)) (counts : ReadCounts) (bs : Lis
   pub ended : length bs ≤ 1_048_576 → (counts.ends ≡ 1) × IsAtEnd new
   pub unended : IsTooLong bs → counts.ends ≡ 0
 
--- the reads brought neither the end nor a byte too many, and one of them failed otherwise than by an interruption, or
--- none did and all were made
+-- the reads returned neither the end nor a byte too many, and one of them failed other than by an interruption, or none
+-- did and the maximum number was made
 abbrev pub HasReadFault : ReadCounts → Type 0
 HasReadFault c =
     (c.ends ≡ 0) × (c.bytes ≤ 1_048_576)
     × ((c.failed_reads ≡ 1) ⊎ ((c.failed_reads ≡ 0) × (c.reads ≡ 1_048_578)))
 
--- no read failed, and the end was met or some byte came
+-- no read failed, and the end was met or some byte was read
 abbrev pub MayWantMemory : ReadCounts → Type 0
 MayWantMemory c = (c.failed_reads ≡ 0) × ((c.ends ≡ 1) ⊎ (0 < c.bytes))
 

@@ -1,4 +1,4 @@
--- What a whole run wrote.
+-- The output of a whole run.
 use Rattle.std.specs.Prelude.{ℕ, ◌≡◌, Option, List, length}
 use Rattle.std.specs.Io.KnownBytes.{Appends}
 use Rattle.platform_answers.specs.declared.Outcome.{Outcome}
@@ -6,7 +6,7 @@ use Rattle.platform_answers.specs.declared.counted.WriteCounts.{WriteCounts}
 use Rattle.platform_answers.specs.Answering.{IsAnswer}
 use Rattle.platform_answers.specs.Writing.{WritesBeginning, failures, IsFlushed, HasWriteFault, IsWithinWrites}
 
--- the writer took the whole output of these bytes, which goes with the outcome, no call failed, and one flush came
+-- the writer took the whole output for these bytes, which belongs to the outcome, no call failed, and one flush came
 -- after all writes
 pub record Answers (old new : Option (List ℕ)) (counts : WriteCounts) (outcome : Outcome) (bs : List ℕ) : Type 0 where
   pub output : List ℕ
@@ -16,7 +16,7 @@ pub record Answers (old new : Option (List ℕ)) (counts : WriteCounts) (outcome
   pub flushed : IsFlushed counts
   pub within : IsWithinWrites counts (length output)
 
--- the writer took a beginning of the output of these bytes, and a count tells why no more
+-- the writer took a beginning of the output for these bytes, and a count has the reason why no more
 pub record BreaksOff (old new : Option (List ℕ)) (counts : WriteCounts) (bs : List ℕ) : Type 0 where
   pub output : List ℕ
   pub outcome : Outcome

@@ -1,9 +1,9 @@
--- What the writing of the whole output answers.
+-- The results of writing the whole output.
 use Rattle.std.specs.Prelude.{ℕ, ◌≡◌, ◌≤◌, ◌<◌, ◌+◌, ◌⊎◌, Option, List, length, take}
 use Rattle.std.specs.Io.KnownBytes.{Appends}
 use Rattle.platform_answers.specs.declared.counted.WriteCounts.{WriteCounts}
 
--- the known bytes grew by a beginning of the text
+-- a beginning of the text was appended to the known bytes
 abbrev pub WritesBeginning : Option (List ℕ) → Option (List ℕ) → List ℕ → Type 0
 WritesBeginning old new text = (n : ℕ) × (n ≤ length text) × Appends old new (take n text)
 
@@ -11,12 +11,12 @@ WritesBeginning old new text = (n : ℕ) × (n ≤ length text) × Appends old n
 abbrev pub IsWithinWrites : WriteCounts → ℕ → Type 0
 IsWithinWrites c m = (c.writes ≤ m + 1) × (c.flushes ≤ 1)
 
--- the writes that failed otherwise than by an interruption or took nothing, and the flushes that failed, the
--- interrupted ones too
+-- the writes that failed other than by an interruption or took nothing, and the flushes that failed, including the
+-- interrupted ones
 abbrev pub failures : WriteCounts → ℕ
 failures c = c.failed_writes + c.empty_writes + c.interrupted_flushes + c.failed_flushes
 
--- one flush was asked for, after all writes
+-- one flush was requested, after all writes
 abbrev pub IsFlushed : WriteCounts → Type 0
 IsFlushed c = (c.flushes ≡ 1) × (c.flushed_writes ≡ c.writes)
 
