@@ -11,7 +11,8 @@ import shutil
 import sys
 import textwrap
 
-from c_libraries import COMPILER
+from c_header import FOR_C, exports
+from c_libraries import COMPILER, shared_names
 from checks import count, ended, write_files
 from crates import ROOT
 
@@ -63,6 +64,24 @@ def environment(home):
     return {**given, "HOME": str(home), "CARGO_NET_OFFLINE": "true", "CARGO_TARGET_DIR": str(home / "target")}
 
 
+# A library of another interface. Of its calls only the one that says so may be made.
+OTHER = """#include <stdint.h>
+uint32_t nevgrasi_abi(void) { return 99; }
+"""
+SAYS_OTHER = "has the interface 99, and this %s is written for 2"
+
+
+def make_other(folder):
+    """Builds a shared library with another interface. Returns its path."""
+    calls = [name for _, name, _ in exports(FOR_C) if name != "nevgrasi_abi"]
+    source = OTHER + "".join(f"void {name}(void) {{ __builtin_trap(); }}\n" for name in calls)
+    write_files(folder, {"other.c": source})
+    made = folder / shared_names()[1]
+    found = ended([COMPILER, "-shared", "-fPIC", folder / "other.c", "-o", made])
+    count(found.status == 0, f"a library of another interface: {found.errors}")
+    return made
+
+
 class Session:
     """A user with a new home folder, in which the examples and the crate are, and with the library built here."""
 
@@ -102,6 +121,18 @@ class Session:
         count(found.output.endswith(told) and told, f"{what}: prints {found.output}{found.errors[-2000:]}")
 
 
+    def try_other_interface(self):
+        """A library of another interface is an error in Python, and in the program in Rust that was built last."""
+        other = make_other(self.home / "other")
+        found = self.run(f"NEVGRASI_LIBRARY={other} python3 -c 'import nevgrasi'")
+        told = SAYS_OTHER % "package"
+        count(found.status == 1 and f"ImportError: {other} {told}\n" in found.errors, f"in Python: {found.errors}")
+        if shutil.which("cargo"):
+            found = self.run(f"LD_LIBRARY_PATH={other.parent} target/debug/dependent")
+            told = f'kind: OtherInterface, message: "libnevgrasi.so {SAYS_OTHER % "crate"}"'
+            count(found.status == 1 and told in found.errors, f"in Rust: {found.status}, {found.errors}")
+
+
 def try_at_home(home, built):
     """The commands as they are on the page."""
     session = Session(home, built)
@@ -121,6 +152,7 @@ def try_at_home(home, built):
     files = {"Cargo.toml": DEPENDENT, "build.rs": blocks("rust")[0],
              "src/main.rs": (ROOT / "rust" / "nevgrasi" / "examples" / "example.rs").read_text()}
     session.try_built("dependent", "cargo", files, f"{exports}NEVGRASI_LINK=dylib cargo run -q")
+    session.try_other_interface()
     del files["build.rs"]
     session.try_built("linked", "cargo", files, "cargo run -q")
 

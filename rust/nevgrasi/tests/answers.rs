@@ -1,41 +1,96 @@
 //! Each call once, with answers that the library's rows state too.
 
-use nevgrasi::{graph, Error, Fault, Key};
+use nevgrasi::{facts_of, graph, known_targets, Error, ErrorKind, Key, Kind, Package, Targets};
+use std::collections::{BTreeSet, HashSet};
 
 fn key(text: &str) -> Key {
-    Key::new(text).expect("a key")
+    text.parse().expect("a key")
+}
+
+/// The error of a text that is no key: its kind, its message, its span and its snippet.
+fn error_of(text: &str) -> (ErrorKind, String, Option<std::ops::Range<usize>>, Option<String>) {
+    let error = Key::new(text).expect_err("an error");
+    (error.kind(), error.to_string(), error.span(), error.snippet().map(str::to_string))
 }
 
 #[test]
 fn a_key_prints_canonically() {
     let read = key(r#"cfg( all(unix,not(target_os="macos"),) )"#);
     assert_eq!(read.canonical(), r#"cfg(all(unix, not(target_os = "macos")))"#);
+    assert_eq!(read.text(), r#"cfg( all(unix,not(target_os="macos"),) )"#);
+    assert_eq!(read.to_string(), read.canonical());
+    assert_eq!(format!("[{:>12}]", key("cfg( a )")), "[      cfg(a)]");
     assert_eq!(key("x86_64-apple-darwin").canonical(), "x86_64-apple-darwin");
 }
 
 #[test]
-fn a_refused_key_has_a_span_and_a_snippet() {
-    let fault = Fault {
-        message: "failed to parse `all(a b)` as a cfg expression: expected `)`, found an identifier".to_string(),
-        span: 10..11,
-        snippet: Some("cfg(all(a b))\n          ^ expected `)`, found an identifier".to_string()),
-    };
-    assert_eq!(Key::new("cfg(all(a b))"), Err(Error::Refused(fault)));
+fn keys_are_compared_by_their_canonical_forms() {
+    let (one, other) = (key("cfg( all(a,b) )"), key("cfg(all(a, b))"));
+    assert_eq!(one, other);
+    assert_eq!(HashSet::from([one.clone(), other.clone(), key("cfg(a)")]).len(), 2);
+    assert_ne!(key("cfg(a)"), key("a"));
+    assert_ne!(key("cfg(a)"), key("cfg(r#a)"));
+    let sorted = BTreeSet::from([key("x86_64"), key("cfg(b)"), key("cfg( a )"), key("cfg(any())")]);
+    let printed: Vec<String> = sorted.iter().map(Key::to_string).collect();
+    assert_eq!(printed, ["cfg(a)", "cfg(any())", "cfg(b)", "x86_64"]);
 }
 
 #[test]
-fn too_many_parentheses_are_refused() {
+fn a_rejected_key_has_a_span_and_a_snippet() {
+    let message = "failed to parse `all(a b)` as a cfg expression: expected `)`, found an identifier";
+    let snippet = "cfg(all(a b))\n          ^ expected `)`, found an identifier";
+    let wanted = (ErrorKind::InvalidKey, message.to_string(), Some(10..11), Some(snippet.to_string()));
+    assert_eq!(error_of("cfg(all(a b))"), wanted);
+    assert_eq!("cfg(all(a b))".parse::<Key>(), Key::new("cfg(all(a b))"));
+}
+
+#[test]
+fn errors_are_errors_that_other_threads_take() {
+    fn is_error<E: std::error::Error + Send + Sync + 'static>(_: &E) {}
+    is_error(&Key::new("cfg(").expect_err("an error"));
+    let boxed: Box<dyn std::error::Error> = Box::new(Key::new("a b").expect_err("an error"));
+    assert_eq!(
+        boxed.to_string(),
+        "failed to parse `a b` as a cfg expression: invalid target specifier: unexpected character   in target name"
+    );
+    assert_eq!(boxed.downcast_ref::<Error>().and_then(Error::span), Some(1..2));
+}
+
+#[test]
+fn too_many_parentheses_are_rejected() {
     let deep = |levels| format!("cfg({}a{})", "not(".repeat(levels), ")".repeat(levels));
     assert!(Key::new(&deep(9_999)).is_ok());
-    assert_eq!(Key::new(&deep(10_000)), Err(Error::TooDeep));
+    let wanted = (ErrorKind::TooDeep, "too many parentheses are open".to_string(), None, None);
+    assert_eq!(error_of(&deep(10_000)), wanted);
 }
 
 #[test]
 fn targets_are_those_that_rustc_knows() {
     let held = key(r#"cfg(all(target_os = "ios", target_env = "macabi"))"#).targets();
     assert_eq!(held.expect("targets"), ["aarch64-apple-ios-macabi", "x86_64-apple-ios-macabi"]);
-    assert_eq!(key("cfg(all())").targets().expect("targets").len(), 320);
+    let known = known_targets().expect("targets");
+    assert_eq!(known.len(), 320);
+    assert_eq!(known.first().map(String::as_str), Some("aarch64-apple-darwin"));
+    assert_eq!(key("cfg(all())").targets().expect("targets"), known);
     assert_eq!(key("cfg(any())").targets().expect("targets").len(), 0);
+}
+
+#[test]
+fn facts_are_the_lines_of_rustc() {
+    // What `rustc --print cfg --target avr-none` prints.
+    let lines = [
+        "debug_assertions",
+        r#"panic="unwind""#,
+        r#"target_abi="""#,
+        r#"target_arch="avr""#,
+        r#"target_endian="little""#,
+        r#"target_env="""#,
+        r#"target_os="none""#,
+        r#"target_pointer_width="16""#,
+        r#"target_vendor="unknown""#,
+    ];
+    assert_eq!(facts_of("avr-none").expect("facts"), lines);
+    assert_eq!(facts_of("avr").expect_err("an error").kind(), ErrorKind::UnknownTarget);
 }
 
 #[test]
@@ -58,29 +113,36 @@ fn what_can_hold_has_an_example() {
     assert_eq!(broken.facts, ["a = \"two\nlines\""]);
 }
 
+/// What a package is.
+fn parts(it: &Package) -> (&str, &str, Option<&str>, usize, &Targets, &[Kind]) {
+    (&it.package, &it.id, it.license.as_deref(), it.targets, &it.at, &it.kinds)
+}
+
 #[test]
 fn packages_of_a_graph_have_their_targets() {
     let document = r#"{"version": 1, "workspace_members": ["a"],
         "packages": [{"id": "a", "name": "a", "version": "1.0.0", "license": "MIT", "targets": []},
-                     {"id": "b", "name": "b", "version": "0.1.0", "targets": []}],
-        "resolve": {"nodes": [{"id": "b", "deps": []}, {"id": "a", "deps": [
-            {"pkg": "b", "dep_kinds": [{"kind": null, "target": "x86_64-apple-darwin"}]}]}]}}"#;
-    let lines = concat!(
-        r#"{"package": "a 1.0.0", "id": "a", "license": "MIT", "targets": 320, "at": "all", "kinds": []}"#,
-        "\n",
-        r#"{"package": "b 0.1.0", "id": "b", "license": null, "targets": 1, "at": ["x86_64-apple-darwin"], "#,
-        r#""kinds": ["normal"]}"#,
-        "\n",
-    );
-    assert_eq!(graph(document, None).as_deref(), Ok(lines));
-    assert_eq!(graph(document, Some("x86_64-apple-darwin")).as_deref(), Ok(lines));
-    assert_eq!(graph(document, Some("x")), Err(Error::UnknownTarget));
-    let reason = "packages: a list is wanted".to_string();
-    let fault = Fault { message: reason, span: 0..0, snippet: None };
-    assert_eq!(graph(r#"{"version": 1}"#, None), Err(Error::Refused(fault)));
+                     {"id": "\"b\"", "name": "b", "version": "0.1.0", "targets": []}],
+        "resolve": {"nodes": [{"id": "\"b\"", "deps": []}, {"id": "a", "deps": [
+            {"pkg": "\"b\"", "dep_kinds": [{"kind": null, "target": "x86_64-apple-darwin"},
+                                           {"kind": "dev", "target": "avr-none"}]}]}]}}"#;
+    let named = Targets::Named(vec!["avr-none".to_string(), "x86_64-apple-darwin".to_string()]);
+    for host in [None, Some("x86_64-apple-darwin")] {
+        let packages = graph(document, host).expect("packages");
+        let found: Vec<_> = packages.iter().map(parts).collect();
+        let wanted = [
+            ("a 1.0.0", "a", Some("MIT"), 320, &Targets::All, &[][..]),
+            ("b 0.1.0", "\"b\"", None, 2, &named, &[Kind::Normal, Kind::Dev][..]),
+        ];
+        assert_eq!(found, wanted);
+    }
+    assert_eq!(graph(document, Some("x")).expect_err("an error").kind(), ErrorKind::UnknownTarget);
+    let error = graph(r#"{"version": 1}"#, None).expect_err("an error");
+    assert_eq!((error.kind(), error.to_string().as_str()), (ErrorKind::InvalidDocument, "packages: a list is wanted"));
+    assert_eq!((error.span(), error.snippet()), (None, None));
 }
 
 #[test]
 fn the_library_has_the_version_of_this_crate() {
-    assert_eq!(nevgrasi::version(), env!("CARGO_PKG_VERSION"));
+    assert_eq!(nevgrasi::version().as_deref(), Ok(env!("CARGO_PKG_VERSION")));
 }
