@@ -1,13 +1,10 @@
 //! Which manifests are meant: by their names, or by the folder at hand.
 
-use crate::dependencies::{PathDependency, path_dependencies};
-use crate::folders::candidates;
 use crate::manifests::{
     MANIFEST, folder_of, from_above, inside, is_file, is_folder, manifest_inside, package_name,
-    table_at, table_in, table_with_word, text_in, texts_in, unless_refused,
+    shorter, table_at, table_in, table_with_word, text_in, unless_refused,
 };
-use crate::member_rules::Rules;
-use crate::patterns::{Fault, Pattern, PatternError, names_of, plain_components};
+use crate::members::members_of;
 use cargo_platform::shown_text;
 use input_limits::{INPUT, Unusable};
 use std::alloc::{AllocError, Global};
@@ -42,17 +39,11 @@ pub struct Found {
 }
 
 impl Found {
-    /// Adds what can't be found or read.
-    fn push(&mut self, file: Option<String>, reason: String) -> Result<(), AllocError> {
-        self.unusable.push(Unusable { file, reason })?;
+    /// Adds what can't be found.
+    fn push(&mut self, reason: String) -> Result<(), AllocError> {
+        self.unusable.push(Unusable { file: None, reason })?;
         Ok(())
     }
-}
-
-/// Adds what can't be found or read of a file.
-fn tell(found: &mut Found, alloc: Global, file: &str, reason: &str) -> Result<(), AllocError> {
-    let file = shown_text(alloc, file)?;
-    found.push(Some(file), shown_text(alloc, reason)?)
 }
 
 /// How many components the path of the folder at hand has; none where that is not known.
@@ -153,243 +144,9 @@ pub fn root_of<R: Files + Env + AllocGlobal>(
     }
 }
 
-/// The path without the components that lead nowhere.
-pub fn shorter(alloc: Global, path: &str) -> Result<String, AllocError> {
-    let mut text = String::new(alloc);
-    for component in &plain_components(alloc, path)? {
-        if !text.is_empty() || path.starts_with('/') {
-            text.push('/')?;
-        }
-        text.push_str(component)?;
-    }
-    Ok(text)
-}
-
-/// What is said of a text of `members` that is no glob.
-fn fault_text(fault: Fault) -> &'static str {
-    match fault {
-        Fault::Stars => "`**` has to be a whole component",
-        Fault::Bracket => "a `[` has no `]`",
-    }
-}
-
-/// The globs that texts of `members` are. A text that is no glob is told.
-fn globs_of(
-    alloc: Global,
-    file: &str,
-    texts: &[&str],
-    found: &mut Found,
-) -> Result<Vec<Pattern>, AllocError> {
-    let mut globs = Vec::new(alloc);
-    for text in texts {
-        match Pattern::from_str(alloc, text) {
-            Ok(pattern) => globs.push(pattern)?,
-            Err(PatternError::Memory(refused)) => return Err(refused),
-            Err(PatternError::Fault(fault)) => {
-                let fault = fault_text(fault);
-                let reason = format!(in alloc; "workspace.members: {text}: {fault}")?;
-                tell(found, alloc, file, reason.as_str())?;
-            }
-        }
-    }
-    Ok(globs)
-}
-
-/// For each path what is in or below it.
-fn all_below(alloc: Global, paths: &[&str]) -> Result<Vec<Pattern>, AllocError> {
-    let mut patterns = Vec::new(alloc);
-    for path in paths {
-        patterns.push(Pattern::below(alloc, path)?)?;
-    }
-    Ok(patterns)
-}
-
-/// The rules of a workspace with these texts of `members`. A text that is no glob is told.
-fn rules_of(
-    alloc: Global,
-    file: &str,
-    workspace: &Table,
-    texts: &[&str],
-    found: &mut Found,
-) -> Result<Rules, AllocError> {
-    let excluded = texts_in(alloc, workspace, "exclude")?;
-    Ok(Rules {
-        members: globs_of(alloc, file, texts, found)?,
-        excluded: all_below(alloc, &excluded)?,
-        named: all_below(alloc, texts)?,
-    })
-}
-
-/// Whether the members have the path.
-fn has(members: &[String], path: &str) -> bool {
-    members.iter().any(|member| member.as_str() == path)
-}
-
-/// Adds a folder that a glob takes, if the rules do and it is not there yet.
-fn add_taken(
-    alloc: Global,
-    path: &str,
-    rules: &Rules,
-    members: &mut Vec<String>,
-) -> Result<(), AllocError> {
-    let names = names_of(alloc, path)?;
-    if rules.have(alloc, &names)? && !has(members, path) {
-        members.push(String::from_str(alloc, path)?)?;
-    }
-    Ok(())
-}
-
-/// Adds the folders that a glob of a workspace takes. A glob that takes none is told.
-fn add_by_glob<R: Files + AllocGlobal + Clone + Drop>(
-    rt: &R,
-    file: &str,
-    text: &str,
-    rules: &Rules,
-    members: &mut Vec<String>,
-    found: &mut Found,
-) -> Result<(), AllocError> {
-    let alloc = rt.alloc();
-    let pattern = match Pattern::from_str(alloc, text) {
-        Ok(pattern) => pattern,
-        Err(PatternError::Fault(_)) => return Ok(()),
-        Err(PatternError::Memory(refused)) => return Err(refused),
-    };
-    let folders = candidates(rt, folder_of(file), text, &pattern)?;
-    if folders.is_empty() {
-        let reason = format!(in alloc; "workspace.members: no folder matches {text}")?;
-        return tell(found, alloc, file, reason.as_str());
-    }
-    for path in &folders {
-        add_taken(alloc, path.as_str(), rules, members)?;
-    }
-    Ok(())
-}
-
-/// The folders that the globs of a workspace take, in the order of the globs. A glob that takes none is told.
-fn members_by_globs<R: Files + Env + AllocGlobal + Clone + Drop>(
-    rt: &R,
-    file: &str,
-    texts: &[&str],
-    rules: &Rules,
-    found: &mut Found,
-) -> Result<Vec<String>, AllocError> {
-    let mut members = Vec::new(rt.alloc());
-    for text in texts {
-        add_by_glob(rt, file, text, rules, &mut members, found)?;
-    }
-    Ok(members)
-}
-
-/// The path from the root on to which a path dependency of the package at a path leads.
-fn path_from_root(
-    alloc: Global,
-    path: &str,
-    dependency: &PathDependency<'_>,
-) -> Result<String, AllocError> {
-    if dependency.is_of_root {
-        return shorter(alloc, dependency.path);
-    }
-    let path = inside(alloc, path, dependency.path)?;
-    shorter(alloc, path.as_str())
-}
-
-/// Adds a folder to which a path dependency leads, if it is in the workspace and not there yet.
-fn add_folder(
-    alloc: Global,
-    path: &str,
-    rules: &Rules,
-    members: &mut Vec<String>,
-) -> Result<(), AllocError> {
-    let names = names_of(alloc, path)?;
-    let is_outside = path.starts_with("../") || path.starts_with('/') || path == "..";
-    if !is_outside && !has(members, path) && !rules.exclude(alloc, &names)? {
-        members.push(String::from_str(alloc, path)?)?;
-    }
-    Ok(())
-}
-
-/// Adds the packages in the workspace to which path dependencies of the one at a path lead.
-fn add_dependencies(
-    alloc: Global,
-    path: &str,
-    manifest: &Table,
-    shared: Option<&Table>,
-    rules: &Rules,
-    members: &mut Vec<String>,
-) -> Result<(), AllocError> {
-    for dependency in &path_dependencies(alloc, manifest, shared)? {
-        let path = path_from_root(alloc, path, dependency)?;
-        add_folder(alloc, path.as_str(), rules, members)?;
-    }
-    Ok(())
-}
-
-/// Adds the packages in the workspace to which path dependencies of the member at a path lead.
-fn add_of_member<R: Files + AllocGlobal>(
-    rt: &R,
-    root: &str,
-    path: &str,
-    shared: Option<&Table>,
-    rules: &Rules,
-    limit: u64,
-    members: &mut Vec<String>,
-) -> Result<(), AllocError> {
-    let file = manifest_inside(rt.alloc(), root, path)?;
-    match table_at(rt, file.as_str(), limit)? {
-        Some(manifest) => add_dependencies(rt.alloc(), path, &manifest, shared, rules, members),
-        None => Ok(()),
-    }
-}
-
-/// Adds the packages in the workspace to which path dependencies of the members lead, and those of the packages added.
-fn add_all_dependencies<R: Files + AllocGlobal>(
-    rt: &R,
-    root: &str,
-    shared: Option<&Table>,
-    rules: &Rules,
-    limit: u64,
-    members: &mut Vec<String>,
-) -> Result<(), AllocError> {
-    for at in 0..u64::MAX {
-        let Ok(at) = usize::try_from(at) else {
-            return Ok(());
-        };
-        let Some(path) = members.get(at) else {
-            return Ok(());
-        };
-        let path = path.clone()?;
-        add_of_member(rt, root, path.as_str(), shared, rules, limit, members)?;
-    }
-    Ok(())
-}
-
-/// Adds the folder of the root, if the root has a package and is not there yet.
-fn add_root(alloc: Global, manifest: &Table, members: &mut Vec<String>) -> Result<(), AllocError> {
-    if manifest.get("package").is_some() && !has(members, "") {
-        members.push(String::new(alloc))?;
-    }
-    Ok(())
-}
-
-/// The folders of the packages of a workspace, from the root on: the root's own, those that its globs take, and those
-/// in it to which path dependencies lead.
-fn members_of<R: Files + Env + AllocGlobal + Clone + Drop>(
-    rt: &R,
-    file: &str,
-    manifest: &Table,
-    workspace: &Table,
-    limit: u64,
-    found: &mut Found,
-) -> Result<Vec<String>, AllocError> {
-    let alloc = rt.alloc();
-    let texts = texts_in(alloc, workspace, "members")?;
-    let rules = rules_of(alloc, file, workspace, &texts, found)?;
-    let mut members = members_by_globs(rt, file, &texts, &rules, found)?;
-    add_root(alloc, manifest, &mut members)?;
-    let shared = table_in(workspace, "dependencies");
-    add_all_dependencies(rt, folder_of(file), shared, &rules, limit, &mut members)?;
-    members.sort()?;
-    Ok(members)
+/// Whether the texts have this one.
+fn has(texts: &[String], wanted: &str) -> bool {
+    texts.iter().any(|text| text.as_str() == wanted)
 }
 
 /// The manifest that one stands for: that of the root of its workspace, where the root's members are asked for.
@@ -406,19 +163,16 @@ fn first_of<R: Files + Env + AllocGlobal>(
 }
 
 /// Adds the manifests of the members of the workspace whose root a manifest is, but for its own.
-fn add_members<R: Files + Env + AllocGlobal + Clone + Drop>(
+fn add_members<R: Files + AllocGlobal + Clone + Drop>(
     rt: &R,
     file: &str,
     manifest: &Table,
     limit: u64,
     found: &mut Found,
 ) -> Result<(), AllocError> {
-    let Some(workspace) = table_in(manifest, "workspace") else {
-        return Ok(());
-    };
-    for path in &members_of(rt, file, manifest, workspace, limit, found)? {
-        if !path.is_empty() {
-            let member = manifest_inside(rt.alloc(), folder_of(file), path.as_str())?;
+    for folder in &members_of(rt, file, manifest, limit, &mut found.unusable)? {
+        if !folder.is_empty() {
+            let member = manifest_inside(rt.alloc(), folder_of(file), folder.as_str())?;
             found.paths.push(member)?;
         }
     }
@@ -508,7 +262,7 @@ fn tell_unknown(
         if !has(names, name.as_str()) {
             let name = shown_text(alloc, name.as_str())?;
             let reason = format!(in alloc; "no package of the workspace is named {name}")?;
-            found.push(None, reason)?;
+            found.push(reason)?;
         }
     }
     Ok(())
@@ -536,7 +290,7 @@ fn add_at_hand<R: Files + Env + AllocGlobal + Clone + Drop>(
 ) -> Result<(), AllocError> {
     let Some(file) = manifest_above(rt)? else {
         let reason = "no `Cargo.toml` is here or in a folder above";
-        return found.push(None, String::from_str(rt.alloc(), reason)?);
+        return found.push(String::from_str(rt.alloc(), reason)?);
     };
     add_meant(rt, asked, file.as_str(), found)
 }

@@ -12,14 +12,15 @@ mod folders;
 mod inheritance;
 mod manifests;
 mod member_rules;
+mod members;
 mod patterns;
 mod pieces;
 
 pub use components::{CharacterRange, Characters, Component, Name, Part};
-pub use finding::{Asked, Found, depth_at_hand, find, root_of, shorter};
+pub use finding::{Asked, Found, depth_at_hand, find, root_of};
 pub use inheritance::{Inheritable, inherits_lints};
 pub use manifests::{
-    MANIFEST, folder_of, from_above, inside, is_file, manifest_inside, put, table_in,
+    MANIFEST, folder_of, from_above, inside, is_file, manifest_inside, put, shorter, table_in,
     table_with_word, text_in,
 };
 pub use member_rules::Rules;

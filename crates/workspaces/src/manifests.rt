@@ -1,5 +1,6 @@
 //! Manifests as texts and tables, and paths beside each other.
 
+use crate::patterns::plain_components;
 use input_limits::file_within;
 use std::alloc::{AllocError, Global};
 use std::io::ErrorKind;
@@ -34,6 +35,18 @@ pub fn from_above(alloc: Global, count: usize, path: &str) -> Result<String, All
         text.push_str("../")?;
     }
     text.push_str(path)?;
+    Ok(text)
+}
+
+/// The path without the components that lead nowhere.
+pub fn shorter(alloc: Global, path: &str) -> Result<String, AllocError> {
+    let mut text = String::new(alloc);
+    for component in &plain_components(alloc, path)? {
+        if !text.is_empty() || path.starts_with('/') {
+            text.push('/')?;
+        }
+        text.push_str(component)?;
+    }
     Ok(text)
 }
 

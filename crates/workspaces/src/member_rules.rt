@@ -30,6 +30,9 @@ impl Rules {
         ensures { IfOk result (λ b. IsTrue b ↔ IsExcluded self.now path.now) }
     {
         let is_below = some_takes(alloc, &self.excluded, path)?;
+        if !is_below {
+            return Ok(false);
+        }
         let is_named = some_takes(alloc, &self.named, path)?;
         Ok(holds_without(is_below, is_named))
     }
