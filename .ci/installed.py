@@ -4,6 +4,7 @@ the page has below it, where no variable is set that the page does not set.
 What is installed is the library that was built for this test. It is installed in a home folder that is made for it, and
 in `/usr/local`, if a folder may be mounted over that which no other process sees.
 """
+import functools
 import os
 import pathlib
 import re
@@ -13,7 +14,7 @@ import textwrap
 
 from c_header import FOR_C, exports
 from c_libraries import COMPILER, shared_names
-from checks import count, ended, write_files
+from checks import count, ended, room_of, write_files
 from crates import ROOT
 
 PAGE = ROOT / "docs" / "OTHER-LANGUAGES.md"
@@ -47,12 +48,19 @@ def blocks(language):
     return [text for name, text in BLOCK.findall(PAGE.read_text()) if name == language]
 
 
+@functools.cache
+def missing():
+    """Returns the beginnings of the commands that this machine can't run: for want of cargo, or of a static libc."""
+    found = [] if shutil.which("cargo") else ["cargo "]
+    with room_of({"empty.c": "int main(void) { return 0; }"}) as room:
+        is_linked = ended([COMPILER, "-static", "empty.c", "-o", "empty"], cwd=room).status == 0
+    return tuple(found if is_linked else [*found, "cc -static "])
+
+
 def commands():
     """Returns the commands of the page, each with the output below it, but for those that this machine can't run."""
-    missing = [it for it in ("cargo", "pkg-config") if not shutil.which(it)]
-    found = [it for text in blocks("text") for it in COMMAND.findall(text)]
-    return [(re.sub("^cc ", f"{COMPILER} ", command), told) for command, told in found
-            if not any(it in command for it in missing)]  # fmt: skip
+    found = [it for text in blocks("text") for it in COMMAND.findall(text) if not it[0].startswith(missing())]
+    return [(re.sub("^cc ", f"{COMPILER} ", command), told) for command, told in found]
 
 
 def environment(home):
@@ -166,7 +174,7 @@ def try_in_usr_local(home, built):
     if not shutil.which(shell[0]) or ended([*shell, "-c", mount]).status:
         print(f"no folder may be mounted over {USR_LOCAL}: the library was not installed there")
         return
-    searched = ended(["pkg-config", "--variable=pc_path", "pkg-config"]).output if shutil.which("pkg-config") else ""
+    searched = ended(["pkg-config", "--variable=pc_path", "pkg-config"]).output
     if f"{USR_LOCAL}/lib/pkgconfig" not in searched.strip().split(":"):
         print(f"pkg-config does not look in {USR_LOCAL}: the library was not installed there")
         return
@@ -198,6 +206,12 @@ def try_rust_without(home, built):
 
 def try_installed(room, built):
     """Tries what the page says on the installation."""
+    if not shutil.which("pkg-config"):
+        print("there is no pkg-config: the library was not installed")
+        return
+    for it in missing():
+        print(f"the commands of the page that begin with `{it}` were not tried")
+    count(f"`{shared_names()[0]}`" in PAGE.read_text(), f"{PAGE.name}: the library is {shared_names()[0]}")
     for number, it in enumerate((try_at_home, try_in_usr_local, try_rust_without)):
         home = room / f"home{number}"
         home.mkdir()

@@ -1,11 +1,12 @@
 """Tries the Python package `nevgrasi`, which has to be on the path: that its values are compared, sorted, hashed,
-copied and pickled, that other types raise `TypeError`, what a condition consists of, and what is true on the targets of
-rustc.
+copied and pickled, that other types raise `TypeError`, what a condition consists of, what is true on the targets of
+rustc, and the lines of Python in docs/OTHER-LANGUAGES.md.
 
 The parts of conditions are written by hand. The facts of targets are what `rustc --print cfg` prints, where rustc
 1.95.0 is, and `conditions.py` finds the keys that are true for these lines. The last line is `N passed, M failed`.
 """
 import copy
+import doctest
 import pickle
 import shutil
 import sys
@@ -13,6 +14,7 @@ import sys
 import nevgrasi
 from checks import check, count, ended, finish, try_each
 from conditions import read, truth
+from installed import PAGE, blocks
 from nevgrasi import Condition, Fault, Facts, Key, facts_of, keys_at, known_targets
 
 FLAT = b"unix" + bytes([4]) + bytes(16)
@@ -205,11 +207,20 @@ def try_target(target):
     check(f"keys at {target}, read", keys_at(map(Key, KEYS), Facts(lines, target)), [*map(Key, wanted)])
 
 
+def try_page():
+    """The lines of Python on the page give what the page has below them."""
+    for block in blocks("python"):
+        lines = doctest.DocTestParser().get_doctest(block, {}, PAGE.name, str(PAGE), 0)
+        failed, tried = doctest.DocTestRunner().run(lines)
+        count(tried and not failed, f"{PAGE.name}: {failed} of {tried} lines of Python")
+
+
 def main():
     try_values()
     try_errors()
     try_conditions()
     try_facts()
+    try_page()
     if shutil.which("rustc") and ended(["rustc", "--version"]).output.startswith(RELEASE):
         try_each([(try_target, it) for it in known_targets()])
     else:
