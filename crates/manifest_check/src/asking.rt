@@ -100,14 +100,15 @@ fn selected_with<R: Files + Input + Env + AllocGlobal + Clone + Drop>(
         asking,
         added: &added,
         open: matches.get_strs("open").unwrap_or(&[]),
+        facts_from: from,
+        host: matches.get_str("host"),
     };
     let mut documents = Documents::new(alloc, limit_of(matches));
     let Named { paths, unusable } = named_manifests(rt, &mut documents, matches)?;
     let mut answer = asking.tell_each(alloc, &unusable)?;
     answer.errors.push_str(flags.notes.as_str())?;
     let paths: Vec<&str> = paths.iter().map(|path| path.as_str()).collect(alloc)?;
-    let host = matches.get_str("host");
-    let selected = select_each(rt, &paths, &target, from, host, limit_of(matches))?;
+    let selected = select_each(rt, &mut documents, &paths, &target)?;
     answer.append(selected)?;
     Ok(answer)
 }
