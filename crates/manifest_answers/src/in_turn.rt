@@ -4,12 +4,14 @@ ghost use Rattle.toml.specs.View.{table_view};
 ghost use Rattle.manifests.specs.Tables.{target_of};
 ghost use Rattle.manifest_answers.specs.Deep.{HasNoDeepKey};
 
-use crate::deep::{first_deep, has_deep};
+use crate::deep::first_deep;
+use crate::taking::manifest_at;
 use input_limits::Unusable;
 use key_answers::answer::{Answer, Status};
-use manifests::reading::{Manifest, ManifestText, ReadError};
+use manifests::reading::{Manifest, ReadError};
 use std::alloc::{AllocError, Global};
 use std::rt::Files;
+use workspaces::Documents;
 
 /// A question about a manifest.
 pub trait Question {
@@ -35,18 +37,18 @@ pub trait Question {
     ) -> Result<Answer, AllocError>;
 }
 
-/// The answers on the manifests that are named, in their order. One that can't be used, as where it has more bytes than
-/// the limit, does not stop the others.
+/// The answers on the manifests that are named, in their order. Those of the documents are not read again. One that
+/// can't be used, as where it has more bytes than the limit, does not stop the others.
 pub fn answer_each<R: Files + Input + AllocGlobal, Q: Question>(
     rt: &R,
+    documents: &mut Documents,
     paths: &[&str],
-    limit: u64,
     question: &mut Q,
 ) -> Result<Answer, AllocError> {
     let alloc = rt.alloc();
     let mut whole = Answer::of(alloc, String::new(alloc), Status::Fine);
     for path in paths {
-        add_answer_on(rt, path, limit, question, &mut whole)?;
+        add_answer_on(rt, documents, path, question, &mut whole)?;
     }
     Ok(whole)
 }
@@ -81,33 +83,16 @@ fn answer_on_unusable<Q: Question>(
     question.refuse(alloc, file.unwrap_or(path), reason, line.as_str())
 }
 
-/// The manifest that is named, with the lines of its keys where they are asked for, or a key is too deep.
-fn manifest_at<R: Files + Input + AllocGlobal>(
-    rt: &R,
-    path: &str,
-    limit: u64,
-    with_lines: bool,
-) -> Result<Manifest, ReadError> {
-    let alloc = rt.alloc();
-    let text = ManifestText::read(rt, path, limit)?;
-    let table = text.table(alloc)?;
-    if with_lines || has_deep(alloc, &table)? {
-        let manifest = text.with_lines(alloc, table)?;
-        return Ok(manifest);
-    }
-    Ok(text.without_lines(alloc, table))
-}
-
 /// Adds the answer on the manifest that is named.
 fn add_answer_on<R: Files + Input + AllocGlobal, Q: Question>(
     rt: &R,
+    documents: &mut Documents,
     path: &str,
-    limit: u64,
     question: &mut Q,
     whole: &mut Answer,
 ) -> Result<(), AllocError> {
     let alloc = rt.alloc();
-    match manifest_at(rt, path, limit, question.asks_for_lines()) {
+    match manifest_at(rt, documents, path, question.asks_for_lines()) {
         Ok(manifest) => add_answer_on_read(alloc, &manifest, question, whole),
         Err(ReadError::Unusable(unusable)) => {
             whole.append(answer_on_unusable(alloc, path, &unusable, question)?)

@@ -10,3 +10,4 @@ pub mod in_turn;
 mod opened;
 pub mod questions;
 pub mod selecting;
+pub mod taking;

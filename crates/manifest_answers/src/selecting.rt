@@ -19,6 +19,7 @@ use serde::Serialize;
 use std::alloc::{AllocError, Global};
 use std::rt::Files;
 use target_tables::TargetRow;
+use workspaces::Documents;
 
 /// The word for a choice.
 fn choice_word(choice: &Choice) -> &'static str {
@@ -384,6 +385,10 @@ pub struct Target<'a> {
     pub added: &'a [&'a str],
     /// Names and keys of which each fact is open.
     pub open: &'a [&'a str],
+    /// Where the facts of targets come from.
+    pub facts_from: FactsFrom<'a>,
+    /// The name of the host.
+    pub host: Option<&'a str>,
 }
 
 /// The target that build scripts are built for.
@@ -448,46 +453,30 @@ fn add_unasked(answer: &mut Answer, alloc: Global, opened: &OpenNames) -> Result
     answer.errors.push_str(unasked.as_str())
 }
 
-/// What is selected of the manifests that are named, where this is known of the target and the host.
-fn selected_of_each<R: Files + Input + AllocGlobal>(
-    rt: &R,
-    paths: &[&str],
-    asking: Asking<'_>,
-    known: &Asked<'_>,
-    host: Host<'_>,
-    limit: u64,
-) -> Result<Answer, AllocError> {
-    let alloc = rt.alloc();
-    let mut selecting = Selecting {
-        asking,
-        known,
-        host,
-        opened: OpenNames::new(alloc, known.open)?,
-    };
-    let mut answer = answer_each(rt, paths, limit, &mut selecting)?;
-    add_unasked(&mut answer, alloc, &selecting.opened)?;
-    Ok(answer)
-}
-
 /// What is selected of the manifests that are named, in their order, by the facts that the target and the host have
-/// there. Manifests of more bytes than the limit are refused.
+/// there. Those of the documents are not read again. Manifests of more bytes than their limit are refused.
 pub fn select_each<R: Files + Input + AllocGlobal>(
     rt: &R,
+    documents: &mut Documents,
     paths: &[&str],
     target: &Target<'_>,
-    from: FactsFrom<'_>,
-    host: Option<&str>,
-    limit: u64,
 ) -> Result<Answer, Refusal> {
     let alloc = rt.alloc();
-    let facts = facts_from(alloc, target.asking.target, from)?;
+    let facts = facts_from(alloc, target.asking.target, target.facts_from)?;
     let added = added_facts(alloc, target.added)?;
     let known = Asked {
         facts: &facts,
         added: &added,
         open: target.open,
     };
-    let host = Host::of(alloc, host, from)?;
-    let answer = selected_of_each(rt, paths, target.asking, &known, host, limit)?;
+    let host = Host::of(alloc, target.host, target.facts_from)?;
+    let mut selecting = Selecting {
+        asking: target.asking,
+        known: &known,
+        host,
+        opened: OpenNames::new(alloc, target.open)?,
+    };
+    let mut answer = answer_each(rt, documents, paths, &mut selecting)?;
+    add_unasked(&mut answer, alloc, &selecting.opened)?;
     Ok(answer)
 }

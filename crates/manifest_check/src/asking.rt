@@ -21,6 +21,7 @@ use manifest_answers::questions;
 use manifest_answers::selecting::{Target, select_each};
 use std::alloc::{AllocError, Global};
 use std::rt::{Env, Files};
+use workspaces::Documents;
 
 /// The text of a word that its subcommand requires.
 fn word<'a>(matches: &ArgMatches<'a>, id: &str) -> &'a str {
@@ -99,13 +100,15 @@ fn selected_with<R: Files + Input + Env + AllocGlobal + Clone + Drop>(
         asking,
         added: &added,
         open: matches.get_strs("open").unwrap_or(&[]),
+        facts_from: from,
+        host: matches.get_str("host"),
     };
-    let Named { paths, unusable } = named_manifests(rt, matches)?;
+    let mut documents = Documents::new(alloc, limit_of(matches));
+    let Named { paths, unusable } = named_manifests(rt, &mut documents, matches)?;
     let mut answer = asking.tell_each(alloc, &unusable)?;
     answer.errors.push_str(flags.notes.as_str())?;
     let paths: Vec<&str> = paths.iter().map(|path| path.as_str()).collect(alloc)?;
-    let host = matches.get_str("host");
-    let selected = select_each(rt, &paths, &target, from, host, limit_of(matches))?;
+    let selected = select_each(rt, &mut documents, &paths, &target)?;
     answer.append(selected)?;
     Ok(answer)
 }
@@ -181,17 +184,17 @@ fn lint_answer<R: Files + Input + Env + AllocGlobal + Clone + Drop>(
         is_verbose: matches.get_flag("verbose"),
         is_quiet: matches.get_flag("quiet"),
         fails_from: fails_from(matches),
-        limit: limit_of(matches),
         is_whole: !matches.contains_id("package") && !matches.contains_id("exclude"),
         other,
     };
-    let Named { paths, unusable } = named_manifests(rt, matches)?;
+    let mut documents = Documents::new(alloc, limit_of(matches));
+    let Named { paths, unusable } = named_manifests(rt, &mut documents, matches)?;
     let mut answer = Answer::of(alloc, String::new(alloc), Status::Fine);
     for it in &unusable {
         answer.append(Answer::unusable(alloc, it.line(alloc)?))?;
     }
     let paths: Vec<&str> = paths.iter().map(|path| path.as_str()).collect(alloc)?;
-    answer.append(lint_each(rt, &paths, &asked)?)?;
+    answer.append(lint_each(rt, &paths, &asked, documents)?)?;
     Ok(answer)
 }
 

@@ -15,13 +15,14 @@ use lint_reports::{
     told_of_wrong, unneeded_message, weight_by_each, wrong_fields,
 };
 use manifest_answers::deep::first_deep;
+use manifest_answers::taking::manifest_at;
 use manifest_lints::{Code, Finding, Report, Words, lint};
 use manifest_lints_findings::{WrongPlace, wrong_places};
-use manifests::reading::{Manifest, ReadError, read_manifest};
+use manifests::reading::{Manifest, ReadError};
 use std::alloc::{AllocError, Global};
 use std::rt::{Env, Files};
 use toml::Table;
-use workspaces::shorter;
+use workspaces::{Documents, shorter};
 
 /// What is asked of manifests.
 #[derive(Drop)]
@@ -39,8 +40,6 @@ pub struct Asked {
     pub is_quiet: bool,
     /// The least weight of diagnostics that make the run fail. With `None`, none does.
     pub fails_from: Option<Weight>,
-    /// How many bytes a manifest may have.
-    pub limit: u64,
     /// No package is left out.
     pub is_whole: bool,
     /// Whose targets and facts count in place of those that are known.
@@ -64,6 +63,8 @@ struct Rules<'a> {
 #[derive(Drop)]
 struct Telling<'a> {
     asked: &'a Asked,
+    /// The manifests that have been read.
+    documents: Documents,
     counts: Counts,
     printed: Printed,
     answer: Answer,
@@ -344,7 +345,7 @@ fn usable_at<R: Files + Input + AllocGlobal>(
     telling: &mut Telling<'_>,
 ) -> Result<Option<Manifest>, AllocError> {
     let alloc = rt.alloc();
-    let line = match read_manifest(rt, path, telling.asked.limit) {
+    let line = match manifest_at(rt, &mut telling.documents, path, true) {
         Ok(manifest) => match first_deep(alloc, &manifest)? {
             Some(deep) => deep.line(alloc)?,
             None => return Ok(Some(manifest)),
@@ -381,7 +382,7 @@ fn lint_configuration<R: Files + Input + AllocGlobal>(
         return Ok(());
     };
     let wrong = wrong_fields(alloc, &manifest.document.table)?;
-    let lints = root.configuration_lints(rt, telling.asked.limit)?;
+    let lints = root.configuration_lints()?;
     let mut table = manifest_with_targets(alloc, &manifest.document.table, lints)?;
     declare(alloc, &mut table, &root.settings.facts)?;
     declare_by(alloc, &telling.asked.other, &mut table)?;
@@ -492,11 +493,12 @@ fn manifest_of(alloc: Global, path: &str) -> Result<String, AllocError> {
     String::from_str(alloc, path)
 }
 
-/// The findings on the manifests that are named, in their order.
+/// The findings on the manifests that are named, in their order. Those of the documents are not read again.
 pub fn lint_each<R: Files + Input + Env + AllocGlobal>(
     rt: &R,
     paths: &[&str],
     asked: &Asked,
+    documents: Documents,
 ) -> Result<Answer, AllocError> {
     let alloc = rt.alloc();
     let words = Words::new(alloc)?;
@@ -504,6 +506,7 @@ pub fn lint_each<R: Files + Input + Env + AllocGlobal>(
     let begin = printed.begin(alloc, asked.version.as_str())?;
     let mut telling = Telling {
         asked,
+        documents,
         counts: Counts::none(),
         printed,
         answer: Answer::of(alloc, begin, Status::Fine),
@@ -511,7 +514,8 @@ pub fn lint_each<R: Files + Input + Env + AllocGlobal>(
     let mut root = Root::none(alloc)?;
     for path in paths {
         let manifest = manifest_of(alloc, path)?;
-        if let Some(other) = Root::of(rt, manifest.as_str(), &asked.codes, asked.limit, &root)? {
+        let documents = &mut telling.documents;
+        if let Some(other) = Root::of(rt, documents, manifest.as_str(), &asked.codes, &root)? {
             telling.tell_root(alloc, &root)?;
             root = other;
         }
@@ -520,6 +524,7 @@ pub fn lint_each<R: Files + Input + Env + AllocGlobal>(
     telling.tell_root(alloc, &root)?;
     let Telling {
         asked: _,
+        documents: _,
         counts,
         printed,
         mut answer,

@@ -1,11 +1,10 @@
 //! The manifests that the words of a command line mean.
 
-use crate::limits::limit_of;
 use clap::ArgMatches;
 use input_limits::Unusable;
 use std::alloc::{AllocError, Global};
 use std::rt::{Env, Files};
-use workspaces::{Asked, Found, find};
+use workspaces::{Asked, Documents, Found, find};
 
 /// Paths of manifests, and what can't be found.
 #[derive(Drop)]
@@ -24,9 +23,10 @@ fn values(alloc: Global, matches: &ArgMatches<'_>, id: &str) -> Result<Vec<Strin
 }
 
 /// The manifests that are meant: those of the words, or the one of the folder at hand or of the nearest above. The root
-/// of a workspace stands for its members too.
+/// of a workspace stands for its members too. Those that were read are in `documents` then.
 pub fn named_manifests<R: Files + Env + AllocGlobal + Clone + Drop>(
     rt: &R,
+    documents: &mut Documents,
     matches: &ArgMatches<'_>,
 ) -> Result<Named, AllocError> {
     let alloc = rt.alloc();
@@ -36,8 +36,7 @@ pub fn named_manifests<R: Files + Env + AllocGlobal + Clone + Drop>(
         packages: values(alloc, matches, "package")?,
         excluded: values(alloc, matches, "exclude")?,
         whole: matches.get_flag("workspace"),
-        limit: limit_of(matches),
     };
-    let Found { paths, unusable } = find(rt, &asked)?;
+    let Found { paths, unusable } = find(rt, documents, &asked)?;
     Ok(Named { paths, unusable })
 }

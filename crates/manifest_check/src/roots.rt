@@ -6,7 +6,7 @@ use lint_reports::{Rule, Setting, Settings, Weighed, settings_at};
 use std::alloc::{AllocError, Global};
 use std::rt::{Env, Files};
 use toml::{Table, Value};
-use workspaces::{Inheritable, inherits_lints, root_of, shorter, table_with_word};
+use workspaces::{Document, Documents, Inheritable, inherits_lints, root_of, shorter};
 
 /// The root of a workspace.
 #[derive(Drop)]
@@ -23,13 +23,18 @@ pub struct Root {
     pub hides_lints: bool,
 }
 
+/// Returns what the manifest of a root sets for its workspace.
+fn settings_in(document: Option<&Document>) -> Option<&Value> {
+    settings_at(document?.table_with("workspace")?, "workspace")
+}
+
 /// Returns the rules of a root, and for each that no diagnostic needs it yet.
 fn settings_of(
     alloc: Global,
-    manifest: &Table,
+    document: Option<&Document>,
     codes: &[&str],
 ) -> Result<(Settings, Vec<bool>), AllocError> {
-    let settings = Settings::of(alloc, settings_at(manifest, "workspace"), codes)?;
+    let settings = Settings::of(alloc, settings_in(document), codes)?;
     let mut needed = Vec::new(alloc);
     for _ in &settings.rules {
         needed.push(false)?;
@@ -40,22 +45,26 @@ fn settings_of(
 impl Root {
     /// Returns the root of no workspace, without rules.
     pub fn none(alloc: Global) -> Result<Root, AllocError> {
-        Root::at(alloc, String::new(alloc), &Table::new(alloc), &[])
+        Root::at(alloc, String::new(alloc), None, &[])
     }
 
-    /// Returns the root with this manifest.
+    /// Returns the root with this manifest, or with none.
     fn at(
         alloc: Global,
         file: String,
-        manifest: &Table,
+        document: Option<&Document>,
         codes: &[&str],
     ) -> Result<Root, AllocError> {
-        let (settings, needed) = settings_of(alloc, manifest, codes)?;
+        let (settings, needed) = settings_of(alloc, document, codes)?;
+        let inheritable = match document {
+            Some(document) => Inheritable::of(alloc, document)?,
+            None => Inheritable::none(),
+        };
         Ok(Root {
             file,
             settings,
             needed,
-            inheritable: Inheritable::of(alloc, manifest)?,
+            inheritable,
             is_asked: false,
             hides_lints: false,
         })
@@ -64,26 +73,23 @@ impl Root {
     /// Returns the root to which the manifest at this path belongs, or none if that is `current`.
     pub fn of<R: Files + Env + AllocGlobal>(
         rt: &R,
+        documents: &mut Documents,
         path: &str,
         codes: &[&str],
-        limit: u64,
         current: &Root,
     ) -> Result<Option<Root>, AllocError> {
         let alloc = rt.alloc();
         let file = if path == INPUT {
             String::from_str(alloc, INPUT)?
         } else {
-            let file = root_of(rt, path, limit)?;
+            let file = root_of(rt, documents, path)?;
             shorter(alloc, file.as_str())?
         };
         if file.as_str() == current.file.as_str() {
             return Ok(None);
         }
-        let root = match table_with_word(rt, file.as_str(), "workspace", limit)? {
-            Some(manifest) => Root::at(alloc, file, &manifest, codes)?,
-            None => Root::at(alloc, file, &Table::new(alloc), codes)?,
-        };
-        Ok(Some(root))
+        let document = documents.get(rt, file.as_str())?;
+        Ok(Some(Root::at(alloc, file, document, codes)?))
     }
 
     /// Returns whether its manifest is the one at a path.
@@ -93,13 +99,8 @@ impl Root {
     }
 
     /// Returns the lints of a configuration, which belongs to no package.
-    pub fn configuration_lints<R: Files + AllocGlobal>(
-        &self,
-        rt: &R,
-        limit: u64,
-    ) -> Result<Option<Value>, AllocError> {
-        self.inheritable
-            .lints_outside_packages(rt, self.file.as_str(), limit)
+    pub fn configuration_lints(&self) -> Result<Option<Value>, AllocError> {
+        self.inheritable.lints_outside_packages()
     }
 
     /// Puts the root's lints in place of those of a manifest that inherits lints, and records whether there was a root

@@ -1,8 +1,9 @@
 //! Which manifests are meant: by their names, or by the folder at hand.
 
+use crate::documents::{Documents, RootPlace};
 use crate::manifests::{
     MANIFEST, folder_of, from_above, inside, is_file, is_folder, manifest_inside, package_name,
-    shorter, table_at, table_in, table_with_word, text_in, unless_refused,
+    shorter, unless_refused,
 };
 use crate::members::members_of;
 use cargo_platform::shown_text;
@@ -10,7 +11,6 @@ use input_limits::{INPUT, Unusable};
 use std::alloc::{AllocError, Global};
 use std::env;
 use std::rt::{Env, Files};
-use toml::Table;
 
 /// What the words of a command line say of manifests.
 #[derive(Drop)]
@@ -26,8 +26,6 @@ pub struct Asked {
     pub excluded: Vec<String>,
     /// All members of the workspace, from a member too.
     pub whole: bool,
-    /// How many bytes a manifest may have.
-    pub limit: u64,
 }
 
 /// The manifests that are meant.
@@ -74,34 +72,31 @@ fn file_of<R: Files + AllocGlobal>(rt: &R, path: &str) -> Result<String, AllocEr
     String::from_str(rt.alloc(), path)
 }
 
-/// The path that `package.workspace` of a manifest gives.
-fn path_of_root(manifest: &Table) -> Option<&str> {
-    text_in(table_in(manifest, "package")?, "workspace")
-}
-
 /// The manifest of the root that a manifest is or names.
 fn root_by_manifest<R: Files + AllocGlobal>(
     rt: &R,
+    documents: &mut Documents,
     file: &str,
-    limit: u64,
 ) -> Result<Option<String>, AllocError> {
-    let Some(manifest) = table_with_word(rt, file, "workspace", limit)? else {
-        return Ok(None);
-    };
-    if manifest.get("workspace").is_some() {
-        return Ok(Some(String::from_str(rt.alloc(), file)?));
-    }
-    match path_of_root(&manifest) {
-        Some(path) => Ok(Some(manifest_inside(rt.alloc(), folder_of(file), path)?)),
-        None => Ok(None),
+    match documents.root_place(rt, file)? {
+        Some(RootPlace::Here) => Ok(Some(String::from_str(rt.alloc(), file)?)),
+        Some(RootPlace::At(path)) => {
+            let root = manifest_inside(rt.alloc(), folder_of(file), path.as_str())?;
+            Ok(Some(root))
+        }
+        Some(RootPlace::Unsaid) | None => Ok(None),
     }
 }
 
 /// Whether a manifest has a table `workspace`.
-fn is_root<R: Files + AllocGlobal>(rt: &R, file: &str, limit: u64) -> Result<bool, AllocError> {
-    match table_with_word(rt, file, "workspace", limit)? {
-        Some(manifest) => Ok(manifest.get("workspace").is_some()),
-        None => Ok(false),
+fn is_root<R: Files + AllocGlobal>(
+    rt: &R,
+    documents: &mut Documents,
+    file: &str,
+) -> Result<bool, AllocError> {
+    match documents.root_place(rt, file)? {
+        Some(RootPlace::Here) => Ok(true),
+        _ => Ok(false),
     }
 }
 
@@ -114,13 +109,13 @@ fn manifest_over(alloc: Global, folder: &str, count: usize) -> Result<String, Al
 /// The nearest manifest above a folder with a table `workspace`.
 fn root_above<R: Files + Env + AllocGlobal>(
     rt: &R,
+    documents: &mut Documents,
     folder: &str,
-    limit: u64,
 ) -> Result<Option<String>, AllocError> {
     let depth = depth_at_hand(rt)?.saturating_add(folder.split('/').count());
     for count in 1..=depth {
         let root = manifest_over(rt.alloc(), folder, count)?;
-        if is_root(rt, root.as_str(), limit)? {
+        if is_root(rt, documents, root.as_str())? {
             return Ok(Some(shorter(rt.alloc(), root.as_str())?));
         }
     }
@@ -128,17 +123,17 @@ fn root_above<R: Files + Env + AllocGlobal>(
 }
 
 /// The manifest of the root of the workspace that a manifest belongs to: its own, the one that `package.workspace`
-/// names, or the nearest above with a table `workspace`. Of one that belongs to none it is its own. Manifests of more
-/// bytes than the limit are passed over.
+/// names, or the nearest above with a table `workspace`. Of one that belongs to none it is its own. Manifests that can't
+/// be used are passed over.
 pub fn root_of<R: Files + Env + AllocGlobal>(
     rt: &R,
+    documents: &mut Documents,
     file: &str,
-    limit: u64,
 ) -> Result<String, AllocError> {
-    if let Some(root) = root_by_manifest(rt, file, limit)? {
+    if let Some(root) = root_by_manifest(rt, documents, file)? {
         return Ok(root);
     }
-    match root_above(rt, folder_of(file), limit)? {
+    match root_above(rt, documents, folder_of(file))? {
         Some(root) => Ok(root),
         None => String::from_str(rt.alloc(), file),
     }
@@ -152,11 +147,12 @@ fn has(texts: &[String], wanted: &str) -> bool {
 /// The manifest that one stands for: that of the root of its workspace, where the root's members are asked for.
 fn first_of<R: Files + Env + AllocGlobal>(
     rt: &R,
+    documents: &mut Documents,
     asked: &Asked,
     file: &str,
 ) -> Result<String, AllocError> {
     if asked.whole || !asked.packages.is_empty() {
-        root_of(rt, file, asked.limit)
+        root_of(rt, documents, file)
     } else {
         String::from_str(rt.alloc(), file)
     }
@@ -165,12 +161,11 @@ fn first_of<R: Files + Env + AllocGlobal>(
 /// Adds the manifests of the members of the workspace whose root a manifest is, but for its own.
 fn add_members<R: Files + AllocGlobal + Clone + Drop>(
     rt: &R,
+    documents: &mut Documents,
     file: &str,
-    manifest: &Table,
-    limit: u64,
     found: &mut Found,
 ) -> Result<(), AllocError> {
-    for folder in &members_of(rt, file, manifest, limit, &mut found.unusable)? {
+    for folder in &members_of(rt, documents, file, &mut found.unusable)? {
         if !folder.is_empty() {
             let member = manifest_inside(rt.alloc(), folder_of(file), folder.as_str())?;
             found.paths.push(member)?;
@@ -182,6 +177,7 @@ fn add_members<R: Files + AllocGlobal + Clone + Drop>(
 /// Adds the manifests that one stands for: of the root of a workspace those of its members too.
 fn add_meant<R: Files + Env + AllocGlobal + Clone + Drop>(
     rt: &R,
+    documents: &mut Documents,
     asked: &Asked,
     file: &str,
     found: &mut Found,
@@ -190,18 +186,21 @@ fn add_meant<R: Files + Env + AllocGlobal + Clone + Drop>(
         found.paths.push(String::from_str(rt.alloc(), file)?)?;
         return Ok(());
     }
-    let file = first_of(rt, asked, file)?;
+    let file = first_of(rt, documents, asked, file)?;
     found.paths.push(file.clone()?)?;
-    match table_with_word(rt, file.as_str(), "workspace", asked.limit)? {
-        Some(manifest) => add_members(rt, file.as_str(), &manifest, asked.limit, found),
-        None => Ok(()),
-    }
+    add_members(rt, documents, file.as_str(), found)
 }
 
 /// The name of the package of a manifest, or an empty text.
-fn name_at<R: Files + AllocGlobal>(rt: &R, file: &str, limit: u64) -> Result<String, AllocError> {
-    match table_at(rt, file, limit)? {
-        Some(manifest) => String::from_str(rt.alloc(), package_name(&manifest).unwrap_or("")),
+fn name_at<R: Files + AllocGlobal>(
+    rt: &R,
+    documents: &mut Documents,
+    file: &str,
+) -> Result<String, AllocError> {
+    match documents.get(rt, file)? {
+        Some(document) => {
+            String::from_str(rt.alloc(), package_name(&document.table).unwrap_or(""))
+        }
         None => Ok(String::new(rt.alloc())),
     }
 }
@@ -209,12 +208,12 @@ fn name_at<R: Files + AllocGlobal>(rt: &R, file: &str, limit: u64) -> Result<Str
 /// The name of the package of each manifest.
 fn names_at<R: Files + AllocGlobal>(
     rt: &R,
+    documents: &mut Documents,
     files: &[String],
-    limit: u64,
 ) -> Result<Vec<String>, AllocError> {
     let mut names = Vec::new(rt.alloc());
     for file in files {
-        names.push(name_at(rt, file.as_str(), limit)?)?;
+        names.push(name_at(rt, documents, file.as_str())?)?;
     }
     Ok(names)
 }
@@ -239,11 +238,12 @@ fn chosen_of(
 /// Leaves the packages that are asked for. A name that no package has is told.
 fn choose<R: Files + AllocGlobal>(
     rt: &R,
+    documents: &mut Documents,
     asked: &Asked,
     found: &mut Found,
 ) -> Result<(), AllocError> {
     let alloc = rt.alloc();
-    let names = names_at(rt, &found.paths, asked.limit)?;
+    let names = names_at(rt, documents, &found.paths)?;
     let chosen = chosen_of(alloc, asked, &found.paths, &names)?;
     tell_unknown(alloc, &asked.packages, &names, found)?;
     tell_unknown(alloc, &asked.excluded, &names, found)?;
@@ -271,13 +271,14 @@ fn tell_unknown(
 /// Adds the manifests that these stand for.
 fn add_all<R: Files + Env + AllocGlobal + Clone + Drop>(
     rt: &R,
+    documents: &mut Documents,
     asked: &Asked,
     named: &[String],
     found: &mut Found,
 ) -> Result<(), AllocError> {
     for path in named {
         let file = file_of(rt, path.as_str())?;
-        add_meant(rt, asked, file.as_str(), found)?;
+        add_meant(rt, documents, asked, file.as_str(), found)?;
     }
     Ok(())
 }
@@ -285,6 +286,7 @@ fn add_all<R: Files + Env + AllocGlobal + Clone + Drop>(
 /// Adds what the manifest of the folder at hand, or of the nearest above, stands for. Where none is there that is told.
 fn add_at_hand<R: Files + Env + AllocGlobal + Clone + Drop>(
     rt: &R,
+    documents: &mut Documents,
     asked: &Asked,
     found: &mut Found,
 ) -> Result<(), AllocError> {
@@ -292,13 +294,14 @@ fn add_at_hand<R: Files + Env + AllocGlobal + Clone + Drop>(
         let reason = "no `Cargo.toml` is here or in a folder above";
         return found.push(String::from_str(rt.alloc(), reason)?);
     };
-    add_meant(rt, asked, file.as_str(), found)
+    add_meant(rt, documents, asked, file.as_str(), found)
 }
 
 /// The manifests that are meant, in the order of the arguments: the root of a workspace before its members, and these
-/// in the order of their paths.
+/// in the order of their paths. They stay in `documents`.
 pub fn find<R: Files + Env + AllocGlobal + Clone + Drop>(
     rt: &R,
+    documents: &mut Documents,
     asked: &Asked,
 ) -> Result<Found, AllocError> {
     let alloc = rt.alloc();
@@ -307,12 +310,13 @@ pub fn find<R: Files + Env + AllocGlobal + Clone + Drop>(
         unusable: Vec::new(alloc),
     };
     if asked.paths.is_empty() && asked.manifests.is_empty() {
-        add_at_hand(rt, asked, &mut found)?;
+        add_at_hand(rt, documents, asked, &mut found)?;
     }
-    add_all(rt, asked, &asked.paths, &mut found)?;
-    add_all(rt, asked, &asked.manifests, &mut found)?;
+    add_all(rt, documents, asked, &asked.paths, &mut found)?;
+    add_all(rt, documents, asked, &asked.manifests, &mut found)?;
     if !asked.packages.is_empty() || !asked.excluded.is_empty() {
-        choose(rt, asked, &mut found)?;
+        choose(rt, documents, asked, &mut found)?;
     }
+    documents.expect_uses(rt, &found.paths)?;
     Ok(found)
 }

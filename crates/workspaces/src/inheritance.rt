@@ -1,9 +1,9 @@
 //! What packages inherit from the root of their workspace, by Cargo's reference ("Workspaces": the `package` table and
 //! the `lints` table).
 
-use crate::manifests::{put, table_in, table_with_word, text_in};
+use crate::documents::Document;
+use crate::manifests::{put, table_in, text_in};
 use std::alloc::{AllocError, Global};
-use std::rt::Files;
 use toml::{Table, Value};
 
 /// The table of lints, in a package and in the table `workspace`.
@@ -17,6 +17,8 @@ const RUST_VERSION: &str = "rust-version";
 pub struct Inheritable {
     /// The value of `workspace.lints`.
     lints: Option<Value>,
+    /// The value of `lints` of the root's own package.
+    own_lints: Option<Value>,
     /// The text of `workspace.package.rust-version`.
     rust_version: Option<String>,
     /// The root has a table `workspace`.
@@ -40,17 +42,28 @@ fn workspace_rust_version(workspace: Option<&Table>) -> Option<&str> {
 }
 
 impl Inheritable {
+    /// Returns what there is to inherit without a root.
+    pub fn none() -> Inheritable {
+        Inheritable {
+            lints: None,
+            own_lints: None,
+            rust_version: None,
+            is_workspace: false,
+        }
+    }
+
     /// Returns what the manifest of a root has for packages to inherit.
     ///
     /// Fails only where memory runs out.
-    pub fn of(alloc: Global, root: &Table) -> Result<Inheritable, AllocError> {
-        let workspace = table_in(root, "workspace");
+    pub fn of(alloc: Global, root: &Document) -> Result<Inheritable, AllocError> {
+        let workspace = root.workspace();
         let rust_version = match workspace_rust_version(workspace) {
             Some(text) => Some(String::from_str(alloc, text)?),
             None => None,
         };
         Ok(Inheritable {
             lints: field_of(workspace, LINTS)?,
+            own_lints: field_of(root.table_with(LINTS), LINTS)?,
             rust_version,
             is_workspace: workspace.is_some(),
         })
@@ -82,20 +95,18 @@ impl Inheritable {
     }
 
     /// Returns the lints that hold outside of packages: those of the table `workspace` or, without any, those of the
-    /// root's own package. These are read anew from the manifest of the root, unless it has more bytes than `limit`.
+    /// root's own package.
     ///
     /// Fails only where memory runs out.
-    pub fn lints_outside_packages<R: Files + AllocGlobal>(
-        &self,
-        rt: &R,
-        root: &str,
-        limit: u64,
-    ) -> Result<Option<Value>, AllocError> {
-        if let Some(lints) = &self.lints {
-            return Ok(Some(lints.clone()?));
-        }
-        let manifest = table_with_word(rt, root, LINTS, limit)?;
-        field_of(manifest.as_ref(), LINTS)
+    pub fn lints_outside_packages(&self) -> Result<Option<Value>, AllocError> {
+        let lints = match &self.lints {
+            Some(lints) => lints,
+            None => match &self.own_lints {
+                Some(lints) => lints,
+                None => return Ok(None),
+            },
+        };
+        Ok(Some(lints.clone()?))
     }
 }
 

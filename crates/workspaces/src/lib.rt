@@ -7,6 +7,7 @@
 
 mod components;
 mod dependencies;
+mod documents;
 mod finding;
 mod folders;
 mod inheritance;
@@ -17,11 +18,12 @@ mod patterns;
 mod pieces;
 
 pub use components::{CharacterRange, Characters, Component, Name, Part};
+pub use documents::{Document, Documents};
 pub use finding::{Asked, Found, depth_at_hand, find, root_of};
 pub use inheritance::{Inheritable, inherits_lints};
 pub use manifests::{
     MANIFEST, folder_of, from_above, inside, is_file, manifest_inside, put, shorter, table_in,
-    table_with_word, text_in,
+    text_in,
 };
 pub use member_rules::Rules;
 pub use patterns::{Fault, Pattern, PatternError, is_glob, names_of, plain_components, some_takes};

@@ -1,7 +1,7 @@
 //! Manifests as texts and tables, and paths beside each other.
 
 use crate::patterns::plain_components;
-use input_limits::file_within;
+use input_limits::without_mark;
 use std::alloc::{AllocError, Global};
 use std::io::ErrorKind;
 use std::rt::Files;
@@ -91,8 +91,8 @@ pub fn is_file<R: Files + AllocGlobal>(rt: &R, path: &str) -> Result<bool, Alloc
 }
 
 /// The table that a text spells. There is none where it is no TOML.
-fn table_of(alloc: Global, text: &str) -> Result<Option<Table>, AllocError> {
-    match table_from_str(alloc, text.strip_prefix("\u{FEFF}").unwrap_or(text)) {
+pub fn table_of(alloc: Global, text: &str) -> Result<Option<Table>, AllocError> {
+    match table_from_str(alloc, without_mark(text)) {
         Ok(table) => Ok(Some(table)),
         Err(error) => {
             if error.is_memory() {
@@ -100,39 +100,6 @@ fn table_of(alloc: Global, text: &str) -> Result<Option<Table>, AllocError> {
             }
             Ok(None)
         }
-    }
-}
-
-/// The table of a manifest. There is none where it can't be read, has more bytes than the limit, or is no TOML: who
-/// reads it next says so.
-pub fn table_at<R: Files + AllocGlobal>(
-    rt: &R,
-    file: &str,
-    limit: u64,
-) -> Result<Option<Table>, AllocError> {
-    match unless_refused(file_within(rt, file, limit))? {
-        Some(text) => table_of(rt.alloc(), text.as_str()),
-        None => Ok(None),
-    }
-}
-
-/// The table of a manifest with this word in its text, as `table_at` reads it: a large one without it is not read as
-/// TOML.
-pub fn table_with_word<R: Files + AllocGlobal>(
-    rt: &R,
-    file: &str,
-    word: &str,
-    limit: u64,
-) -> Result<Option<Table>, AllocError> {
-    match unless_refused(file_within(rt, file, limit))? {
-        Some(text) => {
-            if text.contains(word) {
-                table_of(rt.alloc(), text.as_str())
-            } else {
-                Ok(None)
-            }
-        }
-        None => Ok(None),
     }
 }
 

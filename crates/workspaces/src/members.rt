@@ -2,8 +2,9 @@
 //! lead.
 
 use crate::dependencies::{PathDependency, path_dependencies};
+use crate::documents::{Document, Documents};
 use crate::folders::candidates;
-use crate::manifests::{folder_of, inside, manifest_inside, shorter, table_at, table_in, texts_in};
+use crate::manifests::{folder_of, inside, manifest_inside, shorter, table_in, texts_in};
 use crate::member_rules::Rules;
 use crate::patterns::{Fault, Pattern, PatternError, names_of};
 use cargo_platform::shown_text;
@@ -206,37 +207,33 @@ impl Members {
     fn follow<R: Files + AllocGlobal>(
         &mut self,
         rt: &R,
+        documents: &mut Documents,
         root: &str,
-        limit: u64,
     ) -> Result<(), AllocError> {
         for _ in 0..u64::MAX {
             let Some(folder) = self.unfollowed.pop() else {
                 return Ok(());
             };
             let file = manifest_inside(rt.alloc(), root, folder.as_str())?;
-            if let Some(manifest) = table_at(rt, file.as_str(), limit)? {
-                self.add_dependencies(rt.alloc(), folder.as_str(), &manifest)?;
+            if let Some(document) = documents.get(rt, file.as_str())? {
+                self.add_dependencies(rt.alloc(), folder.as_str(), &document.table)?;
             }
         }
         Ok(())
     }
 }
 
-/// Returns the folders of the packages of the workspace whose root has this manifest, from the root on: the root's own,
-/// those that its globs take, and those in it to which path dependencies lead. Globs that are none, and those for which
-/// there is no folder, are added to what can't be used.
-///
-/// Fails only where memory runs out.
-pub fn members_of<R: Files + AllocGlobal + Clone + Drop>(
+/// Returns the members of the workspace of a root before path dependencies are followed: the root's own package, and
+/// the folders that globs take.
+fn members_by_globs<R: Files + AllocGlobal + Clone + Drop>(
     rt: &R,
     file: &str,
-    manifest: &Table,
-    limit: u64,
+    root: &Document,
     unusable: &mut Vec<Unusable>,
-) -> Result<BTreeSet<String>, AllocError> {
+) -> Result<Option<Members>, AllocError> {
     let alloc = rt.alloc();
-    let Some(workspace) = table_in(manifest, "workspace") else {
-        return Ok(BTreeSet::new(alloc));
+    let Some(workspace) = root.workspace() else {
+        return Ok(None);
     };
     let texts = texts_in(alloc, workspace, "members")?;
     let mut members = Members {
@@ -248,9 +245,30 @@ pub fn members_of<R: Files + AllocGlobal + Clone + Drop>(
     for text in &texts {
         members.add_by_glob(rt, file, text, unusable)?;
     }
-    if manifest.get("package").is_some() {
+    if root.table.get("package").is_some() {
         members.add(alloc, "")?;
     }
-    members.follow(rt, folder_of(file), limit)?;
+    Ok(Some(members))
+}
+
+/// Returns the folders of the packages of the workspace whose root has the manifest at a path, from the root on: the
+/// root's own, those that its globs take, and those in it to which path dependencies lead. Globs that are none, and
+/// those for which there is no folder, are added to what can't be used.
+///
+/// Fails only where memory runs out.
+pub fn members_of<R: Files + AllocGlobal + Clone + Drop>(
+    rt: &R,
+    documents: &mut Documents,
+    file: &str,
+    unusable: &mut Vec<Unusable>,
+) -> Result<BTreeSet<String>, AllocError> {
+    let members = match documents.get(rt, file)? {
+        Some(root) => members_by_globs(rt, file, root, unusable)?,
+        None => None,
+    };
+    let Some(mut members) = members else {
+        return Ok(BTreeSet::new(rt.alloc()));
+    };
+    members.follow(rt, documents, folder_of(file))?;
     Ok(members.folders)
 }

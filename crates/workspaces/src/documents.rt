@@ -1,0 +1,258 @@
+//! Manifests that are read and parsed once, however often they are needed.
+
+use crate::manifests::{table_in, table_of, text_in, unless_refused};
+use input_limits::{INPUT, file_within};
+use std::alloc::{AllocError, Global};
+use std::collections::BTreeMap;
+use std::fs;
+use std::rt::Files;
+use toml::Table;
+
+/// What the manifest of a root has, and what other manifests say of theirs.
+const WORKSPACE: &str = "workspace";
+
+/// A manifest that has been read and parsed.
+#[derive(Drop)]
+pub struct Document {
+    /// The text of the file.
+    pub text: String,
+    /// The table that the text spells.
+    pub table: Table,
+}
+
+impl Document {
+    /// Returns the table, if this word occurs in the text.
+    pub fn table_with(&self, word: &str) -> Option<&Table> {
+        if self.text.contains(word) {
+            Some(&self.table)
+        } else {
+            None
+        }
+    }
+
+    /// Returns the table `workspace`, if the manifest is that of a root.
+    pub fn workspace(&self) -> Option<&Table> {
+        table_in(self.table_with(WORKSPACE)?, WORKSPACE)
+    }
+
+    /// Copies the document.
+    fn copy(&self) -> Result<Document, AllocError> {
+        Ok(Document {
+            text: self.text.clone()?,
+            table: self.table.clone()?,
+        })
+    }
+}
+
+/// Where the root of the workspace of a manifest is, by the manifest itself.
+#[derive(Drop)]
+pub enum RootPlace {
+    /// The manifest is that of a root.
+    Here,
+    /// `package.workspace` has this path.
+    At(String),
+    /// The manifest does not say.
+    Unsaid,
+}
+
+impl RootPlace {
+    /// Returns where the root is by a document.
+    fn of(alloc: Global, document: &Document) -> Result<RootPlace, AllocError> {
+        let Some(manifest) = document.table_with(WORKSPACE) else {
+            return Ok(RootPlace::Unsaid);
+        };
+        if manifest.get(WORKSPACE).is_some() {
+            return Ok(RootPlace::Here);
+        }
+        match path_of_root(manifest) {
+            Some(path) => Ok(RootPlace::At(String::from_str(alloc, path)?)),
+            None => Ok(RootPlace::Unsaid),
+        }
+    }
+}
+
+/// Returns the path that `package.workspace` of a manifest has.
+fn path_of_root(manifest: &Table) -> Option<&str> {
+    text_in(table_in(manifest, "package")?, WORKSPACE)
+}
+
+/// A file that has been read.
+#[derive(Drop)]
+struct ReadFile {
+    /// None if the file can't be used, or if the document has been taken.
+    document: Option<Document>,
+    is_taken: bool,
+    /// How often the document is still to be taken, as far as that is known.
+    uses: usize,
+    root: RootPlace,
+}
+
+impl ReadFile {
+    /// Returns what a file that can't be used has.
+    fn none() -> ReadFile {
+        ReadFile {
+            document: None,
+            is_taken: false,
+            uses: 0,
+            root: RootPlace::Unsaid,
+        }
+    }
+
+    /// Reads a file of at most `limit` bytes.
+    fn read<R: Files + AllocGlobal>(
+        rt: &R,
+        file: &str,
+        limit: u64,
+    ) -> Result<ReadFile, AllocError> {
+        let alloc = rt.alloc();
+        let Some(text) = unless_refused(file_within(rt, file, limit))? else {
+            return Ok(ReadFile::none());
+        };
+        let Some(table) = table_of(alloc, text.as_str())? else {
+            return Ok(ReadFile::none());
+        };
+        let document = Document { text, table };
+        let root = RootPlace::of(alloc, &document)?;
+        Ok(ReadFile {
+            document: Some(document),
+            is_taken: false,
+            uses: 0,
+            root,
+        })
+    }
+
+    /// Returns whether the document is needed once it has been taken: by the members of its workspace, or by another
+    /// use.
+    fn stays(&self) -> bool {
+        match self.root {
+            RootPlace::Here => true,
+            _ => self.uses > 0,
+        }
+    }
+
+    /// Takes the document out, or a copy where the document stays.
+    fn take(&mut self) -> Result<Option<Document>, AllocError> {
+        self.uses = self.uses.saturating_sub(1);
+        if self.stays() {
+            return match &self.document {
+                Some(document) => Ok(Some(document.copy()?)),
+                None => Ok(None),
+            };
+        }
+        let document = self.document.take();
+        self.is_taken = document.is_some();
+        Ok(document)
+    }
+}
+
+/// Returns the path of a file without links, or the path as it is given where that is not known.
+fn real_path<R: Files + AllocGlobal>(rt: &R, file: &str) -> Result<String, AllocError> {
+    match unless_refused(fs::canonicalize(rt, file))? {
+        Some(path) => Ok(path.into_string()),
+        None => String::from_str(rt.alloc(), file),
+    }
+}
+
+/// The manifests that have been read, by the real paths of their files.
+#[derive(Drop)]
+pub struct Documents {
+    /// How many bytes a manifest may have.
+    pub limit: u64,
+    files: BTreeMap<String, ReadFile>,
+}
+
+impl Documents {
+    /// Returns no manifests. Those of more bytes than `limit` will not be used.
+    pub fn new(alloc: Global, limit: u64) -> Documents {
+        Documents {
+            limit,
+            files: BTreeMap::new(alloc),
+        }
+    }
+
+    /// Reads the file at a path, unless it has been read. If its document is needed and has been taken, the file is read
+    /// anew. Returns its real path.
+    fn read<R: Files + AllocGlobal>(
+        &mut self,
+        rt: &R,
+        file: &str,
+        needs_document: bool,
+    ) -> Result<String, AllocError> {
+        let path = real_path(rt, file)?;
+        let is_read = match self.files.get(path.as_str()) {
+            Some(read) => !needs_document || !read.is_taken,
+            None => false,
+        };
+        if !is_read {
+            let read = ReadFile::read(rt, file, self.limit)?;
+            let _before = self.files.insert(path.clone()?, read)?;
+        }
+        Ok(path)
+    }
+
+    /// Returns the manifest at a path, unless it can't be read, has more bytes than the limit, or is no TOML.
+    ///
+    /// Fails only where memory runs out.
+    pub fn get<R: Files + AllocGlobal>(
+        &mut self,
+        rt: &R,
+        file: &str,
+    ) -> Result<Option<&Document>, AllocError> {
+        let path = self.read(rt, file, true)?;
+        match self.files.get(path.as_str()) {
+            Some(read) => Ok(read.document.as_ref()),
+            None => Ok(None),
+        }
+    }
+
+    /// Returns where the root of the workspace of the manifest at a path is, by that manifest.
+    ///
+    /// Fails only where memory runs out.
+    pub(crate) fn root_place<R: Files + AllocGlobal>(
+        &mut self,
+        rt: &R,
+        file: &str,
+    ) -> Result<Option<&RootPlace>, AllocError> {
+        let path = self.read(rt, file, false)?;
+        match self.files.get(path.as_str()) {
+            Some(read) => Ok(Some(&read.root)),
+            None => Ok(None),
+        }
+    }
+
+    /// Records that the manifests at these paths are to be taken, each as often as it occurs.
+    ///
+    /// Fails only where memory runs out.
+    pub(crate) fn expect_uses<R: Files + AllocGlobal>(
+        &mut self,
+        rt: &R,
+        files: &[String],
+    ) -> Result<(), AllocError> {
+        for file in files {
+            let path = real_path(rt, file.as_str())?;
+            if let Some(read) = self.files.get_mut(path.as_str()) {
+                read.uses = read.uses.saturating_add(1);
+            }
+        }
+        Ok(())
+    }
+
+    /// Takes the manifest at a path out, if it has been read and can be used. If it is still needed, it is copied.
+    /// Standard input has not been read.
+    ///
+    /// Fails only where memory runs out.
+    pub fn take<R: Files + AllocGlobal>(
+        &mut self,
+        rt: &R,
+        file: &str,
+    ) -> Result<Option<Document>, AllocError> {
+        if file == INPUT {
+            return Ok(None);
+        }
+        let path = real_path(rt, file)?;
+        match self.files.get_mut(path.as_str()) {
+            Some(read) => read.take(),
+            None => Ok(None),
+        }
+    }
+}
