@@ -21,7 +21,7 @@ pub struct Asked<'a> {
 
 /// What is known of the packages of a graph by their names.
 #[derive(Drop)]
-struct Names<'a> {
+pub struct Names<'a> {
     /// For each node the place of its package among those of the document.
     packages: Vec<usize>,
     /// For each node the places of its features' names.
@@ -55,7 +55,7 @@ fn are_same(name: &str, other: &str) -> bool {
 }
 
 /// The places of the packages' ids.
-fn places_of_ids<'a>(alloc: Global, metadata: &Metadata<'a>) -> Result<Places<'a>, AllocError> {
+pub fn places_of_ids<'a>(alloc: Global, metadata: &Metadata<'a>) -> Result<Places<'a>, AllocError> {
     let mut ids = Places::new(alloc);
     'packages: for i in 0..metadata.packages.len() {
         ids.add(metadata.packages[i].id, i)?;
@@ -78,7 +78,7 @@ fn places_of_features<'a>(
 }
 
 /// The names of a graph.
-fn names_of<'a>(
+pub fn names_of<'a>(
     alloc: Global,
     metadata: &Metadata<'a>,
     manifests: &[Manifest<'a>],
@@ -100,7 +100,11 @@ fn names_of<'a>(
 
 impl<'a> Names<'a> {
     /// What the package of a node declares.
-    fn manifest<'m>(&self, manifests: &'m [Manifest<'a>], node: usize) -> Option<&'m Manifest<'a>> {
+    pub fn manifest<'m>(
+        &self,
+        manifests: &'m [Manifest<'a>],
+        node: usize,
+    ) -> Option<&'m Manifest<'a>> {
         manifests.get(*self.packages.get(node)?)
     }
 
@@ -111,7 +115,7 @@ impl<'a> Names<'a> {
 }
 
 /// The name of the package of a node.
-fn name_of<'a>(metadata: &Metadata<'a>, names: &Names<'a>, node: usize) -> &'a str {
+pub fn name_of<'a>(metadata: &Metadata<'a>, names: &Names<'a>, node: usize) -> &'a str {
     let Some(place) = names.packages.get(node) else {
         return "";
     };
@@ -123,7 +127,7 @@ fn name_of<'a>(metadata: &Metadata<'a>, names: &Names<'a>, node: usize) -> &'a s
 
 /// Whether an edge from a node is one of a declared dependency, but for its kind and condition: it leads to a package
 /// of that name, and has the name that code calls it by. An edge from a package to itself has the library's name.
-fn is_edge_of<'a>(
+pub fn is_edge_of<'a>(
     metadata: &Metadata<'a>,
     manifests: &[Manifest<'a>],
     names: &Names<'a>,
@@ -190,7 +194,7 @@ fn dependency_of<'a>(
 }
 
 /// The name that a package's manifest gives a dependency.
-fn toml_name<'a>(declared: &Declared<'a>) -> &'a str {
+pub fn toml_name<'a>(declared: &Declared<'a>) -> &'a str {
     declared.rename.unwrap_or(declared.name)
 }
 
@@ -331,7 +335,7 @@ fn features_of<'a>(
 }
 
 /// The text of a feature that is asked of a root: without the root's own name, where that stands before it.
-fn text_asked<'a>(root: &str, text: &'a str) -> &'a str {
+pub fn text_asked<'a>(root: &str, text: &'a str) -> &'a str {
     match text.split_once('/') {
         Some((first, feature)) if first == root => feature,
         _ => text,

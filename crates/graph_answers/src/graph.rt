@@ -4,6 +4,7 @@ use crate::asked::{Asked, Show, Words};
 use crate::edges::show_edges;
 use crate::features::show_features;
 use crate::groups::{AskedTable, grouped};
+use crate::incomplete::refuse_filtered;
 use crate::licences::{Audit, show_licences};
 use crate::packages::show_packages;
 use crate::page::page_of;
@@ -264,6 +265,7 @@ fn report_on_document(
 ) -> Result<Report, Refusal> {
     let metadata = metadata_of(alloc, file, document)?;
     let mut linked = linked_from(alloc, file, &metadata, asked.packages)?;
+    refuse_filtered(alloc, file, document, &metadata, &linked)?;
     match table {
         Some(table) => {
             let groups = grouped(alloc, table, &metadata, &mut linked)?;

@@ -10,6 +10,7 @@ mod features;
 mod file_conditions;
 mod graph;
 mod groups;
+mod incomplete;
 mod licences;
 mod lines;
 mod packages;

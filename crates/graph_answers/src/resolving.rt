@@ -1,12 +1,14 @@
 //! Which features are asked for, and what they turn on.
 
 use crate::asked::{Asked, Show, Words, unusable_words};
+use crate::incomplete::refuse_lacking;
 use crate::refused::unusable;
 use cargo_features::{Build, Claim, Resolved, resolve};
 use cargo_metadata::Metadata;
 use cargo_metadata::graphs::Linked;
 use declared_features::{
-    Asked as AskedFeatures, Described, Manifest, Refusal, described_features, read_manifests,
+    Asked as AskedFeatures, Declaring, Described, Manifest, Refusal, described_features,
+    read_manifests,
 };
 use key_answers::answer::Refusal as NoAnswer;
 use key_answers::printing::shown_name;
@@ -303,12 +305,12 @@ fn host_of(alloc: Global, asked: &Asked<'_>) -> Result<KnownTarget, NoAnswer> {
 }
 
 /// What the features of a graph turn on, if that is asked for.
-pub fn features_of<'a>(
+pub fn features_of<'m, 'a>(
     alloc: Global,
     file: &str,
     document: &'a Value,
-    metadata: &Metadata<'a>,
-    linked: &Linked<'a>,
+    metadata: &'m Metadata<'a>,
+    linked: &'m Linked<'a>,
     asked: &Asked<'_>,
     words: &Words<'_>,
 ) -> Result<Option<Features<'a>>, NoAnswer> {
@@ -327,9 +329,16 @@ pub fn features_of<'a>(
         all: words.all_features,
     };
     let Described { packages, edges } = described_features(
-        alloc, metadata, &manifests, linked, &features,
+        alloc, &*metadata, &manifests, &*linked, &features,
     )?;
     let resolved = resolve(alloc, packages, build_of(resolver, asked.kinds, host))?;
+    let graph = Declaring {
+        document,
+        metadata: &*metadata,
+        linked: &*linked,
+        manifests: &manifests,
+    };
+    refuse_lacking(alloc, file, &graph, &resolved, &features)?;
     Ok(Some(Features {
         manifests,
         places,
