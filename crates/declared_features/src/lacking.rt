@@ -1,8 +1,6 @@
 //! Declared dependencies that are on and have no edge. The document was filtered, or made with too few features.
 
-use crate::linking::{
-    Asked, Names, is_edge_of, name_of, names_of, places_of_ids, text_asked, toml_name,
-};
+use crate::linking::{Asked, Names, is_edge_of, name_of, names_of, places_of_ids, toml_name};
 use crate::manifests::{Declared, Manifest};
 use cargo_features::{Claim, Resolved};
 use cargo_metadata::graphs::Linked;
@@ -274,20 +272,6 @@ fn on_as_resolved<'a>(
     Ok(names)
 }
 
-/// Adds the optional dependencies of a root that the requested features turn on by themselves, as `d/f`.
-fn add_requested<'a>(
-    root: &str,
-    asked: &Asked<'a>,
-    names: &mut BTreeSet<&'a str>,
-) -> Result<(), AllocError> {
-    for text in asked.names {
-        if let Some(name) = turned_on(text_asked(root, text)) {
-            let _is_new = names.insert(name)?;
-        }
-    }
-    Ok(())
-}
-
 /// Whether a declared dependency has an edge.
 fn has_edge<'a>(
     graph: &Declaring<'_, 'a>,
@@ -336,8 +320,9 @@ fn newly_on<'a>(
         return Ok(newly);
     };
     let mut on = on_as_resolved(alloc, resolved, node, manifest)?;
-    if unit.is_root {
-        add_requested(name_of(graph.metadata, names, node), asked, &mut on)?;
+    if asked.concerns(node, unit) {
+        let texts = asked.texts(alloc, name_of(graph.metadata, names, node), node)?;
+        add_turned_on(&texts, &mut on)?;
     }
     let before = on_in_document(alloc, graph.document, node, manifest)?;
     for name in &on {

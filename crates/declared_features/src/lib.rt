@@ -2,6 +2,7 @@
 //! place of names, as the feature resolver wants it.
 #![tactic(auto)]
 
+mod asked;
 mod fields;
 mod lacking;
 mod linking;

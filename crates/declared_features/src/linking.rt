@@ -1,5 +1,6 @@
 //! What packages declare, with places for names: as the feature resolver wants it.
 
+use crate::asked::starter_of;
 use crate::manifests::{Declared, Manifest};
 use crate::places::Places;
 use cargo_features::{Dependency, Member, Package};
@@ -17,6 +18,11 @@ pub struct Asked<'a> {
     pub default: bool,
     /// Whether all of them are.
     pub all: bool,
+    /// The node of the package of the current directory, which Cargo's resolver 1 makes active. It alone has the names
+    /// and `default`, and other roots have their default features. Without one, all roots have them.
+    pub current: Option<usize>,
+    /// The features that are requested of other roots, each after the name of its root.
+    pub of_others: &'a [(&'a str, &'a str)],
 }
 
 /// What is known of the packages of a graph by their names.
@@ -358,12 +364,12 @@ fn asked_of<'a>(
             members.push(Member::Feature(i))?;
         }
     }
-    if asked.default {
+    if asked.has_default(node) {
         push_listed(names, found, node, "default", &mut members)?;
     }
-    let root = name_of(metadata, names, node);
-    for text in asked.names {
-        push_listed(names, found, node, text_asked(root, text), &mut members)?;
+    let texts = asked.texts(alloc, name_of(metadata, names, node), node)?;
+    for text in &texts {
+        push_listed(names, found, node, text, &mut members)?;
     }
     Ok(members)
 }
@@ -434,7 +440,11 @@ fn described_of<'a>(
     unit: &Unit,
     asked: &Asked<'a>,
 ) -> Result<(Package, Vec<usize>), AllocError> {
-    let asked = if unit.is_root { Some(asked) } else { None };
+    let asked = if asked.concerns(node, unit) {
+        Some(asked)
+    } else {
+        None
+    };
     let found = dependencies_of(alloc, metadata, manifests, names, node, unit)?;
     let features = lists_of(alloc, metadata, manifests, names, &found, node, asked)?;
     let edges = edges_of(alloc, &found)?;
@@ -459,6 +469,12 @@ pub fn described_features<'a>(
         let (package, edges) = described_of(alloc, metadata, manifests, &names, i, unit, asked)?;
         described.packages.push(package)?;
         described.edges.push(edges)?;
+    }
+    if let Some(current) = asked.current {
+        if let Some(package) = starter_of(alloc, &described.packages, current)? {
+            described.packages.push(package)?;
+            described.edges.push(Vec::new(alloc))?;
+        }
     }
     Ok(described)
 }

@@ -12,6 +12,7 @@ use crate::refused::{refuse_depth, refused_document, refused_graph, unusable};
 use crate::resolving::{Features, features_of};
 use crate::targets::show_targets;
 use crate::unified::show_unified;
+use crate::unsupported::refuse_unsupported;
 use crate::why::show_why;
 use cargo_metadata::graphs::{Linked, link};
 use cargo_metadata::{Metadata, Package as Described, read};
@@ -147,6 +148,7 @@ fn metadata_of<'a>(
     match read(alloc, document) {
         Ok(metadata) => {
             refuse_depth(alloc, file, &metadata)?;
+            refuse_unsupported(alloc, file, document)?;
             Ok(metadata)
         }
         Err(refusal) => Err(refused_document(alloc, file, document, &refusal)),

@@ -4,6 +4,7 @@
 
 pub mod asked;
 mod conditions;
+mod current;
 mod edges;
 mod faults;
 mod features;
@@ -20,6 +21,7 @@ mod refused;
 mod resolving;
 mod targets;
 mod unified;
+mod unsupported;
 mod why;
 
 pub use graph::{Report, package_lines, report_on};

@@ -1,6 +1,7 @@
 //! Which features are asked for, and what they turn on.
 
 use crate::asked::{Asked, Show, Words, unusable_words};
+use crate::current::{current_of, divided, refuse_unknown_of};
 use crate::incomplete::refuse_lacking;
 use crate::refused::unusable;
 use cargo_features::{Build, Claim, Resolved, resolve};
@@ -197,7 +198,7 @@ fn unknown_feature<'a>(
             ) else {
                 continue;
             };
-            is_known |= has_feature(found.name, manifest, name);
+            is_known |= has_feature(Some(found.name), manifest, name);
         }
         if !is_known {
             return Some(*name);
@@ -206,10 +207,10 @@ fn unknown_feature<'a>(
     None
 }
 
-/// Whether a package has a feature of this name: `f`, its own name before it, or that of a dependency.
-fn has_feature(package: &str, manifest: &Manifest<'_>, name: &str) -> bool {
+/// Whether a package has a feature of this name: `f`, its own name before it if that may be, or that of a dependency.
+pub fn has_feature(package: Option<&str>, manifest: &Manifest<'_>, name: &str) -> bool {
     let own = match name.split_once('/') {
-        Some((first, feature)) if first == package => feature,
+        Some((first, feature)) if package == Some(first) => feature,
         Some((first, _)) => {
             let first = first.strip_suffix("?").unwrap_or(first);
             for declared in &manifest.dependencies {
@@ -321,13 +322,24 @@ pub fn features_of<'m, 'a>(
     let manifests = manifests_of(alloc, file, document)?;
     let resolver = resolver_of(alloc, file, words, document, &manifests)?;
     let places = places_of(alloc, metadata, linked)?;
+    let current = if resolver == Resolver::One && root_place(document).is_some() {
+        Some(current_of(alloc, file, document, metadata)?)
+    } else {
+        None
+    };
     let names = names_of(alloc, words.features)?;
-    refuse_unknown(alloc, file, &names, metadata, &manifests, linked, &places)?;
+    let (names, of_others) = divided(alloc, names, current, linked)?;
+    if current.is_none() {
+        refuse_unknown(alloc, file, &names, metadata, &manifests, linked, &places)?;
+    }
     let features = AskedFeatures {
         names: &names,
         default: !words.no_default,
         all: words.all_features,
+        current,
+        of_others: &of_others,
     };
+    refuse_unknown_of(alloc, file, linked, &manifests, &places, &features)?;
     let Described { packages, edges } = described_features(
         alloc, &*metadata, &manifests, &*linked, &features,
     )?;
