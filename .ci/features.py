@@ -54,10 +54,11 @@ class Build:
         if not self.current:
             return features
         others = {self.packages[it]["name"] for it in self.roots if it != self.current}
-        of_others = [f.replace("?/", "/").split("/", 1) for f in features if f.replace("?/", "/").split("/")[0] in others]
+        divided = [f.replace("?/", "/").split("/", 1) for f in features]
+        of_others = [it for it in divided if len(it) == 2 and it[0] in others]
         if root != self.current:
             return [f for name, f in of_others if name == self.packages[root]["name"]]
-        return [f for f in features if f.replace("?/", "/").split("/", 1) not in of_others]
+        return [f for f, it in zip(features, divided) if it not in of_others]
 
     def is_macro(self, package):
         return any("proc-macro" in target["kind"] for target in self.packages[package]["targets"])
