@@ -18,6 +18,12 @@ def library_name(package):
     return package["name"].replace("-", "_")
 
 
+def has_root_package(document):
+    """Whether the manifest of the workspace is that of a package."""
+    manifest = document.get("workspace_root", "") + "/Cargo.toml"
+    return any(package["manifest_path"] == manifest for package in document["packages"])
+
+
 class Build:
     """What is built for a target on a host. `holds_at` tells the targets of a condition."""
 
@@ -32,13 +38,27 @@ class Build:
         self.turned_on = collections.defaultdict(set)
         self.deferred = collections.defaultdict(set)
         self.processed = set()
-        for root in roots:
+        # Resolver 1 gives the features to the package of the current directory, and makes it active.
+        self.current = None if self.is_new or not has_root_package(document) else document["resolve"]["root"]
+        self.active = [*roots, *([self.current] if self.current and self.current not in roots else [])]
+        for root in self.active:
             table = self.packages[root]["features"]
-            asked = list(table) if all_on else [f for f in features if f in table or "/" in f]
-            asked += ["default"] if default and "default" in table else []
+            asked = list(table) if all_on else [f for f in self.asked_of(root, features) if f in table or "/" in f]
+            asked += ["default"] if (default or root != (self.current or root)) and "default" in table else []
             self.activate(root, "target", asked)
             if self.is_macro(root):
                 self.activate(root, "host", asked)
+
+    def asked_of(self, root, features):
+        """The features that are asked of a root by their names."""
+        if not self.current:
+            return features
+        others = {self.packages[it]["name"] for it in self.roots if it != self.current}
+        divided = [f.replace("?/", "/").split("/", 1) for f in features]
+        of_others = [it for it in divided if len(it) == 2 and it[0] in others]
+        if root != self.current:
+            return [f for name, f in of_others if name == self.packages[root]["name"]]
+        return [f for f, it in zip(features, divided) if it not in of_others]
 
     def is_macro(self, package):
         return any("proc-macro" in target["kind"] for target in self.packages[package]["targets"])
@@ -71,7 +91,7 @@ class Build:
 
     def dependencies(self, package, side):
         for one in self.declared[package]:
-            if one.kind == "dev" and package not in self.roots:
+            if one.kind == "dev" and package not in self.active:
                 continue
             if not self.is_new:
                 yield one, "target"

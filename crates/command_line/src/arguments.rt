@@ -331,9 +331,9 @@ const GRAPH: Subcommand = Subcommand {
     name: "graph",
     about: "List the packages of a build, the targets on which they are in it, and why",
     end: "Example: cargo metadata --format-version 1 | manifest_check graph --show why --of libc\n\n\
-          A file that was made with --filter-platform can't be told from a whole one. The features that `cargo \
-          metadata` turned on are on, unless you resolve features for a --host, with --resolver or any other option \
-          on features.\n\n\
+          A file is rejected if it lacks dependencies, since it was made with --no-deps, --filter-platform or fewer \
+          features than you select. The features that `cargo metadata` turned on are on, unless you resolve features \
+          for a --host, with --resolver or any other option on features.\n\n\
           Exit status: 0 if no package is reported by --allow or --allow-file, 1 if one is, 2 if an argument or the \
           document is invalid. A condition with more than 100,000 nested groups is invalid.",
     arguments: &[

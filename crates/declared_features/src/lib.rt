@@ -2,11 +2,14 @@
 //! the input of the feature resolver, which has indexes in place of names.
 #![tactic(auto)]
 
+mod asked;
 mod fields;
+mod lacking;
 mod linking;
 mod manifests;
 mod places;
 
 pub use fields::{Wanted, Wrong};
+pub use lacking::{Declaring, Lacking, first_filtered, first_lacking};
 pub use linking::{Asked, Described, described_features};
 pub use manifests::{Declared, Feature, InDeclared, InManifest, Manifest, Refusal, read_manifests};

@@ -1,5 +1,6 @@
 //! The declarations of packages, translated into the input of the feature resolver: names become indexes.
 
+use crate::asked::starter_of;
 use crate::manifests::{Declared, Manifest};
 use crate::places::Places;
 use cargo_features::{Dependency, Member, Package};
@@ -18,11 +19,16 @@ pub struct Asked<'a> {
     pub default: bool,
     /// True if all features are requested.
     pub all: bool,
+    /// The node of the package of the current directory, which Cargo's resolver 1 makes active. It alone has the names
+    /// and `default`, and other roots have their default features. Without one, all roots have them.
+    pub current: Option<usize>,
+    /// The features that are requested of other roots, each after the name of its root.
+    pub of_others: &'a [(&'a str, &'a str)],
 }
 
 /// The packages of a graph and their features, by name.
 #[derive(Drop)]
-struct Names<'a> {
+pub struct Names<'a> {
     /// For each node, the index of its package among those of the document.
     packages: Vec<usize>,
     /// For each node, the indexes of its features by name.
@@ -56,7 +62,7 @@ fn are_same(name: &str, other: &str) -> bool {
 }
 
 /// Returns the indexes of the packages by id.
-fn places_of_ids<'a>(alloc: Global, metadata: &Metadata<'a>) -> Result<Places<'a>, AllocError> {
+pub fn places_of_ids<'a>(alloc: Global, metadata: &Metadata<'a>) -> Result<Places<'a>, AllocError> {
     let mut ids = Places::new(alloc);
     'packages: for i in 0..metadata.packages.len() {
         ids.add(metadata.packages[i].id, i)?;
@@ -79,7 +85,7 @@ fn places_of_features<'a>(
 }
 
 /// Returns the packages and features of a graph by name.
-fn names_of<'a>(
+pub fn names_of<'a>(
     alloc: Global,
     metadata: &Metadata<'a>,
     manifests: &[Manifest<'a>],
@@ -101,7 +107,11 @@ fn names_of<'a>(
 
 impl<'a> Names<'a> {
     /// Returns the declarations of the package of a node.
-    fn manifest<'m>(&self, manifests: &'m [Manifest<'a>], node: usize) -> Option<&'m Manifest<'a>> {
+    pub fn manifest<'m>(
+        &self,
+        manifests: &'m [Manifest<'a>],
+        node: usize,
+    ) -> Option<&'m Manifest<'a>> {
         manifests.get(*self.packages.get(node)?)
     }
 
@@ -112,7 +122,7 @@ impl<'a> Names<'a> {
 }
 
 /// Returns the name of the package of a node, or the empty text if there is none.
-fn name_of<'a>(metadata: &Metadata<'a>, names: &Names<'a>, node: usize) -> &'a str {
+pub fn name_of<'a>(metadata: &Metadata<'a>, names: &Names<'a>, node: usize) -> &'a str {
     let Some(place) = names.packages.get(node) else {
         return "";
     };
@@ -125,7 +135,7 @@ fn name_of<'a>(metadata: &Metadata<'a>, names: &Names<'a>, node: usize) -> &'a s
 /// Returns whether an edge belongs to a declared dependency, apart from its kind and condition: it leads to a package
 /// with the declared name, and has the name by which code refers to the dependency. An edge from a package to itself
 /// has the library's name.
-fn is_edge_of<'a>(
+pub fn is_edge_of<'a>(
     metadata: &Metadata<'a>,
     manifests: &[Manifest<'a>],
     names: &Names<'a>,
@@ -192,7 +202,7 @@ fn dependency_of<'a>(
 }
 
 /// Returns the name that a package's manifest gives a dependency.
-fn toml_name<'a>(declared: &Declared<'a>) -> &'a str {
+pub fn toml_name<'a>(declared: &Declared<'a>) -> &'a str {
     declared.rename.unwrap_or(declared.name)
 }
 
@@ -334,7 +344,7 @@ fn features_of<'a>(
 }
 
 /// Returns a feature that is requested of a root, without the root's own name before it.
-fn text_asked<'a>(root: &str, text: &'a str) -> &'a str {
+pub fn text_asked<'a>(root: &str, text: &'a str) -> &'a str {
     match text.split_once('/') {
         Some((first, feature)) if first == root => feature,
         _ => text,
@@ -357,12 +367,12 @@ fn asked_of<'a>(
             members.push(Member::Feature(i))?;
         }
     }
-    if asked.default {
+    if asked.has_default(node) {
         push_listed(names, found, node, "default", &mut members)?;
     }
-    let root = name_of(metadata, names, node);
-    for text in asked.names {
-        push_listed(names, found, node, text_asked(root, text), &mut members)?;
+    let texts = asked.texts(alloc, name_of(metadata, names, node), node)?;
+    for text in &texts {
+        push_listed(names, found, node, text, &mut members)?;
     }
     Ok(members)
 }
@@ -433,7 +443,11 @@ fn described_of<'a>(
     unit: &Unit,
     asked: &Asked<'a>,
 ) -> Result<(Package, Vec<usize>), AllocError> {
-    let asked = if unit.is_root { Some(asked) } else { None };
+    let asked = if asked.concerns(node, unit) {
+        Some(asked)
+    } else {
+        None
+    };
     let found = dependencies_of(alloc, metadata, manifests, names, node, unit)?;
     let features = lists_of(alloc, metadata, manifests, names, &found, node, asked)?;
     let edges = edges_of(alloc, &found)?;
@@ -458,6 +472,12 @@ pub fn described_features<'a>(
         let (package, edges) = described_of(alloc, metadata, manifests, &names, i, unit, asked)?;
         described.packages.push(package)?;
         described.edges.push(edges)?;
+    }
+    if let Some(current) = asked.current {
+        if let Some(package) = starter_of(alloc, &described.packages, current)? {
+            described.packages.push(package)?;
+            described.edges.push(Vec::new(alloc))?;
+        }
     }
     Ok(described)
 }

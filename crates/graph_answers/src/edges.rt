@@ -3,7 +3,7 @@
 use crate::asked::Asked;
 use crate::conditions::Finder;
 use crate::graph::Graph;
-use crate::lines::{kind_word, push, shown_condition, shown_package, shown_targets};
+use crate::lines::{kind_word, push, shown_condition, shown_targets};
 use cargo_metadata::Kind;
 use cargo_platform::{CfgExpr, Platform, ReadError};
 use key_answers::answer::{Answer, Status};
@@ -188,11 +188,8 @@ fn push_line(
     edge: &Edge<'_>,
     asked: &Asked<'_>,
 ) -> Result<(), AllocError> {
-    let (Some(from), Some(to)) = (graph.described(edge.from), graph.described(edge.to)) else {
-        return Ok(());
-    };
-    let from = shown_package(alloc, from)?;
-    let to = shown_package(alloc, to)?;
+    let from = graph.shown(alloc, edge.from)?;
+    let to = graph.shown(alloc, edge.to)?;
     let kind = shown_kind(alloc, edge)?;
     let targets = shown_targets(alloc, followed(graph, edge, asked), asked)?;
     let line = format!(in alloc; "{from} -> {to}, {kind}: {targets}\n")?;

@@ -2,7 +2,7 @@
 
 use crate::asked::Asked;
 use crate::graph::Graph;
-use crate::lines::{push, shown, shown_package, shown_targets};
+use crate::lines::{push, shown, shown_targets};
 use crate::packages::name_and_version;
 use crate::resolving::Features;
 use key_answers::answer::{Answer, Status};
@@ -117,10 +117,7 @@ fn push_line(
     targets: TargetSet,
     asked: &Asked<'_>,
 ) -> Result<(), AllocError> {
-    let Some(described) = graph.described(index) else {
-        return Ok(());
-    };
-    let package = shown_package(alloc, described)?;
+    let package = graph.shown(alloc, index)?;
     let name = shown(alloc, name)?;
     let targets = shown_targets(alloc, targets, asked)?;
     let note = side_note(side);

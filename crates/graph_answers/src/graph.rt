@@ -4,13 +4,16 @@ use crate::asked::{Asked, Show, Words};
 use crate::edges::show_edges;
 use crate::features::show_features;
 use crate::groups::{AskedTable, grouped};
+use crate::incomplete::refuse_filtered;
 use crate::licences::{Audit, show_licences};
+use crate::lines::{shown, shown_package};
 use crate::packages::show_packages;
 use crate::page::page_of;
 use crate::refused::{refuse_depth, refused_document, refused_graph, unusable};
 use crate::resolving::{Features, features_of};
 use crate::targets::show_targets;
 use crate::unified::show_unified;
+use crate::unsupported::refuse_unsupported;
 use crate::why::show_why;
 use cargo_metadata::graphs::{Linked, link};
 use cargo_metadata::{Metadata, Package as Described, read};
@@ -30,6 +33,8 @@ pub struct Graph<'a> {
     pub sets: PackageSets,
     /// The indexes of the packages, sorted by name, version and id.
     pub order: Vec<usize>,
+    /// For each package whether another one has its name and version.
+    pub twins: Vec<bool>,
     /// The resolved features, if feature resolution is requested.
     pub features: Option<Features<'a>>,
 }
@@ -66,6 +71,19 @@ impl<'a> Graph<'a> {
         }
     }
 
+    /// Returns the package at a place as it is shown: its name and version, and its source if it has a twin.
+    pub fn shown(&self, alloc: Global, index: usize) -> Result<String, AllocError> {
+        let Some(described) = self.described(index) else {
+            return Ok(String::new(alloc));
+        };
+        let package = shown_package(alloc, described)?;
+        if self.twins.get(index).copied() != Some(true) {
+            return Ok(package);
+        }
+        let source = shown(alloc, source_of(described.id))?;
+        format!(in alloc; "{package} ({source})")
+    }
+
     /// Returns the description of the package at an index.
     pub fn described(&self, index: usize) -> Option<&Described<'a>> {
         self.linked.described.get(index)
@@ -85,6 +103,43 @@ fn in_order(alloc: Global, described: &[Described<'_>]) -> Result<Vec<usize>, Al
         order.push(*i)?;
     }
     Ok(order)
+}
+
+/// Returns for each package whether the one before or after it in order has its name and version.
+fn twins_of(
+    alloc: Global,
+    described: &[Described<'_>],
+    order: &[usize],
+) -> Result<Vec<bool>, AllocError> {
+    let mut twins = vec![in alloc; false; described.len()]?;
+    let mut last = described.len();
+    for place in order {
+        let (first, second) = (last, *place);
+        last = second;
+        let (Some(one), Some(other)) = (described.get(first), described.get(second)) else {
+            continue;
+        };
+        if one.name == other.name && one.version == other.version {
+            if let Some(twin) = twins.get_mut(first) {
+                *twin = true;
+            }
+            if let Some(twin) = twins.get_mut(second) {
+                *twin = true;
+            }
+        }
+    }
+    Ok(twins)
+}
+
+/// Returns the source in an id, `SOURCE#NAME@VERSION` or `NAME VERSION (SOURCE)`; the whole id if there is none.
+fn source_of<'a>(id: &'a str) -> &'a str {
+    if let Some((source, _)) = id.split_once('#') {
+        return source;
+    }
+    match id.split_once('(') {
+        Some((_, source)) => source.strip_suffix(")").unwrap_or(source),
+        None => id,
+    }
 }
 
 /// Keeps as roots only the members with one of these names, or all if there are no names. Fails with a name that no
@@ -128,11 +183,13 @@ pub fn package_lines<'a>(
     let asked = Asked::packages_on(host);
     let sets = present_packages(alloc, &linked.packages, asked.kinds, asked.host)?;
     let order = in_order(alloc, &linked.described)?;
+    let twins = twins_of(alloc, &linked.described, &order)?;
     let graph = Graph {
         metadata,
         linked,
         sets,
         order,
+        twins,
         features: None,
     };
     let answer = show_packages(alloc, &graph, &asked)?;
@@ -148,6 +205,7 @@ fn metadata_of<'a>(
     match read(alloc, document) {
         Ok(metadata) => {
             refuse_depth(alloc, file, &metadata)?;
+            refuse_unsupported(alloc, file, document)?;
             Ok(metadata)
         }
         Err(refusal) => Err(refused_document(alloc, file, document, &refusal)),
@@ -190,12 +248,14 @@ fn graph_of<'a>(
 ) -> Result<Graph<'a>, Refusal> {
     let sets = present_packages(alloc, &linked.packages, asked.kinds, asked.host)?;
     let order = in_order(alloc, &linked.described)?;
+    let twins = twins_of(alloc, &linked.described, &order)?;
     let features = features_of(alloc, file, document, &metadata, &linked, asked, words)?;
     Ok(Graph {
         metadata,
         linked,
         sets,
         order,
+        twins,
         features,
     })
 }
@@ -266,6 +326,7 @@ fn report_on_document(
 ) -> Result<Report, Refusal> {
     let metadata = metadata_of(alloc, file, document)?;
     let mut linked = linked_from(alloc, file, &metadata, asked.packages)?;
+    refuse_filtered(alloc, file, document, &metadata, &linked)?;
     match table {
         Some(table) => {
             let groups = grouped(alloc, table, &metadata, &mut linked)?;

@@ -4,12 +4,14 @@
 
 pub mod asked;
 mod conditions;
+mod current;
 mod edges;
 mod faults;
 mod features;
 mod file_conditions;
 mod graph;
 mod groups;
+mod incomplete;
 mod licences;
 mod lines;
 mod packages;
@@ -19,6 +21,7 @@ mod refused;
 mod resolving;
 mod targets;
 mod unified;
+mod unsupported;
 mod why;
 
 pub use graph::{Report, package_lines, report_on};

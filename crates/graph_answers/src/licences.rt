@@ -4,7 +4,7 @@
 use crate::asked::{Asked, Words, unusable_words};
 use crate::faults::{fault_lines, fault_message};
 use crate::graph::Graph;
-use crate::lines::{push, shown_package, shown_targets};
+use crate::lines::{push, shown_targets};
 use crate::packages::name_and_version;
 use crate::refused::unusable;
 use cargo_platform::{shown_start, shown_text};
@@ -292,11 +292,8 @@ fn push_lines(
     finding: &Finding,
     asked: &Asked<'_>,
 ) -> Result<(), AllocError> {
-    let Some(described) = graph.described(index) else {
-        return Ok(());
-    };
     let found = shown_finding(alloc, finding)?;
-    let package = shown_package(alloc, described)?;
+    let package = graph.shown(alloc, index)?;
     let targets = shown_targets(alloc, graph.at(index, asked), asked)?;
     let line = format!(in alloc; "{found}: {package}, {targets}\n")?;
     push(text, line.as_str())?;

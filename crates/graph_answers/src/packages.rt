@@ -2,7 +2,7 @@
 
 use crate::asked::Asked;
 use crate::graph::Graph;
-use crate::lines::{push, push_comma, shown_package, shown_targets};
+use crate::lines::{push, push_comma, shown_targets};
 use crate::reasons::{LeftOut, Reasons, left_out_of, shown_reasons};
 use cargo_metadata::Package as Described;
 use key_answers::answer::{Answer, Status};
@@ -167,10 +167,7 @@ fn push_line(
     asked: &Asked<'_>,
     reasons: &Option<Reasons>,
 ) -> Result<(), AllocError> {
-    let Some(described) = graph.described(index) else {
-        return Ok(());
-    };
-    let package = shown_package(alloc, described)?;
+    let package = graph.shown(alloc, index)?;
     let targets = shown_targets(alloc, graph.at(index, asked), asked)?;
     let reasons = shown_reasons(alloc, reasons, index, asked)?;
     let line = format!(in alloc; "{package}: {targets}{reasons}\n")?;

@@ -6,7 +6,7 @@ ghost use Rattle.cargo_metadata.specs.Refusals.{is_memory as is_memory_of_graph}
 
 use crate::lines::{push, shown};
 use cargo_metadata::graphs::{InDependency, Refusal as Unlinked};
-use cargo_metadata::{InResolve, Metadata, Refusal};
+use cargo_metadata::{InResolve, Metadata, Refusal, Wanted};
 use cargo_platform::ParseError;
 use input_limits::{deep_at, deep_text};
 use key_answers::answer::Refusal as NoAnswer;
@@ -51,6 +51,16 @@ fn subject_of<'a>(document: &'a Value, refusal: &Refusal) -> Option<&'a str> {
     }
 }
 
+/// Adds the command that prints a graph to the reason why a document without one is rejected.
+fn with_command(alloc: Global, reason: String, refusal: &Refusal) -> Result<String, AllocError> {
+    match refusal {
+        Refusal::Field(wrong) if matches!(wrong.wanted, Wanted::Resolve) => {
+            format!(in alloc; "{reason}: run `cargo metadata --format-version 1` without it")
+        }
+        _ => Ok(reason),
+    }
+}
+
 /// Formats why a document is not the output of `cargo metadata`. Fails if memory is refused, and if that is what
 /// `refusal` reports.
 pub fn document_reason(
@@ -64,6 +74,7 @@ pub fn document_reason(
         return Err(AllocError);
     }
     let reason = format!(in alloc; "{refusal}")?;
+    let reason = with_command(alloc, reason, refusal)?;
     about(alloc, reason, subject_of(document, refusal))
 }
 

@@ -1,12 +1,15 @@
 //! Feature resolution: the features that are requested, and what they turn on.
 
 use crate::asked::{Asked, Show, Words, unusable_words};
+use crate::current::{current_of, divided, refuse_unknown_of};
+use crate::incomplete::refuse_lacking;
 use crate::refused::unusable;
 use cargo_features::{Build, Claim, Resolved, resolve};
 use cargo_metadata::Metadata;
 use cargo_metadata::graphs::Linked;
 use declared_features::{
-    Asked as AskedFeatures, Described, Manifest, Refusal, described_features, read_manifests,
+    Asked as AskedFeatures, Declaring, Described, Manifest, Refusal, described_features,
+    read_manifests,
 };
 use key_answers::answer::Refusal as NoAnswer;
 use key_answers::printing::shown_name;
@@ -197,7 +200,7 @@ fn unknown_feature<'a>(
             ) else {
                 continue;
             };
-            is_known |= has_feature(found.name, manifest, name);
+            is_known |= has_feature(Some(found.name), manifest, name);
         }
         if !is_known {
             return Some(*name);
@@ -208,9 +211,9 @@ fn unknown_feature<'a>(
 
 /// Returns whether a package has a feature of this name: one of its own, with or without `PACKAGE/` before it, or one
 /// with the name of a dependency before it.
-fn has_feature(package: &str, manifest: &Manifest<'_>, name: &str) -> bool {
+pub fn has_feature(package: Option<&str>, manifest: &Manifest<'_>, name: &str) -> bool {
     let own = match name.split_once('/') {
-        Some((first, feature)) if first == package => feature,
+        Some((first, feature)) if package == Some(first) => feature,
         Some((first, _)) => {
             let first = first.strip_suffix("?").unwrap_or(first);
             for declared in &manifest.dependencies {
@@ -306,12 +309,12 @@ fn host_of(alloc: Global, asked: &Asked<'_>) -> Result<KnownTarget, NoAnswer> {
 }
 
 /// Resolves the features of a graph, if that is requested.
-pub fn features_of<'a>(
+pub fn features_of<'m, 'a>(
     alloc: Global,
     file: &str,
     document: &'a Value,
-    metadata: &Metadata<'a>,
-    linked: &Linked<'a>,
+    metadata: &'m Metadata<'a>,
+    linked: &'m Linked<'a>,
     asked: &Asked<'_>,
     words: &Words<'_>,
 ) -> Result<Option<Features<'a>>, NoAnswer> {
@@ -322,17 +325,35 @@ pub fn features_of<'a>(
     let manifests = manifests_of(alloc, file, document)?;
     let resolver = resolver_of(alloc, file, words, document, &manifests)?;
     let places = places_of(alloc, metadata, linked)?;
+    let current = if resolver == Resolver::One && root_place(document).is_some() {
+        Some(current_of(alloc, file, document, metadata)?)
+    } else {
+        None
+    };
     let names = names_of(alloc, words.features)?;
-    refuse_unknown(alloc, file, &names, metadata, &manifests, linked, &places)?;
+    let (names, of_others) = divided(alloc, names, current, linked)?;
+    if current.is_none() {
+        refuse_unknown(alloc, file, &names, metadata, &manifests, linked, &places)?;
+    }
     let features = AskedFeatures {
         names: &names,
         default: !words.no_default,
         all: words.all_features,
+        current,
+        of_others: &of_others,
     };
+    refuse_unknown_of(alloc, file, linked, &manifests, &places, &features)?;
     let Described { packages, edges } = described_features(
-        alloc, metadata, &manifests, linked, &features,
+        alloc, &*metadata, &manifests, &*linked, &features,
     )?;
     let resolved = resolve(alloc, packages, build_of(resolver, asked.kinds, host))?;
+    let graph = Declaring {
+        document,
+        metadata: &*metadata,
+        linked: &*linked,
+        manifests: &manifests,
+    };
+    refuse_lacking(alloc, file, &graph, &resolved, &features)?;
     Ok(Some(Features {
         manifests,
         places,

@@ -4,7 +4,7 @@ use crate::asked::Asked;
 use crate::conditions::Finder;
 use crate::edges::edges_of;
 use crate::graph::Graph;
-use crate::lines::{joined_names, push, push_comma, shown_count, shown_package};
+use crate::lines::{joined_names, push, push_comma, shown_count};
 use cargo_platform::{Cfg, shown_text, values_of};
 use key_answers::answer::{Answer, Status};
 use key_answers::json_lines;
@@ -74,14 +74,31 @@ fn asked_facts(alloc: Global, graph: &Graph<'_>) -> Result<Vec<Cfg>, AllocError>
     Ok(values)
 }
 
+/// Returns the classes in the order of their first targets.
+fn sets_of(alloc: Global, graph: &Graph<'_>) -> Result<Vec<TargetSet>, AllocError> {
+    let mut sets = classes(alloc, &different_sets(alloc, graph)?)?;
+    sets.sort_by_key(|set| first_of(*set))?;
+    Ok(sets)
+}
+
+/// Returns the classes that have a selected target. `--show targets` gives them numbers in this order, from 1 on.
+pub fn selected_classes(
+    alloc: Global,
+    graph: &Graph<'_>,
+    asked: &Asked<'_>,
+) -> Result<Vec<TargetSet>, AllocError> {
+    let mut sets = sets_of(alloc, graph)?;
+    sets.retain(|set| !set.intersection(asked.targets).is_empty());
+    Ok(sets)
+}
+
 /// Returns the classes, sorted by their first targets, each with its condition.
 fn classes_of(
     alloc: Global,
     graph: &Graph<'_>,
     asked: &Asked<'_>,
 ) -> Result<Vec<Class>, AllocError> {
-    let mut sets = classes(alloc, &different_sets(alloc, graph)?)?;
-    sets.sort_by_key(|set| first_of(*set))?;
+    let sets = sets_of(alloc, graph)?;
     let finder = Finder::of(alloc, asked, asked_facts(alloc, graph)?)?;
     let mut found = Vec::new(alloc);
     for targets in sets {
@@ -168,10 +185,7 @@ fn push_table(
     classes: &[Class],
 ) -> Result<(), AllocError> {
     for i in &graph.order {
-        let Some(described) = graph.described(*i) else {
-            continue;
-        };
-        let package = shown_package(alloc, described)?;
+        let package = graph.shown(alloc, *i)?;
         push(text, package.as_str())?;
         push_classes(text, alloc, graph.present(*i), classes)?;
     }

@@ -3,7 +3,7 @@
 use crate::asked::Asked;
 use crate::features::{side_note, side_word};
 use crate::graph::Graph;
-use crate::lines::{push, shown, shown_package, shown_targets};
+use crate::lines::{push, shown, shown_targets};
 use crate::packages::name_and_version;
 use crate::resolving::Features;
 use key_answers::answer::{Answer, Status};
@@ -129,10 +129,7 @@ fn push_line(
     built: &Built<'_>,
     asked: &Asked<'_>,
 ) -> Result<(), AllocError> {
-    let Some(described) = graph.described(index) else {
-        return Ok(());
-    };
-    let package = shown_package(alloc, described)?;
+    let package = graph.shown(alloc, index)?;
     let targets = shown_targets(alloc, built.targets, asked)?;
     let note = side_note(built.side);
     let begin = format!(in alloc; "{package}{note}: {targets}:")?;

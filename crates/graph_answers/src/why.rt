@@ -4,9 +4,10 @@
 use crate::asked::Asked;
 use crate::edges::{Edge, PathStep, edges_of, shown_kind, step_of};
 use crate::graph::Graph;
-use crate::lines::{joined_names, push, shown_count, shown_package};
+use crate::lines::{joined_names, push, push_comma, shown_count};
 use crate::packages::name_and_version;
 use crate::refused::unusable;
+use crate::targets::selected_classes;
 use cargo_metadata::Package as Described;
 use key_answers::answer::{Answer, Status, answered};
 use key_answers::json_lines;
@@ -16,6 +17,9 @@ use known_targets::TargetSet;
 use package_graphs::{Step, shortest_path};
 use serde::Serialize;
 use std::alloc::{AllocError, Global};
+
+/// So many targets that were selected by name are printed by name at most.
+const MOST_NAMES: usize = 8;
 
 /// A shortest dependency path, and the targets on which it is found.
 #[derive(Drop)]
@@ -81,6 +85,11 @@ pub fn show_why(
 ) -> Result<Answer, AllocError> {
     let mut answer = Answer::of(alloc, String::new(alloc), Status::Fine);
     let mut is_known = false;
+    let classes = if asked.json {
+        Vec::new(alloc)
+    } else {
+        selected_classes(alloc, graph, asked)?
+    };
     for i in &graph.order {
         match graph.described(*i) {
             Some(described) if described.name == asked.of => {}
@@ -91,7 +100,7 @@ pub fn show_why(
         if asked.json {
             push_objects(&mut answer.output, alloc, graph, *i, &ways, asked)?;
         } else {
-            push_lines(&mut answer.output, alloc, graph, *i, &ways, asked)?;
+            push_lines(&mut answer.output, alloc, graph, *i, &ways, &classes, asked)?;
         }
     }
     if is_known {
@@ -116,6 +125,51 @@ fn edge_of<'a>(
     Ok(None)
 }
 
+/// Returns the numbers of the classes of some targets, after `part of` if it is not all of these classes.
+fn shown_classes(
+    alloc: Global,
+    targets: TargetSet,
+    classes: &[TargetSet],
+    asked: &Asked<'_>,
+) -> Result<String, AllocError> {
+    let mut numbers = String::new(alloc);
+    let mut is_part = false;
+    for i in 0..classes.len() {
+        let class = classes[i].intersection(asked.targets);
+        let common = class.intersection(targets);
+        if common.is_empty() {
+            continue;
+        }
+        is_part |= !common.equals(class);
+        let is_first = numbers.is_empty();
+        push_comma(&mut numbers, is_first)?;
+        let number = i.saturating_add(1);
+        push(&mut numbers, format!(in alloc; "{number}")?.as_str())?;
+    }
+    let part = if is_part { "part of " } else { "" };
+    format!(in alloc; "{part}class {numbers}")
+}
+
+/// Returns the targets of a path as they are shown: `all` selected ones, few by name, or how many of which classes.
+fn shown_way(
+    alloc: Global,
+    targets: TargetSet,
+    classes: &[TargetSet],
+    asked: &Asked<'_>,
+) -> Result<String, AllocError> {
+    let number = asked.count_of(targets);
+    let count = shown_count(alloc, number)?;
+    if asked.are_named && number <= MOST_NAMES {
+        let names = joined_names(alloc, targets, asked)?;
+        return format!(in alloc; "{count}: {names}");
+    }
+    if targets.equals(asked.targets) {
+        return String::from_str(alloc, "all");
+    }
+    let classes = shown_classes(alloc, targets, classes, asked)?;
+    format!(in alloc; "{count}: {classes}")
+}
+
 /// Appends the lines of the dependency paths to a package.
 fn push_lines(
     text: &mut String,
@@ -123,20 +177,17 @@ fn push_lines(
     graph: &Graph<'_>,
     index: usize,
     ways: &[Way],
+    classes: &[TargetSet],
     asked: &Asked<'_>,
 ) -> Result<(), AllocError> {
-    let Some(described) = graph.described(index) else {
-        return Ok(());
-    };
-    let package = shown_package(alloc, described)?;
+    let package = graph.shown(alloc, index)?;
     if ways.is_empty() {
         let line = format!(in alloc; "{package}: nowhere\n")?;
         return push(text, line.as_str());
     }
     for way in ways {
-        let count = shown_count(alloc, asked.count_of(way.targets))?;
-        let names = joined_names(alloc, way.targets, asked)?;
-        let line = format!(in alloc; "{package}: {count}: {names}\n")?;
+        let targets = shown_way(alloc, way.targets, classes, asked)?;
+        let line = format!(in alloc; "{package}: {targets}\n")?;
         push(text, line.as_str())?;
         push_path(text, alloc, graph, index, way)?;
     }
@@ -155,21 +206,17 @@ fn push_path(
         Some(step) => step.from,
         None => index,
     };
-    if let Some(described) = graph.described(root) {
-        let package = shown_package(alloc, described)?;
-        let line = format!(in alloc; "    {package}, a member of the workspace\n")?;
-        push(text, line.as_str())?;
-    }
+    let package = graph.shown(alloc, root)?;
+    let line = format!(in alloc; "    {package}, a member of the workspace\n")?;
+    push(text, line.as_str())?;
     for step in &way.steps {
         let Some(edge) = edge_of(alloc, graph, step)? else {
             continue;
         };
         let kind = shown_kind(alloc, &edge)?;
-        if let Some(described) = graph.described(edge.to) {
-            let package = shown_package(alloc, described)?;
-            let line = format!(in alloc; "    -> {package}, {kind}\n")?;
-            push(text, line.as_str())?;
-        }
+        let package = graph.shown(alloc, edge.to)?;
+        let line = format!(in alloc; "    -> {package}, {kind}\n")?;
+        push(text, line.as_str())?;
     }
     Ok(())
 }

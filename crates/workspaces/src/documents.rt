@@ -170,8 +170,8 @@ impl Documents {
         }
     }
 
-    /// Reads the file at a path, unless it has been read. If its document is needed and has been taken, the file is read
-    /// anew. Returns its real path.
+    /// Reads the file at a path, unless it has been read. If its document is needed and has been taken, the file is
+    /// read anew. Returns its real path.
     fn read<R: Files + AllocGlobal>(
         &mut self,
         rt: &R,

@@ -123,8 +123,8 @@ fn root_above<R: Files + Env + AllocGlobal>(
 }
 
 /// The manifest of the root of the workspace that a manifest belongs to: its own, the one that `package.workspace`
-/// names, or the nearest above with a table `workspace`. Of one that belongs to none it is its own. Manifests that can't
-/// be used are passed over.
+/// names, or the nearest above with a table `workspace`. Of one that belongs to none it is its own. Manifests that
+/// can't be used are passed over.
 pub fn root_of<R: Files + Env + AllocGlobal>(
     rt: &R,
     documents: &mut Documents,

@@ -81,8 +81,8 @@ impl Inheritable {
         Ok(())
     }
 
-    /// Returns the text of `rust-version` of a manifest's package: its own or, if it says `rust-version.workspace = true`,
-    /// the root's.
+    /// Returns the text of `rust-version` of a manifest's package: its own or, if it says
+    /// `rust-version.workspace = true`, the root's.
     pub fn rust_version_of<'a>(&'a self, manifest: &'a Table) -> Option<&'a str> {
         let package = table_in(manifest, "package")?;
         if !is_inherited(table_in(package, RUST_VERSION)) {

@@ -203,7 +203,8 @@ impl Members {
         Ok(())
     }
 
-    /// Adds the folders in the workspace to which path dependencies of the members lead, and those of the members added.
+    /// Adds the folders in the workspace to which path dependencies of the members lead, and those of the members
+    /// added.
     fn follow<R: Files + AllocGlobal>(
         &mut self,
         rt: &R,

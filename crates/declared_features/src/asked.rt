@@ -1,0 +1,104 @@
+//! Which features are asked of which packages.
+
+use crate::linking::{Asked, text_asked};
+use cargo_features::{Dependency, Package};
+use known_targets::TargetSet;
+use package_graphs::{Kind, Package as Unit};
+use std::alloc::{AllocError, Global};
+
+impl<'a> Asked<'a> {
+    /// Returns whether features are asked of the package of a node.
+    pub fn concerns(&self, node: usize, unit: &Unit) -> bool {
+        match self.current {
+            Some(current) => unit.is_root || current == node,
+            None => unit.is_root,
+        }
+    }
+
+    /// Returns whether `default` is asked of the package of a node.
+    pub fn has_default(&self, node: usize) -> bool {
+        match self.current {
+            Some(current) => self.default || current != node,
+            None => self.default,
+        }
+    }
+
+    /// Returns the texts of the features that are asked of the package of a node by their names.
+    pub fn texts(
+        &self,
+        alloc: Global,
+        package: &str,
+        node: usize,
+    ) -> Result<Vec<&'a str>, AllocError> {
+        let mut texts = Vec::new(alloc);
+        let Some(current) = self.current else {
+            for text in self.names {
+                texts.push(text_asked(package, text))?;
+            }
+            return Ok(texts);
+        };
+        if current == node {
+            for text in self.names {
+                texts.push(*text)?;
+            }
+            return Ok(texts);
+        }
+        for (name, feature) in self.of_others {
+            if *name == package {
+                texts.push(*feature)?;
+            }
+        }
+        Ok(texts)
+    }
+}
+
+/// Returns a dependency that asks for these features and that no build uses.
+fn unused(
+    alloc: Global,
+    to: usize,
+    kind: Kind,
+    features: &[usize],
+) -> Result<Dependency, AllocError> {
+    let mut asked = Vec::new(alloc);
+    for feature in features {
+        asked.push(*feature)?;
+    }
+    Ok(Dependency {
+        to,
+        kind,
+        is_optional: false,
+        holds: TargetSet::none(),
+        features: asked,
+        named: None,
+    })
+}
+
+/// Returns a root that makes the package at a place active, with what is asked of it and with its dev-dependencies, if
+/// that package is no root. Resolver 1 does so wherever a dependency is true, and a build uses neither.
+pub fn starter_of(
+    alloc: Global,
+    packages: &[Package],
+    place: usize,
+) -> Result<Option<Package>, AllocError> {
+    let Some(unit) = packages.get(place) else {
+        return Ok(None);
+    };
+    if unit.is_root {
+        return Ok(None);
+    }
+    let mut dependencies = Vec::new(alloc);
+    let last = [unit.features.len().saturating_sub(1)];
+    dependencies.push(unused(alloc, place, Kind::Normal, &last)?)?;
+    for it in &unit.dependencies {
+        if matches!(it.kind, Kind::Dev) {
+            dependencies.push(unused(alloc, it.to, it.kind, &it.features)?)?;
+        }
+    }
+    Ok(Some(Package {
+        is_root: true,
+        is_macro: false,
+        dependencies,
+        features: Vec::new(alloc),
+        asked: Vec::new(alloc),
+    }))
+}

@@ -1,0 +1,363 @@
+//! Declared dependencies that are on and have no edge. The document was filtered, or made with too few features.
+
+use crate::linking::{Asked, Names, is_edge_of, name_of, names_of, places_of_ids, toml_name};
+use crate::manifests::{Declared, Manifest};
+use cargo_features::{Claim, Resolved};
+use cargo_metadata::graphs::Linked;
+use cargo_metadata::{Dependency as Edge, Kind, Metadata};
+use package_graphs::Side;
+use serde_json::Value;
+use std::alloc::{AllocError, Global};
+use std::collections::BTreeSet;
+
+/// A document of `cargo metadata`, its graph, and what its packages declare.
+#[derive(Clone, Copy, Drop)]
+pub struct Declaring<'m, 'a> {
+    pub document: &'a Value,
+    pub metadata: &'m Metadata<'a>,
+    pub linked: &'m Linked<'a>,
+    /// In the order of the document's packages.
+    pub manifests: &'m [Manifest<'a>],
+}
+
+/// A declared dependency that has no edge, and the place of the node whose package declares it.
+#[derive(Clone, Copy, Drop)]
+pub struct Lacking<'m, 'a> {
+    pub node: usize,
+    pub declared: &'m Declared<'a>,
+}
+
+/// The name of an edge's package, its condition and the number of its kind.
+type Key<'a> = ((&'a str, &'a str), u8);
+
+/// Returns the number of a kind.
+fn number_of(kind: Kind) -> u8 {
+    match kind {
+        Kind::Normal => 0,
+        Kind::Build => 1,
+        Kind::Dev => 2,
+    }
+}
+
+/// Returns the key of the edge of a declared dependency with a condition.
+fn key_of<'a>(declared: &Declared<'a>) -> Key<'a> {
+    let condition = declared.condition.unwrap_or("");
+    ((declared.name, condition), number_of(declared.kind))
+}
+
+/// Returns the dependency that a text in a feature's list turns on: `d` for `dep:d` and `d/f`, none for `d?/f`.
+fn turned_on<'a>(text: &'a str) -> Option<&'a str> {
+    if let Some(name) = text.strip_prefix("dep:") {
+        return Some(name);
+    }
+    match text.split_once('/') {
+        Some((name, _)) if !name.ends_with("?") => Some(name),
+        _ => None,
+    }
+}
+
+/// Adds the dependencies that a list of a feature turns on.
+fn add_turned_on<'a>(texts: &[&'a str], names: &mut BTreeSet<&'a str>) -> Result<(), AllocError> {
+    for text in texts {
+        if let Some(name) = turned_on(text) {
+            let _is_new = names.insert(name)?;
+        }
+    }
+    Ok(())
+}
+
+/// Returns the features of a node that are on in the document.
+fn features_at<'a>(document: &'a Value, node: usize) -> Option<&'a [Value]> {
+    let nodes = document.get("resolve")?.get("nodes")?.as_array()?;
+    Some(nodes.get(node)?.get("features")?.as_array()?.as_slice())
+}
+
+/// Returns the optional dependencies of a node that the features in the document turn on.
+fn on_in_document<'a>(
+    alloc: Global,
+    document: &'a Value,
+    node: usize,
+    manifest: &Manifest<'a>,
+) -> Result<BTreeSet<&'a str>, AllocError> {
+    let mut features = BTreeSet::new(alloc);
+    for feature in features_at(document, node).unwrap_or(&[]) {
+        if let Some(name) = feature.as_str() {
+            let _is_new = features.insert(name)?;
+        }
+    }
+    let mut names = BTreeSet::new(alloc);
+    for feature in &manifest.features {
+        if features.contains(&feature.name) {
+            add_turned_on(&feature.lists, &mut names)?;
+        }
+    }
+    Ok(names)
+}
+
+/// Returns the names of the packages without a library. Cargo gives no edge to a dependency on such a package.
+fn without_library<'a>(
+    alloc: Global,
+    graph: &Declaring<'_, 'a>,
+) -> Result<BTreeSet<&'a str>, AllocError> {
+    let mut names = BTreeSet::new(alloc);
+    for i in 0..graph.manifests.len() {
+        if let (None, Some(package)) = (
+            graph.manifests[i].library,
+            graph.metadata.packages.get(i),
+        ) {
+            let _is_new = names.insert(package.name)?;
+        }
+    }
+    Ok(names)
+}
+
+// ---- a filtered document
+
+/// Returns the condition of an edge, if all its kinds have the same one.
+fn only_condition<'a>(edge: &Edge<'a>) -> Option<&'a str> {
+    let condition = edge.kinds.first()?.condition?;
+    for row in &edge.kinds {
+        if row.condition != Some(condition) {
+            return None;
+        }
+    }
+    Some(condition)
+}
+
+/// Returns the conditions that are the only one of some edge. A filter that keeps this edge keeps all edges under the
+/// same condition.
+fn kept_conditions<'a>(
+    alloc: Global,
+    metadata: &Metadata<'a>,
+) -> Result<BTreeSet<&'a str>, AllocError> {
+    let mut conditions = BTreeSet::new(alloc);
+    for node in &metadata.nodes {
+        for edge in &node.dependencies {
+            if let Some(condition) = only_condition(edge) {
+                let _is_new = conditions.insert(condition)?;
+            }
+        }
+    }
+    Ok(conditions)
+}
+
+/// Returns the keys of the edges of a node that have a condition.
+fn keys_of<'a>(
+    alloc: Global,
+    graph: &Declaring<'_, 'a>,
+    node: usize,
+) -> Result<BTreeSet<Key<'a>>, AllocError> {
+    let mut keys = BTreeSet::new(alloc);
+    let (Some(written), Some(unit)) = (
+        graph.metadata.nodes.get(node),
+        graph.linked.packages.get(node),
+    ) else {
+        return Ok(keys);
+    };
+    let mut place: usize = 0;
+    for edge in &written.dependencies {
+        for row in &edge.kinds {
+            if let (Some(linked), Some(condition)) = (unit.dependencies.get(place), row.condition) {
+                if let Some(package) = graph.linked.described.get(linked.to) {
+                    let key = ((package.name, condition), number_of(row.kind));
+                    let _is_new = keys.insert(key)?;
+                }
+            }
+            place = place.saturating_add(1);
+        }
+    }
+    Ok(keys)
+}
+
+/// Dependencies that no filter left out: those under a condition that the filter kept, and those on a package without a
+/// library, which have no edge in a whole document either.
+#[derive(Drop)]
+struct Kept<'a> {
+    conditions: BTreeSet<&'a str>,
+    without_library: BTreeSet<&'a str>,
+}
+
+impl<'a> Kept<'a> {
+    /// Returns whether a filter, and nothing else, may have left out a dependency. Only roots have dev-dependencies.
+    fn may_lack(&self, declared: &Declared<'a>, is_root: bool) -> bool {
+        let Some(condition) = declared.condition else {
+            return false;
+        };
+        (is_root || declared.kind != Kind::Dev)
+            && !self.conditions.contains(&condition)
+            && !self.without_library.contains(&declared.name)
+    }
+
+    /// Returns whether a filter may have left out some dependency that a package declares.
+    fn may_lack_any(&self, manifest: &Manifest<'a>, is_root: bool) -> bool {
+        for declared in &manifest.dependencies {
+            if self.may_lack(declared, is_root) {
+                return true;
+            }
+        }
+        false
+    }
+
+    /// Returns the first dependency of a node that is on and that a filter left out.
+    fn first_of<'m>(
+        &self,
+        alloc: Global,
+        graph: &Declaring<'m, 'a>,
+        node: usize,
+        manifest: &'m Manifest<'a>,
+    ) -> Result<Option<&'m Declared<'a>>, AllocError> {
+        let is_root = match graph.linked.packages.get(node) {
+            Some(unit) => unit.is_root,
+            None => false,
+        };
+        if !self.may_lack_any(manifest, is_root) {
+            return Ok(None);
+        }
+        let on = on_in_document(alloc, graph.document, node, manifest)?;
+        let keys = keys_of(alloc, graph, node)?;
+        for declared in &manifest.dependencies {
+            let is_on = !declared.is_optional || on.contains(&toml_name(declared));
+            if is_on && self.may_lack(declared, is_root) && !keys.contains(&key_of(declared)) {
+                return Ok(Some(declared));
+            }
+        }
+        Ok(None)
+    }
+}
+
+/// Returns the first dependency that `cargo metadata --filter-platform` left out of a document: one that is on, has a
+/// condition and has no edge. It refuses only where memory is refused.
+pub fn first_filtered<'m, 'a>(
+    alloc: Global,
+    graph: &Declaring<'m, 'a>,
+) -> Result<Option<Lacking<'m, 'a>>, AllocError> {
+    let ids = places_of_ids(alloc, graph.metadata)?;
+    let kept = Kept {
+        conditions: kept_conditions(alloc, graph.metadata)?,
+        without_library: without_library(alloc, graph)?,
+    };
+    for node in 0..graph.metadata.nodes.len() {
+        let place = ids.find(graph.metadata.nodes[node].id);
+        let Some(manifest) = graph.manifests.get(place.unwrap_or(graph.manifests.len())) else {
+            continue;
+        };
+        if let Some(declared) = kept.first_of(alloc, graph, node, manifest)? {
+            return Ok(Some(Lacking { node, declared }));
+        }
+    }
+    Ok(None)
+}
+
+// ---- a document that was made with too few features
+
+/// Returns whether a feature of a node is on, on some target and side.
+fn is_on(resolved: &Resolved, node: usize, feature: usize) -> bool {
+    let target = resolved.at(Claim::Feature(node, Side::Target, feature));
+    let host = resolved.at(Claim::Feature(node, Side::Host, feature));
+    !target.union(host).is_empty()
+}
+
+/// Returns the optional dependencies of a node that the resolved features turn on.
+fn on_as_resolved<'a>(
+    alloc: Global,
+    resolved: &Resolved,
+    node: usize,
+    manifest: &Manifest<'a>,
+) -> Result<BTreeSet<&'a str>, AllocError> {
+    let mut names = BTreeSet::new(alloc);
+    for i in 0..manifest.features.len() {
+        if is_on(resolved, node, i) {
+            add_turned_on(&manifest.features[i].lists, &mut names)?;
+        }
+    }
+    Ok(names)
+}
+
+/// Returns whether a declared dependency has an edge.
+fn has_edge<'a>(
+    graph: &Declaring<'_, 'a>,
+    names: &Names<'a>,
+    node: usize,
+    declared: &Declared<'a>,
+) -> bool {
+    let (Some(written), Some(unit)) = (
+        graph.metadata.nodes.get(node),
+        graph.linked.packages.get(node),
+    ) else {
+        return false;
+    };
+    let (metadata, manifests) = (graph.metadata, graph.manifests);
+    let mut place: usize = 0;
+    for edge in &written.dependencies {
+        for row in &edge.kinds {
+            if let Some(linked) = unit.dependencies.get(place) {
+                if declared.kind == row.kind
+                    && declared.condition == row.condition
+                    && is_edge_of(metadata, manifests, names, node, linked.to, edge, declared)
+                {
+                    return true;
+                }
+            }
+            place = place.saturating_add(1);
+        }
+    }
+    false
+}
+
+/// Returns the optional dependencies of a node that are on as resolved, and not on in the document.
+fn newly_on<'a>(
+    alloc: Global,
+    graph: &Declaring<'_, 'a>,
+    names: &Names<'a>,
+    node: usize,
+    resolved: &Resolved,
+    asked: &Asked<'a>,
+) -> Result<BTreeSet<&'a str>, AllocError> {
+    let mut newly = BTreeSet::new(alloc);
+    let (Some(manifest), Some(unit)) = (
+        names.manifest(graph.manifests, node),
+        graph.linked.packages.get(node),
+    ) else {
+        return Ok(newly);
+    };
+    let mut on = on_as_resolved(alloc, resolved, node, manifest)?;
+    if asked.concerns(node, unit) {
+        let texts = asked.texts(alloc, name_of(graph.metadata, names, node), node)?;
+        add_turned_on(&texts, &mut on)?;
+    }
+    let before = on_in_document(alloc, graph.document, node, manifest)?;
+    for name in &on {
+        if !before.contains(name) {
+            let _is_new = newly.insert(*name)?;
+        }
+    }
+    Ok(newly)
+}
+
+/// Returns the first dependency that is on by the resolved features, was not on in the document, and has no edge: the
+/// document was made with too few features. It refuses only where memory is refused.
+pub fn first_lacking<'m, 'a>(
+    alloc: Global,
+    graph: &Declaring<'m, 'a>,
+    resolved: &Resolved,
+    asked: &Asked<'a>,
+) -> Result<Option<Lacking<'m, 'a>>, AllocError> {
+    let names = names_of(alloc, graph.metadata, graph.manifests)?;
+    let without = without_library(alloc, graph)?;
+    for node in 0..graph.metadata.nodes.len() {
+        let Some(manifest) = names.manifest(graph.manifests, node) else {
+            continue;
+        };
+        let newly = newly_on(alloc, graph, &names, node, resolved, asked)?;
+        for declared in &manifest.dependencies {
+            if declared.is_optional
+                && newly.contains(&toml_name(declared))
+                && !without.contains(&declared.name)
+                && !has_edge(graph, &names, node, declared)
+            {
+                return Ok(Some(Lacking { node, declared }));
+            }
+        }
+    }
+    Ok(None)
+}
