@@ -1,4 +1,4 @@
-//! The subcommands, asked by the words that `clap` read.
+//! The subcommands, each run with the arguments that `clap` parsed.
 
 use crate::explaining::{explained_code, listed_codes};
 use crate::graphs::graph_answer;
@@ -23,12 +23,12 @@ use std::alloc::{AllocError, Global};
 use std::rt::{Env, Files};
 use workspaces::Documents;
 
-/// The text of a word that its subcommand requires.
+/// Returns the value of a required argument.
 fn word<'a>(matches: &ArgMatches<'a>, id: &str) -> &'a str {
     matches.get_str(id).unwrap_or("")
 }
 
-/// The text of the file of facts, or of standard input, where one is named.
+/// Reads the file that `--facts` names, or standard input, if the option is given.
 fn facts_file<R: Files + Input + AllocGlobal>(
     rt: &R,
     matches: &ArgMatches<'_>,
@@ -39,7 +39,7 @@ fn facts_file<R: Files + Input + AllocGlobal>(
     }
 }
 
-/// The targets of the file of another rustc, or of standard input, where one is named.
+/// Reads the targets in the file that `--facts-of` names, or on standard input, if the option is given.
 pub fn given_targets<R: Files + Input + AllocGlobal>(
     rt: &R,
     matches: &ArgMatches<'_>,
@@ -53,7 +53,7 @@ pub fn given_targets<R: Files + Input + AllocGlobal>(
     Ok(Some(GivenTargets::of(alloc, file, text.as_str())?))
 }
 
-/// Where the facts of targets come from, by what two options name.
+/// Returns the source of the facts of targets, by the options `--facts` and `--facts-of`.
 fn facts_from<'a>(lines: &'a Option<String>, given: &'a Option<GivenTargets>) -> FactsFrom<'a> {
     match (lines, given) {
         (_, Some(given)) => FactsFrom::File(given),
@@ -62,7 +62,7 @@ fn facts_from<'a>(lines: &'a Option<String>, given: &'a Option<GivenTargets>) ->
     }
 }
 
-/// Answers `match`.
+/// Runs `match`.
 fn match_answer<R: Files + Input + AllocGlobal>(
     rt: &R,
     matches: &ArgMatches<'_>,
@@ -78,7 +78,7 @@ fn match_answer<R: Files + Input + AllocGlobal>(
     )
 }
 
-/// How `select` is asked.
+/// Returns the target and the output format of `select`.
 fn asking_of<'a>(matches: &ArgMatches<'a>) -> Asking<'a> {
     Asking {
         target: word(matches, "target"),
@@ -86,7 +86,7 @@ fn asking_of<'a>(matches: &ArgMatches<'a>) -> Asking<'a> {
     }
 }
 
-/// What is selected where flags set these facts.
+/// Selects dependencies with the facts that compiler flags set.
 fn selected_with<R: Files + Input + Env + AllocGlobal + Clone + Drop>(
     rt: &R,
     matches: &ArgMatches<'_>,
@@ -113,7 +113,7 @@ fn selected_with<R: Files + Input + Env + AllocGlobal + Clone + Drop>(
     Ok(answer)
 }
 
-/// Answers `select`, where the words can be used.
+/// Runs `select`. Fails if an argument or a file that it names is invalid.
 fn select_answer<R: Files + Input + Env + AllocGlobal + Clone + Drop>(
     rt: &R,
     matches: &ArgMatches<'_>,
@@ -134,7 +134,7 @@ fn select_answer<R: Files + Input + Env + AllocGlobal + Clone + Drop>(
     selected_with(rt, matches, from, &flags)
 }
 
-/// Answers `select`, what can't be used too.
+/// Runs `select`, and reports an invalid argument in the output format that is selected.
 fn select_told<R: Files + Input + Env + AllocGlobal + Clone + Drop>(
     rt: &R,
     matches: &ArgMatches<'_>,
@@ -146,7 +146,7 @@ fn select_told<R: Files + Input + Env + AllocGlobal + Clone + Drop>(
     }
 }
 
-/// The other rustc whose targets count, where its file is named.
+/// Returns the rustc whose targets count instead of the built-in ones, if `--facts-of` is given.
 fn other_rustc<R: Files + Input + AllocGlobal>(
     rt: &R,
     matches: &ArgMatches<'_>,
@@ -157,7 +157,7 @@ fn other_rustc<R: Files + Input + AllocGlobal>(
     }
 }
 
-/// Answers `lint`.
+/// Runs `lint`.
 fn lint_answer<R: Files + Input + Env + AllocGlobal + Clone + Drop>(
     rt: &R,
     matches: &ArgMatches<'_>,
@@ -198,7 +198,7 @@ fn lint_answer<R: Files + Input + Env + AllocGlobal + Clone + Drop>(
     Ok(answer)
 }
 
-/// Answers `compare`.
+/// Runs `compare`.
 fn compare_answer(alloc: Global, matches: &ArgMatches<'_>) -> Result<Answer, Refusal> {
     let first = word(matches, "first");
     let second = word(matches, "second");
@@ -213,7 +213,7 @@ fn compare_answer(alloc: Global, matches: &ArgMatches<'_>) -> Result<Answer, Ref
     Ok(answer)
 }
 
-/// Answers `targets`.
+/// Runs `targets`.
 fn targets_answer<R: Files + Input + AllocGlobal>(
     rt: &R,
     matches: &ArgMatches<'_>,
@@ -226,7 +226,7 @@ fn targets_answer<R: Files + Input + AllocGlobal>(
     }
 }
 
-/// Answers `facts`.
+/// Runs `facts`.
 fn facts_answer<R: Files + Input + AllocGlobal>(
     rt: &R,
     matches: &ArgMatches<'_>,
@@ -238,7 +238,7 @@ fn facts_answer<R: Files + Input + AllocGlobal>(
     }
 }
 
-/// Answers a question on keys and targets.
+/// Runs `targets`, `facts` or `compare`.
 fn question_answer<R: Files + Input + AllocGlobal>(
     rt: &R,
     matches: &ArgMatches<'_>,
@@ -257,7 +257,7 @@ fn question_answer<R: Files + Input + AllocGlobal>(
     Ok(Answer::unusable(alloc, text))
 }
 
-/// Answers the subcommand that was asked.
+/// Runs the subcommand of the command line, and returns its output and exit status.
 pub fn answer_to<R: Files + Input + Env + AllocGlobal + Clone + Drop>(
     rt: &R,
     matches: &ArgMatches<'_>,

@@ -1,16 +1,16 @@
-//! Facts that a project knows, put among those that its manifest declares.
+//! The facts of the setting `known-facts`, added to those that a manifest declares.
 
 use std::alloc::{AllocError, Global};
 use toml::{Table, Value};
 use workspaces::put;
 
-/// Where a manifest declares facts: at the last of these members, one in the other.
+/// The path of the table in which a manifest declares facts.
 const PATH: [&str; 3] = ["lints", "rust", "unexpected_cfgs"];
 
-/// The member with the texts that declare.
+/// The member of that table with the declarations.
 const MEMBER: &str = "check-cfg";
 
-/// The text that declares a fact, which is written as `rustc --print cfg` prints it.
+/// Formats the declaration of a fact in the form of `rustc --print cfg`.
 fn declaration(alloc: Global, fact: &str) -> Result<String, AllocError> {
     match fact.split_once('=') {
         Some((key, value)) => {
@@ -22,7 +22,7 @@ fn declaration(alloc: Global, fact: &str) -> Result<String, AllocError> {
     }
 }
 
-/// What is declared by a manifest, and these facts.
+/// Returns the declarations of a manifest, followed by those of these facts.
 fn declarations(
     alloc: Global,
     declared: Option<&Value>,
@@ -40,7 +40,7 @@ fn declarations(
     Ok(Value::Array(texts))
 }
 
-/// The table that stands at a member of another, or an empty one.
+/// Copies a table, or returns an empty one if the value is not a table.
 fn table_at(alloc: Global, value: Option<&Value>) -> Result<Table, AllocError> {
     match value {
         Some(Value::Table(table)) => table.clone(),
@@ -48,7 +48,7 @@ fn table_at(alloc: Global, value: Option<&Value>) -> Result<Table, AllocError> {
     }
 }
 
-/// Adds facts to those that a manifest declares.
+/// Adds facts to those that a manifest declares. Fails only if memory is refused.
 pub fn declare(alloc: Global, manifest: &mut Table, facts: &[String]) -> Result<(), AllocError> {
     if facts.is_empty() {
         return Ok(());

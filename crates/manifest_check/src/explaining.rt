@@ -1,4 +1,4 @@
-//! What the codes of findings mean.
+//! The options `--list-codes` and `--explain` of `lint`.
 
 use anyhow::{Result, bail};
 use key_answers::answer::{Answer, Status};
@@ -6,7 +6,7 @@ use lint_reports::codes::{all_explained, unknown_lint};
 use lint_reports::weight_word;
 use std::alloc::{AllocError, Global};
 
-/// A line on each code.
+/// Lists the lints, each with its level and a summary, one per line.
 pub fn listed_codes(alloc: Global) -> Result<Answer, AllocError> {
     let mut text = String::new(alloc);
     for explained in &all_explained(alloc)? {
@@ -19,7 +19,7 @@ pub fn listed_codes(alloc: Global) -> Result<Answer, AllocError> {
     Ok(Answer::of(alloc, text, Status::Fine))
 }
 
-/// What is said of the code with this word.
+/// Explains the lint of this name. Fails if there is no such lint.
 pub fn explained_code(alloc: Global, word: &str) -> Result<Answer> {
     for explained in &all_explained(alloc)? {
         if explained.word == word {

@@ -1,4 +1,4 @@
-//! `graph`: which packages are in a build at which targets.
+//! `graph`: which packages are in a build, and on which targets.
 
 use crate::asking::given_targets;
 use crate::limits::{limit_of, text_at, text_of};
@@ -14,14 +14,14 @@ use std::alloc::Global;
 use std::rt::Files;
 use std::{fs, io};
 
-/// What is said of a file that can't be written.
+/// Returns the error for a file that can't be written.
 fn unusable(alloc: Global, file: &str, error: &io::Error) -> Result<Answer> {
     let file = shown_text(alloc, file)?;
     let text = format!(in alloc; "{file}: error: {error}\n")?;
     Ok(Answer::unusable(alloc, text))
 }
 
-/// Answers `graph`.
+/// Runs `graph`.
 pub fn graph_answer<R: Files + Input + AllocGlobal>(
     rt: &R,
     matches: &ArgMatches<'_>,
@@ -33,7 +33,7 @@ pub fn graph_answer<R: Files + Input + AllocGlobal>(
     }
 }
 
-/// The name and the text of the file of allowed licences, where one is named.
+/// Reads the file of allowed licences, and returns its name and text, if the option is given.
 fn allowed_of<'a, R: Files + AllocGlobal>(
     rt: &R,
     matches: &ArgMatches<'a>,
@@ -44,7 +44,7 @@ fn allowed_of<'a, R: Files + AllocGlobal>(
     }
 }
 
-/// Answers `graph`, with the name and the text of a file of allowed licences.
+/// Runs `graph` with the name and the text of a file of allowed licences.
 fn answer_of<R: Files + Input + AllocGlobal>(
     rt: &R,
     matches: &ArgMatches<'_>,
@@ -57,7 +57,7 @@ fn answer_of<R: Files + Input + AllocGlobal>(
     }
 }
 
-/// Answers `graph`, with a file of allowed licences, and with the targets of a file.
+/// Runs `graph` with a file of allowed licences, and with the targets of `--facts-of`.
 fn answer_with<R: Files + Input + AllocGlobal>(
     rt: &R,
     matches: &ArgMatches<'_>,
@@ -97,7 +97,7 @@ fn answer_with<R: Files + Input + AllocGlobal>(
     }
 }
 
-/// Writes the page of a report, where it has one, and answers what is printed.
+/// Writes the page of a report, if it has one, and returns the output.
 fn written<R: Files + AllocGlobal>(rt: &R, report: Report, file: Option<&str>) -> Result<Answer> {
     let Report { answer, page } = report;
     if let (Some(page), Some(file)) = (&page, file) {

@@ -1,4 +1,4 @@
-//! The rules on findings that stand in a command line and in manifests.
+//! The options of `lint` that set the levels of lints, and the one that sets when the run fails.
 
 use anyhow::{Result, bail};
 use clap::ArgMatches;
@@ -6,7 +6,7 @@ use lint_reports::codes::unknown_lint;
 use lint_reports::{Rule, Setting, Subject, Weight};
 use std::alloc::Global;
 
-/// The options by which a command line has rules.
+/// The options that set levels.
 const OPTIONS: [Setting; 3] = [Setting::Allow, Setting::Warn, Setting::Deny];
 
 /// Returns the least weight of diagnostics that make `lint` fail, or `None` if none does.
@@ -21,14 +21,14 @@ pub fn fails_from(matches: &ArgMatches<'_>) -> Option<Weight> {
     }
 }
 
-/// A rule of a command line, and the place of its word.
+/// A rule of the command line, with the index of its argument.
 #[derive(Drop)]
 struct Placed {
     place: usize,
     rule: Rule,
 }
 
-/// The rule of an option with this word.
+/// Returns the rule of an option with this value. Fails if no lint has the name.
 fn rule_of(alloc: Global, setting: Setting, word: &str, codes: &[&str]) -> Result<Rule> {
     match Subject::of(alloc, word, codes)? {
         Some(subject) => Ok(Rule {
@@ -43,7 +43,7 @@ fn rule_of(alloc: Global, setting: Setting, word: &str, codes: &[&str]) -> Resul
     }
 }
 
-/// The rules of a command line, in the order of its words. A word that is no code is refused.
+/// Returns the rules of the command line, in the order of its arguments. Fails if a value is not the name of a lint.
 pub fn command_rules(alloc: Global, matches: &ArgMatches<'_>, codes: &[&str]) -> Result<Vec<Rule>> {
     let mut placed: Vec<Placed> = Vec::new(alloc);
     for setting in OPTIONS {

@@ -1,4 +1,4 @@
-//! Inputs, read to the limit that a command line says.
+//! Inputs, read up to the limit of the option `--limit`.
 
 use cargo_platform::shown_text;
 use clap::ArgMatches;
@@ -8,12 +8,12 @@ use std::alloc::Global;
 use std::io;
 use std::rt::Files;
 
-/// How many bytes an input may have.
+/// Returns the number of bytes that an input may have.
 pub fn limit_of(matches: &ArgMatches<'_>) -> u64 {
     matches.get_one::<u64>("limit").unwrap_or(LIMIT)
 }
 
-/// The text that was read of a file to this limit, or the line that says why there is none.
+/// Returns the text of a file that was read up to this limit, or the error that says why there is none.
 fn text_read(
     alloc: Global,
     file: &str,
@@ -29,7 +29,7 @@ fn text_read(
     }
 }
 
-/// The text of a file, or of standard input where it is named `-`. One of more bytes than the limit is refused.
+/// Reads a file, or standard input if its name is `-`. Fails if it has more bytes than the limit.
 pub fn text_of<R: Files + Input + AllocGlobal>(
     rt: &R,
     file: &str,
@@ -38,7 +38,7 @@ pub fn text_of<R: Files + Input + AllocGlobal>(
     text_read(rt.alloc(), file, given_within(rt, file, limit), limit)
 }
 
-/// The text of a file. One of more bytes than the limit is refused.
+/// Reads a file. Fails if it has more bytes than the limit.
 pub fn text_at<R: Files + AllocGlobal>(rt: &R, file: &str, limit: u64) -> Result<String, Refusal> {
     text_read(rt.alloc(), file, file_within(rt, file, limit), limit)
 }

@@ -1,4 +1,4 @@
-//! `lint`: what there is to tell of the keys of a manifest.
+//! `lint`: the diagnostics on manifests and configurations.
 
 use crate::declaring::declare;
 use crate::other_rustc::{OtherRustc, declare_by, given_formers, judge_by};
@@ -24,34 +24,34 @@ use std::rt::{Env, Files};
 use toml::Table;
 use workspaces::{Documents, shorter};
 
-/// What is asked of manifests.
+/// The options of `lint`.
 #[derive(Drop)]
 pub struct Asked {
     pub style: Style,
     /// The version of the program.
     pub version: String,
-    /// The rules of the command line.
+    /// The rules of the options `--allow`, `--warn` and `--deny`.
     pub rules: Vec<Rule>,
-    /// The words for all codes.
+    /// The names of all lints.
     pub codes: Vec<&'static str>,
-    /// Each manifest without a key is named.
+    /// True if each manifest without a key is named.
     pub is_verbose: bool,
-    /// No last line sums up.
+    /// True if there is no summary.
     pub is_quiet: bool,
     /// The least weight of diagnostics that make the run fail. With `None`, none does.
     pub fails_from: Option<Weight>,
-    /// No package is left out.
+    /// True if no package is left out.
     pub is_whole: bool,
-    /// Whose targets and facts count in place of those that are known.
+    /// The rustc whose targets and facts count instead of the built-in ones.
     pub other: Option<OtherRustc>,
 }
 
-/// The words for parts of a manifest that have rules.
+/// The tables of a manifest that contain rules.
 const PACKAGE: &str = "package.metadata.manifest-check";
 
 const WORKSPACE: &str = "workspace.metadata.manifest-check";
 
-/// The rules that findings hear: those of the workspace, of the package and of the command line.
+/// The rules that apply to diagnostics: those of the workspace, of the package and of the command line.
 #[derive(Clone, Copy, Drop)]
 struct Rules<'a> {
     of_workspace: &'a [Rule],
@@ -59,7 +59,7 @@ struct Rules<'a> {
     of_command: &'a [Rule],
 }
 
-/// What is told so far.
+/// The state of a run: its options, counts and output so far.
 #[derive(Drop)]
 struct Telling<'a> {
     asked: &'a Asked,
@@ -71,7 +71,7 @@ struct Telling<'a> {
 }
 
 impl<'a> Telling<'a> {
-    /// Prints what is told, unless a rule allows it.
+    /// Prints a diagnostic, unless a rule allows it.
     fn tell(
         &mut self,
         alloc: Global,
@@ -94,7 +94,7 @@ impl<'a> Telling<'a> {
         Ok(())
     }
 
-    /// Tells what can't be used of the rules of a part of a manifest.
+    /// Reports the invalid settings in a table of a manifest.
     fn tell_faults(
         &mut self,
         alloc: Global,
@@ -110,7 +110,7 @@ impl<'a> Telling<'a> {
         Ok(())
     }
 
-    /// Tells that nothing needs a rule of a part of a manifest.
+    /// Reports a rule in a table of a manifest that no diagnostic needs.
     fn tell_unneeded(
         &mut self,
         alloc: Global,
@@ -127,7 +127,7 @@ impl<'a> Telling<'a> {
         )
     }
 
-    /// Tells what there is to tell of the root of a workspace, once its members are asked.
+    /// Reports the diagnostics on the settings of a workspace's root, after those on its members.
     fn tell_root(&mut self, alloc: Global, root: &Root) -> Result<(), AllocError> {
         let asked = self.asked;
         let rules = Rules {
@@ -148,7 +148,7 @@ impl<'a> Telling<'a> {
         Ok(())
     }
 
-    /// Tells what is found of a manifest, and of the rules that it has.
+    /// Reports the diagnostics on a manifest and on its settings.
     fn tell_of(
         &mut self,
         alloc: Global,
@@ -183,14 +183,14 @@ impl<'a> Telling<'a> {
 #[derive(Drop)]
 struct Beside<'s> {
     settings: &'s Settings,
-    /// Names that rustc knew before.
+    /// The names that rustc knew only until some release.
     formers: Formers,
-    /// What stands at wrong places.
+    /// The diagnostics on misplaced tables and unread fields.
     wrong: Vec<WrongPlace>,
 }
 
 impl<'a> Telling<'a> {
-    /// Tells what is found of a manifest.
+    /// Reports the diagnostics on a manifest.
     fn tell_found(
         &mut self,
         alloc: Global,
@@ -204,7 +204,7 @@ impl<'a> Telling<'a> {
     }
 }
 
-/// What rules see of a finding.
+/// Returns the properties of a diagnostic on which rules depend.
 fn weighed_of<'a>(told: &Told<'a>) -> Weighed<'a> {
     Weighed {
         code: told.code,
@@ -213,7 +213,7 @@ fn weighed_of<'a>(told: &Told<'a>) -> Weighed<'a> {
     }
 }
 
-/// What rules see of findings.
+/// Returns the properties of diagnostics on which rules depend.
 fn weighed_in<'a>(alloc: Global, found: &[Told<'a>]) -> Result<Vec<Weighed<'a>>, AllocError> {
     let mut weighed = Vec::new(alloc);
     for told in found {
@@ -246,7 +246,7 @@ fn is_left_out(root: &Root, report: &Report<'_>, beside: &Beside<'_>, finding: &
     }
 }
 
-/// What is told of the keys of a manifest.
+/// Returns the diagnostics on a manifest, before rules apply.
 fn told_in<'a>(
     alloc: Global,
     root: &Root,
@@ -271,7 +271,7 @@ fn told_in<'a>(
     Ok(told)
 }
 
-/// What is told of names that rustc knew before, in the order in which their keys appear, where that is known.
+/// Returns the diagnostics on names that rustc knew only until some release, in the order of the lines of their keys.
 fn formers_told<'a>(
     alloc: Global,
     manifest: &'a Manifest,
@@ -285,7 +285,7 @@ fn formers_told<'a>(
     Ok(told)
 }
 
-/// What is told of the keys that are not decided.
+/// Appends a note for each key that takes too many case splits to decide.
 fn push_undecided(
     errors: &mut String,
     alloc: Global,
@@ -304,7 +304,7 @@ fn push_undecided(
     Ok(())
 }
 
-/// Tells what a report on a manifest has, and that it has no key.
+/// Reports the diagnostics on a manifest and, with `--verbose`, that it has no key.
 fn tell_report(
     alloc: Global,
     root: &mut Root,
@@ -327,7 +327,7 @@ fn tell_report(
     )
 }
 
-/// What a manifest has of names that rustc knew before, whose facts are declared then.
+/// Finds the names in a manifest that rustc knew only until some release, and declares their facts.
 fn declare_formers(
     alloc: Global,
     manifest: &mut Table,
@@ -338,7 +338,7 @@ fn declare_formers(
     Ok(formers)
 }
 
-/// The manifest at a path. One that can't be used is told.
+/// Returns the manifest at a path. If it can't be used, this is reported and `None` returned.
 fn usable_at<R: Files + Input + AllocGlobal>(
     rt: &R,
     path: &str,
@@ -357,7 +357,7 @@ fn usable_at<R: Files + Input + AllocGlobal>(
     Ok(None)
 }
 
-/// What there is to tell of a manifest, by the targets of another rustc where one is asked.
+/// Lints a manifest, with the targets of another rustc if `--facts-of` is given.
 fn report_on<'m>(
     alloc: Global,
     manifest: &'m Manifest,
@@ -369,7 +369,7 @@ fn report_on<'m>(
     Ok(report)
 }
 
-/// Tells what is found of the configuration at a path, by what its root says, or that it can't be used.
+/// Lints the configuration at a path with the settings of its root, or reports that it can't be used.
 fn lint_configuration<R: Files + Input + AllocGlobal>(
     rt: &R,
     path: &str,
@@ -407,7 +407,7 @@ fn lint_configuration<R: Files + Input + AllocGlobal>(
     tell_report(alloc, root, telling, &manifest, &report, &beside)
 }
 
-/// Tells what is found of the manifest at a path, or that it can't be used.
+/// Lints the manifest at a path, or reports that it can't be used.
 fn lint_at<R: Files + Input + AllocGlobal>(
     rt: &R,
     path: &str,
@@ -443,7 +443,7 @@ fn lint_at<R: Files + Input + AllocGlobal>(
     tell_report(alloc, root, telling, &manifest, &report, &beside)
 }
 
-/// Whether one of the paths leads to the file.
+/// Returns whether one of the paths leads to the file.
 fn has_path(alloc: Global, paths: &[&str], file: &str) -> Result<bool, AllocError> {
     let file = shorter(alloc, file)?;
     for path in paths {
@@ -455,8 +455,8 @@ fn has_path(alloc: Global, paths: &[&str], file: &str) -> Result<bool, AllocErro
     Ok(false)
 }
 
-/// Tells what is found of one of the files that are named: a configuration, or a manifest. With the manifest of a root
-/// the configuration beside it is meant too, which may be named besides.
+/// Lints one of the selected files, a configuration or a manifest. With the manifest of a root, the configuration
+/// beside it is linted too, unless it is selected itself.
 fn lint_named<R: Files + Input + AllocGlobal>(
     rt: &R,
     paths: &[&str],
@@ -485,7 +485,7 @@ fn lint_named<R: Files + Input + AllocGlobal>(
     }
 }
 
-/// The manifest to which a file belongs: of a configuration the one beside it.
+/// Returns the path of the manifest that a file belongs to: for a configuration, the one beside it.
 fn manifest_of(alloc: Global, path: &str) -> Result<String, AllocError> {
     if is_configuration(path) {
         return manifest_beside(alloc, path);
@@ -493,7 +493,7 @@ fn manifest_of(alloc: Global, path: &str) -> Result<String, AllocError> {
     String::from_str(alloc, path)
 }
 
-/// The findings on the manifests that are named, in their order. Those of the documents are not read again.
+/// Lints the selected files in their order. Manifests in `documents` are not read again.
 pub fn lint_each<R: Files + Input + Env + AllocGlobal>(
     rt: &R,
     paths: &[&str],

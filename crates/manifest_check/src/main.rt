@@ -26,15 +26,15 @@ use std::rt::{Env, Files};
 use styles::Shown;
 use words::words_given;
 
-/// Stands first in the parentheses behind the version. In an unproved build it is `unproved build, `.
+/// The first text in the parentheses after the version. In an unproved build it is `unproved build, `.
 const BUILD: &str = "";
 
-/// The version, with that of the table of known targets.
+/// Returns the version, with that of the table of known targets.
 fn version(alloc: Global) -> Result<String, AllocError> {
     format!(in alloc; "0.1.0 ({BUILD}targets and facts of rustc {RUSTC_VERSION})")
 }
 
-/// Answers the words of the command line, and prints the answer.
+/// Runs the command line, prints the output, and returns the exit status.
 fn run<R: Print + Eprint + Input + Env + Files + AllocGlobal + Clone + Drop>(
     rt: &R,
     on_terminal: bool,

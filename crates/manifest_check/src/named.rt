@@ -1,4 +1,4 @@
-//! The manifests that the words of a command line mean.
+//! The manifests that a command line selects.
 
 use clap::ArgMatches;
 use input_limits::Unusable;
@@ -6,14 +6,14 @@ use std::alloc::{AllocError, Global};
 use std::rt::{Env, Files};
 use workspaces::{Asked, Documents, Found, find};
 
-/// Paths of manifests, and what can't be found.
+/// The paths of the selected manifests, and the errors for those that can't be found.
 #[derive(Drop)]
 pub struct Named {
     pub paths: Vec<String>,
     pub unusable: Vec<Unusable>,
 }
 
-/// The values of an argument.
+/// Returns the values of an argument.
 fn values(alloc: Global, matches: &ArgMatches<'_>, id: &str) -> Result<Vec<String>, AllocError> {
     let mut found = Vec::new(alloc);
     for value in matches.get_strs(id).unwrap_or(&[]) {
@@ -22,8 +22,9 @@ fn values(alloc: Global, matches: &ArgMatches<'_>, id: &str) -> Result<Vec<Strin
     Ok(found)
 }
 
-/// The manifests that are meant: those of the words, or the one of the folder at hand or of the nearest above. The root
-/// of a workspace stands for its members too. Those that were read are in `documents` then.
+/// Finds the selected manifests: those that the arguments name, or else the one in the current folder or in the nearest
+/// folder above. The root of a workspace selects its members too. The manifests that are read for this are kept in
+/// `documents`.
 pub fn named_manifests<R: Files + Env + AllocGlobal + Clone + Drop>(
     rt: &R,
     documents: &mut Documents,

@@ -1,4 +1,4 @@
-//! What another rustc makes of findings: its targets and facts count in place of those that are known.
+//! The diagnostics that depend on targets and facts, decided for another rustc.
 
 use crate::declaring::declare;
 use cargo_platform::{Platform, values_of};
@@ -13,21 +13,21 @@ use manifests::Declared;
 use std::alloc::{AllocError, Global};
 use toml::Table;
 
-/// So many names and keys of a key may be open; of more it is not asked where it holds.
+/// The largest number of open names in a condition for which it is decided where the condition is true.
 const MANY: usize = 4096;
 
-/// The targets of another rustc.
+/// Another rustc, with its targets.
 #[derive(Drop)]
 pub struct OtherRustc {
     given: GivenTargets,
-    /// The facts that no known target has, as they are written.
+    /// Its facts that no built-in target has, in the form of `rustc --print cfg`.
     facts: Vec<String>,
-    /// The names of targets that rustc knew before.
+    /// The names of its targets that rustc knew only until some release.
     former: Vec<String>,
 }
 
 impl OtherRustc {
-    /// The rustc that knows these targets.
+    /// Returns the rustc that knows these targets.
     pub fn of(alloc: Global, given: GivenTargets) -> Result<OtherRustc, AllocError> {
         let facts = given.new_facts(alloc)?;
         let former = formers_among(alloc, &given)?;
@@ -38,7 +38,7 @@ impl OtherRustc {
         })
     }
 
-    /// Puts what is so at its targets in place of what a report tells of known ones.
+    /// Replaces the diagnostics of a report that depend on the built-in targets by those for its own targets.
     fn judge(
         &self,
         alloc: Global,
@@ -61,7 +61,7 @@ impl OtherRustc {
         report.findings.sort_by_key(|it| (it.key, it.code))
     }
 
-    /// Of each key of a report, whether it is the name of a target.
+    /// Returns for each key of a report whether it is the name of a target.
     fn named(&self, alloc: Global, report: &Report<'_>) -> Result<Vec<bool>, AllocError> {
         let mut named = Vec::new(alloc);
         for key in &report.keys {
@@ -70,7 +70,7 @@ impl OtherRustc {
         Ok(named)
     }
 
-    /// Adds what is so of the condition of the key at this place.
+    /// Adds the diagnostics on the condition of the key at this index.
     fn add(
         &self,
         alloc: Global,
@@ -101,7 +101,7 @@ impl OtherRustc {
         Ok(())
     }
 
-    /// Whether a condition is the name of a known target that none of its targets has.
+    /// Returns whether a condition is the name of a built-in target that none of its own targets has.
     fn lacks(&self, condition: &Platform) -> bool {
         match condition {
             Platform::Name(name) => {
@@ -112,7 +112,7 @@ impl OtherRustc {
         }
     }
 
-    /// That no target has the name of the key at this place.
+    /// Returns the diagnostic that no target has the name of the key at this index.
     fn unknown(&self, alloc: Global, place: usize, name: &str) -> Result<Finding, AllocError> {
         let file = self.given.file.as_str();
         let mut told = format!(in alloc; "no target of {file} has this name")?;
@@ -127,7 +127,7 @@ impl OtherRustc {
         Ok(finding(place, Code::UnknownTarget, told, nearest))
     }
 
-    /// Whether the condition holds at none and whether at each of the targets, whatever is open.
+    /// Returns whether the condition is true on none and on all of its targets, whatever the open names are.
     fn none_and_each(
         &self,
         alloc: Global,
@@ -144,7 +144,7 @@ impl OtherRustc {
     }
 }
 
-/// The names of given targets that rustc knew before.
+/// Returns the names of these targets that rustc knew only until some release.
 fn formers_among(alloc: Global, given: &GivenTargets) -> Result<Vec<String>, AllocError> {
     let mut names = Vec::new(alloc);
     for row in given.table().rows() {
@@ -155,7 +155,8 @@ fn formers_among(alloc: Global, given: &GivenTargets) -> Result<Vec<String>, All
     Ok(names)
 }
 
-/// The names of targets that rustc knew before and another one has, where one is asked.
+/// Returns the names of targets that rustc knew only until some release and that the other rustc knows, if there is
+/// one.
 pub fn given_formers(other: &Option<OtherRustc>) -> &[String] {
     match other {
         Some(other) => &other.former,
@@ -163,7 +164,7 @@ pub fn given_formers(other: &Option<OtherRustc>) -> &[String] {
     }
 }
 
-/// Adds the facts of another rustc to those that a manifest declares, where one is asked.
+/// Adds the facts of the other rustc, if there is one, to those that a manifest declares.
 pub fn declare_by(
     alloc: Global,
     other: &Option<OtherRustc>,
@@ -175,8 +176,8 @@ pub fn declare_by(
     }
 }
 
-/// Puts what is so at the targets of another rustc in place of what a report on a manifest tells of known ones, where
-/// one is asked.
+/// Replaces the diagnostics of a report that depend on the built-in targets by those for the other rustc, if there is
+/// one.
 pub fn judge_by(
     alloc: Global,
     other: &Option<OtherRustc>,
@@ -189,7 +190,7 @@ pub fn judge_by(
     }
 }
 
-/// Whether a finding stays, where of each key it is known whether it names a target.
+/// Returns whether a diagnostic stays in the report. `named` says for each key whether it is the name of a target.
 fn stays(finding: &Finding, named: &[bool]) -> bool {
     match (finding.code, finding.key) {
         (Code::Nowhere | Code::Everywhere, _) => false,
@@ -198,7 +199,7 @@ fn stays(finding: &Finding, named: &[bool]) -> bool {
     }
 }
 
-/// Which codes the findings on a key hide.
+/// The lints that the diagnostics on a key hide.
 #[derive(Clone, Copy, Drop)]
 struct Hiding {
     nowhere: bool,
@@ -206,14 +207,14 @@ struct Hiding {
 }
 
 impl Hiding {
-    /// Those on a key without findings hide nothing.
+    /// Nothing is hidden, as by a key without diagnostics.
     const NOTHING: Hiding = Hiding {
         nowhere: false,
         everywhere: false,
     };
 }
 
-/// For each key of a report which codes its findings hide.
+/// Returns for each key of a report which lints its diagnostics hide.
 fn hiding_of(alloc: Global, report: &Report<'_>) -> Result<Vec<Hiding>, AllocError> {
     let mut hiding = vec![in alloc; Hiding::NOTHING; report.keys.len()]?;
     for it in &report.findings {
@@ -228,7 +229,7 @@ fn hiding_of(alloc: Global, report: &Report<'_>) -> Result<Vec<Hiding>, AllocErr
     Ok(hiding)
 }
 
-/// A finding on the key at this place.
+/// Returns a diagnostic on the key at this index.
 fn finding(place: usize, code: Code, message: String, suggestion: Option<String>) -> Finding {
     Finding {
         level: code.row().level,

@@ -17,9 +17,9 @@ pub struct Root {
     /// For each rule, whether a diagnostic needs it.
     pub needed: Vec<bool>,
     inheritable: Inheritable,
-    /// Its manifest was selected too.
+    /// True if its manifest is selected too.
     pub is_asked: bool,
-    /// The last manifest inherits lints from it that can't be read.
+    /// True if the last manifest inherits lints from it that can't be read.
     pub hides_lints: bool,
 }
 

@@ -1,19 +1,19 @@
-//! How findings are shown, by the words of a command line and the environment.
+//! The format and the colours of diagnostics, by the command line and the environment.
 
 use clap::ArgMatches;
 use lint_reports::{Format, Style};
 use std::env;
 use std::rt::Env;
 
-/// Where what is printed goes, and the version of the program.
+/// The kind of standard output, and the version of the program.
 #[derive(Clone, Copy, Drop)]
 pub struct Shown<'a> {
-    /// Standard output is a terminal.
+    /// True if standard output is a terminal.
     pub on_terminal: bool,
     pub version: &'a str,
 }
 
-/// Whether a variable of the environment has a value that is not empty.
+/// Returns whether an environment variable has a value that is not empty.
 fn is_set<R: Env + AllocGlobal>(rt: &R, name: &str) -> bool {
     match env::var(rt, name) {
         Ok(value) => !value.is_empty(),
@@ -22,7 +22,7 @@ fn is_set<R: Env + AllocGlobal>(rt: &R, name: &str) -> bool {
     }
 }
 
-/// Whether a variable of the environment has this value.
+/// Returns whether an environment variable has this value.
 fn has_value<R: Env + AllocGlobal>(rt: &R, name: &str, wanted: &str) -> bool {
     match env::var(rt, name) {
         Ok(value) => value.as_str() == wanted,
@@ -30,8 +30,8 @@ fn has_value<R: Env + AllocGlobal>(rt: &R, name: &str, wanted: &str) -> bool {
     }
 }
 
-/// Whether words have colours: as `--color` says, else as `NO_COLOR` and `CARGO_TERM_COLOR` say, and else on a terminal
-/// that is no dumb one.
+/// Returns whether output is coloured: by `--color`, else by `NO_COLOR` and `CARGO_TERM_COLOR`, and else if standard
+/// output is a terminal, unless `TERM` is `dumb`.
 fn has_colours<R: Env + AllocGlobal>(rt: &R, matches: &ArgMatches<'_>, on_terminal: bool) -> bool {
     match matches.get_str("color") {
         Some("always") => return true,
@@ -47,7 +47,7 @@ fn has_colours<R: Env + AllocGlobal>(rt: &R, matches: &ArgMatches<'_>, on_termin
     on_terminal && !has_value(rt, "TERM", "dumb")
 }
 
-/// How findings are shown.
+/// Returns the format and the colours of diagnostics.
 pub fn style_of<R: Env + AllocGlobal>(
     rt: &R,
     matches: &ArgMatches<'_>,

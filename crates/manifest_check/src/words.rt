@@ -1,14 +1,14 @@
-//! The words of the command line.
+//! The arguments of the command line.
 
 use std::alloc::AllocError;
 use std::env::FillError;
 use std::rt::Env;
 
-/// A word of fewer bytes is read at once.
+/// The size of the buffer for an argument, in bytes. A longer one is read again.
 const SHORT: usize = 256;
 
-/// The word at a place, where there is one. Of what is no UTF-8 in it U+FFFD is left, so that it is the name of
-/// nothing.
+/// Returns the argument at an index, if there is one. Bytes that are not UTF-8 become U+FFFD, so that the argument
+/// names nothing.
 fn word_at<R: Env + AllocGlobal>(rt: &R, place: usize) -> Result<Option<String>, AllocError> {
     let alloc = rt.alloc();
     let mut size = SHORT;
@@ -26,7 +26,7 @@ fn word_at<R: Env + AllocGlobal>(rt: &R, place: usize) -> Result<Option<String>,
     Err(AllocError)
 }
 
-/// The words of the command line, with the name of the program before them.
+/// Returns the arguments of the command line, the name of the program first.
 pub fn words_given<R: Env + AllocGlobal>(rt: &R) -> Result<Vec<String>, AllocError> {
     let mut words = Vec::new(rt.alloc());
     for place in 0..usize::MAX {
