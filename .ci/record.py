@@ -149,7 +149,8 @@ class Record:
         return None
 
     def differences(self, run):
-        """Where the run judged other than the lines say. Of some edits of a crate, only those that show nothing tell."""
+        """Where the run judged other than the lines say. If it judged some edits of a crate alone, only a surplus of those
+        that show nothing is a difference."""
         for crate in sorted(self.edits.keys() & self.lines.keys()):
             said, counts = self.lines[crate].counts, self.counts(run, crate)
             found = counts_of(it.kind for edit, it in run.judgements.items() if edit.crate == crate)
