@@ -14,14 +14,15 @@ use Rattle.manifest_lints_findings.specs.declared.codes.Code.{Code}
 use Rattle.manifest_lints_findings.specs.declared.findings.Finding.{Finding}
 use Rattle.manifest_lints_findings.specs.declared.known_keys.KnownKey.{KnownKey}
 use Rattle.manifest_lints_findings.specs.declared.readings.ReadKey.{ReadKey}
-use Rattle.manifest_lints_findings.specs.Codes.{CodeSet}
+use Rattle.manifest_lints_findings.specs.Codes.{CodeSet, finding_level}
 use Rattle.manifest_lints_findings.specs.Marks.{Mark, mark}
 use Rattle.manifest_lints_findings.specs.Messages.{NamesKey, Shows}
+use Rattle.manifest_lints_findings.specs.Shown.{IsMended, IsShownOn}
 use Rattle.manifest_lints_findings.specs.Spells.{entry_read}
 use Rattle.manifests.specs.Declarations.{DeclaredEntry}
 use Rattle.manifests.specs.Entries.{Entry}
 use Rattle.manifest_lints.specs.Reports.{AreFindingsOn, on_more, IsFound, AreTold, NamesEarlier, AddsFindings}
-use Rattle.manifest_lints.specs.Reports.{told_marks, left_open, IsKnownOf, ShowsKey}
+use Rattle.manifest_lints.specs.Reports.{told_marks, left_open, IsKnownOf, IsDiagnosticOn, ShowsKey}
 use Rattle.manifest_lints.specs.Sames.{named_place}
 use Rattle.manifest_lints.proofs.MoreSames.{named_within}
 
@@ -159,9 +160,12 @@ all_codes p n i cs other key init new done =
 pub one_told : (fs gs : List Finding) (f : Finding) (b : Bool) (m : Mark) (other : List ℕ) (key : KnownKey)
     → gs ≡ fs ++ f ∷ []
     → mark f ≡ m → b ≡ true → NamesKey m.1 other (string_bytes f.message)
+    → f.level ≡ finding_level m.1 (length key.asked.items)
     → Shows m.1 key f.suggestion (string_bytes f.message)
+    → IsShownOn m.1 key f
+    → IfSome f.suggestion (λ s. IsMended m.1 (string_bytes s))
     → AddsFindings (cond b (m ∷ []) []) other key fs gs
-one_told fs gs f b m other key pushed is told names shows = record {
+one_told fs gs f b m other key pushed is told names level shows shown mended = record {
   added = f ∷ [];
   are = pushed;
   marks_are = ap (λ y. y ∷ []) is ∙ sym (ap (λ c. cond c (m ∷ []) []) told);
@@ -169,7 +173,8 @@ one_told fs gs f b m other key pushed is told names shows = record {
       (All-nil (λ g. NamesKey g.code other (string_bytes g.message)))
       (subst (λ c. NamesKey c other (string_bytes f.message)) (sym (ap (λ (x : Mark). x.1) is)) names);
   shown = All-push (ShowsKey key) [] f (All-nil (ShowsKey key))
-      (subst (λ c. Shows c key f.suggestion (string_bytes f.message)) (sym (ap (λ (x : Mark). x.1) is)) shows);
+      (subst (λ c. IsDiagnosticOn c key f) (sym (ap (λ (x : Mark). x.1) is))
+      (record { level = level; message = shows; shown = shown; suggestion = mended }));
 }
 
 pub none_told : (fs : List Finding) (b : Bool) (m : Mark) (other : List ℕ) (key : KnownKey) → b ≡ false

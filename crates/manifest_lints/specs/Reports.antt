@@ -20,13 +20,14 @@ use Rattle.manifest_lints_findings.specs.declared.codes.Code.{Code}
 use Rattle.manifest_lints_findings.specs.declared.codes.Code.TheVariants as code
 use Rattle.manifest_lints_findings.specs.declared.findings.Finding.{Finding}
 use Rattle.manifest_lints_findings.specs.declared.findings.Report.{Report}
-use Rattle.manifest_lints_findings.specs.Codes.{CodeSet, is_told, told_codes}
+use Rattle.manifest_lints_findings.specs.Codes.{CodeSet, finding_level, is_told, told_codes}
 use Rattle.manifest_lints_findings.specs.declared.known_keys.KnownKey.{KnownKey}
 use Rattle.manifest_lints_findings.specs.declared.readings.ReadKey.{ReadKey}
 use Rattle.manifest_lints_findings.specs.Known.{has_marked_literal, IsKnown}
 use Rattle.manifest_lints_findings.specs.Marks.{Mark, marks}
 use Rattle.manifest_lints_findings.specs.Messages.{NamesKey, Shows}
 use Rattle.manifest_lints_findings.specs.NoTables.{is_no_table}
+use Rattle.manifest_lints_findings.specs.Shown.{IsMended, IsShownOn}
 use Rattle.manifest_lints_findings.specs.Spells.{SpellsNothing, IsRead, entry_read}
 pub use Rattle.manifest_lints.specs.Rustcs.{IsRustcs, AllowsRustcs}
 use Rattle.manifest_lints.specs.declared.deciding.TheConstants.{MANY, LEVELS}
@@ -139,9 +140,17 @@ pub record IsKnownOf (ds : List DeclaredEntry) (e : Entry) (key : KnownKey) : Ty
   pub spells : IsRead read
   pub known : IsKnown ds read key
 
--- the message has the names and numbers of the key's properties
+-- the diagnostic of a lint on a key has the level of the lint, and a message with the names and numbers of the key's
+-- properties; it has the position of the key's error if the key is rejected; and it has a suggestion only if the lint
+-- reports nothing on that
+pub record IsDiagnosticOn (c : Code) (key : KnownKey) (f : Finding) : Type 0 where
+  pub level : f.level ≡ finding_level c (length key.asked.items)
+  pub message : Shows c key f.suggestion (string_bytes f.message)
+  pub shown : IsShownOn c key f
+  pub suggestion : IfSome f.suggestion (λ s. IsMended c (string_bytes s))
+
 abbrev pub ShowsKey : KnownKey → Finding → Type 0
-ShowsKey key f = Shows f.code key f.suggestion (string_bytes f.message)
+ShowsKey key f = IsDiagnosticOn f.code key f
 
 -- the diagnostics on a key after others are those that are reported on it; they name that key, and show its properties
 pub record AreTold (ds : List DeclaredEntry) (es : List Entry) (e : Entry) (codes : CodeSet) (earlier : Earlier)
