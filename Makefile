@@ -14,7 +14,7 @@
 # make wheel  builds a wheel of the Python package, with the shared library in it, into out/wheel
 # make dist   one archive of the programs, the library for C and the wheel, of what it proves and builds, into out/dist
 # make take INTO=FOLDER CRATES=".."  copies crates into another repository, with those that they stand on
-# make measure    times the calls, and prints the tables that `.ci/performance` takes
+# make measure    times the calls, and prints the tables that `measure/tables` takes
 # make targets    asks the rustc at hand for its targets, and writes the table of crates/known_targets anew
 # make fmt    lays out the files
 # Parts of `make test`, alone; with PROVED=yes those that run a program take the proved one:
@@ -131,8 +131,8 @@ fits:
 	@.ci/fits
 
 measure: build
-	.ci/measure
-	@if command -v cargo > /dev/null; then .ci/graph-speed; else echo "graph-speed: left out, for want of cargo"; fi
+	measure/calls
+	@if command -v cargo > /dev/null; then measure/graphs; else echo "measure/graphs: left out, for want of cargo"; fi
 
 targets:
 	.ci/known-targets --renew

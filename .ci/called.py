@@ -8,7 +8,7 @@ import pathlib
 import re
 import sys
 
-USAGE = re.compile(r"Usage: \.ci/[a-z-]+")
+USAGE = re.compile(r"Usage: (?:\.ci|measure)/[a-z-]+")
 PART = re.compile(r" ?(\[|\]|\||--?[a-z-]+|[A-Z]+(?:\.\.)?)")
 
 # What stands for `[`, `]`, `|` and a word in capitals in an expression on words with a zero byte behind each.
@@ -26,8 +26,9 @@ def pattern(told):
 
 
 def refuse(words):
-    name = pathlib.Path(sys.argv[0]).name
-    print(f"{name}: it does not take `{' '.join(words)}`; see `.ci/{name} --help`", file=sys.stderr)
+    file = pathlib.Path(sys.argv[0])
+    call = f"{file.resolve().parent.name}/{file.name}"
+    print(f"{file.name}: it does not take `{' '.join(words)}`; see `{call} --help`", file=sys.stderr)
     sys.exit(2)
 
 
