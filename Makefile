@@ -21,7 +21,6 @@
 # make fits       whether each mutant can still be applied
 # make refusals   each allocation refused in turn, in each row and in both programs, and what is released counted
 # make second-reader  what a reader in Python says of the rows on texts, and of 1.3 million questions to the library
-# make statuses   the program where reading or writing fails
 # make manifests  the program manifest_check over questions whose answers are known, and hostile input
 # make workspaces  the same at the roots of workspaces, with no manifest named
 # make graphs     the same for its command graph
@@ -31,7 +30,7 @@
 # make pages      what the pages say, beside what it is said of; `.ci/promises --write` makes their lists anew
 # make depths     the programs on the deepest conditions that their inputs hold
 .PHONY: try lint run test prove mutants build install install-programs say-how-long c-library install-c \
-	install-library wheel dist take measure targets fmt fits refusals second-reader statuses manifests workspaces graphs \
+	install-library wheel dist take measure targets fmt fits refusals second-reader manifests workspaces graphs \
 	relations cargo-select try-c pages depths rt
 
 PROGRAM := crates/platform_check
@@ -140,7 +139,7 @@ targets:
 fmt: rt
 	for crate in crates/*/; do (cd $$crate && rt fmt) || exit 1; done
 
-refusals second-reader statuses manifests workspaces graphs relations cargo-select depths: rt
+refusals second-reader manifests workspaces graphs relations cargo-select depths: rt
 	.ci/$@
 
 pages: rt
