@@ -1,14 +1,13 @@
-"""The command line of manifest_check, as crates/command_line states it: its subcommands with their arguments.
+"""The command line of manifest_check, as src/arguments.rt states it: its subcommands with their arguments.
 
 The rows there are constants of Rust: structs, lists, strings, and names of other constants. As expressions of Python
 these are calls with named arguments.
 """
+import pathlib
 import re
 from typing import NamedTuple
 
-from crates import ROOT
-
-SOURCE = ROOT / "crates" / "command_line" / "src" / "arguments.rt"
+SOURCE = pathlib.Path(__file__).resolve().parent.parent / "src" / "arguments.rt"
 
 CONSTANT = re.compile(r"^const (\w+): [^=]+ =\s+(.*?);\n\n", re.S | re.M)
 
