@@ -1,4 +1,4 @@
-"""Asks `manifest_check`. The lines of JSON that it prints have to be by their schemas."""
+"""Runs of `manifest_check`. The lines of JSON that it prints have to fit their schemas."""
 import os
 import pathlib
 
@@ -6,13 +6,13 @@ from builds import program
 from checks import check, ended
 from json_schemas import misfits
 
-# The program, or another one that is to be tried in its place.
+# The program, or another one to try in its place.
 PROGRAM = pathlib.Path(os.environ.get("GRAPH_PROGRAM", program("manifest_check")))
 LINUX, WINDOWS = "x86_64-unknown-linux-gnu", "x86_64-pc-windows-msvc"
 
 
 def ask(words, name="manifest_check", **given):
-    """How the program ends, called by this name."""
+    """Runs the program under this name. Returns how it ended."""
     found = ended([name, *words], executable=PROGRAM, **given)
     if faults := misfits([*map(str, words)], found.output):
         check(f"{words}: by the schema of the line", faults, [])

@@ -1,4 +1,4 @@
-"""What the scripts share that check something: counted checks, how a program ends, and the last line."""
+"""What scripts that check something have in common: counted checks, runs of programs, and the last line."""
 import collections
 import concurrent.futures
 import contextlib
@@ -13,7 +13,7 @@ import threading
 # So many failures are printed, and so much of each value.
 MOST_FAILURES, MOST_CHARACTERS = 100, 500
 
-# The stack of each program that is run, if no other is asked for.
+# The stack of each program that runs, by default.
 STACK = 8 * 1024 * 1024
 resource.setrlimit(resource.RLIMIT_STACK, (STACK, resource.getrlimit(resource.RLIMIT_STACK)[1]))
 
@@ -21,14 +21,14 @@ End = collections.namedtuple("End", "status output errors", defaults=("", ""))
 
 
 class Tally:
-    """How many checks passed and failed so far, of any thread. The first failures are printed as they come."""
+    """The numbers of checks that passed and failed so far, in any thread. The first failures are printed at once."""
 
     def __init__(self):
         self.passed = self.failed = 0
         self.lock = threading.Lock()
 
     def add(self, passed, reasons):
-        """Counts checks that were made elsewhere: how many passed, and why others failed."""
+        """Counts checks that were made elsewhere: how many passed, and why the others failed."""
         with self.lock:
             self.passed += passed
             for it in reasons:
@@ -51,7 +51,7 @@ class Tally:
 
 
 def difference(got, wanted):
-    """What two texts are from shortly before the place where they differ."""
+    """Returns what two texts have from shortly before the place where they differ."""
     start = max(0, len(os.path.commonprefix([got, wanted])) - 100)
     cut = slice(start, start + MOST_CHARACTERS)
     return f"{got[cut]!r}, and not {wanted[cut]!r}"
@@ -63,8 +63,10 @@ add, check, count, finish = tally.add, tally.check, tally.count, tally.finish
 
 
 def ended(words, stack=STACK, memory=None, **given):
-    """How a program ends on a stack of this size, and with so much memory where that is limited: its status, and what
-    it printed on both outputs. A write that nobody reads fails, and ends it by no signal."""
+    """Runs a program on a stack of this size, and with so much memory if that is limited. Returns how it ended.
+
+    A write that nobody reads fails, and does not end the program by a signal.
+    """
 
     def limit():
         resource.setrlimit(resource.RLIMIT_STACK, (stack, stack))
@@ -80,12 +82,12 @@ def ended(words, stack=STACK, memory=None, **given):
 
 
 def json_lines(text):
-    """The value of each line of a text."""
+    """Returns the value of each line of a text."""
     return [json.loads(line) for line in text.splitlines()]
 
 
 def write_files(folder, files):
-    """Writes files by their paths in a folder, which are made with the folders that they need. Returns the folder."""
+    """Writes files by their paths into a folder, with the folders that they need. Returns the folder."""
     for path, data in files.items():
         file = pathlib.Path(folder, path)
         file.parent.mkdir(parents=True, exist_ok=True)
@@ -95,7 +97,7 @@ def write_files(folder, files):
 
 @contextlib.contextmanager
 def room_of(files={}):
-    """A temporary folder with these files."""
+    """Makes a temporary folder with these files."""
     with tempfile.TemporaryDirectory() as name:
         yield write_files(pathlib.Path(name), files)
 

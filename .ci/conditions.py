@@ -1,7 +1,7 @@
 """Conditions as trees: how they are read, what they print, and where they are true.
 
-A tree is a fact or a truth as it prints, as `unix`, `r#all`, `k = "v"` or `true`, or an operator with the trees inside.
-The reader goes by recursive descent, as crates/cargo_platform/GRAMMAR.md says it. It asks no program.
+A tree is a fact or a truth as it prints, as `unix`, `r#all`, `k = "v"` or `true`, or a tuple: an operator, and the
+trees inside. The reader goes by recursive descent, as crates/cargo_platform/GRAMMAR.md says. It runs no program.
 """
 import re
 
@@ -11,8 +11,8 @@ TOKEN = re.compile(
     r'(?P<mark>[(),=])|"(?P<string>[^"]*)"|(?:(?P<raw>r#)|(?!r#))(?P<name>[A-Za-z_][A-Za-z0-9_]*)')
 
 
-# A token is its kind, its value, where it begins, and where its own or its fault's span begins and ends. The value of a
-# fault is its message, and the character that is unexpected.
+# A token is its kind, its value, where it begins, and where its own span or that of its error begins and ends. The
+# value of an error is its message, and the character that is unexpected.
 def token_at(text, at):
     while text.startswith(" ", at):
         at += 1
@@ -32,7 +32,7 @@ def token_at(text, at):
 
 
 def cut(text):
-    """The tokens of a text up to its end or its fault, which is the last one."""
+    """Returns the tokens of a text, up to its end or its first error, which is the last token."""
     tokens = [token_at(text, 0)]
     while tokens[-1][0] not in ("end", "fault"):
         tokens.append(token_at(text, tokens[-1][4]))
@@ -40,7 +40,7 @@ def cut(text):
 
 
 class Refused(Exception):
-    """A message, and where the fault begins and ends, in characters."""
+    """An error: a message, and where its span begins and ends, in characters."""
 
 
 class Reader:
@@ -96,7 +96,7 @@ class Reader:
 
 
 def read(text, rule=Reader.expression, tokens=None):
-    """What the whole text is, or why it is refused."""
+    """Returns what the whole text is, or why it is rejected."""
     reader = Reader(tokens or cut(text))
     try:
         found = rule(reader)
@@ -109,13 +109,13 @@ def read(text, rule=Reader.expression, tokens=None):
 
 
 def shown(tree):
-    """A tree as it prints."""
+    """Returns a tree as it prints."""
     return tree if isinstance(tree, str) else f"{tree[0]}({', '.join(map(shown, tree[1:]))})"
 
 
 def truth(tree, true, false, of_fact, invert):
-    """The value of a tree in an algebra of sets: those that are true everywhere and nowhere, the set of a fact, and
-    the complement of a set."""
+    """Returns the value of a tree in an algebra of sets: given those for `true` and `false`, the set of a fact, and the
+    complement of a set."""
     if isinstance(tree, str):
         return true if tree == "true" else false if tree == "false" else of_fact(tree)
     parts = [truth(it, true, false, of_fact, invert) for it in tree[1:]]

@@ -1,8 +1,8 @@
 """What a build of Cargo uses at one target: its feature resolver, step by step, and then its dependencies.
 
-It goes by the steps of `core/resolver/features.rs` and `ops/tree/graph.rs` of Cargo 1.95.0, for one target at a time,
-on what `cargo metadata` printed. `manifest_check graph --resolver` answers for all targets at once; this tells it is
-right.
+It follows the steps of `core/resolver/features.rs` and `ops/tree/graph.rs` of Cargo 1.95.0, for one target at a time,
+on what `cargo metadata` printed. `manifest_check graph --resolver` answers for all targets at once, and is compared
+with this.
 """
 import collections
 
@@ -10,7 +10,7 @@ Declared = collections.namedtuple("Declared", "name to kind optional default fea
 
 
 def library_name(package):
-    """The name by which other packages' code calls a package."""
+    """Returns the name by which other packages' code calls a package."""
     kinds = {"lib", "rlib", "dylib", "cdylib", "staticlib", "proc-macro"}
     for target in package["targets"]:
         if kinds & set(target["kind"]):
@@ -19,13 +19,13 @@ def library_name(package):
 
 
 def has_root_package(document):
-    """Whether the manifest of the workspace is that of a package."""
+    """Returns whether the manifest of the workspace is that of a package."""
     manifest = document.get("workspace_root", "") + "/Cargo.toml"
     return any(package["manifest_path"] == manifest for package in document["packages"])
 
 
 class Build:
-    """What is built for a target on a host. `holds_at` tells the targets of a condition."""
+    """What is built for a target on a host. `holds_at` returns the targets of a condition."""
 
     def __init__(self, document, roots, kinds, host, resolver, target, holds_at, features=(), default=True,
                  all_on=False):  # fmt: skip
@@ -50,7 +50,7 @@ class Build:
                 self.activate(root, "host", asked)
 
     def asked_of(self, root, features):
-        """The features that are asked of a root by their names."""
+        """Returns the features that are selected of a root by their names."""
         if not self.current:
             return features
         others = {self.packages[it]["name"] for it in self.roots if it != self.current}
@@ -64,7 +64,7 @@ class Build:
         return any("proc-macro" in target["kind"] for target in self.packages[package]["targets"])
 
     def declared_of(self, node):
-        """The declared dependencies of a package, each with the package that it resolves to."""
+        """Returns the declared dependencies of a package, each with the package that it resolves to."""
         found = []
         for one in self.packages[node["id"]]["dependencies"]:
             for edge in node["deps"]:
@@ -81,7 +81,7 @@ class Build:
         return found
 
     def leads_to(self, package, side, one):
-        """The side that a dependency leads to, or none where it is not asked for at this target."""
+        """Returns the side that a dependency leads to, or None if its condition is false."""
         of_host = side == "host" or one.kind == "build"
         if (self.host if of_host else self.target) not in one.holds:
             return None
@@ -153,7 +153,7 @@ class Build:
     # ---- the dependencies that are used
 
     def edges(self, package, side):
-        """The dependencies that a package uses where it is built for a side, each with the side that it leads to."""
+        """Yields the dependencies that a package uses if it is built for a side, each with the side it leads to."""
         for one in self.declared[package]:
             if one.kind not in self.kinds or (one.kind == "dev" and package not in self.roots):
                 continue
@@ -164,7 +164,7 @@ class Build:
                 yield one, to
 
     def used(self):
-        """The packages that are built, each with its side."""
+        """Returns the packages that are built, each with its side."""
         found = {(root, "host" if self.is_macro(root) else "target") for root in self.roots}
         waiting = list(found)
         while waiting:

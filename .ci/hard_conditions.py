@@ -2,12 +2,12 @@
 import itertools
 import random
 
-# Keys that have one value for a target, of those that are asked.
+# Keys that have one value for a target, of those in these conditions.
 ONE_VALUED = ["target_os", "target_env", "target_arch", "target_vendor"]
 
 
 def parity(names, odd=True):
-    """Whether an odd or an even number of the names holds, each half apart."""
+    """Returns the condition that an odd or an even number of the names is true, each half apart."""
     if len(names) == 1:
         return names[0] if odd else ("not", names[0])
     a, b = names[:len(names) // 2], names[len(names) // 2:]
@@ -15,7 +15,7 @@ def parity(names, odd=True):
 
 
 def pigeonholes(pigeons, holes):
-    """Each pigeon sits in a hole, and no two in one."""
+    """Returns the condition that each pigeon sits in a hole, and no two in the same."""
     sits = [[f"p{i}h{j}" for j in range(holes)] for i in range(pigeons)]
     apart = [("not", ("all", a[j], b[j])) for a, b in itertools.combinations(sits, 2) for j in range(holes)]
     return ("all", *(("any", *row) for row in sits), *apart)
@@ -38,7 +38,7 @@ def clauses(chance, names, count):
 
 
 def nested(levels, inside="unix"):
-    """The text of a key with so many negations around a condition."""
+    """Returns the text of a key with so many negations around a condition."""
     return f"cfg({'not(' * levels}{inside}{')' * levels})"
 
 

@@ -83,7 +83,7 @@ class Reader:
         return self.chain(self.both, ("OR", "/"), " OR ", any)
 
     def whole(self):
-        """The truth of the whole text, as a function of which licences hold."""
+        """Returns the truth of the whole text, as a function of which licences hold."""
         truth = self.either()
         if self.word() is not None:
             self.refuse("`AND` or `OR`")
@@ -91,7 +91,7 @@ class Reader:
 
 
 def meant(word):
-    """The name of a licence without its version's mark, and whether later versions are offered."""
+    """Returns the name of a licence without its version's mark, and whether later versions are offered."""
     name = word.lower()
     is_later = name.endswith(("+", "-or-later"))
     name = name.removesuffix("+")
@@ -102,7 +102,7 @@ def meant(word):
 
 
 def allows(entry, word, exception):
-    """Whether an entry of a list, as `MIT` or `Apache-2.0 WITH LLVM-exception`, allows a licence."""
+    """Returns whether an entry of a list, as `MIT` or `Apache-2.0 WITH LLVM-exception`, allows a licence."""
     listed, _, listed_exception = entry.partition(" WITH ")
     (own, own_later), (other, other_later) = meant(listed), meant(word)
     return own == other and (other_later or not own_later) and listed_exception.lower() == exception.lower()

@@ -1,18 +1,18 @@
-"""The rows of crates/test_texts and crates/test_answers: how they write a text, and the driver that answers them."""
+"""The test cases of crates/test_texts and crates/test_answers: how they write a text, and what answers them."""
 import re
 import subprocess
 import sys
 
 from builds import program
 
-# A text's characters that the driver writes as escapes.
+# The characters of a text that the program writes as escapes.
 ESCAPED = re.compile("[\0-\x1f\x7f-\xa0\u0300-\u036f\u2000-\u206f\ufeff|\\\\]")
 WORDS_ESCAPED = {"\n": "\\n", "\t": "\\t", "\r": "\\r", "|": "\\|", "\\": "\\\\"}
 UNESCAPED = {"n": "\n", "t": "\t", "r": "\r"}
 
 
 def escaped(text):
-    """A text as the driver writes it."""
+    """Returns a text as the program writes it."""
     return ESCAPED.sub(lambda it: WORDS_ESCAPED.get(it[0]) or f"\\u{{{ord(it[0]):X}}}", text)
 
 
@@ -26,7 +26,7 @@ def unbarred(word):
 
 
 def rows_of(file):
-    """The rows of a file, each with its number and its lines: one that begins with a space goes on with its row."""
+    """Returns the rows of a file, each with its number and its lines. A line that begins with a space continues one."""
     rows = []
     for number, line in enumerate(file.read_text(encoding="utf-8").splitlines(), 1):
         if line.startswith(" ") and rows:
@@ -37,7 +37,7 @@ def rows_of(file):
 
 
 def answered(rows):
-    """The rows with the driver's answers."""
+    """Returns the rows with the program's answers."""
     given = "".join(f"{row}\n" for row in rows).encode()
     done = subprocess.run([program("test_texts")], input=given, stdout=subprocess.PIPE, check=True)
     answers = done.stdout.decode().split("\n")[:-1]

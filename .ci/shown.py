@@ -1,4 +1,4 @@
-"""Which characters the program prints as they are, as crates/cargo_platform/specs/Snippets.antt has them."""
+"""Which characters the program prints unchanged, as crates/cargo_platform/specs/Snippets.antt says."""
 import unicodedata
 
 # Some of the others: they end or turn a line, or have no width.
@@ -8,5 +8,5 @@ FORGING = (
 
 
 def is_shown(text):
-    """Whether each character of lines is the space, a letter, a number, a punctuation mark or a symbol."""
+    """Returns whether each character of lines is the space, a letter, a number, a punctuation mark or a symbol."""
     return all(it in " \n" or unicodedata.category(it)[0] in "LNPS" for it in {*text})

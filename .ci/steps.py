@@ -1,8 +1,8 @@
-"""Runs steps side by side, each once those that it waits for have passed, and reports how far they are.
+"""Runs steps side by side, each once those that it waits for have passed, and reports their progress.
 
 Each step writes all that it prints to out/log/NAME.log. What a person wants to see at once goes to standard output too:
-how each step ended, each failure as it comes, and a line a minute with the time that is left. A failure is a line that
-begins with `FAILED: `. All of them are printed again at the end, with the command that repeats the step alone.
+how each step ended, each failure when it occurs, and a line a minute with the time that is left. A failure is a line
+that begins with `FAILED: `. The end repeats all of them, with the command that runs the step alone.
 
 The time that is left comes from an earlier run: the last one on this machine that passed, and else the one that is
 committed in .ci/earlier-runs.json.
@@ -47,18 +47,18 @@ class Step(NamedTuple):
 
 
 def script(name, *words, after=(), counts=True, title=""):
-    """The step that is a script of this folder."""
+    """Returns the step that is a script of this folder."""
     again = " ".join([f".ci/{name}", *words])
     return Step(title or name, [ROOT / ".ci" / name, *words], after, again, counts)
 
 
 def file_name(step):
-    """The name of the file with all that a step printed."""
+    """Returns the name of the file with all that a step printed."""
     return re.sub(r"[^\w-]", "-", step.name) + ".log"
 
 
 def earlier_runs():
-    """How long each step took in the last run of each kind, and when its marks came, in seconds."""
+    """Returns how long each step took in the last run of each kind, and when its marks came, in seconds."""
     found = {}
     for file in reversed(EARLIER):
         found |= json.loads(file.read_text()) if file.exists() else {}
@@ -66,8 +66,10 @@ def earlier_runs():
 
 
 class Run:
-    """A run of steps, and what they came to so far. One of them prints at a time. A run of some steps alone has no
-    kind: no other run is told from it."""
+    """A run of steps, and their results so far. One of them prints at a time.
+
+    The times of a run without a kind, which is one of some steps alone, are not kept.
+    """
 
     def __init__(self, kind, steps, lanes=None):
         self.kind, self.steps = kind, {it.name: it for it in steps}
@@ -76,7 +78,7 @@ class Run:
         self.start = self.last = time.monotonic()
         self.changed, self.printing = threading.Condition(), threading.Lock()
         self.taken, self.ended, self.running, self.marks, self.times = set(), {}, {}, {}, {}
-        self.failures, self.told, self.passed, self.failed, self.processors = [], 0, 0, 0, 0.0
+        self.failures, self.failures_seen, self.passed, self.failed, self.processors = [], 0, 0, 0, 0.0
         self.earlier = earlier_runs().get(f"{kind} on {self.lanes}", {})
 
     def say(self, text):
@@ -87,7 +89,7 @@ class Run:
     # ---- the time that is left
 
     def share(self, name, now):
-        """How many seconds of an earlier run of a step its progress comes to."""
+        """Returns how many seconds of an earlier run of a step its progress comes to."""
         earlier = self.earlier.get(name, {"seconds": 0, "marks": {}})
         if name in self.ended:
             return earlier["seconds"]
@@ -98,7 +100,7 @@ class Run:
         return min(earlier["seconds"], reached if earlier["marks"] and reached else passed)
 
     def left(self):
-        """How many minutes are left, in words; nothing where no earlier run says it."""
+        """Returns how many minutes are left, in words, or "" if no earlier run says so."""
         now = time.monotonic()
         whole = sum(it["seconds"] for name, it in self.earlier.items() if name in self.steps)
         done = sum(self.share(name, now) for name in self.steps)
@@ -114,12 +116,12 @@ class Run:
                 now = time.monotonic()
                 each = [f"{name} ({len(self.marks[name])} done, {(now - since) / 60:.0f} min)"
                         for name, since in [*self.running.items()]]  # fmt: skip
-                self.say(f"running: {', '.join(each)}; {self.told} failed so far{self.left()}")
+                self.say(f"running: {', '.join(each)}; {self.failures_seen} failed so far{self.left()}")
 
     # ---- steps
 
     def next(self):
-        """A step whose own steps have ended. It waits for one, and there is none once all are taken."""
+        """Waits for a step whose own steps have ended, and takes it. Returns None once all are taken."""
         with self.changed:
             while len(self.taken) < len(self.steps):
                 for name, step in self.steps.items():
@@ -140,9 +142,9 @@ class Run:
                 self.changed.notify_all()
 
     def run(self, step):
-        """Runs a step, and takes how it ended."""
+        """Runs a step, and records how it ended."""
         self.marks[step.name], self.running[step.name] = {}, time.monotonic()
-        last, count, told = "", "", []
+        last, count, reasons = "", "", []
         how = {"stdin": subprocess.DEVNULL, "stdout": subprocess.PIPE, "stderr": subprocess.STDOUT}
         with open(LOGS / file_name(step), "w", encoding="utf-8") as log:
             process = subprocess.Popen([*map(str, step.words)], cwd=ROOT, text=True, errors="replace", **how)
@@ -154,9 +156,9 @@ class Run:
                 if mark := re.search(step.mark, line):
                     self.marks[step.name][mark[1]] = time.monotonic() - self.running[step.name]
                 if line.startswith(FAILED) or re.search(step.wrong, line):
-                    told.append(line.removeprefix(FAILED).strip())
-                    self.told += 1
-                    self.say(f"{step.name}: {FAILED}{told[-1]}")
+                    reasons.append(line.removeprefix(FAILED).strip())
+                    self.failures_seen += 1
+                    self.say(f"{step.name}: {FAILED}{reasons[-1]}")
             process.stdout.close()
             _, status, usage = os.wait4(process.pid, 0)
             process.returncode = os.waitstatus_to_exitcode(status)
@@ -165,25 +167,25 @@ class Run:
         seconds = time.monotonic() - self.running.pop(step.name)
         marks = {mark: round(at) for mark, at in self.marks[step.name].items()}
         self.times[step.name] = {"seconds": round(seconds), "marks": marks}
-        self.end(step, process.returncode, count if step.counts else last, told, usage.ru_utime + usage.ru_stime)
+        self.end(step, process.returncode, count if step.counts else last, reasons, usage.ru_utime + usage.ru_stime)
 
-    def end(self, step, status, last, told, used=0):
-        """Takes how a step ended. One that counts is one failure where it does not say how, or says it wrongly."""
+    def end(self, step, status, last, reasons, used=0):
+        """Records how a step ended. One that counts is one failure if its count is missing or belies its status."""
         passed, failed = (0, 1) if status else (1, 0)
         if step.counts and step.name in self.times:
             found = COUNTED.fullmatch(last)
             if found and (status == 0) == (found[2] == "0"):
                 passed, failed = int(found[1]), int(found[2])
             else:
-                told.append(f"it was cut off, with status {status}")
+                reasons.append(f"it was cut off, with status {status}")
                 passed, failed = 0, 1
         self.passed += passed
         self.failed += failed
         if failed:
             log = f"out/log/{file_name(step)}"
-            self.told += not told
-            self.failures += [f"{step.name}: {it}" for it in told or [last]] + [f"  again: {step.again}   ({log})"]
-            self.say(f"{step.name}: {FAILED}{told[-1] if told else last}; again: {step.again}")
+            self.failures_seen += not reasons
+            self.failures += [f"{step.name}: {it}" for it in reasons or [last]] + [f"  again: {step.again}   ({log})"]
+            self.say(f"{step.name}: {FAILED}{reasons[-1] if reasons else last}; again: {step.again}")
         seconds = self.times.get(step.name, {"seconds": 0})["seconds"]
         self.say(f"{step.name}: {passed} passed, {failed} failed in {seconds} s, {used:.0f} s of processors")
         self.ended[step.name] = not failed

@@ -59,15 +59,14 @@ def argument(name, given, help):
 
 
 def in_python(value):
-    """A constant's value as an expression of Python. A line of a string that ends in `\\` goes on at the next one's
-    first character."""
+    """Returns a constant's value as an expression of Python. A line of a string that ends in `\\` continues."""
     marks = {"text": lambda it: it["text"], "field": lambda it: f"{it['field']}=", "open": lambda _: "(",
              "close": lambda _: ")", None: lambda _: ""}
     return PIECE.sub(lambda it: marks[it.lastgroup](it), re.sub(r"\\\n\s*", "", value))
 
 
 def subcommands():
-    """The subcommands, in the order of the help."""
+    """Returns the subcommands, in the order of the help."""
     names = {kind: lambda *parts, kind=kind: (kind, *parts) for kind in KINDS}
     names |= {"Argument": argument, "Subcommand": Subcommand}
     for name, value in CONSTANT.findall(SOURCE.read_text(encoding="utf-8")):
