@@ -1,6 +1,6 @@
 """A reader of SPDX licence expressions, by recursive descent, and which licences an entry of a list allows.
 
-It goes by the rules that the page of crates/spdx_expressions states. `licence-reader` and `graphs` judge by it.
+It follows the rules on the page of crates/spdx_expressions. `licence-reader` and `graphs` compare the library with it.
 """
 import re
 
@@ -11,7 +11,7 @@ FOREIGN = re.compile(r"DocumentRef-[A-Za-z0-9.-]+:LicenseRef-[A-Za-z0-9.-]+")
 
 
 class Fault(Exception):
-    pass
+    """An error of a text: its place, and a message."""
 
 
 def is_identifier(word):
