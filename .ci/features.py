@@ -43,13 +43,14 @@ class Build:
         self.active = [*roots, *([self.current] if self.current and self.current not in roots else [])]
         for root in self.active:
             table = self.packages[root]["features"]
-            asked = list(table) if all_on else [f for f in self.asked_of(root, features) if f in table or "/" in f]
-            asked += ["default"] if (default or root != (self.current or root)) and "default" in table else []
-            self.activate(root, "target", asked)
+            named = [f for f in self.selected_of(root, features) if f in table or "/" in f]
+            selected = list(table) if all_on else named
+            selected += ["default"] if (default or root != (self.current or root)) and "default" in table else []
+            self.activate(root, "target", selected)
             if self.is_macro(root):
-                self.activate(root, "host", asked)
+                self.activate(root, "host", selected)
 
-    def asked_of(self, root, features):
+    def selected_of(self, root, features):
         """Returns the features that are selected of a root by their names."""
         if not self.current:
             return features
@@ -103,17 +104,17 @@ class Build:
     def key(self, package, side):
         return package, side if self.is_new else "target"
 
-    def activate(self, package, side, asked):
-        for feature in asked:
+    def activate(self, package, side, features):
+        for feature in features:
             self.turn_on(package, side, feature)
         if self.key(package, side) in self.processed:
             return
         self.processed.add(self.key(package, side))
         for one, to in self.dependencies(package, side):
             if not one.optional:
-                self.activate(one.to, to, self.asked_by(one))
+                self.activate(one.to, to, self.features_for(one))
 
-    def asked_by(self, one):
+    def features_for(self, one):
         table = self.packages[one.to]["features"]
         return one.features + (["default"] if one.default and "default" in table else [])
 
@@ -135,7 +136,7 @@ class Build:
             if one.name == name:
                 for feature in waiting:
                     self.turn_on(one.to, to, feature)
-                self.activate(one.to, to, self.asked_by(one))
+                self.activate(one.to, to, self.features_for(one))
 
     def turn_on_of(self, package, side, name, feature, is_weak):
         for one, to in self.dependencies(package, side):

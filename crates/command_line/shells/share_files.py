@@ -149,9 +149,9 @@ def bash():
 
 def zsh_argument(argument):
     """Returns an argument as `_arguments` takes it."""
-    told = re.sub(r"([\[\]:\\])", r"\\\1", argument.help)
+    help = re.sub(r"([\[\]:\\])", r"\\\1", argument.help)
     given = f":{argument.value}:{value('zsh', argument)}" if argument.value else ""
-    name = f"--{argument.name}[{told}]" if argument.is_option else ""
+    name = f"--{argument.name}[{help}]" if argument.is_option else ""
     return quoted(("*" if argument.is_repeated else "") + name + given)
 
 
