@@ -59,12 +59,12 @@ def of_text(text: str, what: str = "a text") -> list[typing.Any]:
 def call(name: str, *arguments: object, room: int = _ROOM) -> tuple[Outcome, bytes]:
     """Makes a call that writes into a buffer, again if the buffer was too short. Returns what it wrote.
 
-    The first buffer has `room` bytes. Those that the call does not write take no memory if there are many.
+    The first buffer has `room` bytes.
     """
     outcome = Outcome()
     while True:
-        out = (ctypes.c_char * room).from_buffer(bytearray(room))
+        out = (ctypes.c_char * room)()
         getattr(LIBRARY, name)(*arguments, out, ctypes.c_size_t(room), ctypes.byref(outcome))
         if outcome.needed <= room:
-            return outcome, ctypes.string_at(out, outcome.needed)
+            return outcome, bytes(memoryview(out)[: outcome.needed])
         room = outcome.needed
