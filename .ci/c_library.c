@@ -106,11 +106,18 @@ void __wrap_free(void *block) {
     __real_free(block);
 }
 
+/* A field that has no meaning for the code is zero. */
+static void expect_zeros(const nevgrasi_outcome *o, const char *name) {
+    expect(o->code == NEVGRASI_DONE || (!o->holds && !o->is_named), "an answer without DONE", name);
+    expect(o->code == NEVGRASI_REFUSED || (o->start == 0 && o->end == 0), "a span without REFUSED", name);
+}
+
 /* The call with a buffer of each size; the code is this one, and the answer has so many bytes, where it is told. */
 static void try_sizes(call *made, const question *q, uint32_t code, const char *answer) {
     nevgrasi_outcome o, again;
     uint32_t found = made(q, NULL, 0, &o);
     expect(found == code && o.code == code, "another code", q->name);
+    expect_zeros(&o, q->name);
     uint8_t *exact = calloc(o.needed + 1, 1);
     expect(made(q, exact, o.needed, &again) == code && again.needed == o.needed, "another length", q->name);
     if (answer) {
@@ -142,6 +149,7 @@ static void refuse_each(call *made, const question *q) {
         expect(held == before, "a block is kept", q->name);
         if (is_past) return;
         expect(code == NEVGRASI_NO_MEMORY, "a refused allocation is passed over", q->name);
+        expect_zeros(&o, q->name);
     }
 }
 
@@ -270,6 +278,7 @@ static void try_place(call *made, question q, uint32_t code, uint32_t argument, 
     nevgrasi_outcome o;
     expect(made(&q, NULL, 0, &o) == code && o.argument == argument, "another argument", q.name);
     expect(o.start == start && o.end == end, "another span", q.name);
+    expect_zeros(&o, q.name);
     let_go(&q);
 }
 

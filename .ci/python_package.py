@@ -1,12 +1,13 @@
 """Tries the Python package `nevgrasi`, which has to be on the path: that its values are compared, sorted, hashed,
 copied and pickled, that other types raise `TypeError`, what a condition consists of, what is true on the targets of
-rustc, and the lines of Python in docs/OTHER-LANGUAGES.md.
+rustc, that a graph is computed once, and the lines of Python in docs/OTHER-LANGUAGES.md.
 
 The parts of conditions are written by hand. The facts of targets are what `rustc --print cfg` prints, where rustc
 1.95.0 is, and `conditions.py` finds the keys that are true for these lines. The last line is `N passed, M failed`.
 """
 import copy
 import doctest
+import json
 import pickle
 import shutil
 import sys
@@ -14,6 +15,7 @@ import sys
 import nevgrasi
 from checks import check, count, ended, finish, try_each
 from conditions import read, truth
+from graph_model import graphs
 from installed import PAGE, blocks
 from nevgrasi import Condition, Fault, Facts, Key, facts_of, keys_at, known_targets
 
@@ -55,8 +57,8 @@ OF_OTHER_TYPES = [
     "Condition(bytearray(1))", "Condition(Key('a'))", "Condition('a').matches(1)", "Condition('a').matches([b'a'])",
     "Facts(1)", "Facts([1])", "Facts('a', 1)", "Facts('a', None)", "facts_of(1)", "facts_of(None)",
     "keys_at(1, 'avr-none')", "keys_at([1], Facts([]))", "keys_at([b'a'], Facts([]))", "keys_at([], 1)",
-    "nevgrasi.graph(1)", "nevgrasi.graph('{}', 1)", "Key('a') < 'a'", "Key('a') < Condition('a')", "Facts([]) <= []",
-    "Condition('a') > Key('a')",
+    "nevgrasi.graph(1)", "nevgrasi.graph([])", "nevgrasi.graph('{}', 1)", "Key('a') < 'a'", "Key('a') < Condition('a')",
+    "Facts([]) <= []", "Condition('a') > Key('a')",
 ]  # fmt: skip
 
 # What is of the right type, and wrong.
@@ -207,6 +209,53 @@ def try_target(target):
     check(f"keys at {target}, read", keys_at(map(Key, KEYS), Facts(lines, target)), [*map(Key, wanted)])
 
 
+class Counting:
+    """The shared library, which counts the calls that are made."""
+
+    def __init__(self, library):
+        self.library, self.calls = library, 0
+
+    def __getattr__(self, name):
+        self.calls += 1
+        return getattr(self.library, name)
+
+
+def counted(*given):
+    """A graph, and how many calls it took."""
+    library = nevgrasi._library.LIBRARY
+    nevgrasi._library.LIBRARY = counting = Counting(library)
+    try:
+        return nevgrasi.graph(*given), counting.calls
+    finally:
+        nevgrasi._library.LIBRARY = library
+
+
+def unix_graph(count):
+    """A document of one package, and of others that it depends on where `cfg(unix)` is true."""
+    names = [f"p{number}" for number in range(count)]
+    kinds = [{"kind": None, "target": "cfg(unix)"}]
+    nodes = [{"id": "a", "deps": [{"pkg": it, "dep_kinds": kinds} for it in names]}]
+    packages = [{"id": it, "name": it, "version": "1.0.0", "targets": []} for it in ["a", *names]]
+    nodes += [{"id": it, "deps": []} for it in names]
+    return {"version": 1, "workspace_members": ["a"], "packages": packages, "resolve": {"nodes": nodes}}
+
+
+def try_graphs():
+    """A graph is computed once, and again only if its lines are much longer than its document, which may be a text,
+    bytes, or the object of its JSON."""
+    found = graphs()
+    count(found, "there are no graphs")
+    for name, document in found.items():
+        text = json.dumps(document)
+        packages, calls = counted(text)
+        check(f"calls for {name}", calls, 1)
+        check(f"{name}, as bytes and parsed", (counted(text.encode()), counted(document)), ((packages, 1),) * 2)
+    names = Key("cfg(unix)").targets()
+    packages, calls = counted(unix_graph(100))
+    check("calls for many lines", calls, 2)
+    check("targets of many lines", [it["at"] for it in packages], ["all"] + [names] * 100)
+
+
 def try_page():
     """The lines of Python on the page give what the page has below them."""
     for block in blocks("python"):
@@ -220,6 +269,7 @@ def main():
     try_errors()
     try_conditions()
     try_facts()
+    try_graphs()
     try_page()
     if shutil.which("rustc") and ended(["rustc", "--version"]).output.startswith(RELEASE):
         try_each([(try_target, it) for it in known_targets()])

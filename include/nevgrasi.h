@@ -16,6 +16,9 @@
    With NEVGRASI_REFUSED, `out` has the message, and the bytes from `start` to `end` of the text are the fault. The text
    is the one of the call's texts that `argument` counts from 0.
 
+   A field that has no meaning is zero: `holds` and `is_named` unless the code is NEVGRASI_DONE, and `start` and `end`
+   unless it is NEVGRASI_REFUSED.
+
    An example is texts, one after the other, each behind its length: 8 bytes, the low one first. With `is_named` the
    first is the name of the target, and each other one is a fact. */
 #ifndef NEVGRASI_H

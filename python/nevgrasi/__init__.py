@@ -19,6 +19,7 @@ environment names. A call makes no other system call than for memory, and thread
 """
 from __future__ import annotations
 
+import collections.abc
 import ctypes
 import functools
 import json
@@ -593,23 +594,31 @@ class Facts(_Value):
         return type(self), (self._lines, self._name)
 
 
-def graph(document: str | bytes, host: str | None = None) -> list[Package]:
+# How long the lines of a graph are expected to be, times the length of its document. Known documents need less.
+_LINES_OF_DOCUMENT = 4
+
+
+def graph(document: str | bytes | collections.abc.Mapping[str, object], host: str | None = None) -> list[Package]:
     """Returns on which known targets each package is in the build.
 
-    The document is what `cargo metadata --format-version 1` printed. The packages are those that
-    `manifest_check graph --json` prints. Builds run on the host, which is a known target, or on the target itself.
-    Raises `Fault`, which has no place, if the document can't be used, `UnknownTarget` for the host, and `TooDeep`.
+    The document is what `cargo metadata --format-version 1` printed, as a text or as the object of its JSON. The
+    packages are those that `manifest_check graph --json` prints. Builds run on the host, which is a known target, or on
+    the target itself. Raises `Fault`, which has no place, if the document can't be used, `UnknownTarget` for the host,
+    and `TooDeep`.
 
     >>> nodes = [{"id": "a", "deps": []}]
     >>> packages = [{"id": "a", "name": "a", "version": "1.0.0", "targets": []}]
-    >>> graph(json.dumps({"version": 1, "packages": packages, "workspace_members": ["a"], "resolve": {"nodes": nodes}}))
+    >>> graph({"version": 1, "packages": packages, "workspace_members": ["a"], "resolve": {"nodes": nodes}})
     [{'package': 'a 1.0.0', 'id': 'a', 'license': None, 'targets': 320, 'at': 'all', 'kinds': []}]
     """
+    if isinstance(document, collections.abc.Mapping):
+        document = json.dumps(dict(document))
     if not isinstance(document, (str, bytes)):
-        raise wrong_type("a document", "a str or bytes", document)
-    given = of_bytes(document) if isinstance(document, bytes) else of_text(document)
-    written = _answer("nevgrasi_graph", *given, *of_text("" if host is None else host, "a host"))
-    return [json.loads(line) for line in written.split(b"\n")[:-1]]
+        raise wrong_type("a document", "a str, bytes or a mapping", document)
+    given = document if isinstance(document, bytes) else document.encode()
+    on = of_text("" if host is None else host, "a host")
+    outcome, written = call("nevgrasi_graph", *of_bytes(given), *on, room=_LINES_OF_DOCUMENT * len(given))
+    return [json.loads(line) for line in _check(outcome, written).split(b"\n")[:-1]]
 
 
 def version() -> str:

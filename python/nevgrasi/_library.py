@@ -10,7 +10,7 @@ ABI = 2
 DONE, REFUSED, NOT_UTF8, NOT_FLAT, NO_MEMORY, UNDECIDED, TOO_DEEP, UNKNOWN_TARGET = range(8)
 TARGETS, WORDS = 320, 5
 
-# How many bytes an answer may have before its call is made again with more room.
+# How many bytes an answer may have before its call is made again with more room, if its size is not estimated.
 _ROOM = 1 << 9
 
 
@@ -56,12 +56,15 @@ def of_text(text: str, what: str = "a text") -> list[typing.Any]:
     return of_bytes(text.encode())
 
 
-def call(name: str, *arguments: object) -> tuple[Outcome, bytes]:
-    """Makes a call that writes into a buffer, again if the buffer was too short. Returns what it wrote."""
-    outcome, room = Outcome(), _ROOM
+def call(name: str, *arguments: object, room: int = _ROOM) -> tuple[Outcome, bytes]:
+    """Makes a call that writes into a buffer, again if the buffer was too short. Returns what it wrote.
+
+    The first buffer has `room` bytes.
+    """
+    outcome = Outcome()
     while True:
-        out = ctypes.create_string_buffer(room)
+        out = (ctypes.c_char * room)()
         getattr(LIBRARY, name)(*arguments, out, ctypes.c_size_t(room), ctypes.byref(outcome))
         if outcome.needed <= room:
-            return outcome, out.raw[: outcome.needed]
+            return outcome, bytes(memoryview(out)[: outcome.needed])
         room = outcome.needed

@@ -6,3 +6,4 @@ pub mod Flat
 pub mod Pieces
 pub mod Answers
 pub mod Comparisons
+pub mod Laws

@@ -1,5 +1,5 @@
 -- The contents of a caller's buffer, and the codes that calls return.
-use Rattle.std.specs.Prelude.{◌≡◌, ◌≤◌, ◌<◌, ℕ, Bool, ◌||◌, ◌==◌, List, ◌++◌, length, drop}
+use Rattle.std.specs.Prelude.{◌≡◌, ◌≤◌, ◌<◌, ℕ, Bool, false, ◌||◌, ◌==◌, List, ◌++◌, length, drop}
 use Rattle.byte_answers.specs.declared.outcome.Outcome.{Outcome}
 use Rattle.byte_answers.specs.declared.outcome.TheConstants.{DONE, REFUSED, NOT_UTF8, NOT_FLAT, NO_MEMORY, UNDECIDED}
 use Rattle.byte_answers.specs.declared.outcome.TheConstants.{TOO_DEEP, UNKNOWN_TARGET}
@@ -14,6 +14,14 @@ IsWritten text needed old new =
 -- no text is written: none is needed, and the buffer is unchanged
 abbrev pub IsSilent : Outcome → List ℕ → List ℕ → Type 0
 IsSilent o old new = (o.needed ≡ 0) × (new ≡ old)
+
+-- the outcome answers no question, and no example of it has a name
+abbrev pub HasNoAnswer : Outcome → Type 0
+HasNoAnswer o = (o.holds ≡ false) × (o.is_named ≡ false)
+
+-- the outcome has no span of an error
+abbrev pub HasNoSpan : Outcome → Type 0
+HasNoSpan o = (o.start ≡ 0) × (o.end ≡ 0)
 
 -- a code of a call that has no answer because a text is not a condition, or memory was refused
 abbrev pub is_failure : ℕ → Bool

@@ -7,7 +7,7 @@ ghost use Rattle.cargo_platform.specs.Platforms.{IsConditionText, IsRefusedCondi
 ghost use Rattle.cargo_platform.specs.Errors.{orig_of, fault_in, span_in};
 ghost use Rattle.byte_answers.specs.Answers.{IsCanonical, IsFlatOf};
 ghost use Rattle.byte_answers.specs.Depths.{IsTooDeep};
-ghost use Rattle.byte_answers.specs.Outcomes.{ends_key_call, IsSilent};
+ghost use Rattle.byte_answers.specs.Outcomes.{HasNoAnswer, HasNoSpan, IsSilent, ends_key_call};
 ghost use Rattle.byte_answers.specs.Refusals.{IsRefusal, IsShownRefusal};
 
 use crate::depth::is_too_deep;
@@ -35,6 +35,10 @@ pub fn canonical(alloc: Global, key: &[u8], out: &mut [u8]) -> Outcome
     ensures too_deep { result.code ≡ TOO_DEEP ↔ (IsUtf8 key.now × IsTooDeep key.now) }
     // Nothing other than the promised texts is written.
     ensures silent { result.code ≢ DONE → result.code ≢ REFUSED → IsSilent result out.old out.new }
+    // `holds` and `is_named` are false.
+    ensures holds { HasNoAnswer result }
+    // Unless the code is `REFUSED`, `start` and `end` are 0.
+    ensures span { result.code ≢ REFUSED → HasNoSpan result }
     // The only other code is `NO_MEMORY`, and `argument` is 0.
     ensures argument { result.argument ≡ 0 }
     ensures codes { IsTrue (ends_key_call result.code) }
@@ -64,6 +68,10 @@ pub fn read_key(alloc: Global, key: &[u8], out: &mut [u8]) -> Outcome
     ensures too_deep { result.code ≡ TOO_DEEP ↔ (IsUtf8 key.now × IsTooDeep key.now) }
     // Nothing other than the promised texts is written.
     ensures silent { result.code ≢ DONE → result.code ≢ REFUSED → IsSilent result out.old out.new }
+    // `holds` and `is_named` are false.
+    ensures holds { HasNoAnswer result }
+    // Unless the code is `REFUSED`, `start` and `end` are 0.
+    ensures span { result.code ≢ REFUSED → HasNoSpan result }
     // The only other code is `NO_MEMORY`, and `argument` is 0.
     ensures argument { result.argument ≡ 0 }
     ensures codes { IsTrue (ends_key_call result.code) }
@@ -82,6 +90,8 @@ fn shown(alloc: Global, error: &ParseError, key: &str, out: &mut [u8]) -> Outcom
     requires { IsRefusedConditionAt key.now (orig_of error.now) (fault_in error.now) (span_in error.now) }
     ensures refused { result.code ≡ REFUSED → IsShownRefusal key.now result out.old out.new }
     ensures silent { result.code ≢ REFUSED → IsSilent result out.old out.new }
+    ensures holds { HasNoAnswer result }
+    ensures span { result.code ≢ REFUSED → HasNoSpan result }
     ensures argument { result.argument ≡ 0 }
     ensures codes { IsTrue (result.code == REFUSED || result.code == NO_MEMORY) }
 {
@@ -119,6 +129,10 @@ pub fn fault(alloc: Global, key: &[u8], out: &mut [u8]) -> Outcome
     ensures too_deep { result.code ≡ TOO_DEEP ↔ (IsUtf8 key.now × IsTooDeep key.now) }
     // Nothing other than the promised texts is written.
     ensures silent { result.code ≢ REFUSED → IsSilent result out.old out.new }
+    // `holds` and `is_named` are false.
+    ensures holds { HasNoAnswer result }
+    // Unless the code is `REFUSED`, `start` and `end` are 0.
+    ensures span { result.code ≢ REFUSED → HasNoSpan result }
     // The only other code is `NO_MEMORY`, and `argument` is 0.
     ensures argument { result.argument ≡ 0 }
     ensures codes { IsTrue (ends_key_call result.code) }

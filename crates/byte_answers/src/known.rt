@@ -9,7 +9,8 @@ ghost use Rattle.known_targets.specs.Sets.{place};
 ghost use Rattle.known_targets.specs.Table.{target_name, table_keys};
 ghost use Rattle.byte_answers.specs.Answers.{AreFactsOf, AreTargets, fact_lines};
 ghost use Rattle.byte_answers.specs.Depths.{IsTooDeep};
-ghost use Rattle.byte_answers.specs.Outcomes.{IsSilent, IsWritten, ends_key_call, ends_target_call};
+ghost use Rattle.byte_answers.specs.Outcomes.{HasNoAnswer, HasNoSpan, IsSilent, IsWritten};
+ghost use Rattle.byte_answers.specs.Outcomes.{ends_key_call, ends_target_call};
 ghost use Rattle.byte_answers.specs.Refusals.{IsRefusal};
 
 use crate::fact_lines::push_fact_lines;
@@ -38,6 +39,10 @@ pub fn targets(alloc: Global, key: &[u8], words: &mut [u64; WORDS], out: &mut [u
     ensures silent { result.code ≢ REFUSED → IsSilent result out.old out.new }
     // Unless the code is `DONE`, the words are unchanged.
     ensures words_kept { result.code ≢ DONE → words.new ≡ words.old }
+    // `holds` and `is_named` are false.
+    ensures holds { HasNoAnswer result }
+    // Unless the code is `REFUSED`, `start` and `end` are 0.
+    ensures span { result.code ≢ REFUSED → HasNoSpan result }
     // The only other code is `NO_MEMORY`, and `argument` is 0.
     ensures argument { result.argument ≡ 0 }
     ensures codes { IsTrue (ends_key_call result.code) }
@@ -64,6 +69,10 @@ pub fn target_name(place: usize, out: &mut [u8]) -> Outcome
     // For each other index, `UNKNOWN_TARGET` is returned, and nothing is written.
     ensures unknown { COUNT ≤ place → result.code ≡ UNKNOWN_TARGET }
     ensures silent { COUNT ≤ place → IsSilent result out.old out.new }
+    // `holds` and `is_named` are false.
+    ensures holds { HasNoAnswer result }
+    // `start` and `end` are 0.
+    ensures span { HasNoSpan result }
     // `argument` is 0.
     ensures argument { result.argument ≡ 0 }
 {
@@ -97,6 +106,10 @@ pub fn facts(alloc: Global, name: &[u8], out: &mut [u8]) -> Outcome
     ensures not_utf8 { result.code ≡ NOT_UTF8 ↔ (IsUtf8 name.now → ⊥) }
     // Nothing other than the promised texts is written.
     ensures silent { result.code ≢ DONE → IsSilent result out.old out.new }
+    // `holds` and `is_named` are false.
+    ensures holds { HasNoAnswer result }
+    // `start` and `end` are 0.
+    ensures span { HasNoSpan result }
     // The only other code is `NO_MEMORY`, and `argument` is 0.
     ensures argument { result.argument ≡ 0 }
     ensures codes { IsTrue (ends_target_call result.code) }

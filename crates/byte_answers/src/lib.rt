@@ -10,6 +10,7 @@ mod fact_lines;
 mod flat;
 mod keys;
 mod known;
+pub mod laws;
 mod matching;
 mod outcome;
 mod reading;

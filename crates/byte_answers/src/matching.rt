@@ -1,6 +1,6 @@
 //! Calls that decide whether a key is true on a target.
 
-ghost use Rattle.std.specs.Prelude.{◌≡◌, ◌↔◌, ◌≢◌, ℕ, List, Option, IsTrue, map, ◌||◌, ◌==◌};
+ghost use Rattle.std.specs.Prelude.{◌≡◌, ◌↔◌, ◌≢◌, ℕ, false, List, Option, IsTrue, map, ◌||◌, ◌==◌};
 ghost use Rattle.std.specs.declared.ops.Range.{Range};
 ghost use Rattle.std.specs.Str.{IsUtf8};
 ghost use Rattle.cargo_platform.specs.Trees.{CfgValue, Condition, condition_of};
@@ -10,7 +10,7 @@ ghost use Rattle.cargo_platform.specs.FactLines.{SpellFacts, IsSpanInFacts};
 ghost use Rattle.cargo_platform.specs.Platforms.{IsConditionText};
 ghost use Rattle.byte_answers.specs.Answers.{IsMatch};
 ghost use Rattle.byte_answers.specs.Depths.{IsTooDeep};
-ghost use Rattle.byte_answers.specs.Outcomes.{IsSilent, ends_key_call};
+ghost use Rattle.byte_answers.specs.Outcomes.{HasNoAnswer, HasNoSpan, IsSilent, ends_key_call};
 ghost use Rattle.byte_answers.specs.Refusals.{AreEnds, IsRefusal, IsRefusedLine, IsErrorOfLines};
 
 use crate::outcome::{DONE, NO_MEMORY, NOT_UTF8, Outcome, REFUSED, TOO_DEEP, write};
@@ -38,6 +38,8 @@ fn refused_facts(alloc: Global, error: &FactsError, lines: &str, out: &mut [u8])
     ensures refused { result.code ≡ REFUSED → IsRefusedLine lines.now result out.old out.new }
     ensures silent { result.code ≢ REFUSED → IsSilent result out.old out.new }
     ensures argument { result.argument ≡ LINES }
+    ensures holds { HasNoAnswer result }
+    ensures span { result.code ≢ REFUSED → HasNoSpan result }
     ensures codes { IsTrue (result.code == REFUSED || result.code == NO_MEMORY) }
 {
     if let FactsError::Memory(_) = error {
@@ -72,6 +74,9 @@ fn match_lines(
     ensures codes { IsTrue (result.code == DONE || result.code == REFUSED || result.code == NO_MEMORY) }
     ensures silent { result.code ≢ REFUSED → IsSilent result out.old out.new }
     ensures argument { result.code ≡ REFUSED → result.argument ≡ LINES }
+    ensures holds { result.code ≢ DONE → HasNoAnswer result }
+    ensures named { result.is_named ≡ false }
+    ensures span { result.code ≢ REFUSED → HasNoSpan result }
     ensures place { IsTrue (result.argument == 0 || result.argument == 1 || result.argument == 2) }
 {
     match read_facts(alloc, lines) {
@@ -112,6 +117,12 @@ pub fn matches(alloc: Global, key: &[u8], name: &[u8], lines: &[u8], out: &mut [
     ensures too_deep_key { result.code ≡ TOO_DEEP → result.argument ≡ 0 }
     // Nothing is written unless a text is rejected.
     ensures silent { result.code ≢ REFUSED → IsSilent result out.old out.new }
+    // Unless the code is `DONE`, `holds` and `is_named` are false.
+    ensures holds { result.code ≢ DONE → HasNoAnswer result }
+    // No example has a name.
+    ensures named { result.is_named ≡ false }
+    // Unless the code is `REFUSED`, `start` and `end` are 0.
+    ensures span { result.code ≢ REFUSED → HasNoSpan result }
     // The only other code is `NO_MEMORY`.
     ensures codes { IsTrue (ends_key_call result.code) }
 {

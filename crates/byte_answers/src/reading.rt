@@ -8,7 +8,7 @@ ghost use Rattle.cargo_platform.specs.Errors.{orig_of, fault_in, span_in};
 ghost use Rattle.cargo_platform.specs.KeySpans.{IsSpanInKey};
 ghost use Rattle.cargo_platform.specs.Platforms.{IsConditionText, IsRefusedConditionAt};
 ghost use Rattle.byte_answers.specs.Depths.{IsTooDeep};
-ghost use Rattle.byte_answers.specs.Outcomes.{is_failure, IsSilent};
+ghost use Rattle.byte_answers.specs.Outcomes.{HasNoAnswer, HasNoSpan, IsSilent, is_failure};
 ghost use Rattle.byte_answers.specs.Refusals.{AreEnds, IsRefusal};
 
 use crate::depth::is_too_deep;
@@ -26,6 +26,8 @@ pub(crate) fn read_text(argument: u32, bytes: &[u8]) -> Result<&str, Outcome>
     ensures not_utf8 { IfErr result (λ _. IsUtf8 bytes.now → ⊥) }
     ensures utf8 { IfOk result (λ _. IsUtf8 bytes.now) }
     ensures silent { IfErr result (λ o. o.needed ≡ 0) }
+    ensures holds { IfErr result (λ o. HasNoAnswer o) }
+    ensures span { IfErr result (λ o. HasNoSpan o) }
 {
     match str::from_utf8(bytes) {
         Ok(text) => Ok(text),
@@ -53,6 +55,8 @@ fn refused(alloc: Global, argument: u32, error: &ParseError, key: &str, out: &mu
     ensures not_utf8 { result.code ≢ NOT_UTF8 }
     ensures too_deep { result.code ≢ TOO_DEEP }
     ensures silent { result.code ≢ REFUSED → IsSilent result out.old out.new }
+    ensures holds { HasNoAnswer result }
+    ensures span { result.code ≢ REFUSED → HasNoSpan result }
     ensures codes { IsTrue (is_failure result.code) }
 {
     let span = span_of(error, key);
@@ -87,6 +91,8 @@ pub(crate) fn read_condition(
     ensures too_deep { IfErr result
         (λ o. o.code ≡ TOO_DEEP ↔ (IsUtf8 key.now × IsTooDeep key.now)) }
     ensures silent { IfErr result (λ o. o.code ≢ REFUSED → IsSilent o out.old out.new) }
+    ensures holds { IfErr result (λ o. HasNoAnswer o) }
+    ensures span { IfErr result (λ o. o.code ≢ REFUSED → HasNoSpan o) }
     ensures codes { IfErr result (λ o. IsTrue (is_failure o.code)) }
     ensures spelled { IfErr result (λ o. o.code ≡ REFUSED → (p : Condition) → IsConditionText key.now p → ⊥) }
 {

@@ -12,7 +12,7 @@ ghost use Rattle.byte_answers.specs.Comparisons.{Stands, Fails, counted_name, Is
 ghost use Rattle.byte_answers.specs.Comparisons.{SaysRelated, AreRelated, SaysPossible, IsPossibleKey};
 ghost use Rattle.byte_answers.specs.Comparisons.{NeedsLarger, AreUndecided, IsUndecided};
 ghost use Rattle.byte_answers.specs.Depths.{IsReadable, IsTooDeep};
-ghost use Rattle.byte_answers.specs.Outcomes.{IsSilent, ends_comparison};
+ghost use Rattle.byte_answers.specs.Outcomes.{HasNoAnswer, HasNoSpan, IsSilent, ends_comparison};
 ghost use Rattle.byte_answers.specs.Refusals.{IsRefusal};
 
 use crate::counted::{push_counted, push_facts};
@@ -54,6 +54,8 @@ fn with_example(alloc: Global, holds: bool, target: &PossibleTarget, out: &mut [
     ensures example { result.code ≡ DONE → IsWrittenExample target.now result out.old out.new }
     ensures holds { result.code ≡ DONE → result.holds ≡ holds }
     ensures silent { result.code ≢ DONE → IsSilent result out.old out.new }
+    ensures no_answer { result.code ≢ DONE → HasNoAnswer result }
+    ensures span { HasNoSpan result }
     ensures argument { result.argument ≡ 0 }
     ensures codes { IsTrue (result.code == DONE || result.code == NO_MEMORY) }
 {
@@ -115,6 +117,9 @@ fn related_by<'a>(
     ensures argument { result.argument ≡ 0 }
     ensures silent { result.code ≢ DONE → IsSilent result out.old out.new }
     ensures silent_yes { result.code ≡ DONE → result.holds ≡ true → IsSilent result out.old out.new }
+    ensures holds { result.code ≢ DONE → HasNoAnswer result }
+    ensures named { result.code ≡ DONE → result.holds ≡ true → result.is_named ≡ false }
+    ensures span { HasNoSpan result }
     ensures codes { IsTrue (result.code == DONE || result.code == UNDECIDED || result.code == NO_MEMORY) }
 {
     match ask(alloc, relation, a, b, known, budget) {
@@ -140,6 +145,9 @@ fn related(
     ensures argument { result.argument ≡ 0 }
     ensures silent { result.code ≢ DONE → IsSilent result out.old out.new }
     ensures silent_yes { result.code ≡ DONE → result.holds ≡ true → IsSilent result out.old out.new }
+    ensures holds { result.code ≢ DONE → HasNoAnswer result }
+    ensures named { result.code ≡ DONE → result.holds ≡ true → result.is_named ≡ false }
+    ensures span { HasNoSpan result }
     ensures codes { IsTrue (result.code == DONE || result.code == UNDECIDED || result.code == NO_MEMORY) }
 {
     let rule = match family_rule(alloc) {
@@ -205,6 +213,12 @@ pub fn relates(
     // Nothing is written unless the relation does not hold, or a key is rejected.
     ensures silent { result.code ≢ DONE → result.code ≢ REFUSED → IsSilent result out.old out.new }
     ensures silent_yes { result.code ≡ DONE → result.holds ≡ true → IsSilent result out.old out.new }
+    // Unless the code is `DONE`, `holds` and `is_named` are false.
+    ensures holds { result.code ≢ DONE → HasNoAnswer result }
+    // Without an example, `is_named` is false.
+    ensures named { result.code ≡ DONE → result.holds ≡ true → result.is_named ≡ false }
+    // Unless the code is `REFUSED`, `start` and `end` are 0.
+    ensures span { result.code ≢ REFUSED → HasNoSpan result }
     // The only other code is `NO_MEMORY`.
     ensures codes { IsTrue (ends_comparison result.code) }
 {
@@ -236,6 +250,9 @@ fn possible_by<'a>(
     ensures silent { result.code ≢ DONE → IsSilent result out.old out.new }
     ensures silent_no { result.code ≡ DONE → result.holds ≡ false → IsSilent result out.old out.new }
     ensures argument { result.argument ≡ 0 }
+    ensures holds { result.code ≢ DONE → HasNoAnswer result }
+    ensures named { result.code ≡ DONE → result.holds ≡ false → result.is_named ≡ false }
+    ensures span { HasNoSpan result }
     ensures codes { IsTrue (result.code == DONE || result.code == UNDECIDED || result.code == NO_MEMORY) }
 {
     match can_hold_platform(alloc, platform, known, budget) {
@@ -253,6 +270,9 @@ fn possible(alloc: Global, platform: &Platform, budget: u64, out: &mut [u8]) -> 
     ensures silent { result.code ≢ DONE → IsSilent result out.old out.new }
     ensures silent_no { result.code ≡ DONE → result.holds ≡ false → IsSilent result out.old out.new }
     ensures argument { result.argument ≡ 0 }
+    ensures holds { result.code ≢ DONE → HasNoAnswer result }
+    ensures named { result.code ≡ DONE → result.holds ≡ false → result.is_named ≡ false }
+    ensures span { HasNoSpan result }
     ensures codes { IsTrue (result.code == DONE || result.code == UNDECIDED || result.code == NO_MEMORY) }
 {
     let rule = match family_rule(alloc) {
@@ -286,6 +306,12 @@ pub fn can_hold(alloc: Global, key: &[u8], budget: u64, out: &mut [u8]) -> Outco
     // Nothing other than the promised texts is written.
     ensures silent { result.code ≢ DONE → result.code ≢ REFUSED → IsSilent result out.old out.new }
     ensures silent_no { result.code ≡ DONE → result.holds ≡ false → IsSilent result out.old out.new }
+    // Unless the code is `DONE`, `holds` and `is_named` are false.
+    ensures holds { result.code ≢ DONE → HasNoAnswer result }
+    // Without an example, `is_named` is false.
+    ensures named { result.code ≡ DONE → result.holds ≡ false → result.is_named ≡ false }
+    // Unless the code is `REFUSED`, `start` and `end` are 0.
+    ensures span { result.code ≢ REFUSED → HasNoSpan result }
     // The only other code is `NO_MEMORY`, and `argument` is 0.
     ensures argument { result.argument ≡ 0 }
     ensures codes { IsTrue (ends_comparison result.code) }

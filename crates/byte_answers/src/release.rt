@@ -1,7 +1,7 @@
 //! The version of the library.
 
 ghost use Rattle.std.specs.Prelude.{◌≡◌};
-ghost use Rattle.byte_answers.specs.Outcomes.{IsWritten};
+ghost use Rattle.byte_answers.specs.Outcomes.{HasNoAnswer, HasNoSpan, IsWritten};
 
 use crate::outcome::{DONE, Outcome, write};
 
@@ -13,6 +13,10 @@ pub fn version(out: &mut [u8]) -> Outcome
     // `DONE` is always returned, with the version.
     ensures written { IsWritten VERSION.now result.needed out.old out.new }
     ensures done { result.code ≡ DONE }
+    // `holds` and `is_named` are false.
+    ensures holds { HasNoAnswer result }
+    // `start` and `end` are 0.
+    ensures span { HasNoSpan result }
 {
     Outcome::done(write(VERSION.as_bytes(), out))
 }

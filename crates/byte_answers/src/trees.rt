@@ -1,11 +1,11 @@
 //! Calls on flat conditions.
 
-ghost use Rattle.std.specs.Prelude.{◌≡◌, ◌≢◌, ◌↔◌, ◌≤◌, ◌<◌, length, IfOk, IfErr, IsTrue, ◌||◌, ◌==◌};
+ghost use Rattle.std.specs.Prelude.{◌≡◌, ◌≢◌, ◌↔◌, ◌≤◌, ◌<◌, false, length, IfOk, IfErr, IsTrue, ◌||◌, ◌==◌};
 ghost use Rattle.std.specs.Str.{IsUtf8};
 ghost use Rattle.cargo_platform.specs.Trees.{condition_of};
 ghost use Rattle.byte_answers.specs.Flat.{flat_condition, IsFlatForm, AreFlatFacts};
 ghost use Rattle.byte_answers.specs.Answers.{IsFlatMatch, IsPrint};
-ghost use Rattle.byte_answers.specs.Outcomes.{IsSilent, ends_flat_call, ends_flat_print};
+ghost use Rattle.byte_answers.specs.Outcomes.{HasNoAnswer, HasNoSpan, IsSilent, ends_flat_call, ends_flat_print};
 
 use crate::depth::MOST_FLAT_BYTES;
 use crate::outcome::{DONE, NO_MEMORY, NOT_FLAT, NOT_UTF8, Outcome, TOO_DEEP, write};
@@ -22,6 +22,8 @@ fn read_flat(alloc: Global, flat: &[u8]) -> Result<Platform, Outcome>
     ensures too_deep { IfErr result (λ o. o.code ≡ TOO_DEEP ↔ MOST_FLAT_BYTES < length flat.now) }
     ensures argument { IfErr result (λ o. o.argument ≡ 0) }
     ensures silent { IfErr result (λ o. o.needed ≡ 0) }
+    ensures holds { IfErr result (λ o. HasNoAnswer o) }
+    ensures span { IfErr result (λ o. HasNoSpan o) }
     ensures codes { IfErr result
         (λ o. IsTrue (o.code == TOO_DEEP || o.code == NOT_FLAT || o.code == NO_MEMORY)) }
 {
@@ -48,6 +50,10 @@ pub fn flat_print(alloc: Global, flat: &[u8], out: &mut [u8]) -> Outcome
     ensures too_deep { result.code ≡ TOO_DEEP ↔ MOST_FLAT_BYTES < length flat.now }
     // Nothing other than the promised texts is written.
     ensures silent { result.code ≢ DONE → IsSilent result out.old out.new }
+    // `holds` and `is_named` are false.
+    ensures holds { HasNoAnswer result }
+    // `start` and `end` are 0.
+    ensures span { HasNoSpan result }
     // The only other code is `NO_MEMORY`, and `argument` is 0.
     ensures argument { result.argument ≡ 0 }
     ensures codes { IsTrue (ends_flat_print result.code) }
@@ -85,6 +91,12 @@ pub fn flat_matches(alloc: Global, flat: &[u8], name: &[u8], flat_facts: &[u8]) 
     ensures utf8 { result.code ≡ DONE → IsUtf8 name.now }
     // `TOO_DEEP` is returned exactly for a flat condition of more than `MOST_FLAT_BYTES` bytes.
     ensures too_deep { result.code ≡ TOO_DEEP ↔ MOST_FLAT_BYTES < length flat.now }
+    // Unless the code is `DONE`, `holds` and `is_named` are false.
+    ensures holds { result.code ≢ DONE → HasNoAnswer result }
+    // No example has a name.
+    ensures named { result.is_named ≡ false }
+    // `start` and `end` are 0.
+    ensures span { HasNoSpan result }
     // The only other code is `NO_MEMORY`.
     ensures codes { IsTrue (ends_flat_call result.code) }
 {

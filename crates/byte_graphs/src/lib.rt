@@ -6,7 +6,7 @@ ghost use Rattle.std.specs.Prelude.{None};
 ghost use Rattle.std.specs.Str.{IsUtf8};
 ghost use Rattle.known_targets.specs.Sets.{place};
 ghost use Rattle.known_targets.specs.Table.{target_name};
-ghost use Rattle.byte_answers.specs.Outcomes.{IsSilent, IsWritten};
+ghost use Rattle.byte_answers.specs.Outcomes.{HasNoAnswer, HasNoSpan, IsSilent, IsWritten};
 ghost use Rattle.byte_graphs.specs.Documents.{IsGraph, IsDeepGraph, IsUnusable};
 
 mod documents;
@@ -40,6 +40,8 @@ fn refused(reason: &str, out: &mut [u8]) -> Outcome
     ensures written { (text : List ℕ) × IsWritten text result.needed out.old out.new }
     ensures code { result.code ≡ REFUSED }
     ensures argument { result.argument ≡ 0 }
+    ensures holds { HasNoAnswer result }
+    ensures span { HasNoSpan result }
 {
     Outcome {
         code: REFUSED,
@@ -83,6 +85,10 @@ pub fn graph(alloc: Global, document: &[u8], host: &[u8], out: &mut [u8]) -> Out
     // With `DONE` and `REFUSED`, the host is a known target, or has no name.
     ensures known { IsTrue (result.code == DONE || result.code == REFUSED) → host.now ≢ []
         → (k : ℕ) × ((k < COUNT) × (target_name k ≡ host.now)) }
+    // `holds` and `is_named` are false.
+    ensures holds { HasNoAnswer result }
+    // `start` and `end` are 0.
+    ensures span { HasNoSpan result }
     // The code is one of these, or `NO_MEMORY`.
     ensures argument { IsTrue (result.argument == 0 || result.argument == 1) }
     ensures codes { IsTrue (result.code == DONE || result.code == REFUSED || result.code == NOT_UTF8

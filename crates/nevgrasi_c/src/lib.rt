@@ -14,9 +14,8 @@ ghost use Rattle.byte_answers.specs.Answers.{IsPrint};
 ghost use Rattle.byte_answers.specs.Comparisons.{AreRelated, AreUndecided, IsPossibleKey, IsUndecided};
 ghost use Rattle.byte_answers.specs.Depths.{IsReadable, IsTooDeep};
 ghost use Rattle.byte_answers.specs.Flat.{IsFlatForm, AreFlatFacts};
-ghost use Rattle.byte_answers.specs.Outcomes.{IsSilent, IsWritten, ends_comparison, ends_flat_call, ends_flat_print};
-ghost use Rattle.byte_answers.specs.Outcomes.{ends_key_call};
-ghost use Rattle.byte_answers.specs.Outcomes.{ends_target_call};
+ghost use Rattle.byte_answers.specs.Outcomes.{HasNoAnswer, HasNoSpan, IsSilent, IsWritten, ends_comparison};
+ghost use Rattle.byte_answers.specs.Outcomes.{ends_flat_call, ends_flat_print, ends_key_call, ends_target_call};
 ghost use Rattle.byte_answers.specs.Refusals.{IsRefusal, IsRefusedLine, IsShownRefusal};
 ghost use Rattle.byte_graphs.specs.Documents.{IsGraph, IsDeepGraph, IsUnusable};
 
@@ -43,6 +42,8 @@ pub extern "C" fn nevgrasi_abi() -> u32
 pub extern "C" fn nevgrasi_version(out: &mut [u8], outcome: &mut Outcome) -> u32
     ensures written { IsWritten VERSION.now outcome.new.needed out.old out.new }
     ensures done { result ≡ DONE }
+    ensures holds { HasNoAnswer outcome.new }
+    ensures span { HasNoSpan outcome.new }
     ensures outcome { outcome.new.code ≡ result }
 {
     *outcome = byte_answers::version(out);
@@ -65,6 +66,8 @@ pub extern "C" fn nevgrasi_canonical(
     ensures silent { result ≢ DONE → result ≢ REFUSED → IsSilent outcome.new out.old out.new }
     ensures argument { outcome.new.argument ≡ 0 }
     ensures codes { IsTrue (ends_key_call result) }
+    ensures holds { HasNoAnswer outcome.new }
+    ensures span { result ≢ REFUSED → HasNoSpan outcome.new }
     ensures outcome { outcome.new.code ≡ result }
 {
     *outcome = byte_answers::canonical(alloc, key, out);
@@ -88,6 +91,8 @@ pub extern "C" fn nevgrasi_fault(
     ensures silent { result ≢ REFUSED → IsSilent outcome.new out.old out.new }
     ensures argument { outcome.new.argument ≡ 0 }
     ensures codes { IsTrue (ends_key_call result) }
+    ensures holds { HasNoAnswer outcome.new }
+    ensures span { result ≢ REFUSED → HasNoSpan outcome.new }
     ensures outcome { outcome.new.code ≡ result }
 {
     *outcome = byte_answers::fault(alloc, key, out);
@@ -122,6 +127,9 @@ pub extern "C" fn nevgrasi_matches(
     ensures too_deep_key { result ≡ TOO_DEEP → outcome.new.argument ≡ 0 }
     ensures silent { result ≢ REFUSED → IsSilent outcome.new out.old out.new }
     ensures codes { IsTrue (ends_key_call result) }
+    ensures holds { result ≢ DONE → HasNoAnswer outcome.new }
+    ensures named { outcome.new.is_named ≡ false }
+    ensures span { result ≢ REFUSED → HasNoSpan outcome.new }
     ensures outcome { outcome.new.code ≡ result }
 {
     *outcome = byte_answers::matches(alloc, key, name, lines, out);
@@ -146,6 +154,8 @@ pub extern "C" fn nevgrasi_targets(
     ensures words_kept { result ≢ DONE → words.new ≡ words.old }
     ensures argument { outcome.new.argument ≡ 0 }
     ensures codes { IsTrue (ends_key_call result) }
+    ensures holds { HasNoAnswer outcome.new }
+    ensures span { result ≢ REFUSED → HasNoSpan outcome.new }
     ensures outcome { outcome.new.code ≡ result }
 {
     *outcome = byte_answers::targets(alloc, key, words, out);
@@ -160,6 +170,8 @@ pub extern "C" fn nevgrasi_target_name(place: usize, out: &mut [u8], outcome: &m
     ensures unknown { COUNT ≤ place → result ≡ UNKNOWN_TARGET }
     ensures silent { COUNT ≤ place → IsSilent outcome.new out.old out.new }
     ensures argument { outcome.new.argument ≡ 0 }
+    ensures holds { HasNoAnswer outcome.new }
+    ensures span { HasNoSpan outcome.new }
     ensures outcome { outcome.new.code ≡ result }
 {
     *outcome = byte_answers::target_name(place, out);
@@ -181,6 +193,8 @@ pub extern "C" fn nevgrasi_facts(
     ensures silent { result ≢ DONE → IsSilent outcome.new out.old out.new }
     ensures argument { outcome.new.argument ≡ 0 }
     ensures codes { IsTrue (ends_target_call result) }
+    ensures holds { HasNoAnswer outcome.new }
+    ensures span { HasNoSpan outcome.new }
     ensures outcome { outcome.new.code ≡ result }
 {
     *outcome = byte_answers::facts(alloc, name, out);
@@ -216,6 +230,9 @@ pub extern "C" fn nevgrasi_implies(
     ensures silent { result ≢ DONE → result ≢ REFUSED → IsSilent outcome.new out.old out.new }
     ensures silent_yes { result ≡ DONE → outcome.new.holds ≡ true → IsSilent outcome.new out.old out.new }
     ensures codes { IsTrue (ends_comparison result) }
+    ensures holds { result ≢ DONE → HasNoAnswer outcome.new }
+    ensures named { result ≡ DONE → outcome.new.holds ≡ true → outcome.new.is_named ≡ false }
+    ensures span { result ≢ REFUSED → HasNoSpan outcome.new }
     ensures outcome { outcome.new.code ≡ result }
 {
     *outcome = byte_answers::relates(alloc, Relation::Implies, first, second, budget, out);
@@ -251,6 +268,9 @@ pub extern "C" fn nevgrasi_equivalent(
     ensures silent { result ≢ DONE → result ≢ REFUSED → IsSilent outcome.new out.old out.new }
     ensures silent_yes { result ≡ DONE → outcome.new.holds ≡ true → IsSilent outcome.new out.old out.new }
     ensures codes { IsTrue (ends_comparison result) }
+    ensures holds { result ≢ DONE → HasNoAnswer outcome.new }
+    ensures named { result ≡ DONE → outcome.new.holds ≡ true → outcome.new.is_named ≡ false }
+    ensures span { result ≢ REFUSED → HasNoSpan outcome.new }
     ensures outcome { outcome.new.code ≡ result }
 {
     *outcome = byte_answers::relates(alloc, Relation::Equivalent, first, second, budget, out);
@@ -286,6 +306,9 @@ pub extern "C" fn nevgrasi_excludes(
     ensures silent { result ≢ DONE → result ≢ REFUSED → IsSilent outcome.new out.old out.new }
     ensures silent_yes { result ≡ DONE → outcome.new.holds ≡ true → IsSilent outcome.new out.old out.new }
     ensures codes { IsTrue (ends_comparison result) }
+    ensures holds { result ≢ DONE → HasNoAnswer outcome.new }
+    ensures named { result ≡ DONE → outcome.new.holds ≡ true → outcome.new.is_named ≡ false }
+    ensures span { result ≢ REFUSED → HasNoSpan outcome.new }
     ensures outcome { outcome.new.code ≡ result }
 {
     *outcome = byte_answers::relates(alloc, Relation::Excludes, first, second, budget, out);
@@ -312,6 +335,9 @@ pub extern "C" fn nevgrasi_can_hold(
     ensures silent_no { result ≡ DONE → outcome.new.holds ≡ false → IsSilent outcome.new out.old out.new }
     ensures argument { outcome.new.argument ≡ 0 }
     ensures codes { IsTrue (ends_comparison result) }
+    ensures holds { result ≢ DONE → HasNoAnswer outcome.new }
+    ensures named { result ≡ DONE → outcome.new.holds ≡ false → outcome.new.is_named ≡ false }
+    ensures span { result ≢ REFUSED → HasNoSpan outcome.new }
     ensures outcome { outcome.new.code ≡ result }
 {
     *outcome = byte_answers::can_hold(alloc, key, budget, out);
@@ -334,6 +360,8 @@ pub extern "C" fn nevgrasi_read_key(
     ensures silent { result ≢ DONE → result ≢ REFUSED → IsSilent outcome.new out.old out.new }
     ensures argument { outcome.new.argument ≡ 0 }
     ensures codes { IsTrue (ends_key_call result) }
+    ensures holds { HasNoAnswer outcome.new }
+    ensures span { result ≢ REFUSED → HasNoSpan outcome.new }
     ensures outcome { outcome.new.code ≡ result }
 {
     *outcome = byte_answers::read_key(alloc, key, out);
@@ -354,6 +382,8 @@ pub extern "C" fn nevgrasi_flat_print(
     ensures silent { result ≢ DONE → IsSilent outcome.new out.old out.new }
     ensures argument { outcome.new.argument ≡ 0 }
     ensures codes { IsTrue (ends_flat_print result) }
+    ensures holds { HasNoAnswer outcome.new }
+    ensures span { HasNoSpan outcome.new }
     ensures outcome { outcome.new.code ≡ result }
 {
     *outcome = byte_answers::flat_print(alloc, flat, out);
@@ -380,6 +410,9 @@ pub extern "C" fn nevgrasi_flat_matches(
     ensures too_deep_flat { result ≡ TOO_DEEP → outcome.new.argument ≡ 0 }
     ensures silent { outcome.new.needed ≡ 0 }
     ensures codes { IsTrue (ends_flat_call result) }
+    ensures holds { result ≢ DONE → HasNoAnswer outcome.new }
+    ensures named { outcome.new.is_named ≡ false }
+    ensures span { HasNoSpan outcome.new }
     ensures outcome { outcome.new.code ≡ result }
 {
     *outcome = byte_answers::flat_matches(alloc, flat, name, flat_facts);
@@ -415,6 +448,8 @@ pub extern "C" fn nevgrasi_graph(
     ensures argument { IsTrue (outcome.new.argument == 0 || outcome.new.argument == 1) }
     ensures codes { IsTrue (result == DONE || result == REFUSED || result == NOT_UTF8
         || result == NO_MEMORY || result == TOO_DEEP || result == UNKNOWN_TARGET) }
+    ensures holds { HasNoAnswer outcome.new }
+    ensures span { HasNoSpan outcome.new }
     ensures outcome { outcome.new.code ≡ result }
 {
     *outcome = byte_graphs::graph(alloc, document, host, out);

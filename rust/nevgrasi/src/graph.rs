@@ -1,9 +1,12 @@
 //! On which targets the packages of a graph are in the build.
 
-use crate::call::{check_code, made, text_of};
+use crate::call::{check_code, made_in, text_of};
 use crate::error::{Error, ErrorKind};
 use crate::json::{read, Value};
 use crate::raw;
+
+/// How long the lines of a graph are expected to be, times the length of its document. Known documents need less.
+const LINES_OF_DOCUMENT: usize = 4;
 
 /// A dependency kind.
 #[derive(Clone, Copy, Debug, PartialEq, Eq, PartialOrd, Ord, Hash)]
@@ -110,7 +113,7 @@ impl Kind {
 pub fn graph(document: &str, host: Option<&str>) -> Result<Vec<Package>, Error> {
     let host = host.unwrap_or("");
     // SAFETY: as in `Key::new`.
-    let (outcome, out) = made(|out, room, outcome| unsafe {
+    let (outcome, out) = made_in(LINES_OF_DOCUMENT.saturating_mul(document.len()), |out, room, outcome| unsafe {
         raw::nevgrasi_graph(document.as_ptr(), document.len(), host.as_ptr(), host.len(), out, room, outcome)
     })?;
     let text = text_of(out)?;
