@@ -11,6 +11,7 @@ mod features;
 mod file_conditions;
 mod graph;
 mod groups;
+mod identifiers;
 mod incomplete;
 mod licences;
 mod lines;

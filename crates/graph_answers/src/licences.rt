@@ -4,6 +4,7 @@
 use crate::asked::{Asked, Words, unusable_words};
 use crate::faults::{fault_lines, fault_message};
 use crate::graph::Graph;
+use crate::identifiers::{Messages, Place};
 use crate::lines::{push, shown_targets};
 use crate::packages::name_and_version;
 use crate::refused::unusable;
@@ -38,21 +39,29 @@ struct LicenceLine<'a> {
     span: Option<(usize, usize)>,
 }
 
+/// The licences that are allowed, and messages about their identifiers.
+#[derive(Drop)]
+pub struct Allowed {
+    pub licences: Vec<Licence>,
+    pub messages: Messages,
+}
+
 /// The allowed licences and the exceptions of an audit.
 #[derive(Drop)]
 pub struct Audit<'a> {
-    pub allowed: Vec<Licence>,
+    pub allowed: Allowed,
     pub exceptions: Vec<Exception<'a>>,
 }
 
 /// Returns the message for an entry that is not a licence.
-fn no_licence(alloc: Global, place: &str, error: &ParseError) -> Result<String, AllocError> {
+fn no_licence(alloc: Global, place: Place<'_>, error: &ParseError) -> Result<String, AllocError> {
     let lines = fault_lines(alloc, error)?;
-    format!(in alloc; "{place}the entry spells no licence\n{lines}")
+    let start = place.start(alloc, "error")?;
+    format!(in alloc; "{start}the entry spells no licence\n{lines}")
 }
 
-/// Parses an entry as a licence. The message of an error begins with `place`.
-fn licence_of(alloc: Global, place: &str, entry: &str) -> Result<Licence, Refusal> {
+/// Parses an entry as a licence. The message of an error names `place`.
+fn licence_of(alloc: Global, place: Place<'_>, entry: &str) -> Result<Licence, Refusal> {
     match Licence::from_str(alloc, entry) {
         Ok(licence) => Ok(licence),
         Err(ReadError::Parse(error)) => Err(Refusal::Unusable(no_licence(alloc, place, &error)?)),
@@ -60,33 +69,29 @@ fn licence_of(alloc: Global, place: &str, entry: &str) -> Result<Licence, Refusa
     }
 }
 
-/// Adds an entry to a list of allowed licences.
+/// Adds an entry to the allowed licences, with what there is to say of its identifiers.
 fn add_entry(
-    allowed: &mut Vec<Licence>,
+    allowed: &mut Allowed,
     alloc: Global,
-    place: &str,
+    place: Place<'_>,
     entry: &str,
 ) -> Result<(), Refusal> {
     let licence = licence_of(alloc, place, entry)?;
-    allowed.push(licence).map_err(AllocError::from)?;
+    allowed.messages.add_entry(alloc, place, &licence)?;
+    allowed.licences.push(licence).map_err(AllocError::from)?;
     Ok(())
 }
 
 /// Adds the entries of `--allow`, which are separated by commas.
-fn add_list(allowed: &mut Vec<Licence>, alloc: Global, list: &str) -> Result<(), Refusal> {
+fn add_list(allowed: &mut Allowed, alloc: Global, list: &str) -> Result<(), Refusal> {
     for entry in list.split(',') {
-        add_entry(allowed, alloc, "error: --allow: ", entry)?;
+        add_entry(allowed, alloc, Place::Option, entry)?;
     }
     Ok(())
 }
 
 /// Adds the entries of a file, one per line. Empty lines and lines that begin with `#` are skipped.
-fn add_lines(
-    allowed: &mut Vec<Licence>,
-    alloc: Global,
-    file: &str,
-    text: &str,
-) -> Result<(), Refusal> {
+fn add_lines(allowed: &mut Allowed, alloc: Global, file: &str, text: &str) -> Result<(), Refusal> {
     let file = shown_text(alloc, file)?;
     let mut number: usize = 0;
     for line in text.lines() {
@@ -95,8 +100,7 @@ fn add_lines(
         if entry.is_empty() || entry.starts_with('#') {
             continue;
         }
-        let place = format!(in alloc; "{file}:{number}: error: ")?;
-        add_entry(allowed, alloc, place.as_str(), entry)?;
+        add_entry(allowed, alloc, Place::Line(file.as_str(), number), entry)?;
     }
     Ok(())
 }
@@ -125,8 +129,11 @@ fn exceptions_of<'a>(alloc: Global, words: &[&'a str]) -> Result<Vec<Exception<'
 }
 
 /// Returns the licences that the arguments allow.
-fn allowed_by(alloc: Global, words: &Words<'_>) -> Result<Vec<Licence>, Refusal> {
-    let mut allowed = Vec::new(alloc);
+fn allowed_by(alloc: Global, words: &Words<'_>) -> Result<Allowed, Refusal> {
+    let mut allowed = Allowed {
+        licences: Vec::new(alloc),
+        messages: Messages::new(alloc),
+    };
     if let Some(list) = words.allow {
         add_list(&mut allowed, alloc, list)?;
     }
@@ -222,13 +229,19 @@ pub fn show_licences(
         let reason = no_package(alloc, exception)?;
         return answered(alloc, Err(unusable(alloc, file, reason.as_str())));
     }
-    let told = audit(alloc, &subjects, &by.exceptions, &by.allowed)?;
+    let told = audit(alloc, &subjects, &by.exceptions, &by.allowed.licences)?;
     let mut answer = Answer::of(alloc, String::new(alloc), Status::Fine);
+    push(&mut answer.errors, by.allowed.messages.text())?;
+    let mut messages = Messages::new(alloc);
     for one in &told {
         let Some(index) = graph.order.get(one.place) else {
             continue;
         };
         answer.raise(Status::Found);
+        if let Finding::NotAllowed(expression) = &one.finding {
+            let name = graph.shown(alloc, *index)?;
+            messages.add_first(alloc, Place::Package(name.as_str()), expression.parts())?;
+        }
         push_told(
             &mut answer.output,
             alloc,
@@ -238,6 +251,7 @@ pub fn show_licences(
             asked,
         )?;
     }
+    push(&mut answer.errors, messages.text())?;
     if !asked.json {
         let line = shown_counts(alloc, told.len(), &subjects)?;
         push(&mut answer.errors, line.as_str())?;
