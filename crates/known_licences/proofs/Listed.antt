@@ -1,10 +1,10 @@
 -- What a search through names finds.
 use Rattle.std.proofs.Common.{◌≡◌, ◌∙◌, ◌⊎◌, sym, ap, subst, ℕ, ◌+◌, ◌<◌, List, ◌++◌, length, get_or, drop, Bor}
 use Rattle.std.proofs.Common.{Option, Some, None, IfSome, Bool, true, false, cond, map, inl, inr}
-use Rattle.core.specs.Option.{option_or}
+use Rattle.std.specs.Option.{option_or}
 use Rattle.std.specs.Str.{str_eq_ignore_ascii_case}
 use Rattle.std.specs.Bool.{Decides}
-use Rattle.core.specs.Char.{to_ascii_lowercase}
+use Rattle.std.specs.Char.{to_ascii_lowercase}
 use Rattle.std.proofs.lemmas.Bool.Decides.{same_from_decides}
 use Rattle.std.proofs.lemmas.Slice.Eq.{bytes_eq-Decides}
 use Rattle.std.proofs.lemmas.List.{drop_more}

@@ -1,7 +1,7 @@
 -- Which name is meant by a misspelled one.
 use Rattle.std.specs.Prelude.{ℕ, ◌≡◌, ◌≤◌, ◌*◌, ◌⊎◌, List, Option, Some, map, length, Contains}
 use Rattle.std.specs.Str.{chars}
-use Rattle.core.specs.Char.{to_ascii_lowercase}
+use Rattle.std.specs.Char.{to_ascii_lowercase}
 use Rattle.strsim.specs.Edits.{osa_table}
 use Rattle.known_licences.specs.declared.nearest.Near.{Near}
 
