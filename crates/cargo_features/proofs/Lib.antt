@@ -6,5 +6,6 @@ pub mod Numbering
 pub mod Exact
 pub mod Pushing
 pub mod Within
+pub mod Using
 pub mod Joined
 pub mod Asking

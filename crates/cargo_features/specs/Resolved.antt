@@ -1,12 +1,16 @@
 -- The results for a build.
-use Rattle.std.specs.Prelude.{◌≡◌, ◌&&◌, ℕ, Bool, List}
+use Rattle.std.specs.Prelude.{◌≡◌, ◌&&◌, ℕ, Bool, IsTrue, List, Some, slice_get}
+use Rattle.package_graphs.specs.Kinds.{is_followed}
 use Rattle.package_graphs.specs.declared.packages.Side.{Side}
-use Rattle.cargo_features.specs.Ways.{feature_side}
+use Rattle.cargo_features.specs.Claims.{holds_at}
+use Rattle.cargo_features.specs.Steps.{gate}
+use Rattle.cargo_features.specs.Ways.{way, feature_side}
 use Rattle.cargo_features.specs.Inside.Numbered.{AreNumbers}
 use Rattle.cargo_features.specs.Inside.Exact.{has}
 use Rattle.cargo_features.specs.declared.build.Build.{Build}
 use Rattle.cargo_features.specs.declared.claims.Claim.{Claim}
 use Rattle.cargo_features.specs.declared.claims.Claim.TheVariants as claim
+use Rattle.cargo_features.specs.declared.packages.Dependency.{Dependency}
 use Rattle.cargo_features.specs.declared.packages.Package.{Package}
 use Rattle.cargo_features.specs.declared.resolved.Resolved.{Resolved}
 
@@ -25,3 +29,27 @@ pub record IsResolved (units : List Package) (built : Build) (resolved : Resolve
   pub packages : resolved.packages.items ≡ units
   pub build : resolved.build ≡ built
   pub numbers : AreNumbers resolved.packages.items resolved.found.numbers
+
+-- true if, by the result, the package p is used on the side `from`, and there its dependency d, at the index i, is on,
+-- if it is optional, and has a true condition
+abbrev pub is_using : Resolved → ℕ → Side → ℕ → Dependency → ℕ → Bool
+is_using resolved p from i d k =
+    holds_in resolved (claim.Used p from) k
+    && (holds_in resolved
+    (gate (record { index = p; side = feature_side resolved.build from }) i d (claim.Used p from)) k
+    && holds_at resolved.build.host k (way resolved.packages.items from d).condition)
+
+-- by the result, the package p uses its dependency at the index i, and that leads to a package built for the side `to`
+pub record IsUsing (resolved : Resolved) (p i : ℕ) (to : Side) (k : ℕ) : Type 0 where
+  pub unit : Package
+  pub there : slice_get resolved.packages.items p ≡ Some unit
+  pub dependency : Dependency
+  pub declared : slice_get unit.dependencies.items i ≡ Some dependency
+  pub followed : IsTrue (is_followed resolved.build.kinds unit.is_root dependency.kind)
+  pub from : Side
+  pub leads : (way resolved.packages.items from dependency).side ≡ to
+  pub uses : IsTrue (is_using resolved p from i dependency k)
+
+-- on one side or the other
+abbrev pub IsUsingAny : Resolved → ℕ → ℕ → ℕ → Type 0
+IsUsingAny resolved p i k = (to : Side) × IsUsing resolved p i to k

@@ -74,9 +74,8 @@ impl Build {
     pub fn way(self, packages: &[Package], from: Side, dependency: &Dependency) -> Way
         ensures { result ≡ way packages.now from dependency.now }
     {
-        let is_for_host = from.asks_host(dependency.kind) || is_macro(packages, dependency.to);
         Way {
-            side: Side::new(is_for_host),
+            side: from.after(dependency.kind, is_macro(packages, dependency.to)),
             condition: if from.asks_host(dependency.kind) {
                 Condition::OfHost(dependency.holds)
             } else {

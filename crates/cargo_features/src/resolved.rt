@@ -1,6 +1,6 @@
 //! The targets on which each claim holds.
 
-ghost use Rattle.std.specs.Prelude.{◌≡◌, ◌<◌, ◌↔◌, ◌++◌, ℕ, true, IsTrue, IfOk, OnOk, List, length, vec_len};
+ghost use Rattle.std.specs.Prelude.{◌≡◌, ◌<◌, ◌↔◌, ◌++◌, ◌&&◌, ℕ, true, IsTrue, IfOk, OnOk, List, length, vec_len};
 ghost use Rattle.known_targets.specs.Sets.{is_member};
 ghost use Rattle.known_targets.specs.declared.table.TheConstants.{COUNT};
 ghost use Rattle.package_graphs.specs.Graphs.{is_in};
@@ -8,7 +8,9 @@ ghost use Rattle.cargo_features.specs.Holding.{is_known, Holds, IsUsed};
 ghost use Rattle.cargo_features.specs.Steps.{all_steps, steps_on_both};
 ghost use Rattle.cargo_features.specs.Inside.Numbered.{AreNumbers, IsNumbered, AreNumbered};
 ghost use Rattle.cargo_features.specs.Inside.Exact.{has, is_used, IsExact};
-ghost use Rattle.cargo_features.specs.Resolved.{holds_in, is_built_with, IsResolved};
+ghost use Rattle.cargo_features.specs.Ways.{way};
+ghost use Rattle.cargo_features.specs.Resolved.{holds_in, is_built_with, is_using, IsResolved, IsUsing, IsUsingAny};
+ghost use Rattle.package_graphs.specs.Packages.{is_same};
 ghost use Rattle.cargo_features.specs.declared.claims.Claim.{Claim};
 ghost use Rattle.cargo_features.specs.declared.claims.Step.{Step};
 
@@ -16,7 +18,7 @@ use crate::build::Build;
 use crate::claims::{Claim, Place, Step};
 use crate::derivation::derived;
 use crate::numbers::Numbers;
-use crate::packages::Package;
+use crate::packages::{Dependency, Package};
 use crate::rules::Rule;
 use known_targets::TargetSet;
 use package_graphs::Side;
@@ -227,8 +229,58 @@ impl Resolved {
         used.intersection(self.at(on))
     }
 
-    /// Returns the targets on which a package that is used on a side uses one of its dependencies.
-    fn using_on(&self, index: usize, side: Side, place: usize) -> TargetSet {
+    /// Returns the targets on which a package that is used on the side `from` uses one of its dependencies.
+    fn using_from(
+        &self,
+        index: usize,
+        from: Side,
+        place: usize,
+        dependency: &Dependency,
+    ) -> TargetSet
+        ensures { AreNumbers self.now.packages.items self.now.found.numbers → (k : ℕ) → k < COUNT
+            → is_member result k ≡ is_using self.now index from place dependency.now k }
+    {
+        let used = Claim::Used(index, from);
+        let resolved = Place {
+            index,
+            side: self.build.feature_side(from),
+        };
+        let way = self.build.way(&self.packages, from, dependency);
+        let targets = way.condition.targets(self.build.host);
+        let on = self.at(resolved.gate(place, dependency, used));
+        self.at(used).intersection(on.intersection(targets))
+    }
+
+    /// Returns the same targets if the dependency leads to a package that is built for the side `to`, and otherwise
+    /// none.
+    fn using_along(
+        &self,
+        index: usize,
+        from: Side,
+        place: usize,
+        dependency: &Dependency,
+        to: Side,
+    ) -> TargetSet
+        ensures { AreNumbers self.now.packages.items self.now.found.numbers → (k : ℕ) → k < COUNT
+            → is_member result k ≡ (is_same (way self.now.packages.items from dependency.now).side to
+            && is_using self.now index from place dependency.now k) }
+    {
+        let way = self.build.way(&self.packages, from, dependency);
+        if way.side.is_same(to) {
+            self.using_from(index, from, place, dependency)
+        } else {
+            TargetSet::none()
+        }
+    }
+
+    /// Returns the targets on which a package uses the dependency at an index, and that leads to a package that is
+    /// built for the side `to`.
+    pub fn using_to(&self, index: usize, place: usize, to: Side) -> TargetSet
+        // A target is in the set exactly if the package is used there on a side, and from there the dependency is
+        // followed, is on if it is optional, has a true condition, and leads to a package for the side `to`.
+        ensures { AreNumbers self.now.packages.items self.now.found.numbers → (k : ℕ) → k < COUNT
+            → IsTrue (is_member result k) ↔ IsUsing self.now index place to k }
+    {
         let Some(unit) = self.packages.get(index) else {
             return TargetSet::none();
         };
@@ -238,19 +290,17 @@ impl Resolved {
         if !self.build.kinds.follow(unit.is_root, dependency.kind) {
             return TargetSet::none();
         }
-        let way = self.build.way(&self.packages, side, dependency);
-        let used = self.at(Claim::Used(index, side));
-        let targets = used.intersection(way.condition.targets(self.build.host));
-        if !dependency.is_optional {
-            return targets;
-        }
-        let side = self.build.feature_side(side);
-        targets.intersection(self.at(Claim::Dependency(index, side, place)))
+        let target = self.using_along(index, Side::Target, place, dependency, to);
+        target.union(self.using_along(index, Side::Host, place, dependency, to))
     }
 
-    /// Returns the targets on which a package uses one of its dependencies, built for either side.
-    pub fn using(&self, index: usize, place: usize) -> TargetSet {
-        let target = self.using_on(index, Side::Target, place);
-        target.union(self.using_on(index, Side::Host, place))
+    /// Returns the targets on which a package uses the dependency at an index, whichever side it leads to.
+    pub fn using(&self, index: usize, place: usize) -> TargetSet
+        // A target is in the set exactly if the dependency is used there, and leads to one side or the other.
+        ensures { AreNumbers self.now.packages.items self.now.found.numbers → (k : ℕ) → k < COUNT
+            → IsTrue (is_member result k) ↔ IsUsingAny self.now index place k }
+    {
+        let target = self.using_to(index, place, Side::Target);
+        target.union(self.using_to(index, place, Side::Host))
     }
 }

@@ -15,7 +15,7 @@ use std::alloc::AllocError;
 impl Place {
     /// Returns the claim that has to hold for a dependency to be followed, besides the claim that follows it: an
     /// optional dependency has to be on.
-    fn gate(self, place: usize, dependency: &Dependency, otherwise: Claim) -> Claim
+    pub fn gate(self, place: usize, dependency: &Dependency, otherwise: Claim) -> Claim
         ensures { result ≡ gate self place dependency.now otherwise }
     {
         if dependency.is_optional {

@@ -1,4 +1,4 @@
--- Where only the targets are asked: without a host, and where nothing is for the host.
+-- Without a host, the sides only divide the packages that the targets lead to; and where nothing is for the host.
 use Rattle.std.proofs.Common.{◌≡◌, ℕ, Bool, List, refl, sym, ◌∙◌, ap, subst, Some, None}
 use Rattle.std.specs.Prelude.{Contains, IsTrue}
 use Rattle.known_targets.specs.Sets.{is_member}
@@ -20,23 +20,27 @@ module _ (packages : List Package) (kinds : Kinds) (k : ℕ) where
   abbrev Alone : Sided → Type 0
   Alone n = IsThere packages kinds k n.0 × IsForTarget n
 
-  pub alone_from_none : (n : Sided) → IsThereOn packages kinds None k n → Alone n
+  pub alone_from_none : (n : Sided) → IsThereOn packages kinds None k n → IsThere packages kinds k n.0
   alone_from_none n =
-      held_along (StartsOn packages None) (LeadsOn packages kinds None k) Alone
-      (λ m is. (starts m.0 is.root, is.on))
-      (λ m r here leads.
-      (goes_on m.0 r.0 here.0 (record { depends = leads.depends; holds = leads.holds }), leads.on))
+      held_along (StartsOn packages) (LeadsOn packages kinds None k) (λ m. IsThere packages kinds k m.0)
+      (λ m is. starts m.0 is.root)
+      (λ m r here leads. goes_on m.0 r.0 here (record { depends = leads.depends; holds = leads.holds }))
       n
 
-  pub none_from_alone : (n : Sided) → Alone n → IsThereOn packages kinds None k n
-  none_from_alone n alone =
-      let here = held_along (λ root. IsTrue (is_root packages root)) (LeadsTo packages kinds k)
-      (λ p. IsThereOn packages kinds None k (p, Target))
-      (λ p is. starts (p, Target) (record { root = is; on = refl }))
-      (λ p r here leads.
-      goes_on (p, Target) (r, Target) here (record { depends = leads.depends; holds = leads.holds; on = refl }))
-      n.0 alone.0 in
-      subst (λ (s : Side). IsThereOn packages kinds None k (n.0, s)) (sym alone.1) here
+  abbrev OnASide : ℕ → Type 0
+  OnASide p = (s : Side) × IsThereOn packages kinds None k (p, s)
+
+  none_after : (p r : ℕ) → OnASide p → LeadsTo packages kinds k p r → OnASide r
+  none_after p r (from, here) leads =
+      let to = side_after from leads.depends.dependency.kind (is_macro packages r) in
+      (to, goes_on (p, from) (r, to) here (record { depends = leads.depends; holds = leads.holds; on = refl }))
+
+  pub none_from_alone : (p : ℕ) → IsThere packages kinds k p → OnASide p
+  none_from_alone p =
+      held_along (λ root. IsTrue (is_root packages root)) (LeadsTo packages kinds k) OnASide
+      (λ p is.
+      let on = side (is_macro packages p) in (on, starts (p, on) (record { root = is; on = refl })))
+      none_after p
 
   module _ (host : KnownTarget) (plain : IsPlain packages) where
     asked_here : (p : ℕ) (d : Dependency) → Contains (dependencies packages p) d
@@ -44,14 +48,14 @@ module _ (packages : List Package) (kinds : Kinds) (k : ℕ) where
     asked_here p d is = ap (λ (kind : Kind). asked_at (Some host) k Target kind) (plain.normal p d is)
 
     after_here : (p r : ℕ) (d : Dependency) → Contains (dependencies packages p) d
-        → side_after (Some host) Target d.kind (is_macro packages r) ≡ Target
+        → side_after Target d.kind (is_macro packages r) ≡ Target
     after_here p r d is =
-        ap (λ (kind : Kind). side_after (Some host) Target kind (is_macro packages r)) (plain.normal p d is)
-        ∙ ap (λ (b : Bool). side_after (Some host) Target Normal b) (plain.no_macro r)
+        ap (λ (kind : Kind). side_after Target kind (is_macro packages r)) (plain.normal p d is)
+        ∙ ap (λ (b : Bool). side_after Target Normal b) (plain.no_macro r)
 
     pub alone_from_some : (n : Sided) → IsThereOn packages kinds (Some host) k n → Alone n
     alone_from_some n =
-        held_along (StartsOn packages (Some host)) (LeadsOn packages kinds (Some host) k) Alone
+        held_along (StartsOn packages) (LeadsOn packages kinds (Some host) k) Alone
         (λ m is. (starts m.0 is.root, is.on ∙ ap side (plain.no_macro m.0)))
         (λ m r here leads.
         let d = leads.depends.dependency in
@@ -62,7 +66,7 @@ module _ (packages : List Package) (kinds : Kinds) (k : ℕ) where
             holds = subst (λ (x : ℕ). IsTrue (is_member d.holds x)) at leads.holds;
           }),
           leads.on
-              ∙ ap (λ (s : Side). side_after (Some host) s d.kind (is_macro packages r.0)) here.1
+              ∙ ap (λ (s : Side). side_after s d.kind (is_macro packages r.0)) here.1
               ∙ after_here m.0 r.0 d leads.depends.begins,
         ))
         n

@@ -7,4 +7,6 @@ pub mod Reached
 pub mod Chosen
 pub mod Sided
 pub mod Alone
+pub mod Followed
+pub mod Shipped
 pub mod Distances

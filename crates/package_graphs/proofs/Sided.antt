@@ -11,8 +11,8 @@ use Rattle.known_targets.specs.declared.target_set.TargetSet.{TargetSet}
 use Rattle.package_graphs.specs.Reaching.{starts, goes_on}
 use Rattle.package_graphs.specs.Graphs.{Edges, edges_from, IsPresent, LeadsAt}
 use Rattle.package_graphs.specs.Kinds.{is_followed}
-use Rattle.package_graphs.specs.Packages.{is_root, is_macro, dependencies, Sided, is_of_host, asked_at, side_after}
-use Rattle.package_graphs.specs.Packages.{first_side}
+use Rattle.package_graphs.specs.Packages.{is_root, is_macro, dependencies, Sided, is_of_host, asked_at, side}
+use Rattle.package_graphs.specs.Packages.{side_after}
 use Rattle.package_graphs.specs.Packages.{StartsOn, LeadsOn, IsThereOn, node_of}
 use Rattle.package_graphs.specs.Inside.Numbered.{holds_by, edge_of, edges_of, numbered, AreFirst}
 use Rattle.package_graphs.specs.declared.graph.Edge.{Edge}
@@ -104,7 +104,7 @@ module _ (q : Question) (packages : List Package) (k : ℕ) (roots : List ℕ)
   meant_first : (r : ℕ) → Contains roots r → Meant r
   meant_first r is =
       let f = firsts.sound r is in
-      let n : Sided = (f.0, first_side q.host (is_macro packages f.0)) in
+      let n : Sided = (f.0, side (is_macro packages f.0)) in
       (n, f.2, starts n (record { root = f.1; on = refl }))
 
   chosen : (m r : ℕ) (n : Sided) → m ≡ node_of n.0 n.1 → LeadsAt Graph k m r
@@ -132,7 +132,7 @@ module _ (q : Question) (packages : List Package) (k : ℕ) (roots : List ℕ)
   meant_on m r (n, is, there) leads =
       let c = chosen m r n is leads in
       let d = c.0 in
-      let next : Sided = (d.to, side_after q.host n.1 d.kind (is_macro packages d.to)) in (
+      let next : Sided = (d.to, side_after n.1 d.kind (is_macro packages d.to)) in (
         next,
         c.3,
         goes_on n next there (record {
@@ -154,7 +154,7 @@ module _ (q : Question) (packages : List Package) (k : ℕ) (roots : List ℕ)
   abbrev Present : Sided → Type 0
   Present n = n.0 < length packages → IsPresent Graph roots k (node_of n.0 n.1)
 
-  present_first : (n : Sided) → StartsOn packages q.host n → Present n
+  present_first : (n : Sided) → StartsOn packages n → Present n
   present_first n is inside =
       starts (node_of n.0 n.1)
       (subst (λ (s : Side). Contains roots (node_of n.0 s)) (sym is.on) (firsts.complete n.0 inside is.root))
@@ -170,10 +170,10 @@ module _ (q : Question) (packages : List Package) (k : ℕ) (roots : List ℕ)
       (in_if _ edge (and_from (nat_lt d.to (length packages)) _ is_inside leads.depends.followed)) in
       let begins = subst (λ (es : List Edge). Contains es edge)
       (sym (edges_of_node q packages packages m.0 m.1)) listed in
-      let on : side_after q.host m.1 d.kind (is_macro packages d.to) ≡ n.1 =
-      ap (λ (x : ℕ). side_after q.host m.1 d.kind (is_macro packages x)) leads.depends.ends ∙ sym leads.on in
+      let on : side_after m.1 d.kind (is_macro packages d.to) ≡ n.1 =
+      ap (λ (x : ℕ). side_after m.1 d.kind (is_macro packages x)) leads.depends.ends ∙ sym leads.on in
       let ends : edge.to ≡ node_of n.0 n.1 =
-      ap (λ (x : ℕ). node_of x (side_after q.host m.1 d.kind (is_macro packages d.to))) leads.depends.ends
+      ap (λ (x : ℕ). node_of x (side_after m.1 d.kind (is_macro packages d.to))) leads.depends.ends
       ∙ ap (λ (s : Side). node_of n.0 s) on in
       goes_on (node_of m.0 m.1) (node_of n.0 n.1) (here (has_package packages m.0 d leads.depends.begins)) (record {
         edge = edge;
@@ -184,7 +184,7 @@ module _ (q : Question) (packages : List Package) (k : ℕ) (roots : List ℕ)
 
   pub node_from_sided : (n : Sided) → IsThereOn packages q.kinds q.host k n → Present n
   node_from_sided n =
-      held_along (StartsOn packages q.host) (LeadsOn packages q.kinds q.host k) Present present_first present_on n
+      held_along (StartsOn packages) (LeadsOn packages q.kinds q.host k) Present present_first present_on n
 
 -- ---- what is read of a package
 

@@ -1,4 +1,4 @@
--- The targets on which a package is in the build: by the targets alone, and if a build runs on a host.
+-- The targets on which a package is in the build: by the targets alone, and on each side, target and host.
 use Rattle.std.specs.Prelude.{◌≡◌, ℕ, ◌+◌, ◌*◌, Bool, true, false, ◌||◌, cond, IsTrue, Option, Some, None, List, []}
 use Rattle.std.specs.Prelude.{map, Contains}
 use Rattle.std.specs.List.{slice_index_or}
@@ -63,7 +63,7 @@ pub record LeadsTo (packages : List Package) (kinds : Kinds) (k p q : ℕ) : Typ
 abbrev pub IsThere : List Package → Kinds → ℕ → ℕ → Type 0
 IsThere packages kinds k p = Reaches (λ root. IsTrue (is_root packages root)) (λ p q. LeadsTo packages kinds k p q) p
 
--- ---- with a host
+-- ---- by sides
 
 -- a package, and the side for which it is built
 abbrev pub Sided : Type 0
@@ -72,12 +72,30 @@ Sided = ℕ × Side
 abbrev pub IsForTarget : Sided → Type 0
 IsForTarget n = n.1 ≡ Target
 
+abbrev pub IsForHost : Sided → Type 0
+IsForHost n = n.1 ≡ Host
+
+abbrev pub is_same : Side → Side → Bool
+is_same Target Target = true
+is_same Target Host = false
+is_same Host Target = false
+is_same Host Host = true
+
 -- true if a dependency is decided for the host: what the host needs, and what a build script needs
 abbrev pub is_of_host : Side → Kind → Bool
 is_of_host Host kind = true
 is_of_host Target Normal = false
 is_of_host Target Build = true
 is_of_host Target Dev = false
+
+abbrev pub is_build : Kind → Bool
+is_build Normal = false
+is_build Build = true
+is_build Dev = false
+
+-- these kinds, without build-dependencies
+abbrev pub shipped : Kinds → Kinds
+shipped kinds = record { normal = kinds.normal; build = false; dev = kinds.dev }
 
 abbrev pub side : Bool → Side
 side true = Host
@@ -89,28 +107,23 @@ asked_at None k from kind = k
 asked_at (Some host) k from kind = cond (is_of_host from kind) (place host) k
 
 -- the side for which a package is built that a dependency leads to; a procedural macro is built for the host
-abbrev pub side_after : Option KnownTarget → Side → Kind → Bool → Side
-side_after None from kind is_macro = Target
-side_after (Some host) from kind is_macro = side (is_of_host from kind || is_macro)
+abbrev pub side_after : Side → Kind → Bool → Side
+side_after from kind is_macro = side (is_of_host from kind || is_macro)
 
-abbrev pub first_side : Option KnownTarget → Bool → Side
-first_side None is_macro = Target
-first_side (Some host) is_macro = side is_macro
-
-pub record StartsOn (packages : List Package) (host : Option KnownTarget) (n : Sided) : Type 0 where
+pub record StartsOn (packages : List Package) (n : Sided) : Type 0 where
   pub root : IsTrue (is_root packages n.0)
-  pub on : n.1 ≡ first_side host (is_macro packages n.0)
+  pub on : n.1 ≡ side (is_macro packages n.0)
 
 pub record LeadsOn (packages : List Package) (kinds : Kinds) (host : Option KnownTarget) (k : ℕ) (m n : Sided)
     : Type 0 where
   pub depends : DependsOn packages kinds m.0 n.0
   pub holds : IsTrue (is_member depends.dependency.holds (asked_at host k m.1 depends.dependency.kind))
-  pub on : n.1 ≡ side_after host m.1 depends.dependency.kind (is_macro packages n.0)
+  pub on : n.1 ≡ side_after m.1 depends.dependency.kind (is_macro packages n.0)
 
 -- a root is in the build on its side, and dependencies lead on, among packages that are built for the target or for the
 -- host
 abbrev pub IsThereOn : List Package → Kinds → Option KnownTarget → ℕ → Sided → Type 0
-IsThereOn packages kinds host k n = Reaches (StartsOn packages host) (LeadsOn packages kinds host k) n
+IsThereOn packages kinds host k n = Reaches (StartsOn packages) (LeadsOn packages kinds host k) n
 
 -- each dependency is a normal one, and no package is a procedural macro
 pub record IsPlain (packages : List Package) : Type 0 where

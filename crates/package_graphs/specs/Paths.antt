@@ -20,7 +20,7 @@ pub record LeadsBy (packages : List Package) (kinds : Kinds) (host : Option Know
   pub ends : d.to ≡ n.0
   pub followed : IsTrue (is_followed kinds (is_root packages m.0) d.kind)
   pub holds : IsTrue (is_member d.holds (asked_at host k m.1 d.kind))
-  pub on : n.1 ≡ side_after host m.1 d.kind (is_macro packages n.0)
+  pub on : n.1 ≡ side_after m.1 d.kind (is_macro packages n.0)
 
 -- the step goes along a dependency of m, to n
 pub record IsStep (packages : List Package) (kinds : Kinds) (host : Option KnownTarget) (k : ℕ) (step : Step)
@@ -33,7 +33,7 @@ pub record IsStep (packages : List Package) (kinds : Kinds) (host : Option Known
 -- the steps lead from a root to n on the target k; for a root there are no steps
 pub data IsPath (packages : List Package) (kinds : Kinds) (host : Option KnownTarget) (k : ℕ)
     : List Step → Sided → Type 0 where
-  starts : (n : Sided) → StartsOn packages host n → IsPath packages kinds host k [] n
+  starts : (n : Sided) → StartsOn packages n → IsPath packages kinds host k [] n
   goes_on : (steps : List Step) (step : Step) (m n : Sided) → IsPath packages kinds host k steps m
       → IsStep packages kinds host k step m n → IsPath packages kinds host k (steps ++ step ∷ []) n
 
@@ -46,3 +46,9 @@ pub record IsShortest (packages : List Package) (kinds : Kinds) (host : Option K
     (steps : List Step) (p : ℕ) : Type 0 where
   pub path : LeadTo packages kinds host k steps p
   pub shortest : (others : List Step) → LeadTo packages kinds host k others p → length steps ≤ length others
+
+-- the steps lead to the package on this side, and no fewer steps do
+pub record IsShortestOn (packages : List Package) (kinds : Kinds) (host : Option KnownTarget) (k : ℕ)
+    (steps : List Step) (n : Sided) : Type 0 where
+  pub path : IsPath packages kinds host k steps n
+  pub shortest : (others : List Step) → IsPath packages kinds host k others n → length steps ≤ length others

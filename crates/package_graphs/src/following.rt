@@ -3,8 +3,8 @@
 ghost use Rattle.std.specs.Prelude.{◌≡◌, ◌<◌, ◌↔◌, ◌&&◌, ℕ, IsTrue};
 ghost use Rattle.known_targets.specs.Sets.{is_member};
 ghost use Rattle.known_targets.specs.declared.table.TheConstants.{COUNT};
-ghost use Rattle.package_graphs.specs.Packages.{is_root, is_on, asked_at};
-ghost use Rattle.package_graphs.specs.Following.{IsFollowedAt};
+ghost use Rattle.package_graphs.specs.Packages.{is_root, is_macro, is_on, is_same, asked_at, side_after};
+ghost use Rattle.package_graphs.specs.Following.{IsFollowedAt, IsFollowedTo};
 ghost use Rattle.package_graphs.specs.Inside.Numbered.{IsQuestion};
 
 use crate::package_sets::PackageSets;
@@ -37,6 +37,54 @@ impl PackageSets {
         target.union(self.along(&question, from, Side::Host, dependency))
     }
 
+    /// Returns the targets on which a dependency of the package at index `from` is followed to a package that is built
+    /// for the side `to`. `packages`, `kinds` and `host` are those of `present_packages`.
+    pub fn following_to(
+        &self,
+        packages: &[Package],
+        kinds: Kinds,
+        host: Option<KnownTarget>,
+        from: usize,
+        dependency: &Dependency,
+        to: Side,
+    ) -> TargetSet
+        // A target is in the set exactly if the dependency is followed on it, and leads to a package for the side.
+        ensures { (k : ℕ) → k < COUNT → IsTrue (is_member result k)
+            ↔ IsFollowedTo self.now packages.now kinds host from dependency.now to k }
+    {
+        if !kinds.follow(is_root(packages, from), dependency.kind) {
+            return TargetSet::none();
+        }
+        let question = Question::new(kinds, host);
+        let is_macro = is_macro(packages, dependency.to);
+        let target = self.along_to(&question, from, Side::Target, dependency, is_macro, to);
+        target.union(self.along_to(&question, from, Side::Host, dependency, is_macro, to))
+    }
+
+    /// Returns the targets on which the package is in the build for the side `on`, and the condition of the dependency
+    /// is true from there. There are none if the dependency leads from that side to a package for another one than
+    /// `to`.
+    fn along_to(
+        &self,
+        question: &Question,
+        from: usize,
+        on: Side,
+        dependency: &Dependency,
+        is_macro: bool,
+        to: Side,
+    ) -> TargetSet
+        requires { IsQuestion question.now }
+        ensures { (k : ℕ) → k < COUNT → is_member result k
+            ≡ (is_same (side_after on dependency.now.kind is_macro) to && (is_on self.now from on k
+            && is_member dependency.now.holds (asked_at question.now.host k on dependency.now.kind))) }
+    {
+        if on.after(dependency.kind, is_macro).is_same(to) {
+            self.along(question, from, on, dependency)
+        } else {
+            TargetSet::none()
+        }
+    }
+
     /// Returns the targets on which the package is in the build for this side, and the condition of the dependency is
     /// true from there.
     fn along(
@@ -62,6 +110,16 @@ pub fn is_root(packages: &[Package], index: usize) -> bool
 {
     match packages.get(index) {
         Some(found) => found.is_root,
+        None => false,
+    }
+}
+
+/// Returns whether the package at an index is a procedural macro. There is none past the end.
+fn is_macro(packages: &[Package], index: usize) -> bool
+    ensures { result ≡ is_macro packages.now index }
+{
+    match packages.get(index) {
+        Some(found) => found.is_macro,
         None => false,
     }
 }

@@ -1,9 +1,9 @@
 //! Laws about the definitions. The functions do nothing: the contract of each is a law.
 
-ghost use Rattle.std.specs.Prelude.{◌⊎◌, ◌↔◌, ◌++◌, ℕ, Bool, List, IsTrue, Contains, Some, None};
+ghost use Rattle.std.specs.Prelude.{◌≡◌, ◌⊎◌, ◌↔◌, ◌++◌, ℕ, Bool, List, IsTrue, Contains, Option, Some, None};
 ghost use Rattle.package_graphs.specs.Graphs.{Edges, IsPartOf, IsPresent, LeadsAt};
-ghost use Rattle.package_graphs.specs.Packages.{Packages, KindSet, HostTarget, Sided, IsThere, IsThereOn};
-ghost use Rattle.package_graphs.specs.Packages.{IsForTarget, IsPlain};
+ghost use Rattle.package_graphs.specs.Packages.{Packages, KindSet, HostTarget, Sided, BuiltFor, IsThere, IsThereOn};
+ghost use Rattle.package_graphs.specs.Packages.{IsForTarget, IsForHost, IsPlain, LeadsOn, is_macro, is_build, shipped};
 
 /// The target sets of the nodes are the least sets that contain all targets for the roots and are closed under the
 /// edges: they are such sets, and they are subsets of any other such sets.
@@ -41,11 +41,33 @@ pub fn roots_add_up()
         → IsPresent graph (roots ++ others) k n ↔ (IsPresent graph roots k n ⊎ IsPresent graph others k n) }
 {}
 
-/// Without a host, a package is in the build exactly if it is by the conditions on the target alone, and it is built
-/// for the target.
+/// Without a host, a package is in the build, on one side or the other, exactly if it is by the conditions on the
+/// target alone.
 pub fn without_a_host_the_target_is_asked()
-    ensures { (packages : Packages) (kinds : KindSet) (k : ℕ) (n : Sided)
-        → IsThereOn packages kinds None k n ↔ (IsThere packages kinds k n.0 × IsForTarget n) }
+    ensures { (packages : Packages) (kinds : KindSet) (k p : ℕ)
+        → ((side : BuiltFor) × IsThereOn packages kinds None k (p, side)) ↔ IsThere packages kinds k p }
+{}
+
+/// A procedural macro is in the build for the host only.
+pub fn macros_are_for_the_host()
+    ensures { (packages : Packages) (kinds : KindSet) (host : Option HostTarget) (k : ℕ) (n : Sided)
+        → IsTrue (is_macro packages n.0) → IsThereOn packages kinds host k n → IsForHost n }
+{}
+
+/// A build-dependency, and each dependency of a package that is built for the host, leads to a package that is built
+/// for the host.
+pub fn what_the_host_needs_is_for_the_host()
+    ensures build { (packages : Packages) (kinds : KindSet) (host : Option HostTarget) (k : ℕ) (m n : Sided)
+        → (leads : LeadsOn packages kinds host k m n) → IsTrue (is_build leads.depends.dependency.kind) → IsForHost n }
+    ensures host { (packages : Packages) (kinds : KindSet) (host : Option HostTarget) (k : ℕ) (m n : Sided)
+        → LeadsOn packages kinds host k m n → IsForHost m → IsForHost n }
+{}
+
+/// Whether a package is in the build for the target depends neither on the host nor on build-dependencies.
+pub fn the_host_adds_nothing_for_the_target()
+    ensures { (packages : Packages) (kinds : KindSet) (host other : Option HostTarget) (k : ℕ) (n : Sided)
+        → IsForTarget n
+        → IsThereOn packages kinds host k n ↔ IsThereOn packages (shipped kinds) other k n }
 {}
 
 /// If each dependency is a normal one and no package is a procedural macro, the host does not matter.

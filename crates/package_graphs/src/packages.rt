@@ -2,7 +2,7 @@
 
 ghost use Rattle.std.specs.Prelude.{◌≡◌};
 ghost use Rattle.package_graphs.specs.Kinds.{is_followed};
-ghost use Rattle.package_graphs.specs.Packages.{is_of_host, side};
+ghost use Rattle.package_graphs.specs.Packages.{is_of_host, is_same, side, side_after};
 
 use known_targets::TargetSet;
 
@@ -86,6 +86,26 @@ impl Side {
         match self {
             Side::Host => true,
             Side::Target => matches!(kind, Kind::Build),
+        }
+    }
+
+    /// Returns the side for which a package is built that a dependency of this kind leads to, from a package on this
+    /// side. A procedural macro is built for the host.
+    pub fn after(self, kind: Kind, is_macro: bool) -> Side
+        // What is needed on the host, by a build script, or as a procedural macro is built for the host; other packages
+        // are built for the target.
+        ensures { result ≡ side_after self kind is_macro }
+    {
+        Side::new(self.asks_host(kind) || is_macro)
+    }
+
+    /// Returns whether both are the same side.
+    pub fn is_same(self, other: Side) -> bool
+        ensures { result ≡ is_same self other }
+    {
+        match self {
+            Side::Target => matches!(other, Side::Target),
+            Side::Host => matches!(other, Side::Host),
         }
     }
 }

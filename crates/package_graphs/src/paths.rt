@@ -3,7 +3,7 @@
 ghost use Rattle.std.specs.Prelude.{◌≡◌, ◌<◌, ◌≤◌, IsTrue, IfOk, IfSome, IfNone, length};
 ghost use Rattle.known_targets.specs.Sets.{place};
 ghost use Rattle.package_graphs.specs.Packages.{Sided, StartsOn, dependencies};
-ghost use Rattle.package_graphs.specs.Paths.{Steps, IsShortest};
+ghost use Rattle.package_graphs.specs.Paths.{Steps, IsShortest, IsShortestOn};
 ghost use Rattle.package_graphs.specs.Inside.Numbered.{IsQuestion};
 ghost use Rattle.package_graphs.specs.Inside.Searching.{LeadsAlong, IsStepOf, IsPathOf, Leads, distance, IsWithin};
 ghost use Rattle.package_graphs.specs.Inside.Searching.{IsNear};
@@ -32,6 +32,8 @@ const FAR: usize = usize::MAX;
 struct Spread {
     distances: Vec<usize>,
     reached_by: Vec<Option<(usize, Step)>>,
+    /// The places that were reached, in their order.
+    places: Vec<Place>,
 }
 
 /// A search among packages on one target.
@@ -63,8 +65,36 @@ pub fn shortest_path(
         at,
     };
     let spread = search.spread(alloc)?;
-    let steps = spread.steps_to(alloc, to)?;
+    let steps = spread.steps_to(alloc, (to, spread.nearest_side(to, host)))?;
     if search.leads_to(&steps, to) && search.is_no_nearer(&spread.distances, steps.len(), to) {
+        Ok(Some(steps))
+    } else {
+        Ok(None)
+    }
+}
+
+/// Returns the steps of a shortest path from a root to a package that is built for a side, as `shortest_path` does.
+/// `to` is the index of the package and the side. Fails only if memory is refused.
+pub fn shortest_path_on(
+    alloc: Global,
+    packages: &[Package],
+    kinds: Kinds,
+    host: Option<KnownTarget>,
+    at: KnownTarget,
+    to: (usize, Side),
+) -> Result<Option<Vec<Step>>, AllocError>
+    // The steps lead from a root to the package on this side, on the target, and no fewer steps do.
+    ensures { IfOk result (λ found. IfSome found
+        (λ steps. IsShortestOn packages.now kinds host (place at) steps.items to)) }
+{
+    let search = Search {
+        question: Question::new(kinds, host),
+        packages,
+        at,
+    };
+    let spread = search.spread(alloc)?;
+    let steps = spread.steps_to(alloc, to)?;
+    if search.leads_on(&steps, to) && search.is_no_nearer_on(&spread.distances, steps.len(), to) {
         Ok(Some(steps))
     } else {
         Ok(None)
@@ -77,19 +107,33 @@ impl Spread {
         self.distances.get(node).copied().unwrap_or(FAR)
     }
 
-    /// Returns the steps by which the package was reached, or some other steps if it was not reached.
-    fn steps_to(&self, alloc: Global, to: usize) -> Result<Vec<Step>, AllocError> {
+    /// Returns the side on which a package is nearest to the roots. If it is as near on both sides, that is the
+    /// target's with a host, and otherwise the one on which it was reached first.
+    fn nearest_side(&self, index: usize, host: Option<KnownTarget>) -> Side {
+        let mut nearest = Side::Target;
+        let mut least = FAR;
+        for (reached, side) in &self.places {
+            if *reached != index {
+                continue;
+            }
+            let distance = distance_at(&self.distances, (index, *side));
+            let is_preferred = host.is_some() && matches!(side, Side::Target);
+            if distance < least || is_preferred && distance == least {
+                nearest = *side;
+                least = distance;
+            }
+        }
+        nearest
+    }
+
+    /// Returns the steps by which a place was reached, or some other steps if it was not reached.
+    fn steps_to(&self, alloc: Global, to: Place) -> Result<Vec<Step>, AllocError> {
+        let (index, side) = to;
         let mut steps = Vec::new(alloc);
-        if to > self.distances.len() / 2 {
+        if index > self.distances.len() / 2 {
             return Ok(steps);
         }
-        let target = node_of(to, Side::Target);
-        let host = node_of(to, Side::Host);
-        let mut node = if self.distance(host) < self.distance(target) {
-            host
-        } else {
-            target
-        };
+        let mut node = node_of(index, side);
         for _ in 0..self.distances.len() {
             let Some(Some((before, step))) = self.reached_by.get(node).copied() else {
                 break;
@@ -129,23 +173,17 @@ impl<'a> Search<'a> {
             return None;
         }
         let is_macro = self.packages[dependency.to].is_macro;
-        Some((
-            dependency.to,
-            question.side_after(side, dependency.kind, is_macro),
-        ))
+        Some((dependency.to, side.after(dependency.kind, is_macro)))
     }
 
     /// Returns the place of a root, or `None` for a package that is not a root.
     fn start(&self, index: usize) -> Option<Place>
-        ensures { IfSome result (λ n. (n.0 ≡ index) × StartsOn self.now.packages.now self.now.question.host n) }
+        ensures { IfSome result (λ n. (n.0 ≡ index) × StartsOn self.now.packages.now n) }
     {
         if index >= self.packages.len() || !self.packages[index].is_root {
             return None;
         }
-        Some((
-            index,
-            self.question.first_side(self.packages[index].is_macro),
-        ))
+        Some((index, Side::new(self.packages[index].is_macro)))
     }
 
     /// Visits all places that are reached from the roots, nearest first.
@@ -156,8 +194,8 @@ impl<'a> Search<'a> {
         let mut spread = Spread {
             distances: Vec::new(alloc),
             reached_by: Vec::new(alloc),
+            places: Vec::new(alloc),
         };
-        let mut waiting = Vec::new(alloc);
         for _ in 0..count {
             for _ in 0..2u8 {
                 spread.distances.push(FAR)?;
@@ -166,25 +204,20 @@ impl<'a> Search<'a> {
         }
         for index in 0..count {
             if let Some(place) = self.start(index) {
-                reach(&mut spread, &mut waiting, place, 0, None)?;
+                reach(&mut spread, place, 0, None)?;
             }
         }
         for turn in 0..spread.distances.len() {
-            let Some(place) = waiting.get(turn).copied() else {
+            let Some(place) = spread.places.get(turn).copied() else {
                 break;
             };
-            self.go_on(place, &mut spread, &mut waiting)?;
+            self.go_on(place, &mut spread)?;
         }
         Ok(spread)
     }
 
     /// Visits the places that the dependencies of a package lead to.
-    fn go_on(
-        &self,
-        place: Place,
-        spread: &mut Spread,
-        waiting: &mut Vec<Place>,
-    ) -> Result<(), AllocError>
+    fn go_on(&self, place: Place, spread: &mut Spread) -> Result<(), AllocError>
         requires { IsQuestion self.now.question }
     {
         let (index, side) = place;
@@ -200,7 +233,7 @@ impl<'a> Search<'a> {
                 dependency: i,
             };
             if let Some(next) = self.step_along(place, &dependencies[i]) {
-                reach(spread, waiting, next, distance, Some((node, step)))?;
+                reach(spread, next, distance, Some((node, step)))?;
             }
         }
         Ok(())
@@ -213,6 +246,18 @@ impl<'a> Search<'a> {
     {
         match self.end_of(steps, to) {
             Some((index, _)) => index == to,
+            None => false,
+        }
+    }
+
+    /// Returns whether the steps lead from a root to the package on this side.
+    fn leads_on(&self, steps: &[Step], to: Place) -> bool
+        requires { IsQuestion self.now.question }
+        ensures { IsTrue result → IsPathOf self.now steps.now to }
+    {
+        let (index, side) = to;
+        match self.end_of(steps, index) {
+            Some((end, on)) => end == index && on.is_same(side),
             None => false,
         }
     }
@@ -254,9 +299,32 @@ impl<'a> Search<'a> {
         requires { IsQuestion self.now.question }
         ensures { IsTrue result → (others : Steps) → Leads self.now others to → steps ≤ length others }
     {
-        if to >= self.packages.len() {
+        if to >= self.packages.len() || !self.are_all_near(distances) {
             return false;
         }
+        if steps > distance_at(distances, (to, Side::Target)) {
+            return false;
+        }
+        steps <= distance_at(distances, (to, Side::Host))
+    }
+
+    /// Returns whether the distances show that no fewer steps lead to the package on this side.
+    fn is_no_nearer_on(&self, distances: &[usize], steps: usize, to: Place) -> bool
+        requires { IsQuestion self.now.question }
+        ensures { IsTrue result → (others : Steps) → IsPathOf self.now others to → steps ≤ length others }
+    {
+        let (index, _) = to;
+        if index >= self.packages.len() || !self.are_all_near(distances) {
+            return false;
+        }
+        steps <= distance_at(distances, to)
+    }
+
+    /// Returns whether each place is at most one step farther than those before it.
+    fn are_all_near(&self, distances: &[usize]) -> bool
+        requires { IsQuestion self.now.question }
+        ensures { IsTrue result → (n : Sided) → n.0 < length self.now.packages.now → IsNear self.now distances.now n }
+    {
         'packages: for i in 0..self.packages.len() {
             if !self.are_near(distances, (i, Side::Target)) {
                 return false;
@@ -265,10 +333,7 @@ impl<'a> Search<'a> {
                 return false;
             }
         }
-        if steps > distance_at(distances, (to, Side::Target)) {
-            return false;
-        }
-        steps <= distance_at(distances, (to, Side::Host))
+        true
     }
 
     /// Returns whether the place has the distance 0 if it is a root, and each place that its dependencies lead to is at
@@ -311,16 +376,12 @@ impl<'a> Search<'a> {
 
     /// Returns whether the package is a root that is built for this side.
     fn is_start(&self, index: usize, side: Side) -> bool
-        ensures { StartsOn self.now.packages.now self.now.question.host (index, side) → IsTrue result }
+        ensures { StartsOn self.now.packages.now (index, side) → IsTrue result }
     {
         if index >= self.packages.len() || !self.packages[index].is_root {
             return false;
         }
-        let first = self.question.first_side(self.packages[index].is_macro);
-        match first {
-            Side::Target => matches!(side, Side::Target),
-            Side::Host => matches!(side, Side::Host),
-        }
+        Side::new(self.packages[index].is_macro).is_same(side)
     }
 }
 
@@ -351,7 +412,6 @@ fn distance_at(distances: &[usize], place: Place) -> usize
 /// Records how a place was reached, unless it was reached before.
 fn reach(
     spread: &mut Spread,
-    waiting: &mut Vec<Place>,
     place: Place,
     distance: usize,
     by: Option<(usize, Step)>,
@@ -369,6 +429,6 @@ fn reach(
     }
     spread.distances[node] = distance;
     spread.reached_by[node] = by;
-    waiting.push(place)?;
+    spread.places.push(place)?;
     Ok(())
 }

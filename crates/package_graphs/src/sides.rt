@@ -4,11 +4,11 @@ ghost use Rattle.std.specs.Prelude.{◌≡◌, ◌<◌, ◌^◌, IfOk, length};
 ghost use Rattle.known_targets.specs.Sets.{is_member};
 ghost use Rattle.package_graphs.specs.Graphs.{edge_lists};
 ghost use Rattle.package_graphs.specs.Kinds.{is_followed};
-ghost use Rattle.package_graphs.specs.Packages.{node_of, is_macro, side_after, first_side};
+ghost use Rattle.package_graphs.specs.Packages.{node_of, side};
 ghost use Rattle.package_graphs.specs.Inside.Numbered.{holds_by, edge_of, edges_on, numbered, AreFirst, IsQuestion};
 
 use crate::graph::{Edge, Graph};
-use crate::packages::{Dependency, Kind, Kinds, Package, Side};
+use crate::packages::{Dependency, Kinds, Package, Side};
 use known_targets::{KnownTarget, TargetSet};
 use std::alloc::{AllocError, Global};
 
@@ -49,26 +49,6 @@ impl Question {
         }
     }
 
-    /// Returns the side for which a package is built that a dependency leads to.
-    pub fn side_after(&self, from: Side, kind: Kind, is_macro: bool) -> Side
-        ensures { result ≡ side_after self.now.host from kind is_macro }
-    {
-        match self.host {
-            None => Side::Target,
-            Some(_) => Side::new(from.asks_host(kind) || is_macro),
-        }
-    }
-
-    /// Returns the side for which a root is built.
-    pub fn first_side(&self, is_macro: bool) -> Side
-        ensures { result ≡ first_side self.now.host is_macro }
-    {
-        match self.host {
-            None => Side::Target,
-            Some(_) => Side::new(is_macro),
-        }
-    }
-
     /// Returns the targets on which a dependency is followed by its condition: all or none, if it is decided for the
     /// host.
     pub fn holds_by(&self, from: Side, dependency: &Dependency) -> TargetSet
@@ -94,7 +74,7 @@ impl Question {
         ensures { result ≡ edge_of self.now packages.now from dependency.now }
     {
         let is_macro = packages[dependency.to].is_macro;
-        let side = self.side_after(from, dependency.kind, is_macro);
+        let side = from.after(dependency.kind, is_macro);
         Edge {
             to: node_of(dependency.to, side),
             holds: self.holds_by(from, dependency),
@@ -142,7 +122,7 @@ impl Question {
             if !packages[i].is_root {
                 continue;
             }
-            roots.push(node_of(i, self.first_side(packages[i].is_macro)))?;
+            roots.push(node_of(i, Side::new(packages[i].is_macro)))?;
         }
         Ok(roots)
     }

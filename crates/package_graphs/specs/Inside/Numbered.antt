@@ -7,7 +7,7 @@ use Rattle.known_targets.specs.declared.table.TheConstants.{COUNT}
 use Rattle.known_targets.specs.declared.target_set.TargetSet.{TargetSet}
 use Rattle.package_graphs.specs.Graphs.{Edges}
 use Rattle.package_graphs.specs.Kinds.{is_followed}
-use Rattle.package_graphs.specs.Packages.{node_of, is_root, is_macro, is_of_host, side_after, first_side}
+use Rattle.package_graphs.specs.Packages.{node_of, is_root, is_macro, is_of_host, side_after, side}
 use Rattle.package_graphs.specs.declared.graph.Edge.{Edge}
 use Rattle.package_graphs.specs.declared.packages.Dependency.{Dependency}
 use Rattle.package_graphs.specs.declared.packages.Package.{Package}
@@ -28,7 +28,7 @@ holds_by (Some host) always never from d =
 
 abbrev pub edge_of : Question → List Package → Side → Dependency → Edge
 edge_of q packages from d = record {
-  to = node_of d.to (side_after q.host from d.kind (is_macro packages d.to));
+  to = node_of d.to (side_after from d.kind (is_macro packages d.to));
   holds = holds_by q.host q.always q.never from d;
 }
 
@@ -48,6 +48,6 @@ numbered q packages units =
 -- the nodes of the roots among the first `count` packages
 pub record AreFirst (q : Question) (packages : List Package) (count : ℕ) (roots : List ℕ) : Type 0 where
   pub sound : (r : ℕ) → Contains roots r
-      → (p : ℕ) × IsTrue (is_root packages p) × (r ≡ node_of p (first_side q.host (is_macro packages p)))
+      → (p : ℕ) × IsTrue (is_root packages p) × (r ≡ node_of p (side (is_macro packages p)))
   pub complete : (p : ℕ) → p < count → IsTrue (is_root packages p)
-      → Contains roots (node_of p (first_side q.host (is_macro packages p)))
+      → Contains roots (node_of p (side (is_macro packages p)))

@@ -30,5 +30,5 @@ IsWithin s ds m most d =
 
 -- a root has the distance 0, and the place that a dependency of m leads to is at most one step farther than m
 pub record IsNear (s : Search) (ds : List ℕ) (m : Sided) : Type 0 where
-  pub root : StartsOn s.packages.now s.question.host m → distance ds m ≡ 0
+  pub root : StartsOn s.packages.now m → distance ds m ≡ 0
   pub next : All (λ d. IsWithin s ds m (distance ds m + 1) d) (dependencies s.packages.now m.0)

@@ -2,4 +2,5 @@ use Rattle.package_graphs.proofs.Alone.{alone_from_none, none_from_alone}
 use Rattle.package_graphs.proofs.laws.without_a_host_the_target_is_asked.Goals as goal
 
 pub returns : goal.returns
-returns c packages kinds k n = (alone_from_none packages kinds k n, none_from_alone packages kinds k n)
+returns c packages kinds k p =
+    (λ there. alone_from_none packages kinds k (p, there.0) there.1, none_from_alone packages kinds k p)

@@ -1,5 +1,5 @@
-use Rattle.std.proofs.Common.{◌≡◌, ◌<◌, ◌↔◌, ℕ, List, length, Option, refl, sym, subst, inl, inr, arith}
-use Rattle.std.proofs.lemmas.Bool.{or_cases, or_left}
+use Rattle.std.proofs.Common.{◌≡◌, ◌<◌, ◌↔◌, ℕ, List, length, Option, sym, subst, inl, inr, arith}
+use Rattle.std.proofs.lemmas.Bool.{or_cases}
 use Rattle.std.specs.Prelude.{IsTrue, None}
 use Rattle.known_targets.specs.declared.known.KnownTarget.{KnownTarget}
 use Rattle.known_targets.specs.declared.table.TheConstants.{COUNT}
@@ -11,6 +11,7 @@ use Rattle.package_graphs.specs.Inside.Numbered.{numbered}
 use Rattle.package_graphs.specs.declared.sides.Question.{Question}
 use Rattle.package_graphs.proofs.Sided.{length_numbered, fits_node, sided_from_node, node_from_sided}
 use Rattle.package_graphs.proofs.Alone.{alone_from_none, none_from_alone}
+use Rattle.package_graphs.proofs.Followed.{from_side}
 use Rattle.package_graphs.proofs.package_sets.present_packages.Goals as goal
 
 pub returns : goal.returns
@@ -52,9 +53,9 @@ returns c =
     let alone : c.args.host ≡ None → (n : Sided) (k : ℕ) → n.0 < length packages → k < COUNT
     → IsTrue (is_in sets (node_of n.0 n.1) k) → IsThere packages c.args.kinds k n.0 =
     λ none n k inside known h.
-    (alone_from_none packages c.args.kinds k n
+    alone_from_none packages c.args.kinds k n
     (subst (λ (host : Option KnownTarget). IsThereOn packages c.args.kinds host k n) none
-    ((exact n k inside known).0 h))).0 in
+    ((exact n k inside known).0 h)) in
     record {
       exact = exact;
       without_host = λ none p k inside known. (
@@ -64,9 +65,10 @@ returns c =
               | inr b ↦ alone none (p, Host) k inside known b
             ],
         λ h.
-            or_left (is_in sets (node_of p Target) k) (is_in sets (node_of p Host) k)
-            ((exact (p, Target) k inside known).1
-            (subst (λ (host : Option KnownTarget). IsThereOn packages c.args.kinds host k (p, Target)) (sym none)
-            (none_from_alone packages c.args.kinds k (p, Target) (h, refl)))),
+            let there = none_from_alone packages c.args.kinds k p h in
+            from_side (λ s. is_in sets (node_of p s) k) there.0
+            ((exact (p, there.0) k inside known).1
+            (subst (λ (host : Option KnownTarget). IsThereOn packages c.args.kinds host k (p, there.0)) (sym none)
+            there.1)),
       );
     }
