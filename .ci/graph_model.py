@@ -38,6 +38,11 @@ def graphs():
     return found
 
 
+def word_of(sides):
+    """Returns the word for some sides."""
+    return "both" if len(sides) == 2 else next(iter(sides), None)
+
+
 def sets_of(table):
     return {name: set(lines) for name, lines in table.items()}
 
@@ -90,13 +95,17 @@ class Model:
         for edge in self.edges[package]:
             if edge.kind not in kinds or (edge.kind == "dev" and package not in roots):
                 continue
-            of_host = host and (side == "host" or edge.kind == "build")
-            if (host if of_host else target) in edge.holds:
-                yield edge, (edge.on, "host" if host and (of_host or self.is_macro(edge.on)) else "target")
+            of_host = side == "host" or edge.kind == "build"
+            if (host if host and of_host else target) in edge.holds:
+                yield edge, (edge.on, "host" if of_host or self.is_macro(edge.on) else "target")
+
+    def first(self, root):
+        """Returns the place of a root."""
+        return root, "host" if self.is_macro(root) else "target"
 
     def distances(self, roots, kinds, host, target):
         """How far each place is from a root at a target."""
-        far = {(root, "host" if host and self.is_macro(root) else "target"): 0 for root in roots}
+        far = {self.first(root): 0 for root in roots}
         waiting = collections.deque(far)
         while waiting:
             place = waiting.popleft()
@@ -105,6 +114,17 @@ class Model:
                     far[after] = far[place] + 1
                     waiting.append(after)
         return far
+
+
+def sides_of(model, kinds, host):
+    """Returns the targets of packages by their sides, and of dependencies by the sides to which they lead."""
+    places, led = collections.defaultdict(set), collections.defaultdict(set)
+    for target in TARGETS:
+        for place in model.distances(model.members, kinds, host, target):
+            places[place].add(target)
+            for edge, (_, side) in model.steps(model.members, kinds, host, target, place):
+                led[place[0], edge.on, edge.kind, edge.holds, side].add(target)
+    return places, led
 
 
 def digest(names):
@@ -117,3 +137,28 @@ def built(document, roots, kinds, host, resolver, target, **asked):
     return {(package, side): frozenset(
         f for f in build.on[build.key(package, side)] if f in build.packages[package]["features"])
         for package, side in build.used()}
+
+
+# The names and keys whose facts `simple` may be, in the order in which they are tried, as `known_targets` states it.
+TRIED = ("unix", "windows", "target_family", "target_os", "target_env", "target_vendor", "target_arch", "target_abi",
+         "target_endian", "target_pointer_width")
+
+
+def having_of(targets):
+    """The facts that `simple` may be, in order, each with the targets that have it."""
+    facts = sorted({fact for facts in targets.values() for fact in facts if fact.partition("=")[0] in TRIED},
+                   key=lambda fact: (TRIED.index(fact.partition("=")[0]), fact.encode()))
+    return {fact: frozenset(name for name, facts in targets.items() if fact in facts) for fact in facts}
+
+
+HAVING = having_of(TARGETS)
+
+
+def simple_of(holds):
+    """The first fact that exactly these targets have, else `not(..)` of the first that exactly the others have, else
+    the name of the only one."""
+    for wanted, form in ((holds, "cfg({})"), (frozenset(TARGETS) - holds, "cfg(not({}))")):
+        for fact, having in HAVING.items():
+            if having == wanted:
+                return form.format(fact.replace("=", " = "))
+    return next(iter(holds)) if len(holds) == 1 else None

@@ -150,6 +150,8 @@ class Package(typing.TypedDict):
     targets: int
     #: Which known targets these are, or "all".
     at: str | list[str]
+    #: The sides for which it is built: "target", "host", "both", or None if it is in no build.
+    side: str | None
     #: The dependency kinds that reach it.
     kinds: list[str]
 
@@ -609,7 +611,7 @@ def graph(document: str | bytes | collections.abc.Mapping[str, object], host: st
     >>> nodes = [{"id": "a", "deps": []}]
     >>> packages = [{"id": "a", "name": "a", "version": "1.0.0", "targets": []}]
     >>> graph({"version": 1, "packages": packages, "workspace_members": ["a"], "resolve": {"nodes": nodes}})
-    [{'package': 'a 1.0.0', 'id': 'a', 'license': None, 'targets': 320, 'at': 'all', 'kinds': []}]
+    [{'package': 'a 1.0.0', 'id': 'a', 'license': None, 'targets': 320, 'at': 'all', 'side': 'target', 'kinds': []}]
     """
     if isinstance(document, collections.abc.Mapping):
         document = json.dumps(dict(document))

@@ -5,7 +5,7 @@ use key_answers::answer::Refusal;
 use key_answers::printing::shown_name;
 use key_answers::targets::{At, Every, names_of};
 use known_targets::{COUNT, KnownTarget, RUSTC_VERSION, TargetSet};
-use package_graphs::Kinds;
+use package_graphs::{Kinds, Side};
 use std::alloc::{AllocError, Global};
 use target_tables::TargetTable;
 
@@ -18,6 +18,7 @@ pub enum Show {
     Why,
     Features,
     Unified,
+    All,
 }
 
 /// The arguments of the command line, as they are given.
@@ -27,6 +28,8 @@ pub struct Words<'a> {
     pub targets: &'a [&'a str],
     /// The dependency kinds to follow, separated by commas. `None` follows all kinds.
     pub edges: Option<&'a str>,
+    /// The side whose packages, edges and features are printed, `target` or `host`. `None` prints both.
+    pub side: Option<&'a str>,
     pub host: Option<&'a str>,
     /// The file of `--facts-of`: its name as it is displayed, and its targets, which replace the known ones.
     pub facts_of: Option<(&'a str, &'a TargetTable)>,
@@ -64,6 +67,8 @@ pub struct Asked<'a> {
     /// True if the targets were selected by name.
     pub are_named: bool,
     pub kinds: Kinds,
+    /// The side whose packages, edges and features are selected, or `None` for both.
+    pub side: Option<Side>,
     pub host: Option<KnownTarget>,
     /// The targets of a file, if `--facts-of` names one. Each known target then represents a group of them.
     pub groups: Option<&'a Groups<'a>>,
@@ -156,6 +161,16 @@ fn kinds_of(alloc: Global, words: Option<&str>) -> Result<Kinds, Refusal> {
     Ok(kinds)
 }
 
+/// Parses the side of `--side`. Without that option, both sides are selected.
+fn side_of(alloc: Global, word: Option<&str>) -> Result<Option<Side>, Refusal> {
+    match word {
+        None => Ok(None),
+        Some("target") => Ok(Some(Side::Target)),
+        Some("host") => Ok(Some(Side::Host)),
+        Some(_) => Err(unusable_words(alloc, "--side names target or host")),
+    }
+}
+
 /// Returns the known target that `--host` names, if any. A host in a file is looked up later.
 fn host_of(alloc: Global, words: &Words<'_>) -> Result<Option<KnownTarget>, Refusal> {
     match words.host {
@@ -173,6 +188,7 @@ fn show_of(word: Option<&str>) -> Option<Show> {
         Some("why") => Some(Show::Why),
         Some("features") => Some(Show::Features),
         Some("unified") => Some(Show::Unified),
+        Some("all") => Some(Show::All),
         Some(_) => None,
     }
 }
@@ -185,6 +201,7 @@ impl<'a> Asked<'a> {
             count: COUNT,
             are_named: false,
             kinds: ALL_KINDS,
+            side: None,
             host,
             groups: None,
             packages: &[],
@@ -200,11 +217,11 @@ impl<'a> Asked<'a> {
     /// # Errors
     ///
     /// Refuses an unknown word of `--show`, one of `--show why` and `--of` without the other, and the name of an
-    /// unknown target, host or dependency kind; targets and hosts of a file are not checked here. Fails if memory is
-    /// refused.
+    /// unknown target, host, side or dependency kind; targets and hosts of a file are not checked here. Fails if memory
+    /// is refused.
     pub fn of(alloc: Global, words: &Words<'a>) -> Result<Asked<'a>, Refusal> {
         let Some(show) = show_of(words.show) else {
-            let text = "--show names packages, edges, targets, why, features or unified";
+            let text = "--show names packages, edges, targets, why, features, unified or all";
             return Err(unusable_words(alloc, text));
         };
         if words.of.is_some() != (show == Show::Why) {
@@ -213,6 +230,7 @@ impl<'a> Asked<'a> {
         }
         let targets = targets_of(alloc, words)?;
         let kinds = kinds_of(alloc, words.edges)?;
+        let side = side_of(alloc, words.side)?;
         let host = host_of(alloc, words)?;
         let are_named = !words.targets.is_empty();
         Ok(Asked {
@@ -220,6 +238,7 @@ impl<'a> Asked<'a> {
             count: if are_named { targets.len() } else { COUNT },
             are_named,
             kinds,
+            side,
             host,
             groups: None,
             packages: words.packages,

@@ -58,6 +58,8 @@ struct EdgeLine<'g, 'c, 'a> {
     targets: usize,
     /// The selected targets on which the dependency is followed.
     at: At<'a>,
+    /// The sides to which the dependency leads. One of `target`, `host` and `both`. Null if none.
+    side: Option<&'static str>,
     /// A shorter condition that is true on the same targets: a fact, `not(..)` of a fact, or the name of a target.
     simple: Option<String>,
     /// The combined condition of all dependencies of this kind between the two packages. Null if one of them has no
@@ -192,7 +194,8 @@ fn push_line(
     let to = graph.shown(alloc, edge.to)?;
     let kind = shown_kind(alloc, edge)?;
     let targets = shown_targets(alloc, followed(graph, edge, asked), asked)?;
-    let line = format!(in alloc; "{from} -> {to}, {kind}: {targets}\n")?;
+    let note = graph.sides_after(edge.from, edge.place, asked).note();
+    let line = format!(in alloc; "{from} -> {to}, {kind}{note}: {targets}\n")?;
     push(text, line.as_str())
 }
 
@@ -238,6 +241,7 @@ fn line_of<'g, 'c, 'a>(
         condition: step.condition,
         targets: asked.count_of(targets),
         at: asked.at(alloc, targets)?,
+        side: graph.sides_after(edge.from, edge.place, asked).word(),
         simple: smaller_condition(alloc, edge, finder)?,
         group,
     })

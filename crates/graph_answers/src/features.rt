@@ -5,6 +5,7 @@ use crate::graph::Graph;
 use crate::lines::{push, shown, shown_targets};
 use crate::packages::name_and_version;
 use crate::resolving::Features;
+use crate::sides::{is_selected, side_note, side_word};
 use key_answers::answer::{Answer, Status};
 use key_answers::json_lines;
 use key_answers::targets::At;
@@ -27,22 +28,6 @@ struct FeatureLine<'g, 'f, 'a> {
     targets: usize,
     /// The selected targets on which the feature is on.
     at: At<'a>,
-}
-
-/// Returns the name of a side.
-pub fn side_word(side: Side) -> &'static str {
-    match side {
-        Side::Target => "target",
-        Side::Host => "host",
-    }
-}
-
-/// Returns the part of a line that names the side. It is empty for the target.
-pub fn side_note(side: Side) -> &'static str {
-    match side {
-        Side::Target => "",
-        Side::Host => ", for the host",
-    }
 }
 
 /// Returns the output of `--show features`.
@@ -88,6 +73,9 @@ fn push_side(
     side: Side,
     asked: &Asked<'_>,
 ) -> Result<(), AllocError> {
+    if !is_selected(asked.side, side) {
+        return Ok(());
+    }
     let names = features.names(alloc, index)?;
     for i in 0..names.len() {
         let targets = features

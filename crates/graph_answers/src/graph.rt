@@ -1,5 +1,6 @@
 //! The report on a document, which is parsed, linked and queried.
 
+use crate::all::show_all;
 use crate::asked::{Asked, Show, Words};
 use crate::edges::show_edges;
 use crate::features::show_features;
@@ -11,6 +12,7 @@ use crate::packages::show_packages;
 use crate::page::page_of;
 use crate::refused::{refuse_depth, refused_document, refused_graph, unusable};
 use crate::resolving::{Features, features_of};
+use crate::sides::{Sides, is_selected};
 use crate::targets::show_targets;
 use crate::unified::show_unified;
 use crate::unsupported::refuse_unsupported;
@@ -21,7 +23,7 @@ use cargo_platform::shown_text;
 use key_answers::answer::{Answer, Refusal, Status, answered};
 use key_answers::printing::shown_name;
 use known_targets::{KnownTarget, TargetSet};
-use package_graphs::{PackageSets, present_packages};
+use package_graphs::{PackageSets, Side, present_packages};
 use serde_json::{Error, Value};
 use std::alloc::{AllocError, Global};
 
@@ -31,6 +33,8 @@ pub struct Graph<'a> {
     pub metadata: Metadata<'a>,
     pub linked: Linked<'a>,
     pub sets: PackageSets,
+    /// The selected side, or `None` for both.
+    pub side: Option<Side>,
     /// The indexes of the packages, sorted by name, version and id.
     pub order: Vec<usize>,
     /// For each package whether another one has its name and version.
@@ -45,18 +49,67 @@ impl<'a> Graph<'a> {
         self.present(index).intersection(asked.targets)
     }
 
-    /// Returns the targets on which a package is in the build.
+    /// Returns the targets on which a package is in the build, for a selected side.
     pub fn present(&self, index: usize) -> TargetSet {
+        let target = self.present_on(index, Side::Target);
+        target.union(self.present_on(index, Side::Host))
+    }
+
+    /// Returns the targets on which a package is in the build for this side. There are none if it is not selected.
+    fn present_on(&self, index: usize, side: Side) -> TargetSet {
+        if !is_selected(self.side, side) {
+            return TargetSet::none();
+        }
         match &self.features {
-            Some(features) => features.resolved.used(index),
+            Some(features) => features.used_on(index, side),
+            None => self.sets.on(index, side),
+        }
+    }
+
+    /// Returns the targets on which dependencies lead to a package, for a selected side, whether features leave it out
+    /// or not.
+    pub fn led_to(&self, index: usize) -> TargetSet {
+        match self.side {
+            Some(side) => self.sets.on(index, side),
             None => self.sets.at(index),
         }
     }
 
-    /// Returns the targets on which a dependency is followed. `place` is its index among those of the package.
+    /// Returns the selected sides for which a package is in the build on a selected target.
+    pub fn sides(&self, index: usize, asked: &Asked<'_>) -> Sides {
+        let target = self.present_on(index, Side::Target);
+        let host = self.present_on(index, Side::Host);
+        Sides {
+            target: !target.intersection(asked.targets).is_empty(),
+            host: !host.intersection(asked.targets).is_empty(),
+        }
+    }
+
+    /// Returns the targets on which a dependency is followed to a selected side. `place` is its index among those of
+    /// the package.
     pub fn following(&self, index: usize, place: usize, asked: &Asked<'_>) -> TargetSet {
+        let target = self.following_to(index, place, Side::Target, asked);
+        target.union(self.following_to(index, place, Side::Host, asked))
+    }
+
+    /// Returns the selected sides to which a dependency is followed on a selected target.
+    pub fn sides_after(&self, index: usize, place: usize, asked: &Asked<'_>) -> Sides {
+        let target = self.following_to(index, place, Side::Target, asked);
+        let host = self.following_to(index, place, Side::Host, asked);
+        Sides {
+            target: !target.intersection(asked.targets).is_empty(),
+            host: !host.intersection(asked.targets).is_empty(),
+        }
+    }
+
+    /// Returns the targets on which a dependency is followed to a package that is built for this side. There are none
+    /// if it is not selected.
+    fn following_to(&self, index: usize, place: usize, side: Side, asked: &Asked<'_>) -> TargetSet {
+        if !is_selected(self.side, side) {
+            return TargetSet::none();
+        }
         if let Some(features) = &self.features {
-            return features.using(index, place);
+            return features.using_to(index, place, side);
         }
         let packages = &self.linked.packages;
         let Some(unit) = packages.get(index) else {
@@ -65,7 +118,7 @@ impl<'a> Graph<'a> {
         match unit.dependencies.get(place) {
             Some(dependency) => {
                 self.sets
-                    .following(packages, asked.kinds, asked.host, index, dependency)
+                    .following_to(packages, asked.kinds, asked.host, index, dependency, side)
             }
             None => TargetSet::none(),
         }
@@ -188,6 +241,7 @@ pub fn package_lines<'a>(
         metadata,
         linked,
         sets,
+        side: None,
         order,
         twins,
         features: None,
@@ -254,6 +308,7 @@ fn graph_of<'a>(
         metadata,
         linked,
         sets,
+        side: asked.side,
         order,
         twins,
         features,
@@ -278,6 +333,7 @@ fn answer_of(
         Show::Why => show_why(alloc, file, graph, asked),
         Show::Features => show_features(alloc, graph, asked),
         Show::Unified => show_unified(alloc, graph, asked),
+        Show::All => show_all(alloc, graph, asked),
     }
 }
 

@@ -2,6 +2,7 @@
 //! audits, and an HTML page.
 #![tactic(auto)]
 
+mod all;
 pub mod asked;
 mod conditions;
 mod current;
@@ -20,6 +21,7 @@ mod page;
 mod reasons;
 mod refused;
 mod resolving;
+mod sides;
 mod targets;
 mod unified;
 mod unsupported;

@@ -30,6 +30,8 @@ struct LicenceLine<'a> {
     targets: usize,
     /// The selected targets on which the package is in the build.
     at: At<'a>,
+    /// The sides for which the package is built. One of `target`, `host` and `both`.
+    side: Option<&'static str>,
     /// One of `not-allowed`, `missing` and `refused`.
     finding: &'static str,
     /// If `finding` is `refused`: what was expected, and what was found.
@@ -309,7 +311,8 @@ fn push_lines(
     let found = shown_finding(alloc, finding)?;
     let package = graph.shown(alloc, index)?;
     let targets = shown_targets(alloc, graph.at(index, asked), asked)?;
-    let line = format!(in alloc; "{found}: {package}, {targets}\n")?;
+    let note = graph.sides(index, asked).note();
+    let line = format!(in alloc; "{found}: {package}{note}, {targets}\n")?;
     push(text, line.as_str())?;
     if let Finding::Refused(error) = finding {
         let lines = fault_lines(alloc, error)?;
@@ -361,6 +364,7 @@ fn push_object<'a>(
         license: described.license,
         targets: asked.count_of(targets),
         at: asked.at(alloc, targets)?,
+        side: graph.sides(index, asked).word(),
         finding: finding_word(finding),
         message,
         span,

@@ -72,6 +72,8 @@ struct PackageLine<'g, 'a> {
     targets: usize,
     /// The selected targets on which the package is in the build.
     at: At<'a>,
+    /// The sides for which the package is built. One of `target`, `host` and `both`. Null if none.
+    side: Option<&'static str>,
     /// The dependency kinds through which the package is reached. Each is one of `normal`, `build` and `dev`.
     kinds: Vec<&'static str>,
     /// If features are resolved: the reasons why the package is not in the build on targets on which dependencies lead
@@ -170,7 +172,8 @@ fn push_line(
     let package = graph.shown(alloc, index)?;
     let targets = shown_targets(alloc, graph.at(index, asked), asked)?;
     let reasons = shown_reasons(alloc, reasons, index, asked)?;
-    let line = format!(in alloc; "{package}: {targets}{reasons}\n")?;
+    let note = graph.sides(index, asked).note();
+    let line = format!(in alloc; "{package}{note}: {targets}{reasons}\n")?;
     push(text, line.as_str())
 }
 
@@ -218,6 +221,7 @@ fn push_object(
         license: described.license,
         targets: asked.count_of(targets),
         at: asked.at(alloc, targets)?,
+        side: graph.sides(index, asked).word(),
         kinds: reached.kinds(alloc)?,
         left_out: left_out_of(alloc, reasons, index, asked)?,
     };

@@ -159,7 +159,8 @@ fn push_packages(
     let reached = kinds_reached(alloc, graph, asked)?;
     add_markup(
         page,
-        "<h2>Packages</h2>\n<div><table>\n<thead><tr><th>Package</th><th>Version</th><th>Kinds</th><th>Licence</th>",
+        "<h2>Packages</h2>\n<div><table>\n<thead><tr><th>Package</th><th>Version</th><th>Kinds</th><th>Side</th>\
+         <th>Licence</th>",
     )?;
     for i in 0..classes.len() {
         add_markup(page, "<th class=\"class\" scope=\"col\">")?;
@@ -169,7 +170,7 @@ fn push_packages(
     add_markup(page, "</tr></thead>\n<tbody>\n")?;
     for i in &graph.order {
         if let Some(reached) = reached.get(*i) {
-            push_package(page, alloc, graph, *i, *reached, classes)?;
+            push_package(page, alloc, graph, *i, *reached, classes, asked)?;
         }
     }
     add_markup(page, "</tbody>\n</table></div>\n")
@@ -183,6 +184,7 @@ fn push_package(
     index: usize,
     reached: Reached,
     classes: &[Class],
+    asked: &Asked<'_>,
 ) -> Result<(), AllocError> {
     let Some(described) = graph.described(index) else {
         return Ok(());
@@ -194,6 +196,8 @@ fn push_package(
     add_markup(page, "</td><td>")?;
     let kinds = reached.words(alloc)?;
     add_text(page, kinds.as_str())?;
+    add_markup(page, "</td><td>")?;
+    add_markup(page, graph.sides(index, asked).word().unwrap_or(""))?;
     add_markup(page, "</td><td>")?;
     match described.license {
         Some(license) => push_shown(page, alloc, license)?,

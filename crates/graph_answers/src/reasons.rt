@@ -133,7 +133,7 @@ fn left_out(
     let mut left = Vec::new(alloc);
     for i in 0..graph.linked.packages.len() {
         let used = features.resolved.used(i);
-        left.push(graph.sets.at(i).intersection(used.complement()))?;
+        left.push(graph.led_to(i).intersection(used.complement()))?;
     }
     Ok(left)
 }

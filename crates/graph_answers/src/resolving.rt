@@ -20,7 +20,7 @@ use std::alloc::{AllocError, Global};
 
 /// Returns whether features have to be resolved.
 fn is_asked(words: &Words<'_>, show: Show) -> bool {
-    let is_shown = matches!(show, Show::Features | Show::Unified);
+    let is_shown = matches!(show, Show::Features | Show::Unified | Show::All);
     let is_told = words.resolver.is_some() || !words.features.is_empty();
     is_shown || is_told || words.no_default || words.all_features
 }
@@ -61,15 +61,16 @@ pub struct Features<'a> {
 }
 
 impl<'a> Features<'a> {
-    /// Returns the targets on which a dependency is used. `place` is its index among those of the linked package.
-    pub fn using(&self, index: usize, place: usize) -> TargetSet {
+    /// Returns the targets on which a dependency is used, and leads to a package that is built for the side `to`.
+    /// `place` is its index among those of the linked package.
+    pub fn using_to(&self, index: usize, place: usize, to: Side) -> TargetSet {
         let mut targets = TargetSet::none();
         let Some(edges) = self.edges.get(index) else {
             return targets;
         };
         for i in 0..edges.len() {
             if edges[i] == place {
-                targets = targets.union(self.resolved.using(index, i));
+                targets = targets.union(self.resolved.using_to(index, i, to));
             }
         }
         targets

@@ -1,11 +1,11 @@
 //! `--show unified`: the packages that are built with different features, on different targets or for the host.
 
 use crate::asked::Asked;
-use crate::features::{side_note, side_word};
 use crate::graph::Graph;
 use crate::lines::{push, shown, shown_targets};
 use crate::packages::name_and_version;
 use crate::resolving::Features;
+use crate::sides::{is_selected, side_note, side_word};
 use key_answers::answer::{Answer, Status};
 use key_answers::json_lines;
 use key_answers::targets::At;
@@ -49,6 +49,9 @@ fn push_built<'a>(
     asked: &Asked<'_>,
     built: &mut Vec<Built<'a>>,
 ) -> Result<(), AllocError> {
+    if !is_selected(asked.side, side) {
+        return Ok(());
+    }
     let used = features.used_on(index, side).intersection(asked.targets);
     let names = features.names(alloc, index)?;
     let mut sets = Vec::new(alloc);

@@ -13,8 +13,8 @@ use key_answers::answer::{Answer, Status, answered};
 use key_answers::json_lines;
 use key_answers::printing::shown_name;
 use key_answers::targets::At;
-use known_targets::TargetSet;
-use package_graphs::{Step, shortest_path};
+use known_targets::{KnownTarget, TargetSet};
+use package_graphs::{Step, shortest_path, shortest_path_on};
 use serde::Serialize;
 use std::alloc::{AllocError, Global};
 
@@ -43,6 +43,22 @@ struct PathLine<'g, 'a> {
     path: Option<Vec<PathStep<'g>>>,
 }
 
+/// Returns the steps of a shortest path to a package on a target, for the selected side.
+fn shortest_steps(
+    alloc: Global,
+    graph: &Graph<'_>,
+    index: usize,
+    target: KnownTarget,
+    asked: &Asked<'_>,
+) -> Result<Option<Vec<Step>>, AllocError> {
+    let packages = &graph.linked.packages;
+    let (kinds, host) = (asked.kinds, asked.host);
+    match graph.side {
+        Some(side) => shortest_path_on(alloc, packages, kinds, host, target, (index, side)),
+        None => shortest_path(alloc, packages, kinds, host, target, index),
+    }
+}
+
 /// Returns the dependency paths to a package, in the order of their first targets.
 fn ways_to(
     alloc: Global,
@@ -52,9 +68,7 @@ fn ways_to(
 ) -> Result<Vec<Way>, AllocError> {
     let mut ways: Vec<Way> = Vec::new(alloc);
     for target in graph.at(index, asked).iter() {
-        let packages = &graph.linked.packages;
-        let found = shortest_path(alloc, packages, asked.kinds, asked.host, target, index)?;
-        let Some(steps) = found else {
+        let Some(steps) = shortest_steps(alloc, graph, index, target, asked)? else {
             continue;
         };
         let only = TargetSet::only(target);

@@ -73,6 +73,7 @@ fn answer_with<R: Files + Input + AllocGlobal>(
     let words = Words {
         targets: matches.get_strs("target").unwrap_or(&[]),
         edges: matches.get_str("edges"),
+        side: matches.get_str("side"),
         host: matches.get_str("host"),
         facts_of,
         packages: matches.get_strs("package").unwrap_or(&[]),

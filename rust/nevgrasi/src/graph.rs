@@ -28,6 +28,17 @@ pub enum Targets {
     Named(Vec<String>),
 }
 
+/// The sides for which a package is built.
+#[derive(Clone, Copy, Debug, PartialEq, Eq, Hash)]
+pub enum Sides {
+    /// For the target.
+    Target,
+    /// For the host, on which the build runs.
+    Host,
+    /// For the target and for the host.
+    Both,
+}
+
 /// A package of a graph.
 #[derive(Clone, Debug, PartialEq, Eq, Hash)]
 #[non_exhaustive]
@@ -42,6 +53,8 @@ pub struct Package {
     pub targets: usize,
     /// On which known targets it is in the build.
     pub at: Targets,
+    /// The sides for which it is built. `None` if it is in no build.
+    pub side: Option<Sides>,
     /// The dependency kinds that reach it. A root needs none.
     pub kinds: Vec<Kind>,
 }
@@ -59,6 +72,10 @@ impl Package {
             },
             targets: value.field("targets")?.number()?.try_into().ok()?,
             at: Targets::of_value(value.field("at")?)?,
+            side: match value.field("side")? {
+                Value::Null => None,
+                other => Some(Sides::of_value(other)?),
+            },
             kinds: value.field("kinds")?.list()?.iter().map(Kind::of_value).collect::<Option<_>>()?,
         })
     }
@@ -71,6 +88,17 @@ impl Targets {
         }
         let names = value.list()?.iter().map(|it| Some(it.text()?.to_string()));
         Some(Targets::Named(names.collect::<Option<_>>()?))
+    }
+}
+
+impl Sides {
+    fn of_value(value: &Value) -> Option<Sides> {
+        match value.text()? {
+            "target" => Some(Sides::Target),
+            "host" => Some(Sides::Host),
+            "both" => Some(Sides::Both),
+            _ => None,
+        }
     }
 }
 
@@ -91,7 +119,7 @@ impl Kind {
 /// or without one on the target itself.
 ///
 /// ```
-/// use nevgrasi::{graph, Kind, Targets};
+/// use nevgrasi::{graph, Kind, Sides, Targets};
 ///
 /// let document = r#"{"version": 1, "workspace_members": ["app"],
 ///     "packages": [{"id": "app", "name": "app", "version": "1.0.0", "targets": []},
@@ -102,6 +130,7 @@ impl Kind {
 /// assert_eq!(packages[0].at, Targets::All);
 /// assert_eq!(packages[1].package, "chip 0.1.0");
 /// assert_eq!(packages[1].at, Targets::Named(vec!["avr-none".to_string()]));
+/// assert_eq!(packages[1].side, Some(Sides::Target));
 /// assert_eq!(packages[1].kinds, [Kind::Normal]);
 /// # Ok::<(), nevgrasi::Error>(())
 /// ```

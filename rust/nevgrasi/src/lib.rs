@@ -25,7 +25,7 @@ mod key;
 mod raw;
 
 pub use error::{Error, ErrorKind};
-pub use graph::{graph, Kind, Package, Targets};
+pub use graph::{graph, Kind, Package, Sides, Targets};
 pub use key::{Answer, Example, Key, BUDGET};
 pub use raw::ABI;
 
