@@ -80,6 +80,8 @@ def told(schema, text):
         only = {"enum": re.findall(r"`([^`]*)`", words[1])}
         if schema == TEXT:
             schema = only
+        elif schema == with_null(TEXT):
+            schema = with_null(only)
         elif schema.get("items") == TEXT:
             schema = {**schema, "items": only}
         else:
@@ -165,16 +167,19 @@ def names_of(words):
     words = [part for word in words for part in (word.split("=", 1) if word[:2] == "--" else [word])]
     if words[:1] == ["lint"] and "sarif" in words:
         return ["SarifLog"]
-    if "--json" not in words and words[:3] != ["lint", "--message-format", "json"]:
+    if words[:1] == ["lint"] and "--message-format" in words:
+        return ["CompilerMessage"] if words[words.index("--message-format") + 1] == "json" else []
+    if "--json" not in words:
         return []
     if words[0] == "graph" and {"--allow", "--allow-file"} & {*words}:
         return ["LicenceLine"]
     shown = words[words.index("--show") + 1] if "--show" in words else "packages"
+    lines = {"packages": "PackageLine", "edges": "EdgeLine", "targets": "ClassLine", "why": "PathLine",
+             "features": "FeatureLine", "unified": "UnifiedLine"}
     return {
-        "lint": ["Diagnostic"], "select": ["SelectedDependency", "SelectionError"], "compare": ["Comparison"],
-        "targets": ["TargetNames"], "graph": [{
-            "packages": "PackageLine", "edges": "EdgeLine", "targets": "ClassLine", "why": "PathLine",
-            "features": "FeatureLine", "unified": "UnifiedLine"}.get(shown)]}[words[0]]
+        "lint": ["DiagnosticLine"], "select": ["SelectedDependency", "SelectionError"], "compare": ["Comparison"],
+        "targets": ["TargetNames"],
+        "graph": ["PackageLine", "EdgeLine", "FeatureLine"] if shown == "all" else [lines.get(shown)]}[words[0]]
 
 
 def misfits(words, output, most=20):

@@ -3,6 +3,7 @@ use Rattle.std.specs.Prelude.{◌≡◌, ◌≢◌, ◌≤◌, ◌⊎◌, ℕ, L
 use Rattle.std.specs.Prelude.{Option, Some, None, option_map, Contains, string_bytes}
 use Rattle.std.specs.declared.string.String.{String}
 use Rattle.std.specs.declared.alloc.Global.{Global}
+use Rattle.manifest_lints_findings.specs.Codes.{lint_word}
 use Rattle.lint_reports.specs.declared.weight_rules.Weight.{Weight}
 use Rattle.lint_reports.specs.declared.weight_rules.Weight.TheVariants as weight
 use Rattle.lint_reports.specs.declared.weight_rules.Setting.{Setting}
@@ -20,7 +21,7 @@ weight_set setting.Deny = weight.Error
 
 -- the subject includes the diagnostics of this lint that have this level after the rules before
 abbrev pub IsAbout : Subject → List ℕ → Weight → Type 0
-IsAbout (subject.Code word) code w = string_bytes word ≡ code
+IsAbout (subject.Lint lint) code w = lint_word lint ≡ code
 IsAbout subject.Warnings code w = w ≡ weight.Warning
 IsAbout subject.Notes code w = w ≡ weight.Note
 
@@ -56,4 +57,4 @@ Fails (Some least) w = severity least ≤ severity w
 -- the rule applies to a diagnostic that would be reported without any rule
 abbrev pub IsNeeded : Rule → List Weighed → Type 0
 IsNeeded rule found = (it : Weighed) × Contains found it × (it.weight ≢ weight.Allowed)
-    × Hears rule it.code.now (option_map (λ k. k.now) it.key) it.weight
+    × Hears rule (lint_word it.lint) (option_map (λ k. k.now) it.key) it.weight

@@ -1,28 +1,15 @@
 //! The explanations of the lints, for people.
 
-use crate::told::own_weight;
+use crate::diagnostics::own_weight;
 use crate::weight_rules::Weight;
 use cargo_platform::shown_start;
-use manifest_lints_findings::{CODES, Code, MISPLACED, UNDERSCORED, near};
+use manifest_lints_findings::{CODES, Code, LINTS_BESIDE, Lint, near};
 use std::alloc::{AllocError, Global};
-
-/// The lint that reports invalid entries in a table of rules.
-pub const SETTINGS: &str = "settings";
-
-/// The lint that reports a rule that allows nothing that is found.
-pub const UNNEEDED_ALLOW: &str = "unneeded-allow";
-
-/// The lint that reports a field that Cargo does not read under a key of its own configuration.
-pub const UNREAD_FIELD: &str = "unread-field";
-
-/// The lint that reports a name that rustc knew until some release.
-pub const FORMER: &str = "former";
 
 /// The explanation of a lint.
 #[derive(Clone, Copy, Drop)]
 pub struct Explained {
-    /// The name of the lint.
-    pub word: &'static str,
+    pub lint: Lint,
     /// The level of the lint if no rule applies.
     pub weight: Weight,
     /// A summary of one line.
@@ -31,64 +18,7 @@ pub struct Explained {
     pub text: &'static str,
 }
 
-/// The explanations of the lints that are not about a key.
-const OTHERS: [Explained; 6] = [
-    Explained {
-        word: FORMER,
-        weight: Weight::Note,
-        short: "a name or value that rustc knew only until some release",
-        text: "The key is the name of a target, or its condition contains a value, that rustc knew until some \
-               release. Cargo selects the dependencies only with older compilers. This is a warning if \
-               `rust-version`, or `rustc` in the table `manifest-check` of the metadata, is a release that does not \
-               know the name. It is not reported if that `rustc` knows the name.\n\n\
-               Example: [target.wasm32-wasi.dependencies]\nrustc knew this target until 1.83.0.",
-    },
-    Explained {
-        word: MISPLACED,
-        weight: Weight::Warning,
-        short: "a table for targets that is defined where Cargo does not read it",
-        text: "A key of `target` is defined at the top of the manifest, in `targets` or in `workspace.target`, where \
-               Cargo ignores it. In a table of dependencies, Cargo takes it for the name of a package and rejects the \
-               manifest.\n\n\
-               Example: [targets.'cfg(unix)'.dependencies]\nWrite `[target.'cfg(unix)'.dependencies]`.",
-    },
-    Explained {
-        word: UNDERSCORED,
-        weight: Weight::Warning,
-        short: "a table named `dev_dependencies` or `build_dependencies`",
-        text: "Cargo warns about these names, and rejects them in packages of edition 2024.\n\n\
-               Example: [target.'cfg(unix)'.dev_dependencies]\nWrite `dev-dependencies`.",
-    },
-    Explained {
-        word: UNREAD_FIELD,
-        weight: Weight::Warning,
-        short: "a field in Cargo's configuration that Cargo does not read, similar to one that it reads",
-        text: "In `.cargo/config.toml`, Cargo reads `linker`, `runner` and `rustflags` below each key of `target`, \
-               and `rustdocflags` and tables for `links` only below the name of a target. Cargo warns about another \
-               field, or rejects the file when it builds for that target. A field is reported if it is one edit away \
-               from a field that Cargo reads there.\n\n\
-               Example: [target.'cfg(unix)']\n         linkr = \"clang\"\nWrite `linker`.",
-    },
-    Explained {
-        word: SETTINGS,
-        weight: Weight::Warning,
-        short: "an invalid setting of `manifest-check` in the metadata",
-        text: "The table `manifest-check` in `package.metadata` or `workspace.metadata` contains an unknown setting, \
-               an unknown lint, or something else in place of a list. The rest of the table is used.\n\n\
-               Example: [package.metadata.manifest-check]\n         allow = [\"nowere\"]\nWrite `nowhere`.",
-    },
-    Explained {
-        word: UNNEEDED_ALLOW,
-        weight: Weight::Note,
-        short: "an `allow` in the metadata that no diagnostic needs",
-        text: "A rule in the metadata allows a lint, and nothing would be reported without the rule: the manifest was \
-               corrected, or a newer rustc knows the name. Delete the rule, since it would hide the next mistake.\n\n\
-               Example: [package.metadata.manifest-check]\n         allow = [\"custom\"]\nNo condition contains a \
-               name or value of the project's own.",
-    },
-];
-
-/// The explanation of a lint on keys, without its name and level.
+/// The explanation of a lint, without its level.
 #[derive(Clone, Copy, Drop)]
 struct Said {
     /// A summary of one line.
@@ -100,7 +30,7 @@ struct Said {
 const REFUSED: Said = Said {
     short: "a key that is neither the name of a target nor a valid `cfg(..)` expression",
     text: "The key is neither the name of a target nor a valid `cfg(..)` expression, so Cargo rejects the whole \
-           manifest. In its own configuration, Cargo ignores the key. The two lines below the diagnostic show the \
+           manifest. In its own configuration, Cargo ignores the key. The carets below the line show the \
            position of the error.\n\n\
            Example: [target.'cfg(all(unix windows))'.dependencies]\nWrite a comma between the two names.",
 };
@@ -200,6 +130,53 @@ const NOT_CANONICAL: Said = Said {
            Example: [target.'cfg( unix )'.dependencies]\nWrite `cfg(unix)`.",
 };
 
+const FORMER: Said = Said {
+    short: "a name or value that rustc knew only until some release",
+    text: "The key is the name of a target, or its condition contains a value, that rustc knew until some \
+           release. Cargo selects the dependencies only with older compilers. This is a warning if \
+           `rust-version`, or `rustc` in the table `manifest-check` of the metadata, is a release that does not \
+           know the name. It is not reported if that `rustc` knows the name.\n\n\
+           Example: [target.wasm32-wasi.dependencies]\nrustc knew this target until 1.83.0.",
+};
+
+const MISPLACED: Said = Said {
+    short: "a table for targets that is defined where Cargo does not read it",
+    text: "A key of `target` is defined at the top of the manifest, in `targets` or in `workspace.target`, where \
+           Cargo ignores it. In a table of dependencies, Cargo takes it for the name of a package and rejects the \
+           manifest.\n\n\
+           Example: [targets.'cfg(unix)'.dependencies]\nWrite `[target.'cfg(unix)'.dependencies]`.",
+};
+
+const UNDERSCORED: Said = Said {
+    short: "a table named `dev_dependencies` or `build_dependencies`",
+    text: "Cargo warns about these names, and rejects them in packages of edition 2024.\n\n\
+           Example: [target.'cfg(unix)'.dev_dependencies]\nWrite `dev-dependencies`.",
+};
+
+const UNREAD_FIELD: Said = Said {
+    short: "a field in Cargo's configuration that Cargo does not read, similar to one that it reads",
+    text: "In `.cargo/config.toml`, Cargo reads `linker`, `runner` and `rustflags` below each key of `target`, \
+           and `rustdocflags` and tables for `links` only below the name of a target. Cargo warns about another \
+           field, or rejects the file when it builds for that target. A field is reported if it is one edit away \
+           from a field that Cargo reads there.\n\n\
+           Example: [target.'cfg(unix)']\n         linkr = \"clang\"\nWrite `linker`.",
+};
+
+const SETTINGS: Said = Said {
+    short: "an invalid setting of `manifest-check` in the metadata",
+    text: "The table `manifest-check` in `package.metadata` or `workspace.metadata` contains an unknown setting, \
+           an unknown lint, or something else in place of a list. The rest of the table is used.\n\n\
+           Example: [package.metadata.manifest-check]\n         allow = [\"nowere\"]\nWrite `nowhere`.",
+};
+
+const UNNEEDED_ALLOW: Said = Said {
+    short: "an `allow` in the metadata that no diagnostic needs",
+    text: "A rule in the metadata allows a lint, and nothing would be reported without the rule: the manifest was \
+           corrected, or a newer rustc knows the name. Delete the rule, since it would hide the next mistake.\n\n\
+           Example: [package.metadata.manifest-check]\n         allow = [\"custom\"]\nNo condition contains a \
+           name or value of the project's own.",
+};
+
 /// Returns the explanation of a lint on keys.
 fn said_of(code: Code) -> Said {
     match code {
@@ -220,12 +197,25 @@ fn said_of(code: Code) -> Said {
     }
 }
 
-/// Returns the explanation of a lint on keys, with its name and level.
-pub fn explanation_of(code: Code) -> Explained {
-    let Said { short, text } = said_of(code);
+/// Returns the explanation of a lint, without its level.
+fn said_beside(lint: Lint) -> Said {
+    match lint {
+        Lint::Key(code) => said_of(code),
+        Lint::Former => FORMER,
+        Lint::Misplaced => MISPLACED,
+        Lint::Underscored => UNDERSCORED,
+        Lint::UnreadField => UNREAD_FIELD,
+        Lint::Settings => SETTINGS,
+        Lint::UnneededAllow => UNNEEDED_ALLOW,
+    }
+}
+
+/// Returns the explanation of a lint, with its level.
+pub fn explanation_of(lint: Lint) -> Explained {
+    let Said { short, text } = said_beside(lint);
     Explained {
-        word: code.word(),
-        weight: own_weight(code, code.row().level),
+        lint,
+        weight: own_weight(lint, lint.level()),
         short,
         text,
     }
@@ -236,19 +226,19 @@ pub fn explanation_of(code: Code) -> Explained {
 pub fn all_explained(alloc: Global) -> Result<Vec<Explained>, AllocError> {
     let mut all = Vec::new(alloc);
     for code in &CODES {
-        all.push(explanation_of(*code))?;
+        all.push(explanation_of(Lint::Key(*code)))?;
     }
-    for other in &OTHERS {
-        all.push(*other)?;
+    for lint in &LINTS_BESIDE {
+        all.push(explanation_of(*lint))?;
     }
     Ok(all)
 }
 
 /// Returns the names of all lints. Fails if memory is refused.
-pub fn words(alloc: Global) -> Result<Vec<&'static str>, AllocError> {
+fn words(alloc: Global) -> Result<Vec<&'static str>, AllocError> {
     let mut words = Vec::new(alloc);
     for explained in &all_explained(alloc)? {
-        words.push(explained.word)?;
+        words.push(explained.lint.word())?;
     }
     Ok(words)
 }

@@ -1,8 +1,7 @@
 //! Fields under the keys of `target` that Cargo does not read in its own configuration.
 
-use crate::codes::UNREAD_FIELD;
 use cargo_platform::shown_start;
-use manifest_lints_findings::{Level, WrongPlace, add_at_top, near};
+use manifest_lints_findings::{Level, Lint, Site, WrongPlace, add_at_top, near};
 use std::alloc::{AllocError, Global};
 use toml::{Table, Value};
 
@@ -68,7 +67,7 @@ fn unread(
     };
     let name = shown_start(alloc, name)?;
     let reason = reason_of(alloc, name.as_str(), is_condition, is_table)?;
-    let message = format!(in alloc; "{reason}; perhaps `{meant}` is meant")?;
+    let message = format!(in alloc; "{reason}; did you mean `{meant}`?")?;
     Ok(Some((level, message)))
 }
 
@@ -76,14 +75,19 @@ fn unread(
 fn field_of(
     alloc: Global,
     key: &str,
+    name: &str,
     level: Level,
     message: String,
 ) -> Result<WrongPlace, AllocError> {
     Ok(WrongPlace {
-        code: UNREAD_FIELD,
+        lint: Lint::UnreadField,
         level,
         subject: String::from_str(alloc, TARGET)?,
         key: Some(String::from_str(alloc, key)?),
+        site: Site::Field(
+            String::from_str(alloc, key)?,
+            String::from_str(alloc, name)?,
+        ),
         message,
         suggestion: None,
     })
@@ -98,7 +102,7 @@ fn add_of_key(
 ) -> Result<(), AllocError> {
     for (name, value) in fields.iter() {
         if let Some((level, message)) = unread(alloc, key, name.as_str(), value)? {
-            found.push(field_of(alloc, key, level, message)?)?;
+            found.push(field_of(alloc, key, name.as_str(), level, message)?)?;
         }
     }
     Ok(())

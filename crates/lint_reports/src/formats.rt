@@ -1,23 +1,27 @@
 //! The output formats of diagnostics.
 
+use crate::cargo_json::push_cargo_message;
+use crate::diagnostics::{Diagnostic, Reported, end_of, weight_word};
 use crate::escapes::escaped;
+use crate::rendering::{coloured, push_rendered};
 use crate::sarif::{push_result, sarif_begin, sarif_end};
-use crate::told::{Told, sentence_of, weight_word};
 use crate::weight_rules::Weight;
 use key_answers::json_lines;
-use key_answers::printing::push_indented;
+use manifests::places::Location;
 use serde::Serialize;
 use std::alloc::{AllocError, Global};
 
 /// The output format of diagnostics.
 #[derive(Clone, Copy, Debug, PartialEq, Eq, Drop)]
 pub enum Format {
-    /// One line per diagnostic, followed by the two lines that show an error.
+    /// The form in which rustc prints diagnostics for people.
     Human,
     /// One line per diagnostic.
     Short,
     /// One JSON object per diagnostic, each on a line of its own.
     Json,
+    /// One message in the form of Cargo's JSON per diagnostic, each on a line of its own.
+    CargoJson,
     /// One workflow command of GitHub per diagnostic.
     Github,
     /// One document in the Static Analysis Results Interchange Format (SARIF), 2.1.0.
@@ -30,7 +34,7 @@ impl Format {
         match name {
             "human" => Some(Format::Human),
             "short" => Some(Format::Short),
-            "json" => Some(Format::Json),
+            "json" => Some(Format::CargoJson),
             "github" => Some(Format::Github),
             "sarif" => Some(Format::Sarif),
             _ => None,
@@ -53,68 +57,46 @@ pub struct Printed {
     told: usize,
 }
 
-/// Returns the name of a level, in colour if `colours`.
-fn coloured(alloc: Global, weight: Weight, colours: bool) -> Result<String, AllocError> {
-    let word = weight_word(weight);
-    if !colours {
-        return String::from_str(alloc, word);
-    }
-    let colour = match weight {
-        Weight::Error => "31",
-        Weight::Warning => "33",
-        Weight::Note | Weight::Allowed => "36",
+/// Appends the line of a diagnostic: its place, level, message and lint.
+fn push_short(
+    text: &mut String,
+    alloc: Global,
+    reported: &Reported<'_>,
+    colours: bool,
+) -> Result<(), AllocError> {
+    let path = reported.path;
+    let level = coloured(alloc, reported.weight, colours)?;
+    let message = reported.diagnostic.message.as_str();
+    let lint = reported.diagnostic.lint.word();
+    let line = match reported.diagnostic.location() {
+        Some(
+            Location {
+                span: _,
+                line,
+                column,
+            },
+        ) => { format!(in alloc; "{path}:{line}:{column}: {level}: {message} [{lint}]\n")? }
+        None => format!(in alloc; "{path}: {level}: {message} [{lint}]\n")?,
     };
-    format!(in alloc; "\x1b[{colour}m{word}\x1b[0m")
-}
-
-/// Returns a line number after the text `before`, or the empty text if no line is certain.
-fn line_behind(alloc: Global, before: &str, line: Option<usize>) -> Result<String, AllocError> {
-    match line {
-        Some(line) => format!(in alloc; "{before}{line}"),
-        None => Ok(String::new(alloc)),
-    }
-}
-
-/// Appends the line of a diagnostic: its position, level, lint, subject and message.
-fn push_line(
-    text: &mut String,
-    alloc: Global,
-    told: &Told<'_>,
-    colours: bool,
-) -> Result<(), AllocError> {
-    let line = line_behind(alloc, ":", told.place.line)?;
-    let word = coloured(alloc, told.weight, colours)?;
-    let sentence = sentence_of(alloc, told)?;
-    let path = told.place.path;
-    let code = told.code;
-    let head = format!(in alloc; "{path}{line}: {word}[{code}]: {sentence}\n")?;
-    text.push_str(head.as_str())
-}
-
-/// Appends the lines of a diagnostic, with those that show an error.
-fn push_lines(
-    text: &mut String,
-    alloc: Global,
-    told: &Told<'_>,
-    colours: bool,
-) -> Result<(), AllocError> {
-    push_line(text, alloc, told, colours)?;
-    match told.snippet {
-        Some(snippet) => push_indented(text, snippet),
-        None => Ok(()),
-    }
+    text.push_str(line.as_str())
 }
 
 /// A line of `lint --json`: a diagnostic.
 #[derive(Drop, Serialize)]
-struct Diagnostic<'a> {
+struct DiagnosticLine<'a> {
+    /// The byte after the last one of the first place at fault, in the manifest.
+    byte_end: Option<usize>,
+    /// The first byte of that place.
+    byte_start: Option<usize>,
     /// The name of the lint.
     code: &'a str,
+    /// The column of that place, in characters from 1.
+    column: Option<usize>,
     /// The key of `target` that the diagnostic is about.
     key: Option<&'a str>,
     /// One of `error`, `warning`, `note` and `allowed`.
     level: &'static str,
-    /// The line of that key.
+    /// The line of that place.
     line: Option<usize>,
     /// The path of the manifest.
     manifest: &'a str,
@@ -125,20 +107,32 @@ struct Diagnostic<'a> {
     suggestion: Option<&'a str>,
 }
 
-impl<'a> Diagnostic<'a> {
-    /// Returns a diagnostic as a line of JSON.
-    fn of(told: &Told<'a>) -> Diagnostic<'a> {
-        Diagnostic {
-            code: told.code,
-            key: told.place.key,
-            level: weight_word(told.weight),
-            line: told.place.line,
-            manifest: told.place.path,
-            message: told.message,
-            span: told.span,
-            suggestion: told.suggestion,
-        }
+/// Returns an owned text as a borrowed one, if there is one.
+fn borrowed(text: &Option<String>) -> Option<&str> {
+    match text {
+        Some(text) => Some(text.as_str()),
+        None => None,
     }
+}
+
+/// Appends a diagnostic as a line of JSON.
+fn push_json(text: &mut String, alloc: Global, reported: &Reported<'_>) -> Result<(), AllocError> {
+    let diagnostic = reported.diagnostic;
+    let at = diagnostic.location();
+    let line = DiagnosticLine {
+        byte_end: at.map(|at| at.span.end),
+        byte_start: at.map(|at| at.span.start),
+        code: diagnostic.lint.word(),
+        column: at.map(|at| at.column),
+        key: diagnostic.key(),
+        level: weight_word(reported.weight),
+        line: at.map(|at| at.line),
+        manifest: reported.path,
+        message: diagnostic.message.as_str(),
+        span: diagnostic.span,
+        suggestion: borrowed(&diagnostic.suggestion),
+    };
+    json_lines::push_line(text, alloc, &line)
 }
 
 /// Returns the workflow command for a level.
@@ -151,19 +145,39 @@ fn command_word(weight: Weight) -> &'static str {
 }
 
 /// Returns the text of the workflow command for a diagnostic.
-fn command_body(alloc: Global, told: &Told<'_>) -> Result<String, AllocError> {
-    let sentence = sentence_of(alloc, told)?;
+fn command_body(alloc: Global, diagnostic: &Diagnostic) -> Result<String, AllocError> {
+    let sentence = diagnostic.sentence(alloc)?;
     escaped(alloc, sentence.as_str(), false)
 }
 
+/// Returns the properties of a workflow command that say where the diagnostic points to.
+fn command_place(alloc: Global, reported: &Reported<'_>) -> Result<String, AllocError> {
+    let Some(at) = reported.diagnostic.location() else {
+        return Ok(String::new(alloc));
+    };
+    let end = end_of(reported.text, at);
+    let Location {
+        span: _,
+        line,
+        column,
+    } = at;
+    let end_line = end.line;
+    let end_column = end.column;
+    format!(in alloc; ",line={line},endLine={end_line},col={column},endColumn={end_column}")
+}
+
 /// Appends the workflow command for a diagnostic, which GitHub shows beside the line in a change.
-fn push_command(text: &mut String, alloc: Global, told: &Told<'_>) -> Result<(), AllocError> {
-    let word = command_word(told.weight);
-    let file = escaped(alloc, told.place.path, true)?;
-    let line = line_behind(alloc, ",line=", told.place.line)?;
-    let code = told.code;
-    let body = command_body(alloc, told)?;
-    let command = format!(in alloc; "::{word} file={file}{line},title={code}::{body}\n")?;
+fn push_command(
+    text: &mut String,
+    alloc: Global,
+    reported: &Reported<'_>,
+) -> Result<(), AllocError> {
+    let word = command_word(reported.weight);
+    let file = escaped(alloc, reported.path, true)?;
+    let place = command_place(alloc, reported)?;
+    let code = reported.diagnostic.lint.word();
+    let body = command_body(alloc, reported.diagnostic)?;
+    let command = format!(in alloc; "::{word} file={file}{place},title={code}::{body}\n")?;
     text.push_str(command.as_str())
 }
 
@@ -186,16 +200,17 @@ impl Printed {
         &mut self,
         text: &mut String,
         alloc: Global,
-        told: &Told<'_>,
+        reported: &Reported<'_>,
     ) -> Result<(), AllocError> {
         let is_first = self.told == 0;
         self.told = self.told.saturating_add(1);
         match self.style.format {
-            Format::Human => push_lines(text, alloc, told, self.style.colours),
-            Format::Short => push_line(text, alloc, told, self.style.colours),
-            Format::Json => json_lines::push_line(text, alloc, &Diagnostic::of(told)),
-            Format::Github => push_command(text, alloc, told),
-            Format::Sarif => push_result(text, alloc, told, is_first),
+            Format::Human => push_rendered(text, alloc, reported, self.style.colours),
+            Format::Short => push_short(text, alloc, reported, self.style.colours),
+            Format::Json => push_json(text, alloc, reported),
+            Format::CargoJson => push_cargo_message(text, alloc, reported),
+            Format::Github => push_command(text, alloc, reported),
+            Format::Sarif => push_result(text, alloc, reported, is_first),
         }
     }
 

@@ -1,15 +1,16 @@
 //! Diagnostics on names that rustc knew until some release.
 
-use crate::codes::FORMER;
 use crate::settings::Settings;
 use cargo_platform::{Cfg, Platform, ReadError, values_of};
 use former_names::{
     Bounds, Release, Verdict, former_fact, former_target, has_former_value, name_now,
 };
-use manifest_lints_findings::{Level, WrongPlace};
+use manifest_lints_findings::{Level, Lint, Site, WrongPlace};
+use manifest_lints_standings::key_spans::spans_of;
 use manifests::{Declared, Targets, target_keys};
 use std::alloc::{AllocError, Global};
 use toml::Table;
+use toml_spans::Span;
 
 /// The settings that determine which rustc builds a project.
 #[derive(Clone, Copy, Drop)]
@@ -96,10 +97,11 @@ fn former(
         message.push_str(project.reason(alloc, bounds)?.as_str())?;
     }
     Ok(Some(WrongPlace {
-        code: FORMER,
+        lint: Lint::Former,
         level,
         subject: String::from_str(alloc, "target")?,
         key: Some(String::from_str(alloc, key)?),
+        site: Site::InKey(None),
         message,
         suggestion: None,
     }))
@@ -129,17 +131,20 @@ struct FormerFact<'a> {
     key: &'a str,
     value: &'a str,
     bounds: Bounds,
+    /// The span in the key, in bytes.
+    span: Option<Span>,
 }
 
 impl<'a> FormerFact<'a> {
     /// Returns a fact as a former one, if it is one.
-    fn of(fact: &'a Cfg) -> Option<FormerFact<'a>> {
+    fn of(fact: &'a Cfg, span: Option<Span>) -> Option<FormerFact<'a>> {
         let bounds = former_fact(fact)?;
         match fact {
             Cfg::KeyPair(key, value) => Some(FormerFact {
                 key: key.as_str(),
                 value: value.as_str(),
                 bounds,
+                span,
             }),
             Cfg::Name(_) => None,
         }
@@ -165,7 +170,11 @@ impl<'a> FormerFact<'a> {
         let name = self.key;
         let value = self.value;
         let fact = format!(in alloc; "{name} = \"{value}\"")?;
-        former(alloc, key, fact.as_str(), self.bounds, project)
+        let Some(mut told) = former(alloc, key, fact.as_str(), self.bounds, project)? else {
+            return Ok(None);
+        };
+        told.site = Site::InKey(self.span);
+        Ok(Some(told))
     }
 
     /// Returns the fact as `rustc --print cfg` printed it.
@@ -188,14 +197,16 @@ pub struct Formers {
 }
 
 /// Returns the facts of a key that targets had until some release and that the manifest does not declare, each once.
+/// `spans` are the spans of the facts in the key.
 fn formers_among<'a>(
     alloc: Global,
     values: &[&'a Cfg],
+    spans: &[Span],
     declared: &Declared<'_>,
 ) -> Result<Vec<FormerFact<'a>>, AllocError> {
     let mut facts: Vec<FormerFact<'a>> = Vec::new(alloc);
-    for value in values {
-        if let Some(fact) = FormerFact::of(value) {
+    for (index, value) in values.iter().enumerate() {
+        if let Some(fact) = FormerFact::of(value, spans.get(index).copied()) {
             if !fact.is_among(&facts) && !declared.declares(value) {
                 facts.push(fact)?;
             }
@@ -239,7 +250,8 @@ impl Formers {
         project: &Project<'_>,
     ) -> Result<(), AllocError> {
         let values = values_of(alloc, condition)?;
-        for fact in &formers_among(alloc, &values, declared)? {
+        let spans = spans_of(alloc, key)?;
+        for fact in &formers_among(alloc, &values, &spans, declared)? {
             self.add_fact(alloc, key, fact, project)?;
         }
         Ok(())

@@ -6,27 +6,31 @@
 //! warnings after the rules before.
 #![tactic(auto)]
 
+mod cargo_json;
 pub mod codes;
 mod counts;
+mod diagnostics;
 mod escapes;
 mod fields;
 mod formats;
 mod formers;
-mod rules_told;
+mod on_keys;
+mod on_rules;
+mod rendering;
+mod replacements;
 mod sarif;
 mod settings;
-mod told;
+mod source_lines;
 mod weight_laws;
 mod weight_rules;
 
 pub use counts::Counts;
+pub use diagnostics::{Diagnostic, Label, Reported, own_weight, status_of, weight_word};
 pub use fields::wrong_fields;
 pub use formats::{Format, Printed, Style};
 pub use formers::{Formers, Project};
-pub use rules_told::{
-    fault_message, told_of_fault, told_of_unneeded, told_of_wrong, unneeded_message,
-};
-pub use settings::{Fault, Settings, TOOL, release_of, settings_at};
-pub use told::{Place, Told, own_weight, place_of, status_of, told_of, weight_word};
+pub use on_keys::{diagnostic_of, diagnostic_of_wrong};
+pub use on_rules::{diagnostic_of_fault, diagnostic_of_unneeded};
+pub use settings::{Fault, FaultAt, Settings, TOOL, release_of, settings_at};
 pub use weight_laws::{one_weight, the_last_decides, unheard_rules_do_nothing};
 pub use weight_rules::{Rule, Setting, Subject, Weighed, Weight, weight_by, weight_by_each};

@@ -1,15 +1,20 @@
 //! Diagnostics in the Static Analysis Results Interchange Format (SARIF), 2.1.0, a standard of OASIS.
 
 use crate::codes::{Explained, all_explained};
+use crate::diagnostics::{Reported, end_of, weight_word};
 use crate::escapes::uri_of;
-use crate::told::{Told, sentence_of, weight_word};
 use crate::weight_rules::Weight;
 use key_answers::json_lines;
+use manifests::places::Location as Place;
 use serde::Serialize;
 use std::alloc::{AllocError, Global};
 
 /// The URI of the schema of a document.
 const SCHEMA: &str = "https://json.schemastore.org/sarif-2.1.0.json";
+
+/// The page on the keys of `target` and their conditions.
+const HELP: &str = "https://doc.rust-lang.org/cargo/reference/specifying-dependencies.html\
+                    #platform-specific-dependencies";
 
 /// The document of `lint --message-format sarif`.
 #[derive(Drop, Serialize)]
@@ -22,8 +27,11 @@ struct SarifLog<'a> {
 
 /// A run of the tool.
 #[derive(Drop, Serialize)]
+#[serde(rename_all = "camelCase")]
 struct Run<'a> {
     tool: Tool<'a>,
+    /// Always `unicodeCodePoints`: columns count characters.
+    column_kind: &'static str,
     results: Vec<SarifResult<'a>>,
 }
 
@@ -35,9 +43,11 @@ struct Tool<'a> {
 
 /// The program that the tool is, with a rule for each lint.
 #[derive(Drop, Serialize)]
+#[serde(rename_all = "camelCase")]
 struct Driver<'a> {
     name: &'static str,
     rules: Vec<Rule<'a>>,
+    semantic_version: &'a str,
     version: &'a str,
 }
 
@@ -45,9 +55,19 @@ struct Driver<'a> {
 #[derive(Drop, Serialize)]
 #[serde(rename_all = "camelCase")]
 struct Rule<'a> {
+    default_configuration: Configuration,
     full_description: Message<'a>,
+    /// The page of the Cargo book on conditions.
+    help_uri: &'a str,
     id: &'a str,
     short_description: Message<'a>,
+}
+
+/// The settings of a lint if no rule applies.
+#[derive(Drop, Serialize)]
+struct Configuration {
+    /// One of `error`, `warning`, `note` and `none`.
+    level: &'static str,
 }
 
 /// A text.
@@ -89,20 +109,27 @@ struct ArtifactLocation<'a> {
     uri: &'a str,
 }
 
-/// The line at which a region begins.
+/// The part of a manifest that is at fault. The end column is that of the character after it.
 #[derive(Drop, Serialize)]
 #[serde(rename_all = "camelCase")]
 struct Region {
     start_line: usize,
+    start_column: usize,
+    end_line: usize,
+    end_column: usize,
 }
 
 /// Returns the rule of a lint.
 fn rule_of(explained: &Explained) -> Rule<'static> {
     Rule {
+        default_configuration: Configuration {
+            level: level_word(explained.weight),
+        },
         full_description: Message {
             text: explained.text,
         },
-        id: explained.word,
+        help_uri: HELP,
+        id: explained.lint.word(),
         short_description: Message {
             text: explained.short,
         },
@@ -120,10 +147,12 @@ pub fn sarif_begin(alloc: Global, version: &str) -> Result<String, AllocError> {
     let driver = Driver {
         name: "manifest_check",
         rules,
+        semantic_version: version.split(' ').next().unwrap_or(version),
         version,
     };
     let run = Run {
         tool: Tool { driver },
+        column_kind: "unicodeCodePoints",
         results: Vec::new(alloc),
     };
     let log = SarifLog {
@@ -151,25 +180,42 @@ fn level_word(weight: Weight) -> &'static str {
     }
 }
 
+/// Returns the region of a place.
+fn region_at(text: &str, at: Place) -> Region {
+    let end = end_of(text, at);
+    Region {
+        start_line: at.line,
+        start_column: at.column,
+        end_line: end.line,
+        end_column: end.column,
+    }
+}
+
+/// Returns the first place at fault, if it is known.
+fn region_of(reported: &Reported<'_>) -> Option<Region> {
+    let at = reported.diagnostic.location()?;
+    Some(region_at(reported.text, at))
+}
+
 /// Returns the location of a diagnostic in the manifest at this URI reference.
-fn location_of<'a>(told: &Told<'_>, uri: &'a str) -> Location<'a> {
+fn location_of<'a>(reported: &Reported<'_>, uri: &'a str) -> Location<'a> {
     let artifact_location = ArtifactLocation { uri };
     let physical_location = PhysicalLocation {
         artifact_location,
-        region: told.place.line.map(|start_line| Region { start_line }),
+        region: region_of(reported),
     };
     Location { physical_location }
 }
 
 /// Returns the result of a diagnostic with this sentence.
-fn result_of<'a>(told: &Told<'a>, uri: &'a str, sentence: &'a str) -> SarifResult<'a> {
-    let location = location_of(told, uri);
+fn result_of<'a>(reported: &Reported<'_>, uri: &'a str, sentence: &'a str) -> SarifResult<'a> {
+    let location = location_of(reported, uri);
     let message = Message { text: sentence };
     SarifResult {
-        level: level_word(told.weight),
+        level: level_word(reported.weight),
         locations: [location],
         message,
-        rule_id: told.code,
+        rule_id: reported.diagnostic.lint.word(),
     }
 }
 
@@ -177,12 +223,12 @@ fn result_of<'a>(told: &Told<'a>, uri: &'a str, sentence: &'a str) -> SarifResul
 pub fn push_result(
     text: &mut String,
     alloc: Global,
-    told: &Told<'_>,
+    reported: &Reported<'_>,
     is_first: bool,
 ) -> Result<(), AllocError> {
-    let uri = uri_of(alloc, told.place.path)?;
-    let sentence = sentence_of(alloc, told)?;
-    let result = result_of(told, uri.as_str(), sentence.as_str());
+    let uri = uri_of(alloc, reported.path)?;
+    let sentence = reported.diagnostic.sentence(alloc)?;
+    let result = result_of(reported, uri.as_str(), sentence.as_str());
     text.push_str(if is_first { "" } else { "," })?;
     json_lines::push_line(text, alloc, &result)
 }

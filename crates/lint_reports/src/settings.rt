@@ -2,6 +2,7 @@
 
 use crate::weight_rules::{Rule, Setting, Subject};
 use former_names::Release;
+use manifest_lints_findings::Lint;
 use std::alloc::{AllocError, Global};
 use toml::{Table, Value};
 
@@ -39,6 +40,16 @@ pub enum Fault {
     UnknownWord(String),
 }
 
+/// An error in a table of rules, with its place in the table.
+#[derive(Drop)]
+pub struct FaultAt {
+    pub fault: Fault,
+    /// The field that is at fault, or the empty text for the whole table.
+    pub field: String,
+    /// The index of the entry at fault, if the field is a list.
+    pub entry: Option<usize>,
+}
+
 /// The settings in a table of rules.
 #[derive(Drop)]
 pub struct Settings {
@@ -51,7 +62,7 @@ pub struct Settings {
     /// The release of rustc that builds the project.
     pub rustc: Option<Release>,
     /// The errors in the table.
-    pub faults: Vec<Fault>,
+    pub faults: Vec<FaultAt>,
 }
 
 impl Setting {
@@ -66,19 +77,21 @@ impl Setting {
 }
 
 impl Subject {
-    /// Parses the subject of a rule: `warnings`, `notes`, or one of the lints in `codes`. Returns `None` for any other
-    /// word. Fails if memory is refused.
-    pub fn of(alloc: Global, word: &str, codes: &[&str]) -> Result<Option<Subject>, AllocError> {
+    /// Parses the subject of a rule: `warnings`, `notes`, or the name of a lint. Returns `None` for any other word.
+    pub fn of(word: &str) -> Option<Subject> {
         match word {
-            "warnings" => Ok(Some(Subject::Warnings)),
-            "notes" => Ok(Some(Subject::Notes)),
-            _ => {
-                if codes.iter().any(|code| *code == word) {
-                    Ok(Some(Subject::Code(String::from_str(alloc, word)?)))
-                } else {
-                    Ok(None)
-                }
-            }
+            "warnings" => Some(Subject::Warnings),
+            "notes" => Some(Subject::Notes),
+            _ => Some(Subject::Lint(Lint::by_name(word)?)),
+        }
+    }
+
+    /// Returns the name of the subject.
+    pub fn word(&self) -> &'static str {
+        match self {
+            Subject::Lint(lint) => lint.word(),
+            Subject::Warnings => "warnings",
+            Subject::Notes => "notes",
         }
     }
 }
@@ -118,28 +131,45 @@ pub fn release_of(value: &Value) -> Option<Release> {
 }
 
 impl Settings {
-    /// Adds the rule of an entry: of one that names a key if `of_keys`, and else of one that names none.
+    /// Records an error in a field, of the entry at an index if there is one.
+    fn add_fault(
+        &mut self,
+        alloc: Global,
+        field: &str,
+        entry: Option<usize>,
+        fault: Fault,
+    ) -> Result<(), AllocError> {
+        let field = String::from_str(alloc, field)?;
+        self.faults.push(FaultAt {
+            fault,
+            field,
+            entry,
+        })?;
+        Ok(())
+    }
+
+    /// Adds the rule of the entry at an index: of one that names a key if `of_keys`, and else of one that names none.
     fn add_entry(
         &mut self,
         alloc: Global,
         setting: Setting,
+        index: usize,
         entry: &Value,
         of_keys: bool,
-        codes: &[&str],
     ) -> Result<(), AllocError> {
         let Some((word, key)) = named_by(entry) else {
             if !of_keys {
-                self.faults.push(Fault::NoEntry(setting.word()))?;
+                let fault = Fault::NoEntry(setting.word());
+                self.add_fault(alloc, setting.word(), Some(index), fault)?;
             }
             return Ok(());
         };
         if key.is_some() != of_keys {
             return Ok(());
         }
-        let Some(subject) = Subject::of(alloc, word, codes)? else {
-            let word = String::from_str(alloc, word)?;
-            self.faults.push(Fault::UnknownCode(word))?;
-            return Ok(());
+        let Some(subject) = Subject::of(word) else {
+            let fault = Fault::UnknownCode(String::from_str(alloc, word)?);
+            return self.add_fault(alloc, setting.word(), Some(index), fault);
         };
         let key = match key {
             Some(key) => Some(String::from_str(alloc, key)?),
@@ -149,28 +179,24 @@ impl Settings {
             setting,
             subject,
             key,
+            entry: Some(index),
         })?;
         Ok(())
     }
 
     /// Adds the rules of the lists: those for one key if `of_keys`, and else those for all keys.
-    fn add_lists(
-        &mut self,
-        alloc: Global,
-        table: &Table,
-        of_keys: bool,
-        codes: &[&str],
-    ) -> Result<(), AllocError> {
+    fn add_lists(&mut self, alloc: Global, table: &Table, of_keys: bool) -> Result<(), AllocError> {
         for setting in SETTINGS {
             match table.get(setting.word()) {
                 Some(Value::Array(entries)) => {
-                    for entry in entries {
-                        self.add_entry(alloc, setting, entry, of_keys, codes)?;
+                    for (index, entry) in entries.iter().enumerate() {
+                        self.add_entry(alloc, setting, index, entry, of_keys)?;
                     }
                 }
                 Some(_) => {
                     if !of_keys {
-                        self.faults.push(Fault::NoList(setting.word()))?;
+                        let fault = Fault::NoList(setting.word());
+                        self.add_fault(alloc, setting.word(), None, fault)?;
                     }
                 }
                 None => {}
@@ -189,14 +215,14 @@ impl Settings {
         let mut texts = Vec::new(alloc);
         match table.get(word) {
             Some(Value::Array(entries)) => {
-                for entry in entries {
+                for (index, entry) in entries.iter().enumerate() {
                     match entry.as_str() {
                         Some(text) => texts.push(String::from_str(alloc, text)?)?,
-                        None => self.faults.push(Fault::NoText(word))?,
+                        None => self.add_fault(alloc, word, Some(index), Fault::NoText(word))?,
                     }
                 }
             }
-            Some(_) => self.faults.push(Fault::NoList(word))?,
+            Some(_) => self.add_fault(alloc, word, None, Fault::NoList(word))?,
             None => {}
         }
         Ok(texts)
@@ -205,6 +231,7 @@ impl Settings {
     /// Returns the release in a field, and records an error in it.
     fn release(
         &mut self,
+        alloc: Global,
         table: &Table,
         word: &'static str,
     ) -> Result<Option<Release>, AllocError> {
@@ -213,7 +240,7 @@ impl Settings {
         };
         let release = release_of(value);
         if release.is_none() {
-            self.faults.push(Fault::NoRelease(word))?;
+            self.add_fault(alloc, word, None, Fault::NoRelease(word))?;
         }
         Ok(release)
     }
@@ -223,13 +250,9 @@ impl Settings {
         self.targets.iter().any(|it| it.as_str() == name)
     }
 
-    /// Reads the settings from a table of rules, if there is one. `codes` are the names of the lints. Errors in the
-    /// table are recorded in `faults`; the call fails only if memory is refused.
-    pub fn of(
-        alloc: Global,
-        value: Option<&Value>,
-        codes: &[&str],
-    ) -> Result<Settings, AllocError> {
+    /// Reads the settings from a table of rules, if there is one. Errors in the table are recorded in
+    /// `faults`; the call fails only if memory is refused.
+    pub fn of(alloc: Global, value: Option<&Value>) -> Result<Settings, AllocError> {
         let mut settings = Settings {
             rules: Vec::new(alloc),
             targets: Vec::new(alloc),
@@ -241,16 +264,17 @@ impl Settings {
             Some(Value::Table(table)) => {
                 settings.targets = settings.texts(alloc, table, KNOWN_TARGETS)?;
                 settings.facts = settings.texts(alloc, table, KNOWN_FACTS)?;
-                settings.rustc = settings.release(table, RUSTC)?;
-                settings.add_lists(alloc, table, false, codes)?;
-                settings.add_lists(alloc, table, true, codes)?;
+                settings.rustc = settings.release(alloc, table, RUSTC)?;
+                settings.add_lists(alloc, table, false)?;
+                settings.add_lists(alloc, table, true)?;
                 for (word, _) in table.iter() {
                     if !is_word(word.as_str()) {
-                        settings.faults.push(Fault::UnknownWord(word.clone()?))?;
+                        let fault = Fault::UnknownWord(word.clone()?);
+                        settings.add_fault(alloc, word.as_str(), None, fault)?;
                     }
                 }
             }
-            Some(_) => settings.faults.push(Fault::NoTable)?,
+            Some(_) => settings.add_fault(alloc, "", None, Fault::NoTable)?,
             None => {}
         }
         Ok(settings)

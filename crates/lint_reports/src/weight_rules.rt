@@ -1,7 +1,10 @@
 //! Rules that set the levels of diagnostics.
 
 ghost use Rattle.std.specs.Prelude.{◌≡◌, ◌↔◌, ◌++◌, IsTrue, option_map};
+ghost use Rattle.manifest_lints_findings.specs.Codes.{lint_word};
 ghost use Rattle.lint_reports.specs.Weights.{weight_set, severity, IsAbout, IsMeant, Hears, Makes, IsNeeded};
+
+use manifest_lints_findings::Lint;
 
 /// The level of a diagnostic.
 #[derive(Clone, Copy, Debug, PartialEq, Eq, Drop)]
@@ -58,7 +61,7 @@ impl Setting {
 #[derive(Drop)]
 pub enum Subject {
     /// The diagnostics of this lint.
-    Code(String),
+    Lint(Lint),
     /// The diagnostics that are warnings after the rules before this one.
     Warnings,
     /// The diagnostics that are notes after the rules before this one.
@@ -72,13 +75,14 @@ pub struct Rule {
     pub subject: Subject,
     /// The only key to which the rule applies. `None` applies to all.
     pub key: Option<String>,
+    /// The index of the entry in the list of the metadata that has the rule, if it is from there.
+    pub entry: Option<usize>,
 }
 
 /// A diagnostic, as rules see it.
 #[derive(Clone, Copy, Drop)]
 pub struct Weighed<'a> {
-    /// The name of its lint.
-    pub code: &'a str,
+    pub lint: Lint,
     /// The key that it is about, if there is one.
     pub key: Option<&'a str>,
     /// The level of its lint.
@@ -88,10 +92,10 @@ pub struct Weighed<'a> {
 impl Rule {
     /// Returns whether the rule's subject includes a diagnostic that has the level `weight` after the rules before.
     fn is_about(&self, found: &Weighed<'_>, weight: Weight) -> bool
-        ensures { IsTrue result ↔ IsAbout self.now.subject found.now.code.now weight }
+        ensures { IsTrue result ↔ IsAbout self.now.subject (lint_word found.now.lint) weight }
     {
         match &self.subject {
-            Subject::Code(code) => code.as_str() == found.code,
+            Subject::Lint(lint) => lint.word() == found.lint.word(),
             Subject::Warnings => weight == Weight::Warning,
             Subject::Notes => weight == Weight::Note,
         }
@@ -112,7 +116,8 @@ fn is_meant(meant: &Option<String>, key: Option<&str>) -> bool
 impl Rule {
     /// Returns whether the rule applies to a diagnostic that has the level `weight` after the rules before.
     pub fn is_heard(&self, found: &Weighed<'_>, weight: Weight) -> bool
-        ensures { IsTrue result ↔ Hears self.now found.now.code.now (option_map (λ k. k.now) found.now.key) weight }
+        ensures { IsTrue result
+            ↔ Hears self.now (lint_word found.now.lint) (option_map (λ k. k.now) found.now.key) weight }
     {
         self.is_about(found, weight) && is_meant(&self.key, found.key)
     }
@@ -121,7 +126,8 @@ impl Rule {
 /// Returns the level of a diagnostic after the rules. They apply in their order: each sets the level if it applies to
 /// the diagnostic at the level that it has by then.
 pub fn weight_by(rules: &[Rule], found: &Weighed<'_>) -> Weight
-    ensures { Makes found.now.code.now (option_map (λ k. k.now) found.now.key) found.now.weight rules.now result }
+    ensures { Makes (lint_word found.now.lint) (option_map (λ k. k.now) found.now.key) found.now.weight
+        rules.now result }
 {
     let mut weight = found.weight;
     'rules: for rule in rules {
@@ -154,7 +160,7 @@ pub fn weight_by_each(
     of_command: &[Rule],
     found: &Weighed<'_>,
 ) -> Weight
-    ensures { Makes found.now.code.now (option_map (λ k. k.now) found.now.key) found.now.weight
+    ensures { Makes (lint_word found.now.lint) (option_map (λ k. k.now) found.now.key) found.now.weight
         (of_workspace.now ++ (of_package.now ++ of_command.now)) result }
 {
     let by_workspace = Weighed {

@@ -6,6 +6,8 @@ use Rattle.manifest_lints_findings.specs.declared.codes.Code.TheVariants as code
 use Rattle.manifest_lints_findings.specs.declared.codes.TheConstants.{CODES}
 use Rattle.manifest_lints_findings.specs.declared.codes.Level.{Level}
 use Rattle.manifest_lints_findings.specs.declared.codes.Level.TheVariants as level
+use Rattle.manifest_lints_findings.specs.declared.lints.Lint.{Lint}
+use Rattle.manifest_lints_findings.specs.declared.lints.Lint.TheVariants as lint
 
 -- a set of lints, such as those that apply to a key
 abbrev pub CodeSet : Type 0
@@ -27,6 +29,16 @@ code_word code.Always = codes "always"
 code_word code.Everywhere = codes "everywhere"
 code_word code.Custom = codes "custom"
 code_word code.NotCanonical = codes "not-canonical"
+
+-- the name of each lint, of those on keys and of the others
+abbrev pub lint_word : Lint → List ℕ
+lint_word (lint.Key c) = code_word c
+lint_word lint.Former = codes "former"
+lint_word lint.Misplaced = codes "misplaced"
+lint_word lint.Underscored = codes "underscored"
+lint_word lint.UnreadField = codes "unread-field"
+lint_word lint.Settings = codes "settings"
+lint_word lint.UnneededAllow = codes "unneeded-allow"
 
 abbrev pub level_word : Level → List ℕ
 level_word level.Error = codes "error"

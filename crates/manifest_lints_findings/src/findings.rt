@@ -4,6 +4,7 @@ ghost use Rattle.std.specs.Prelude.{◌≡◌, IfOk, None};
 ghost use Rattle.manifest_lints_findings.specs.Marks.{mark};
 
 use crate::codes::{Code, Level};
+use crate::pointing::Pointed;
 use crate::readings::ReadKey;
 use std::alloc::{AllocError, Global};
 use std::ops::Range;
@@ -25,6 +26,8 @@ pub struct Finding {
     pub span: Option<Range<usize>>,
     /// The two lines that show the error in a rejected key.
     pub snippet: Option<String>,
+    /// What it points to besides the key.
+    pub pointed: Pointed,
 }
 
 /// The keys of a manifest, the diagnostics on them, and the keys about which an answer is not known.
@@ -52,5 +55,6 @@ pub fn target_is_no_table(alloc: Global) -> Result<Finding, AllocError>
         suggestion: None,
         span: None,
         snippet: None,
+        pointed: Pointed::nothing(alloc),
     })
 }

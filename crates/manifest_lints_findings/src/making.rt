@@ -10,6 +10,7 @@ use crate::codes::{Code, Level};
 use crate::findings::Finding;
 use crate::known_keys::KnownKey;
 use crate::messages::message_of;
+use crate::pointing::pointed_by;
 use crate::readings::Spelled;
 use crate::suggestions::{Words, suggestion_of};
 use std::alloc::{AllocError, Global};
@@ -63,6 +64,7 @@ pub fn finding_on(
         suggestion,
         span: None,
         snippet: None,
+        pointed: pointed_by(alloc, key, other, code)?,
     };
     match (code, &key.read.spelled) {
         (Code::Refused, Spelled::Refused(error)) => Ok(Finding {

@@ -46,11 +46,7 @@ pub fn message_of(
         Code::UnknownFact => unknown_fact_message(alloc, words, key),
         Code::Nowhere => nowhere_message(alloc),
         Code::Same => behind_words(alloc, "the same condition as the earlier key ", other),
-        Code::Equivalent => behind_words(
-            alloc,
-            "true over the same sets of facts as the earlier key ",
-            other,
-        ),
+        Code::Equivalent => behind_words(alloc, "equivalent to the earlier key ", other),
         Code::Always => String::from_str(alloc, "every set of facts makes the condition true"),
         Code::Everywhere => everywhere_message(alloc),
         Code::Custom => custom_message(alloc, key),
@@ -90,7 +86,7 @@ const INSTEAD: [(&str, &str); 8] = [
     ("!=", "use `not(.. = \"..\")` in place of `!=`"),
     ("!", "use `not(..)` in place of `!`"),
     ("==", "use `=` in place of `==`"),
-    ("'", "a value stands in double quotes"),
+    ("'", "put the value in double quotes"),
     ("[", "use `any(..)` in place of `[..]`"),
     (" or ", "use `any(..)` in place of `or`"),
 ];
@@ -149,7 +145,7 @@ fn by_cargo_message(alloc: Global, marked: &Marked) -> Result<String, AllocError
 {
     let warnings = joined(alloc, &marked.warnings, marked.count, " ")?;
     let text = shown_text(alloc, warnings.as_str())?;
-    format!(in alloc; "Cargo of today reads the key, and warns: {text}")
+    format!(in alloc; "Cargo accepts the key with a warning: {text}")
 }
 
 /// Returns the message for a key in which Cargo reads names without their raw marks.
@@ -158,7 +154,7 @@ fn unmarked_message(alloc: Global, key: &KnownKey<'_>) -> Result<String, AllocEr
 {
     let literals = chosen(alloc, &key.asked, Choice::Literal)?;
     let names = listed(alloc, &literals)?;
-    format!(in alloc; "Cargo of today reads {names} as if it had no raw mark")
+    format!(in alloc; "Cargo reads {names} without the raw mark")
 }
 
 /// Returns the message for a key that Cargo reads otherwise: only Cargo accepts it, or Cargo reads names without their
@@ -234,7 +230,7 @@ fn mistake(alloc: Global, words: &Words, asked: &AskedFact<'_>) -> Result<String
     let text = quoted_fact(alloc, asked.fact)?;
     if let Some(other) = instead_of(alloc, words, asked)? {
         let other = quoted(alloc, other.as_str())?;
-        return format!(in alloc; "{text} (perhaps {other} is meant)");
+        return format!(in alloc; "{text} (did you mean {other}?)");
     }
     if asked.standing == Standing::OfProfile {
         return format!(in alloc; "{text} (no profile selects dependencies)");
@@ -316,7 +312,7 @@ fn nowhere_message(alloc: Global) -> Result<String, AllocError>
 {
     let unknown = no_target(alloc)?;
     format!(in alloc;
-        "{unknown} has facts that make the condition true; a target specification of one's own may have them"
+        "{unknown} has facts that make the condition true; a custom target specification may have them"
     )
 }
 
@@ -324,7 +320,7 @@ fn nowhere_message(alloc: Global) -> Result<String, AllocError>
 fn everywhere_message(alloc: Global) -> Result<String, AllocError>
     ensures { IfOk result (λ s. Mentions (RUSTC_VERSION.now ∷ []) (string_bytes s)) }
 {
-    format!(in alloc; "the condition holds at every target that rustc {RUSTC_VERSION} knows")
+    format!(in alloc; "the condition is true on every target that rustc {RUSTC_VERSION} knows")
 }
 
 /// Returns the message for facts that only flags set, or the empty text if there are none.
@@ -337,7 +333,7 @@ fn flagged_told(alloc: Global, facts: &[AskedFact<'_>]) -> Result<String, AllocE
     let names = listed(alloc, facts)?;
     let unknown = no_target(alloc)?;
     format!(in alloc;
-        "{unknown} has {names}: only `--cfg` in RUSTFLAGS can set it, and no build script"
+        "{unknown} has {names}: only `--cfg` in RUSTFLAGS can set it, not a build script"
     )
 }
 

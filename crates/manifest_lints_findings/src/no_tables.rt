@@ -39,7 +39,7 @@ fn other_member(alloc: Global, name: &str) -> Result<String, AllocError> {
     }
     match near(name, &TABLES) {
         Some(table) => format!(in alloc;
-            "{shown} is no table of dependencies (perhaps `{table}` is meant)"
+            "{shown} is no table of dependencies (did you mean `{table}`?)"
         ),
         None => format!(in alloc; "{shown} is no table of dependencies"),
     }
@@ -49,6 +49,19 @@ fn other_member(alloc: Global, name: &str) -> Result<String, AllocError> {
 fn no_table(alloc: Global, name: &str) -> Result<String, AllocError> {
     let name = quoted(alloc, name)?;
     format!(in alloc; "{name} is no table")
+}
+
+/// Returns the names of the fields of a key that are not dependency tables. Fails if memory is refused.
+pub fn no_table_fields(alloc: Global, value: &Value) -> Result<Vec<String>, AllocError> {
+    let mut found = Vec::new(alloc);
+    if let Some(table) = value.as_table() {
+        for (name, member) in table.iter() {
+            if !is_table_name(name.as_str()) || member.as_table().is_none() {
+                found.push(name.clone()?)?;
+            }
+        }
+    }
+    Ok(found)
 }
 
 /// Returns the parts of a key's value that are not dependency tables, with a text for each. Fails if memory is refused.

@@ -1,27 +1,37 @@
 //! Tables that are meant for targets, and that Cargo reads as something else or not at all.
 
 use crate::codes::Level;
+use crate::lints::Lint;
 use cargo_platform::shown_start;
 use known_targets::KnownTarget;
+use manifests::places::path_of;
 use std::alloc::{AllocError, Global};
 use toml::{Table, Value};
+use toml_spans::Span;
 
-/// The lint for a table that is meant for targets and is in the wrong place.
-pub const MISPLACED: &str = "misplaced";
-
-/// The lint for a table with an underscore in its name.
-pub const UNDERSCORED: &str = "underscored";
+/// The part of a manifest that is at fault.
+#[derive(Drop)]
+pub enum Site {
+    /// The name at this path, as `path_of` writes it.
+    Named(String),
+    /// A field of a key of `target`: the key, and the field.
+    Field(String, String),
+    /// The key that the diagnostic is about, or the part of it with this span, in bytes.
+    InKey(Option<Span>),
+}
 
 /// A diagnostic on a table, or on a part of a table, that Cargo may not read as its author expects.
 #[derive(Drop)]
 pub struct WrongPlace {
-    /// The name of the lint.
-    pub code: &'static str,
+    /// The lint.
+    pub lint: Lint,
     pub level: Level,
     /// The table, as its header spells it.
     pub subject: String,
     /// The key of `target` that the diagnostic is about, if there is one. `subject` is then the text before the key.
     pub key: Option<String>,
+    /// What is at fault.
+    pub site: Site,
     pub message: String,
     /// A text that can replace the whole key.
     pub suggestion: Option<&'static str>,
@@ -50,28 +60,30 @@ fn has_keys(value: &Value) -> bool {
 }
 
 /// Returns the diagnostic on a table of this name, which Cargo does not read.
-fn unread(alloc: Global, name: &str, meant: &str) -> Result<WrongPlace, AllocError> {
+fn unread(alloc: Global, name: &str, path: String, meant: &str) -> Result<WrongPlace, AllocError> {
     let name = shown_start(alloc, name)?;
     let meant = shown_start(alloc, meant)?;
     let meant = meant.as_str();
     Ok(WrongPlace {
-        code: MISPLACED,
+        lint: Lint::Misplaced,
         level: Level::Warning,
         subject: name,
         key: None,
-        message: format!(in alloc; "Cargo does not read this table; perhaps `{meant}` is meant")?,
+        site: Site::Named(path),
+        message: format!(in alloc; "Cargo does not read this table; did you mean `{meant}`?")?,
         suggestion: None,
     })
 }
 
-/// Adds the diagnostic on a table of this name, which Cargo does not read.
+/// Adds the diagnostic on a table of this name at the top level, which Cargo does not read.
 fn add_unread(
     alloc: Global,
     name: &str,
     meant: &str,
     found: &mut Vec<WrongPlace>,
 ) -> Result<(), AllocError> {
-    found.push(unread(alloc, name, meant)?)?;
+    let path = path_of(alloc, &[name])?;
+    found.push(unread(alloc, name, path, meant)?)?;
     Ok(())
 }
 
@@ -111,21 +123,24 @@ pub fn add_at_top(
         add_of_name(alloc, name.as_str(), value, found)?;
     }
     if is_in_workspace(manifest) {
-        add_unread(alloc, "workspace.target", "target", found)?;
+        let path = path_of(alloc, &["workspace", "target"])?;
+        found.push(unread(alloc, "workspace.target", path, "target")?)?;
     }
     Ok(())
 }
 
 /// Returns the diagnostic on a key of `target` in the dependency table of this name.
 fn among_packages(alloc: Global, name: &str, key: &str) -> Result<WrongPlace, AllocError> {
+    let path = path_of(alloc, &[name, key])?;
     let key = shown_start(alloc, key)?;
     Ok(WrongPlace {
-        code: MISPLACED,
+        lint: Lint::Misplaced,
         level: Level::Error,
         subject: format!(in alloc; "{name}.'{key}'")?,
         key: None,
+        site: Site::Named(path),
         message: format!(in alloc;
-            "Cargo refuses this name of a package; perhaps `target.'{key}'.{name}` is meant"
+            "Cargo rejects this package name; did you mean `target.'{key}'.{name}`?"
         )?,
         suggestion: None,
     })
@@ -182,6 +197,17 @@ pub fn shown_table(alloc: Global, key: Option<&str>, name: &str) -> Result<Strin
     }
 }
 
+/// Returns a table at the top level, or under a key of `target`, as the part that is at fault.
+fn site_of_table(alloc: Global, key: Option<&str>, name: &str) -> Result<Site, AllocError> {
+    match key {
+        Some(key) => Ok(Site::Field(
+            String::from_str(alloc, key)?,
+            String::from_str(alloc, name)?,
+        )),
+        None => Ok(Site::Named(path_of(alloc, &[name])?)),
+    }
+}
+
 /// Returns the diagnostic on a table whose name has underscores. `other` is the name to use in place of it.
 fn underscored(
     alloc: Global,
@@ -191,7 +217,7 @@ fn underscored(
     is_refused: bool,
 ) -> Result<WrongPlace, AllocError> {
     Ok(WrongPlace {
-        code: UNDERSCORED,
+        lint: Lint::Underscored,
         level: if is_refused {
             Level::Error
         } else {
@@ -199,6 +225,7 @@ fn underscored(
         },
         subject: shown_table(alloc, key, name)?,
         key: None,
+        site: site_of_table(alloc, key, name)?,
         message: underscored_message(alloc, other, is_refused)?,
         suggestion: None,
     })

@@ -16,7 +16,7 @@ use std::alloc::{AllocError, Global};
 pub const TOLD: usize = 3;
 
 /// The end of messages about what no known target has.
-pub const OWN: &str = "; a target specification of one's own may have it";
+pub const OWN: &str = "; a custom target specification may have it";
 
 /// Returns the text in backquotes, escaped and shortened. Fails if memory is refused.
 pub fn quoted(alloc: Global, text: &str) -> Result<String, AllocError>
@@ -119,7 +119,7 @@ pub fn perhaps(alloc: Global, meant: &Option<String>) -> Result<String, AllocErr
     match meant {
         Some(text) => {
             let text = quoted(alloc, text.as_str())?;
-            format!(in alloc; "; perhaps {text} is meant")
+            format!(in alloc; "; did you mean {text}?")
         }
         None => Ok(String::new(alloc)),
     }

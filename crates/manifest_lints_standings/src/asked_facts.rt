@@ -8,13 +8,13 @@ ghost use Rattle.manifests.specs.Declarations.{declarations_of};
 ghost use Rattle.manifest_lints_standings.specs.Standings.{Sorted, sorted_of, sorted_by, sorted_beside, has_sort};
 ghost use Rattle.manifest_lints_standings.specs.Standings.{flag_names, opened_by, is_sort, sort_in};
 
-use crate::key_spans::Span;
 use crate::rustc_names::name_in;
 use crate::standing::{Sort, Standing, standing_of};
 use cargo_platform::Cfg;
 use manifests::Declared;
 use std::alloc::{AllocError, Global};
 use std::collections::BTreeSet;
+use toml_spans::Span;
 
 /// The names and keys whose facts depend on flags, profiles and Cargo.
 const OPEN: [&str; 3] = ["debug_assertions", "panic", "target_feature"];

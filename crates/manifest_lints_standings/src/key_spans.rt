@@ -2,16 +2,10 @@
 
 use cargo_platform::{Token, Tokenizer, inside_cfg};
 use std::alloc::{AllocError, Global};
+use toml_spans::Span;
 
 /// The text before the expression of a key.
 const OPENED: &str = "cfg(";
-
-/// A span in a key, in bytes.
-#[derive(Clone, Copy, Debug, PartialEq, Eq, Drop)]
-pub struct Span {
-    pub start: usize,
-    pub end: usize,
-}
 
 /// Converts a span of the expression to one of the key.
 fn in_key(start: usize, end: usize) -> Span {

@@ -7,3 +7,4 @@ pub mod Laws
 pub mod Asking
 pub mod Choosing
 pub mod Selecting
+pub mod Located

@@ -1,11 +1,11 @@
-//! A parsed manifest: its table, and the lines of the keys of `target`.
+//! A parsed manifest: its table, its text, and the places of names in it.
 
 ghost use Rattle.std.specs.Prelude.{IfOk};
 ghost use Rattle.toml.specs.View.{table_view};
 ghost use Rattle.manifests.specs.Tables.{target_of, target_told};
 ghost use Rattle.manifests.specs.Documents.{AreInSomeOrder};
 
-use crate::lines::Lines;
+use crate::places::Places;
 use crate::{Targets, target_keys};
 use std::alloc::{AllocError, Global};
 use toml::Table;
@@ -14,24 +14,24 @@ use toml::Table;
 #[derive(Drop)]
 pub struct Document {
     pub table: Table,
-    pub lines: Lines,
+    pub places: Places,
 }
 
 impl Document {
-    /// Returns the manifest with this table and the lines of its keys in `text`, from which the table was parsed. Fails
+    /// Returns the manifest with this table and the places of names in `text`, from which the table was parsed. Fails
     /// if memory is refused.
     pub fn of(alloc: Global, table: Table, text: &str) -> Result<Document, AllocError> {
         Ok(Document {
             table,
-            lines: Lines::of(alloc, text)?,
+            places: Places::of(alloc, text)?,
         })
     }
 
-    /// Returns the manifest with this table and without lines.
+    /// Returns the manifest with this table, an empty text and no places.
     pub fn of_table(alloc: Global, table: Table) -> Document {
         Document {
             table,
-            lines: Lines::none(alloc),
+            places: Places::none(alloc),
         }
     }
 
@@ -42,7 +42,7 @@ impl Document {
     {
         match target_keys(alloc, &self.table)? {
             Targets::Keys(mut keys) => {
-                keys.sort_by_cached_key(|key| self.lines.place_of(key.key))?;
+                keys.sort_by_cached_key(|key| self.places.place_of(key.key))?;
                 Ok(Targets::Keys(keys))
             }
             Targets::NoTable => Ok(Targets::NoTable),

@@ -1,11 +1,14 @@
-//! Manifests: their dependency tables, the keys of `target` with their lines, the names and pairs that are declared as
+//! Manifests: their dependency tables, the keys of `target` with their places, the names and pairs that are declared as
 //! expected, and the dependencies that a target selects.
 #![tactic(auto)]
 
 mod declared;
 pub mod document;
+pub mod key_lines;
 pub mod laws;
-pub mod lines;
+mod located;
+mod parts;
+pub mod places;
 pub mod reading;
 pub mod selection;
 pub mod tables;

@@ -110,6 +110,11 @@ impl ManifestText {
         }
     }
 
+    /// Returns the text itself.
+    pub fn into_text(self) -> String {
+        self.text
+    }
+
     /// Returns the text as Cargo reads it, without a byte order mark.
     fn text(&self) -> &str {
         without_mark(self.text.as_str())
@@ -131,14 +136,6 @@ impl ManifestText {
             path: self.path,
             document,
         })
-    }
-
-    /// Returns the manifest with this table and without lines.
-    pub fn without_lines(self, alloc: Global, table: Table) -> Manifest {
-        Manifest {
-            path: self.path,
-            document: Document::of_table(alloc, table),
-        }
     }
 }
 

@@ -17,5 +17,5 @@ returns c =
     let shown = c.in_ok-text.ensures
     ∙ ap shown_whole (c.as_str.ensures.value ∙ c.in_ok-warnings.ensures ∙ ap joined c.deref.ensures.value) in
     IfOk-weaker c.format.result _ (λ s. Mentions (words ∷ []) (string_bytes s))
-    (λ s is. mentions_last (words ∷ []) (string_bytes s) (codes "Cargo of today reads the key, and warns: ") _ is
+    (λ s is. mentions_last (words ∷ []) (string_bytes s) (codes "Cargo accepts the key with a warning: ") _ is
     (mentions_is words _ shown)) c.format.ensures.ok

@@ -10,5 +10,5 @@ pub returns : goal.returns
 returns c =
     IfOk-weaker c.format.result _ (λ s. Mentions (RUSTC_VERSION.now ∷ []) (string_bytes s))
     (λ s is. mentions_at (RUSTC_VERSION.now ∷ []) (string_bytes s)
-    (codes "the condition holds at every target that rustc ") RUSTC_VERSION.now (codes " knows") is
+    (codes "the condition is true on every target that rustc ") RUSTC_VERSION.now (codes " knows") is
     (mentions_one RUSTC_VERSION.now)) c.format.ensures.ok

@@ -15,4 +15,4 @@ returns c =
     ∙ ap (chosen choice.Literal) c.deref.ensures.value in
     let named = listed_shown fs _ (c.in_ok-names.ensures ∙ ap (joined_first fact_text (codes ", ")) facts_are) in
     IfOk-weaker c.format.result _ (λ s. Mentions (listing fs) (string_bytes s))
-    (λ s is. mentions_at (listing fs) (string_bytes s) (codes "Cargo of today reads ") _ _ is named) c.format.ensures.ok
+    (λ s is. mentions_at (listing fs) (string_bytes s) (codes "Cargo reads ") _ _ is named) c.format.ensures.ok

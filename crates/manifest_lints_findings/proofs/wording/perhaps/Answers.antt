@@ -12,5 +12,5 @@ returns-in_ok-text-in-Some c =
     let shown = c.in_ok-text-in-Some.ensures ∙ ap quoted_text c.as_str.ensures.value in
     subst (λ m. IfOk c.format.result (λ s. Mentions (meant_shown m) (string_bytes s))) (sym c.in-Some.is)
     (IfOk-weaker c.format.result _ (λ s. Mentions (text ∷ []) (string_bytes s))
-    (λ s is. mentions_at (text ∷ []) (string_bytes s) (codes "; perhaps ") _ _ is (mentions_is text _ shown))
+    (λ s is. mentions_at (text ∷ []) (string_bytes s) (codes "; did you mean ") _ _ is (mentions_is text _ shown))
     c.format.ensures.ok)

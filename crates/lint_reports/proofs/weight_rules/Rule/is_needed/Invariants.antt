@@ -1,4 +1,5 @@
 use Rattle.std.proofs.Common.{ℕ, ◌≡◌, ◌≢◌, ◌<◌, get_or, option_map}
+use Rattle.manifest_lints_findings.specs.Codes.{lint_word}
 use Rattle.lint_reports.specs.declared.weight_rules.Weighed.{Weighed}
 use Rattle.lint_reports.specs.declared.weight_rules.Weight.TheVariants as weight
 use Rattle.lint_reports.specs.Weights.{Hears}
@@ -6,4 +7,4 @@ use Rattle.lint_reports.proofs.weight_rules.Rule.is_needed.Given as goal
 
 abbrev pub invariant-loop-it : goal.invariant-loop-it
 invariant-loop-it l = (it : Weighed) (k : ℕ) → k < l.it-index → get_or l.found k it ≡ it
-    → it.weight ≢ weight.Allowed → Hears l.self it.code.now (option_map (λ k. k.now) it.key) it.weight → ⊥
+    → it.weight ≢ weight.Allowed → Hears l.self (lint_word it.lint) (option_map (λ k. k.now) it.key) it.weight → ⊥

@@ -1,0 +1,241 @@
+//! Diagnostics as lines of JSON in the form of
+//! [Cargo's](https://doc.rust-lang.org/cargo/reference/external-tools.html), whose messages have the form of
+//! [rustc's](https://doc.rust-lang.org/rustc/json.html).
+
+use crate::diagnostics::{Diagnostic, Reported, end_of, weight_word};
+use crate::rendering::push_rendered;
+use crate::replacements::{Replacement, replacement_of};
+use crate::source_lines::Window;
+use key_answers::json_lines;
+use manifests::places::Location;
+use serde::Serialize;
+use std::alloc::{AllocError, Global};
+
+/// A line of `lint --message-format json`: a message of Cargo's.
+#[derive(Drop, Serialize)]
+struct CompilerMessage {
+    /// Always `compiler-message`.
+    reason: &'static str,
+    /// The path of the manifest.
+    package_id: String,
+    /// The path of the manifest.
+    manifest_path: String,
+    target: CargoTarget,
+    message: RustcMessage,
+}
+
+/// The target of a package. Here it is the manifest itself.
+#[derive(Drop, Serialize)]
+struct CargoTarget {
+    kind: [&'static str; 1],
+    crate_types: [&'static str; 1],
+    name: &'static str,
+    /// The path of the manifest.
+    src_path: String,
+}
+
+/// A diagnostic in the form of rustc's.
+#[derive(Drop, Serialize)]
+struct RustcMessage {
+    /// Always `diagnostic`.
+    #[serde(rename = "$message_type")]
+    message_type: &'static str,
+    message: String,
+    code: RustcCode,
+    /// One of `error`, `warning` and `note`.
+    level: &'static str,
+    spans: Vec<RustcSpan>,
+    children: Vec<RustcChild>,
+    /// The diagnostic as it is printed for people.
+    rendered: String,
+}
+
+/// The lint of a diagnostic.
+#[derive(Drop, Serialize)]
+struct RustcCode {
+    /// The name of the lint.
+    code: &'static str,
+    /// Always null.
+    explanation: Option<&'static str>,
+}
+
+/// A text that belongs to a diagnostic.
+#[derive(Drop, Serialize)]
+struct RustcChild {
+    message: String,
+    /// Always null.
+    code: Option<&'static str>,
+    /// Always `help`.
+    level: &'static str,
+    /// The place of the key, with what can replace it.
+    spans: Vec<RustcSpan>,
+    /// Always empty.
+    children: Vec<&'static str>,
+    /// Always null.
+    rendered: Option<&'static str>,
+}
+
+/// A place of a manifest.
+#[derive(Drop, Serialize)]
+struct RustcSpan {
+    file_name: String,
+    byte_start: usize,
+    byte_end: usize,
+    line_start: usize,
+    line_end: usize,
+    column_start: usize,
+    column_end: usize,
+    /// False for the place of an earlier key.
+    is_primary: bool,
+    text: Vec<RustcLine>,
+    label: Option<&'static str>,
+    suggested_replacement: Option<String>,
+    /// `MachineApplicable` if the replacement keeps the meaning, and else `MaybeIncorrect`.
+    suggestion_applicability: Option<&'static str>,
+    /// Always null.
+    expansion: Option<&'static str>,
+}
+
+/// The line of a place, or a part of it if it is long, with the columns of the place in that text.
+#[derive(Drop, Serialize)]
+struct RustcLine {
+    text: String,
+    highlight_start: usize,
+    highlight_end: usize,
+}
+
+/// Returns the line of a place.
+fn line_of(alloc: Global, text: &str, at: Location) -> Result<RustcLine, AllocError> {
+    let window = Window::around(text, at.span.start);
+    let line = text.get(window.start..window.end).unwrap_or("");
+    let before = text.get(window.start..at.span.start).unwrap_or("");
+    let inside = text
+        .get(at.span.start..at.span.end.min(window.end))
+        .unwrap_or("");
+    let start = before.chars().count().saturating_add(1);
+    Ok(RustcLine {
+        text: String::from_str(alloc, line.strip_suffix('\r').unwrap_or(line))?,
+        highlight_start: start,
+        highlight_end: start.saturating_add(inside.chars().count()),
+    })
+}
+
+/// Returns a place of a manifest, with a label if it is that of an earlier key.
+fn span_of(
+    alloc: Global,
+    reported: &Reported<'_>,
+    at: Location,
+    label: Option<&'static str>,
+) -> Result<RustcSpan, AllocError> {
+    let end = end_of(reported.text, at);
+    let mut text = Vec::new(alloc);
+    text.push(line_of(alloc, reported.text, at)?)?;
+    Ok(RustcSpan {
+        file_name: String::from_str(alloc, reported.path)?,
+        byte_start: at.span.start,
+        byte_end: at.span.end,
+        line_start: at.line,
+        line_end: end.line,
+        column_start: at.column,
+        column_end: end.column,
+        is_primary: label.is_none(),
+        text,
+        label,
+        suggested_replacement: None,
+        suggestion_applicability: None,
+        expansion: None,
+    })
+}
+
+/// Returns the places of a diagnostic.
+fn spans_of(alloc: Global, reported: &Reported<'_>) -> Result<Vec<RustcSpan>, AllocError> {
+    let mut spans = Vec::new(alloc);
+    for at in &reported.diagnostic.primary {
+        spans.push(span_of(alloc, reported, *at, None)?)?;
+    }
+    if let Some(label) = &reported.diagnostic.label {
+        spans.push(span_of(alloc, reported, label.at, Some(label.text))?)?;
+    }
+    Ok(spans)
+}
+
+/// Returns the text that says what to write in place of a key.
+fn child_of(
+    alloc: Global,
+    reported: &Reported<'_>,
+    replacement: Replacement,
+) -> Result<RustcChild, AllocError> {
+    let Replacement {
+        at,
+        text,
+        applicability,
+    } = replacement;
+    let mut span = span_of(alloc, reported, at, None)?;
+    span.suggested_replacement = Some(text);
+    span.suggestion_applicability = Some(applicability);
+    let mut spans = Vec::new(alloc);
+    spans.push(span)?;
+    Ok(RustcChild {
+        message: String::from_str(alloc, "write this key")?,
+        code: None,
+        level: "help",
+        spans,
+        children: Vec::new(alloc),
+        rendered: None,
+    })
+}
+
+/// Returns the texts that belong to a diagnostic.
+fn children_of(alloc: Global, reported: &Reported<'_>) -> Result<Vec<RustcChild>, AllocError> {
+    let mut children = Vec::new(alloc);
+    if let Some(replacement) = replacement_of(alloc, reported.diagnostic)? {
+        children.push(child_of(alloc, reported, replacement)?)?;
+    }
+    Ok(children)
+}
+
+/// Returns a diagnostic in the form of rustc's.
+fn message_of(alloc: Global, reported: &Reported<'_>) -> Result<RustcMessage, AllocError> {
+    let diagnostic: &Diagnostic = reported.diagnostic;
+    let mut rendered = String::new(alloc);
+    push_rendered(&mut rendered, alloc, reported, false)?;
+    Ok(RustcMessage {
+        message_type: "diagnostic",
+        message: diagnostic.message.clone()?,
+        code: RustcCode {
+            code: diagnostic.lint.word(),
+            explanation: None,
+        },
+        level: weight_word(reported.weight),
+        spans: spans_of(alloc, reported)?,
+        children: children_of(alloc, reported)?,
+        rendered,
+    })
+}
+
+/// Returns the message of Cargo's for a diagnostic.
+fn cargo_message(alloc: Global, reported: &Reported<'_>) -> Result<CompilerMessage, AllocError> {
+    let message = message_of(alloc, reported)?;
+    Ok(CompilerMessage {
+        reason: "compiler-message",
+        package_id: String::from_str(alloc, reported.path)?,
+        manifest_path: String::from_str(alloc, reported.path)?,
+        target: CargoTarget {
+            kind: ["manifest"],
+            crate_types: ["manifest"],
+            name: "manifest",
+            src_path: String::from_str(alloc, reported.path)?,
+        },
+        message,
+    })
+}
+
+/// Appends a diagnostic as a line of JSON in the form of Cargo's. Fails if memory is refused.
+pub fn push_cargo_message(
+    text: &mut String,
+    alloc: Global,
+    reported: &Reported<'_>,
+) -> Result<(), AllocError> {
+    let message = cargo_message(alloc, reported)?;
+    json_lines::push_line(text, alloc, &message)
+}

@@ -1,0 +1,161 @@
+//! Diagnostics on manifests and configurations, with the places they point to.
+
+ghost use Rattle.std.specs.Prelude.{◌↔◌, ◌≡◌};
+ghost use Rattle.key_answers.specs.declared.answer.Status.TheVariants.{Fine, Found};
+ghost use Rattle.lint_reports.specs.Weights.{Fails};
+
+use crate::weight_rules::{Weighed, Weight};
+use cargo_platform::shown_start;
+use key_answers::answer::Status;
+use manifest_lints_findings::{Code, Level, Lint};
+use manifests::places::Location;
+use std::alloc::{AllocError, Global};
+use toml_spans::Position;
+
+/// A place that a diagnostic points to besides its own, with a text for it.
+#[derive(Drop)]
+pub struct Label {
+    pub at: Location,
+    pub text: &'static str,
+}
+
+/// A diagnostic on a manifest or configuration.
+#[derive(Drop)]
+pub struct Diagnostic {
+    pub lint: Lint,
+    /// The level if no rule applies.
+    pub weight: Weight,
+    /// The part of the manifest that the diagnostic is about, without the key: `target`, or a table.
+    pub subject: String,
+    /// The key of `target` that it is about, if there is one.
+    pub key: Option<String>,
+    /// The message. It has one line, and no hidden characters.
+    pub message: String,
+    /// The places at fault, in the order of the text.
+    pub primary: Vec<Location>,
+    /// The place of an earlier key.
+    pub label: Option<Label>,
+    /// The place of the whole key, if there is a suggestion and the place is known.
+    pub key_at: Option<Location>,
+    /// A text that can replace the whole key.
+    pub suggestion: Option<String>,
+    /// The span of an error in the key, in bytes.
+    pub span: Option<(usize, usize)>,
+}
+
+impl Diagnostic {
+    /// Returns the first place at fault, if it is known.
+    pub fn location(&self) -> Option<Location> {
+        self.primary.first().copied()
+    }
+
+    /// Returns the key that it is about, if there is one.
+    pub fn key(&self) -> Option<&str> {
+        match &self.key {
+            Some(key) => Some(key.as_str()),
+            None => None,
+        }
+    }
+
+    /// Returns the properties on which rules depend.
+    pub fn weighed(&self) -> Weighed<'_> {
+        Weighed {
+            lint: self.lint,
+            key: self.key(),
+            weight: self.weight,
+        }
+    }
+
+    /// Returns the subject as it is displayed, with the key if there is one. Fails if memory is refused.
+    fn on(&self, alloc: Global) -> Result<String, AllocError> {
+        let subject = self.subject.as_str();
+        match self.key() {
+            Some(key) => {
+                let key = shown_start(alloc, key)?;
+                format!(in alloc; "{subject}.'{key}'")
+            }
+            None => String::from_str(alloc, subject),
+        }
+    }
+
+    /// Returns the subject and the message as one text. Fails if memory is refused.
+    pub fn sentence(&self, alloc: Global) -> Result<String, AllocError> {
+        let subject = self.on(alloc)?;
+        let message = self.message.as_str();
+        format!(in alloc; "{subject}: {message}")
+    }
+
+    /// Returns the suggestion as it is displayed, unless the message contains it. Fails if memory is refused.
+    pub fn help(&self, alloc: Global) -> Result<Option<String>, AllocError> {
+        let Some(suggestion) = &self.suggestion else {
+            return Ok(None);
+        };
+        let shown = shown_start(alloc, suggestion.as_str())?;
+        if self.message.as_str().contains(shown.as_str()) {
+            return Ok(None);
+        }
+        let help = format!(in alloc; "write `{shown}`")?;
+        Ok(Some(help))
+    }
+}
+
+/// A diagnostic as it is printed.
+#[derive(Clone, Copy, Drop)]
+pub struct Reported<'a> {
+    pub diagnostic: &'a Diagnostic,
+    /// The level after the rules.
+    pub weight: Weight,
+    /// The path of the manifest, as it is displayed.
+    pub path: &'a str,
+    /// The text of the manifest.
+    pub text: &'a str,
+}
+
+/// Returns the position after the last character of a place in a text.
+pub fn end_of(text: &str, at: Location) -> Position {
+    let start = Position {
+        byte: at.span.start,
+        line: at.line,
+        column: at.column,
+    };
+    start.behind(at.span.text_in(text).unwrap_or(""))
+}
+
+/// Returns the weight of a diagnostic of this level if no rule applies to it.
+pub fn weight_of(level: Level) -> Weight {
+    match level {
+        Level::Error => Weight::Error,
+        Level::Warning => Weight::Warning,
+        Level::Note => Weight::Note,
+    }
+}
+
+/// Returns the weight of a diagnostic of this lint if no rule applies to it: `not-canonical` is then allowed.
+pub fn own_weight(lint: Lint, level: Level) -> Weight {
+    match lint {
+        Lint::Key(Code::NotCanonical) => Weight::Allowed,
+        _ => weight_of(level),
+    }
+}
+
+/// Returns the name of a level.
+pub fn weight_word(weight: Weight) -> &'static str {
+    match weight {
+        Weight::Allowed => "allowed",
+        Weight::Note => "note",
+        Weight::Warning => "warning",
+        Weight::Error => "error",
+    }
+}
+
+/// Returns the exit status for a diagnostic of this weight: `Found` if the weight is `fails_from` or a more severe one,
+/// and else `Fine`. If `fails_from` is `None`, no diagnostic makes the run fail.
+pub fn status_of(weight: Weight, fails_from: Option<Weight>) -> Status
+    ensures found { (result ≡ Found) ↔ Fails fails_from weight }
+    ensures fine { (result ≡ Fine) ↔ (Fails fails_from weight → ⊥) }
+{
+    match fails_from {
+        Some(least) if least.severity() <= weight.severity() => Status::Found,
+        _ => Status::Fine,
+    }
+}

@@ -1,0 +1,76 @@
+//! Texts of a manifest that a suggestion replaces, and what it replaces them with.
+
+use crate::diagnostics::Diagnostic;
+use manifest_lints_findings::{Code, Lint};
+use manifests::places::Location;
+use std::alloc::{AllocError, Global};
+
+/// A replacement for the text at a place of a manifest.
+#[derive(Drop)]
+pub struct Replacement {
+    pub at: Location,
+    /// The text to write there.
+    pub text: String,
+    /// How sure the replacement is, in the words of rustc.
+    pub applicability: &'static str,
+}
+
+/// Returns whether a character has to be escaped in a literal string of TOML.
+fn needs_escape(c: char) -> bool {
+    c == '\'' || c.is_control()
+}
+
+/// Appends a character of a basic string of TOML.
+fn push_escaped(text: &mut String, alloc: Global, c: char) -> Result<(), AllocError> {
+    match c {
+        '"' => text.push_str("\\\""),
+        '\\' => text.push_str("\\\\"),
+        _ if c.is_control() => {
+            let code = u32::from(c);
+            let escape = format!(in alloc; "\\U{code:08x}")?;
+            text.push_str(escape.as_str())
+        }
+        _ => text.push(c),
+    }
+}
+
+/// Returns a name as a key of TOML spells it: as a literal string, or as a basic string if it has to be escaped. Fails
+/// if memory is refused.
+pub fn quoted_key(alloc: Global, name: &str) -> Result<String, AllocError> {
+    if !name.chars().any(needs_escape) {
+        return format!(in alloc; "'{name}'");
+    }
+    let mut text = String::from_str(alloc, "\"")?;
+    for c in name.chars() {
+        push_escaped(&mut text, alloc, c)?;
+    }
+    text.push_str("\"")?;
+    Ok(text)
+}
+
+/// Returns how sure the suggestions of a lint are: those that keep the meaning of the key can be applied by a machine.
+fn applicability_of(lint: Lint) -> &'static str {
+    match lint {
+        Lint::Key(Code::NotCanonical | Code::ReadOtherwise) => "MachineApplicable",
+        _ => "MaybeIncorrect",
+    }
+}
+
+/// Returns the replacement that a diagnostic suggests, if it suggests one and the place of the key is known. Fails if
+/// memory is refused.
+pub fn replacement_of(
+    alloc: Global,
+    diagnostic: &Diagnostic,
+) -> Result<Option<Replacement>, AllocError> {
+    match (&diagnostic.suggestion, diagnostic.key_at) {
+        (Some(suggestion), Some(at)) => {
+            let text = quoted_key(alloc, suggestion.as_str())?;
+            Ok(Some(Replacement {
+                at,
+                text,
+                applicability: applicability_of(diagnostic.lint),
+            }))
+        }
+        _ => Ok(None),
+    }
+}

@@ -1,0 +1,180 @@
+//! The parts of a manifest whose names have a recorded place.
+
+use std::alloc::{AllocError, Global};
+
+/// A part of a manifest.
+#[derive(Clone, Copy, Debug, PartialEq, Eq, Drop)]
+enum Part {
+    /// The whole manifest.
+    Top,
+    /// `target`.
+    Target,
+    /// A key of `target`.
+    Key,
+    /// A field of a key of `target`.
+    Field,
+    /// A dependency table of the package.
+    Dependencies,
+    /// `package`.
+    Package,
+    /// `workspace`.
+    Workspace,
+    /// `metadata` of one of them.
+    Metadata,
+    /// `manifest-check` in the metadata.
+    Settings,
+    /// A field of that table.
+    List,
+    /// An entry of such a list.
+    Entry,
+    /// A part in which no name is recorded.
+    Other,
+}
+
+/// Returns whether a name is that of a dependency table.
+fn is_dependencies(name: &str) -> bool {
+    matches!(
+        name,
+        "dependencies" | "dev-dependencies" | "build-dependencies"
+    )
+}
+
+/// Returns whether a name in the whole manifest is that of a table which is meant for another place, or is an old name.
+fn is_odd_at_top(name: &str) -> bool {
+    matches!(name, "targets" | "dev_dependencies" | "build_dependencies")
+}
+
+/// Returns the part of the whole manifest that has this name.
+fn at_top(name: &str) -> Part {
+    match name {
+        "target" => Part::Target,
+        "package" => Part::Package,
+        "workspace" => Part::Workspace,
+        _ if is_dependencies(name) => Part::Dependencies,
+        _ if is_odd_at_top(name) || name.starts_with("cfg(") => Part::Field,
+        _ => Part::Other,
+    }
+}
+
+/// A part of a manifest, with its path.
+#[derive(Drop)]
+pub struct Within {
+    part: Part,
+    /// The text of its path. It is empty if no name in the part is recorded.
+    pub path: String,
+}
+
+impl Part {
+    /// Returns the part of this part that has this name.
+    fn member(self, name: &str) -> Part {
+        match self {
+            Part::Top => at_top(name),
+            Part::Target => Part::Key,
+            Part::Key => Part::Field,
+            Part::Dependencies if name.starts_with("cfg(") => Part::Field,
+            Part::Workspace if name == "target" => Part::Field,
+            Part::Package | Part::Workspace if name == "metadata" => Part::Metadata,
+            Part::Metadata if name == "manifest-check" => Part::Settings,
+            Part::Settings => Part::List,
+            Part::Entry if name == "code" => Part::Entry,
+            _ => Part::Other,
+        }
+    }
+}
+
+impl Within {
+    /// Returns the whole manifest.
+    pub fn top(alloc: Global) -> Within {
+        Within {
+            part: Part::Top,
+            path: String::new(alloc),
+        }
+    }
+
+    /// Returns a part in which no name is recorded.
+    pub fn other(alloc: Global) -> Within {
+        Within {
+            part: Part::Other,
+            path: String::new(alloc),
+        }
+    }
+
+    /// Returns the part of this name. The path of a key of `target` is still empty. Fails if memory is refused.
+    pub fn member(&self, alloc: Global, name: &str) -> Result<Within, AllocError> {
+        let part = self.part.member(name);
+        match (self.part, part) {
+            (_, Part::Other) => Ok(Within::other(alloc)),
+            (Part::Entry, _) => Ok(Within {
+                part,
+                path: self.path.clone()?,
+            }),
+            (Part::Target, _) => Ok(Within {
+                part,
+                path: String::new(alloc),
+            }),
+            _ => Ok(Within {
+                part,
+                path: path_behind(alloc, self.path.as_str(), name)?,
+            }),
+        }
+    }
+
+    /// Returns the element of an array at an index. Fails if memory is refused.
+    pub fn element(&self, alloc: Global, index: usize) -> Result<Within, AllocError> {
+        match self.part {
+            Part::List => {
+                let name = format!(in alloc; "{index}")?;
+                Ok(Within {
+                    part: Part::Entry,
+                    path: path_behind(alloc, self.path.as_str(), name.as_str())?,
+                })
+            }
+            _ => Ok(Within::other(alloc)),
+        }
+    }
+
+    /// Returns whether the part is the whole manifest.
+    pub fn is_top(&self) -> bool {
+        self.part == Part::Top
+    }
+
+    /// Returns whether the part is `target`.
+    pub fn is_target(&self) -> bool {
+        self.part == Part::Target
+    }
+
+    /// Returns whether the part is a field of a key of `target`, or a table that is meant for one.
+    pub fn is_field(&self) -> bool {
+        self.part == Part::Field
+    }
+
+    /// Returns whether the part is an entry of a list in the metadata.
+    pub fn is_entry(&self) -> bool {
+        self.part == Part::Entry
+    }
+
+    /// Returns whether a name in the part is recorded whatever its value is. `member` is the part that has this name.
+    pub fn records(&self, name: &str) -> bool {
+        match self.part {
+            Part::Top => is_odd_at_top(name) || name.starts_with("cfg("),
+            Part::Key => !is_dependencies(name),
+            Part::Dependencies => name.starts_with("cfg("),
+            Part::Workspace => name == "target",
+            Part::Metadata => name == "manifest-check",
+            Part::Settings => true,
+            _ => false,
+        }
+    }
+}
+
+/// Returns the path of the key of `target` with so many keys before it. It does not contain the key, since a key may be
+/// long and have many fields. Fails if memory is refused.
+pub fn path_of_key(alloc: Global, place: usize) -> Result<String, AllocError> {
+    format!(in alloc; "target {place} ")
+}
+
+/// Returns the text of a path and one name more. The length before the name makes the texts of two paths differ.
+pub fn path_behind(alloc: Global, path: &str, name: &str) -> Result<String, AllocError> {
+    let length = name.len();
+    format!(in alloc; "{path}{length}:{name}")
+}
