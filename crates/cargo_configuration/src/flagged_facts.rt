@@ -3,7 +3,7 @@
 use crate::flags::{Flags, all_flags};
 use crate::sources::{Source, used_source};
 use cargo_platform::shown_start;
-use key_answers::answer::{Refusal, Status};
+use key_answers::answer::Refusal;
 use manifest_answers::given_targets::FactsFrom;
 use manifest_answers::questions::applies;
 use std::alloc::{AllocError, Global};
@@ -101,7 +101,7 @@ fn are_of(
     };
     let added = known.behind(alloc, target.added)?;
     match applies(alloc, key.as_str(), target.name, target.facts_from, &added) {
-        Ok(answer) => Ok(answer.status == Status::Fine),
+        Ok(applies) => Ok(applies),
         Err(Refusal::Unusable(_)) => Ok(false),
         Err(Refusal::Memory(refused)) => Err(refused),
     }

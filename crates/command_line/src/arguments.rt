@@ -38,7 +38,7 @@ enum Given {
     Place(&'static str),
     /// Any number of positional arguments.
     Places(&'static str),
-    /// A required option.
+    /// A required option that can be repeated.
     Needed(&'static str),
 }
 
@@ -66,7 +66,8 @@ const JSON: Argument = Argument {
 const TARGET: Argument = Argument {
     name: "target",
     given: Given::Needed("NAME"),
-    help: "The target: a known one, or with --facts the name of a target specification, without .json",
+    help: "The target: a known one, all for all of them, or with --facts the name of a target specification, without \
+           .json",
 };
 
 const FACTS: Argument = Argument {
@@ -106,14 +107,20 @@ const MANIFEST_PATH: Argument = Argument {
 
 const PACKAGE: Argument = Argument {
     name: "package",
-    given: Given::ShortValues('p', "NAME"),
-    help: "Only the package of this name in the workspace",
+    given: Given::ShortValues('p', "SPEC"),
+    help: "Only these packages of the workspace: NAME, NAME@VERSION, or a glob in place of NAME",
 };
 
 const EXCLUDE: Argument = Argument {
     name: "exclude",
-    given: Given::Values("NAME"),
-    help: "Leave out the package of this name",
+    given: Given::Values("SPEC|PATH"),
+    help: "Leave out these packages, or manifests in or below this folder, which may be a glob as in .gitignore",
+};
+
+const NO_WORKSPACE: Argument = Argument {
+    name: "no-workspace",
+    given: Given::Flag,
+    help: "Only the manifests that are named, without members of their workspaces",
 };
 
 const WORKSPACE: Argument = Argument {
@@ -209,6 +216,7 @@ const LINT: Subcommand = Subcommand {
         PACKAGE,
         EXCLUDE,
         WORKSPACE,
+        NO_WORKSPACE,
         LIMIT,
         MANIFESTS,
     ],
@@ -245,6 +253,7 @@ const SELECT: Subcommand = Subcommand {
         PACKAGE,
         EXCLUDE,
         WORKSPACE,
+        NO_WORKSPACE,
         LIMIT,
         MANIFESTS,
     ],
@@ -357,6 +366,11 @@ const GRAPH: Subcommand = Subcommand {
             given: Given::Value("NAME"),
             help: "Evaluate what build scripts and procedural macros need on this target",
         },
+        Argument {
+            name: "side",
+            given: Given::OneOf("SIDE", &["target", "host"]),
+            help: "Only what is built for this side: the target, which is shipped, or the host, which builds it",
+        },
         FACTS_OF,
         Argument {
             name: "package",
@@ -367,7 +381,9 @@ const GRAPH: Subcommand = Subcommand {
             name: "show",
             given: Given::OneOf(
                 "WHAT",
-                &["packages", "edges", "targets", "why", "features", "unified"],
+                &[
+                    "packages", "edges", "targets", "why", "features", "unified", "all",
+                ],
             ),
             help: "What to print, by default packages",
         },
@@ -511,7 +527,7 @@ fn given_to<'a>(made: Arg<'a>, told: &Argument) -> Arg<'a> {
         ).action(ArgAction::Set),
         Given::Needed(value) => option(made, told.name, value)
             .required(true)
-            .action(ArgAction::Set),
+            .action(ArgAction::Append),
         Given::Values(value) => option(made, told.name, value).action(ArgAction::Append),
         Given::ShortValues(letter, value) => option(made, told.name, value)
             .short(letter)

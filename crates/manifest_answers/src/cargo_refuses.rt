@@ -1,67 +1,171 @@
-//! What Cargo refuses of the tables of dependencies of a manifest, beside keys.
+//! What Cargo rejects in the tables of dependencies of a manifest, and in the fields that it inherits.
 
+use crate::dependency_rules::{Inheriting, Ruled, rejected_dependency};
 use cargo_platform::shown_start;
+use input_limits::without_mark;
 use manifest_lints_findings::{Level, shown_table, wrong_places};
+use manifests::key_lines::line_of;
 use manifests::{Kind, table_of};
 use std::alloc::{AllocError, Global};
 use toml::{Table, Value};
+use toml_parser::{ParseError, dotted_key};
+use workspaces::{Document, is_of_2024};
 
 /// The kinds of tables of dependencies.
 const KINDS: [Kind; 3] = [Kind::Normal, Kind::Development, Kind::Build];
 
-/// Whether Cargo takes what stands at a dependency: a version, or a table.
-fn is_dependency(value: &Value) -> bool {
-    value.as_str().is_some() || value.as_table().is_some()
+/// The first thing that Cargo rejects in a manifest, beside its keys of `target`.
+#[derive(Drop)]
+pub struct Rejected {
+    /// The line of the table, dependency or field, if it is known.
+    pub line: Option<usize>,
+    /// The table, dependency or field, and why it is rejected.
+    pub reason: String,
+    /// True if a lint reports it: a table or package whose name Cargo does not take where it is, or what is no table
+    /// below a key of `target`.
+    pub is_lint: bool,
 }
 
-/// The first member at which no dependency stands.
-fn first_other(members: &Table) -> Option<&str> {
-    for (member, value) in members.iter() {
-        if !is_dependency(value) {
-            return Some(member.as_str());
+impl Rejected {
+    /// Returns the line about a manifest with this path for people. Fails if memory is refused.
+    pub fn text(&self, alloc: Global, path: &str) -> Result<String, AllocError> {
+        let reason = self.reason.as_str();
+        match self.line {
+            Some(line) => format!(in alloc; "{path}:{line}: error: {reason}\n"),
+            None => format!(in alloc; "{path}: error: {reason}\n"),
         }
     }
-    None
 }
 
-/// What is said of a member at which no dependency stands, in the table of this name.
-fn no_dependency(alloc: Global, table: &str, member: &str) -> Result<String, AllocError> {
-    let member = shown_start(alloc, member)?;
-    format!(in alloc; "{table}.{member} is no version and no table")
+/// The table, dependency or field that Cargo rejects, and why.
+#[derive(Drop)]
+struct At {
+    /// The keys that lead to it from the top of the manifest.
+    path: Vec<String>,
+    reason: String,
+    is_lint: bool,
 }
 
-/// What is said of the first thing that Cargo refuses in the table of dependencies of this kind, at the top or below a
-/// key of `target`.
-fn refused_of_kind(
+impl At {
+    /// Returns what no lint reports.
+    fn of(path: Vec<String>, reason: String) -> At {
+        At {
+            path,
+            reason,
+            is_lint: false,
+        }
+    }
+}
+
+/// Returns the keys that lead to the table of a kind, at the top or below a key of `target`.
+fn path_of(
     alloc: Global,
     table: &Table,
     kind: Kind,
     key: Option<&str>,
-) -> Result<Option<String>, AllocError> {
-    let Some(value) = table_of(table, kind) else {
+) -> Result<Vec<String>, AllocError> {
+    let mut path = Vec::new(alloc);
+    if let Some(key) = key {
+        path.push(String::from_str(alloc, "target")?)?;
+        path.push(String::from_str(alloc, key)?)?;
+    }
+    let name = if table.contains_key(kind.table_name()) {
+        kind.table_name()
+    } else {
+        kind.old_table_name()
+    };
+    path.push(String::from_str(alloc, name)?)?;
+    Ok(path)
+}
+
+/// Returns the message on a dependency, in the table of this name.
+fn on_dependency(
+    alloc: Global,
+    table: &str,
+    name: &str,
+    reason: &str,
+) -> Result<String, AllocError> {
+    let name = shown_start(alloc, name)?;
+    format!(in alloc; "{table}.{name}: {reason}")
+}
+
+/// A table that contains tables of dependencies: the manifest, or the value of a key of `target`.
+#[derive(Clone, Copy, Drop)]
+struct Place<'m> {
+    table: &'m Table,
+    key: Option<&'m str>,
+    is_of_2024: bool,
+}
+
+/// Returns the first dependency of a table of this kind that Cargo rejects.
+fn first_in(
+    alloc: Global,
+    place: Place<'_>,
+    members: &Table,
+    kind: Kind,
+    inheriting: Inheriting<'_>,
+) -> Result<Option<At>, AllocError> {
+    for (name, value) in members.iter() {
+        let name = name.as_str();
+        let ruled = Ruled {
+            name,
+            value,
+            kind,
+            is_of_2024: place.is_of_2024,
+        };
+        if let Some(reason) = rejected_dependency(alloc, &ruled, inheriting)? {
+            return Ok(Some(at_dependency(alloc, place, name, kind, reason.as_str())?));
+        }
+    }
+    Ok(None)
+}
+
+/// Returns what Cargo rejects at a dependency.
+fn at_dependency(
+    alloc: Global,
+    place: Place<'_>,
+    name: &str,
+    kind: Kind,
+    reason: &str,
+) -> Result<At, AllocError> {
+    let table = shown_table(alloc, place.key, kind.table_name())?;
+    let reason = on_dependency(alloc, table.as_str(), name, reason)?;
+    let mut path = path_of(alloc, place.table, kind, place.key)?;
+    path.push(String::from_str(alloc, name)?)?;
+    Ok(At::of(path, reason))
+}
+
+/// Returns the first thing that Cargo rejects in the table of dependencies of this kind.
+fn rejected_of_kind(
+    alloc: Global,
+    place: Place<'_>,
+    kind: Kind,
+    inheriting: Inheriting<'_>,
+) -> Result<Option<At>, AllocError> {
+    let Some(value) = table_of(place.table, kind) else {
         return Ok(None);
     };
     let Some(members) = value.as_table() else {
-        let name = shown_table(alloc, key, kind.table_name())?;
-        return Ok(Some(format!(in alloc; "{name} is no table")?));
+        let name = shown_table(alloc, place.key, kind.table_name())?;
+        let path = path_of(alloc, place.table, kind, place.key)?;
+        let reason = format!(in alloc; "{name} is not a table")?;
+        return Ok(Some(At {
+            path,
+            reason,
+            is_lint: place.key.is_some(),
+        }));
     };
-    match first_other(members) {
-        Some(member) => {
-            let name = shown_table(alloc, key, kind.table_name())?;
-            Ok(Some(no_dependency(alloc, name.as_str(), member)?))
-        }
-        None => Ok(None),
-    }
+    first_in(alloc, place, members, kind, inheriting)
 }
 
-/// What is said of the first thing that Cargo refuses in tables of dependencies, at the top or below a key of `target`.
-fn refused_in(
+/// Returns the first thing that Cargo rejects in tables of dependencies, at the top or below a key of `target`.
+fn rejected_in(
     alloc: Global,
-    table: &Table,
-    key: Option<&str>,
-) -> Result<Option<String>, AllocError> {
+    place: Place<'_>,
+    inheriting: Inheriting<'_>,
+) -> Result<Option<At>, AllocError> {
     for kind in KINDS {
-        let found = refused_of_kind(alloc, table, kind, key)?;
+        let found = rejected_of_kind(alloc, place, kind, inheriting)?;
         if found.is_some() {
             return Ok(found);
         }
@@ -69,14 +173,24 @@ fn refused_in(
     Ok(None)
 }
 
-/// What is said of the first thing that Cargo refuses below a key of `target`.
-fn refused_below(alloc: Global, manifest: &Table) -> Result<Option<String>, AllocError> {
+/// Returns the first thing that Cargo rejects below a key of `target`.
+fn rejected_below(
+    alloc: Global,
+    manifest: &Table,
+    inheriting: Inheriting<'_>,
+) -> Result<Option<At>, AllocError> {
     let Some(Value::Table(targets)) = manifest.get("target") else {
         return Ok(None);
     };
+    let is_of_2024 = is_of_2024(manifest);
     for (key, value) in targets.iter() {
         if let Some(table) = value.as_table() {
-            let found = refused_in(alloc, table, Some(key.as_str()))?;
+            let place = Place {
+                table,
+                key: Some(key.as_str()),
+                is_of_2024,
+            };
+            let found = rejected_in(alloc, place, inheriting)?;
             if found.is_some() {
                 return Ok(found);
             }
@@ -85,29 +199,117 @@ fn refused_below(alloc: Global, manifest: &Table) -> Result<Option<String>, Allo
     Ok(None)
 }
 
-/// What is said of the first table or package whose name Cargo does not take where it stands.
-fn refused_place(alloc: Global, manifest: &Table) -> Result<Option<String>, AllocError> {
+/// Returns the keys that the name of a table spells, if it is not cut.
+fn keys_of(alloc: Global, subject: &str) -> Result<Vec<String>, AllocError> {
+    match dotted_key(alloc, subject) {
+        Ok((key, "")) => {
+            let mut path = key.path;
+            path.push(key.last)?;
+            Ok(path)
+        }
+        Err(ParseError::OutOfMemory) => Err(AllocError),
+        Ok(_) | Err(ParseError::At(_, _, _)) => Ok(Vec::new(alloc)),
+    }
+}
+
+/// Returns the first table or package whose name Cargo does not take where it is.
+fn rejected_place(alloc: Global, manifest: &Table) -> Result<Option<At>, AllocError> {
     for it in &wrong_places(alloc, manifest)? {
         if it.level == Level::Error {
             let subject = it.subject.as_str();
             let message = it.message.as_str();
-            return Ok(Some(format!(in alloc; "{subject}: {message}")?));
+            let reason = format!(in alloc; "{subject}: {message}")?;
+            let path = keys_of(alloc, subject)?;
+            return Ok(Some(At {
+                path,
+                reason,
+                is_lint: true,
+            }));
         }
     }
     Ok(None)
 }
 
-/// What is said of the first thing in a manifest that Cargo refuses, beside keys: a table or a package with a name that
-/// Cargo does not take there, a table of dependencies that is none, and a dependency that is neither a version nor a
-/// table. `None` where there is nothing of this.
-pub fn refused_by_cargo(alloc: Global, manifest: &Table) -> Result<Option<String>, AllocError> {
-    let found = refused_place(alloc, manifest)?;
+/// Returns whether the package says that it inherits its edition. What is inherited has been put in its place.
+fn lacks_edition(manifest: &Table) -> bool {
+    match manifest.get("package") {
+        Some(Value::Table(package)) => match package.get("edition") {
+            Some(edition) => edition.is_table(),
+            None => false,
+        },
+        _ => false,
+    }
+}
+
+/// Returns the edition of the package, if it says that it inherits one and the root has none.
+fn rejected_edition(
+    alloc: Global,
+    manifest: &Table,
+    inheriting: Inheriting<'_>,
+) -> Result<Option<At>, AllocError> {
+    if !inheriting.is_known || !lacks_edition(manifest) {
+        return Ok(None);
+    }
+    let mut path = Vec::new(alloc);
+    path.push(String::from_str(alloc, "package")?)?;
+    path.push(String::from_str(alloc, "edition")?)?;
+    let reason = "package.edition: there is no `workspace.package.edition` to inherit";
+    Ok(Some(At::of(path, String::from_str(alloc, reason)?)))
+}
+
+/// Returns the first thing that Cargo rejects in a manifest.
+fn first_rejected(
+    alloc: Global,
+    manifest: &Table,
+    inheriting: Inheriting<'_>,
+) -> Result<Option<At>, AllocError> {
+    let found = rejected_edition(alloc, manifest, inheriting)?;
     if found.is_some() {
         return Ok(found);
     }
-    let found = refused_in(alloc, manifest, None)?;
+    let found = rejected_place(alloc, manifest)?;
     if found.is_some() {
         return Ok(found);
     }
-    refused_below(alloc, manifest)
+    let place = Place {
+        table: manifest,
+        key: None,
+        is_of_2024: is_of_2024(manifest),
+    };
+    let found = rejected_in(alloc, place, inheriting)?;
+    if found.is_some() {
+        return Ok(found);
+    }
+    rejected_below(alloc, manifest, inheriting)
+}
+
+/// Returns the first thing that Cargo rejects in a manifest, beside its keys of `target`: a table or package with a
+/// name that Cargo does not take there, a table of dependencies that is none, a dependency, and an edition or a
+/// dependency that can't be inherited. What is inherited has been put in its place. Returns `None` if there is nothing
+/// of this.
+///
+/// Fails only where memory runs out.
+pub fn rejected_by_cargo(
+    alloc: Global,
+    document: &Document,
+    inheriting: Inheriting<'_>,
+) -> Result<Option<Rejected>, AllocError> {
+    match first_rejected(alloc, &document.table, inheriting)? {
+        Some(
+            At {
+                path,
+                reason,
+                is_lint,
+            },
+        ) => {
+            let text = without_mark(document.text.as_str());
+            let line = line_of(alloc, text, &path)?;
+            Ok(Some(Rejected {
+                line,
+                reason,
+                is_lint,
+            }))
+        }
+        None => Ok(None),
+    }
 }

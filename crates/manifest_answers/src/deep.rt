@@ -54,9 +54,9 @@ fn deep_key(
     at: usize,
 ) -> Result<DeepKey, AllocError> {
     let path = manifest.path.as_str();
-    let place = match manifest.document.lines.of_key(key) {
-        Some(appearance) => {
-            let line = appearance.line;
+    let place = match manifest.document.places.at_key(key) {
+        Some(at) => {
+            let line = at.line;
             format!(in alloc; "{path}:{line}")?
         }
         None => String::from_str(alloc, path)?,

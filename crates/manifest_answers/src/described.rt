@@ -69,8 +69,8 @@ fn features_of<'d>(alloc: Global, told: Option<&'d Value>) -> Result<Vec<&'d str
 
 /// The number of the line on which a key of `target` first stands.
 pub fn first_line(document: &Document, key: &str) -> Option<usize> {
-    let appearance = document.lines.of_key(key)?;
-    Some(appearance.line)
+    let at = document.places.at_key(key)?;
+    Some(at.line)
 }
 
 /// The number of the line on which the key of a dependency first stands.

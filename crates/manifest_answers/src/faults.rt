@@ -7,11 +7,11 @@ use key_answers::json_lines;
 use serde::Serialize;
 use std::alloc::{AllocError, Global};
 
-/// For which target something is asked, and how what can't be used is told.
+/// The target of a selection, and how what can't be used is told.
 #[derive(Clone, Copy, Drop)]
 pub struct Asking<'a> {
-    /// The name of the target.
-    pub target: &'a str,
+    /// The name of the target, if it is the only one.
+    pub target: Option<&'a str>,
     /// One object a line.
     pub json: bool,
 }
@@ -23,7 +23,7 @@ pub struct Fault<'a, 'm> {
     pub manifest: Option<&'a str>,
     /// The key of `target` that is at fault.
     pub key: Option<&'a str>,
-    /// The number of the line on which that key first stands.
+    /// The number of the line on which that key, or what is at fault, first appears.
     pub line: Option<usize>,
     /// Where that key goes wrong, in bytes.
     pub span: Option<(usize, usize)>,
@@ -54,7 +54,7 @@ pub fn span_of(key: &str, error: &ParseError) -> Option<(usize, usize)> {
 struct Cause<'a> {
     /// The key of `target` that can't be used.
     key: Option<&'a str>,
-    /// The line on which that key first stands.
+    /// The line of that key, or of the table, dependency or field that is at fault.
     line: Option<usize>,
     message: &'a str,
     /// Where the key goes wrong: the first byte, and the byte after the last one.
@@ -67,8 +67,8 @@ struct SelectionError<'a> {
     error: Cause<'a>,
     /// The path of the manifest, if one can't be used.
     manifest: Option<&'a str>,
-    /// The name of the target.
-    target: &'a str,
+    /// The name of the target, if only one is selected.
+    target: Option<&'a str>,
 }
 
 impl<'a> Asking<'a> {

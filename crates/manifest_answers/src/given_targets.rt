@@ -150,9 +150,7 @@ impl GivenTargets {
         let shown = shown_name(alloc, name)?;
         match self.nearest(alloc, name)? {
             Some(nearest) => {
-                format!(in alloc;
-                    "no target of {file} is named {shown}; perhaps {nearest} is meant"
-                )
+                format!(in alloc; "no target of {file} is named {shown}; did you mean {nearest}?")
             }
             None => format!(in alloc; "no target of {file} is named {shown}"),
         }

@@ -4,13 +4,14 @@ ghost use Rattle.toml.specs.View.{table_view};
 ghost use Rattle.manifests.specs.Tables.{target_of};
 ghost use Rattle.manifest_answers.specs.Deep.{HasNoDeepKey};
 
+use crate::cargo_refuses::Rejected;
 use crate::deep::first_deep;
-use crate::taking::manifest_at;
+use crate::taking::{Taken, taken_at};
 use input_limits::Unusable;
 use key_answers::answer::{Answer, Status};
 use manifests::reading::{Manifest, ReadError};
 use std::alloc::{AllocError, Global};
-use std::rt::Files;
+use std::rt::{Env, Files};
 use workspaces::Documents;
 
 /// A question about a manifest.
@@ -18,11 +19,13 @@ pub trait Question {
     /// Whether the lines of keys are asked for.
     fn asks_for_lines(&self) -> bool;
 
-    /// Adds the answer on a manifest, no key of which is nested too deep.
+    /// Adds the answer on a manifest, no key of which is nested too deep, and in which Cargo may reject something
+    /// beside its keys.
     fn add_answer(
         &mut self,
         alloc: Global,
         manifest: &Manifest,
+        rejected: &Option<Rejected>,
         whole: &mut Answer,
     ) -> Result<(), AllocError>
         requires { HasNoDeepKey (target_of (table_view manifest.now.document.table)) };
@@ -39,7 +42,7 @@ pub trait Question {
 
 /// The answers on the manifests that are named, in their order. Those of the documents are not read again. One that
 /// can't be used, as where it has more bytes than the limit, does not stop the others.
-pub fn answer_each<R: Files + Input + AllocGlobal, Q: Question>(
+pub fn answer_each<R: Files + Input + Env + AllocGlobal, Q: Question>(
     rt: &R,
     documents: &mut Documents,
     paths: &[&str],
@@ -56,17 +59,18 @@ pub fn answer_each<R: Files + Input + AllocGlobal, Q: Question>(
 /// Adds the answer on a manifest that is read.
 fn add_answer_on_read<Q: Question>(
     alloc: Global,
-    manifest: &Manifest,
+    taken: &Taken,
     question: &mut Q,
     whole: &mut Answer,
 ) -> Result<(), AllocError> {
+    let manifest = &taken.manifest;
     match first_deep(alloc, manifest)? {
         Some(deep) => {
             let line = deep.line(alloc)?;
             let reason = deep.reason.as_str();
             whole.append(question.refuse(alloc, manifest.path.as_str(), reason, line.as_str())?)
         }
-        None => question.add_answer(alloc, manifest, whole),
+        None => question.add_answer(alloc, manifest, &taken.rejected, whole),
     }
 }
 
@@ -84,7 +88,7 @@ fn answer_on_unusable<Q: Question>(
 }
 
 /// Adds the answer on the manifest that is named.
-fn add_answer_on<R: Files + Input + AllocGlobal, Q: Question>(
+fn add_answer_on<R: Files + Input + Env + AllocGlobal, Q: Question>(
     rt: &R,
     documents: &mut Documents,
     path: &str,
@@ -92,8 +96,8 @@ fn add_answer_on<R: Files + Input + AllocGlobal, Q: Question>(
     whole: &mut Answer,
 ) -> Result<(), AllocError> {
     let alloc = rt.alloc();
-    match manifest_at(rt, documents, path, question.asks_for_lines()) {
-        Ok(manifest) => add_answer_on_read(alloc, &manifest, question, whole),
+    match taken_at(rt, documents, path, question.asks_for_lines()) {
+        Ok(taken) => add_answer_on_read(alloc, &taken, question, whole),
         Err(ReadError::Unusable(unusable)) => {
             whole.append(answer_on_unusable(alloc, path, &unusable, question)?)
         }

@@ -1,8 +1,9 @@
 //! Answers about manifests and targets, as they are printed.
 #![tactic(auto)]
 
-mod cargo_refuses;
+pub mod cargo_refuses;
 pub mod deep;
+mod dependency_rules;
 mod described;
 pub mod faults;
 pub mod given_targets;

@@ -104,10 +104,8 @@ fn unasked_line(alloc: Global, opened: &Opened) -> Result<String, AllocError> {
     match &opened.near {
         Some(near) => {
             let near = near.as_str();
-            format!(in alloc;
-                "warning: --open {name}: no key asks for it; perhaps {near} is meant\n"
-            )
+            format!(in alloc; "warning: --open {name}: no key has it; did you mean {near}?\n")
         }
-        None => format!(in alloc; "warning: --open {name}: no key asks for it\n"),
+        None => format!(in alloc; "warning: --open {name}: no key has it\n"),
     }
 }

@@ -24,7 +24,7 @@ pub fn unknown_name(alloc: Global, name: &str) -> Result<String, AllocError> {
     let shown = shown_name(alloc, name)?;
     match nearest_target(alloc, name)? {
         Some(nearest) => format!(in alloc;
-            "error: no target that rustc {RUSTC_VERSION} knows is named {shown}; perhaps {nearest} is meant\n"
+            "error: no target that rustc {RUSTC_VERSION} knows is named {shown}; did you mean {nearest}?\n"
         ),
         None => {
             format!(in alloc;
@@ -206,7 +206,7 @@ fn unknown_key(alloc: Global, name: &str) -> Result<String, AllocError> {
     let name = shown_name(alloc, name)?;
     match meant {
         Some(meant) => format!(in alloc;
-            "note: no target that rustc {RUSTC_VERSION} knows is named {name}; perhaps {meant} is meant\n"
+            "note: no target that rustc {RUSTC_VERSION} knows is named {name}; did you mean {meant}?\n"
         ),
         None => {
             format!(in alloc; "note: no target that rustc {RUSTC_VERSION} knows is named {name}\n")
@@ -381,35 +381,92 @@ fn all_facts(
     Ok(facts)
 }
 
-/// What is printed of whether a key applies.
-fn verdict(alloc: Global, applies: bool, errors: String) -> Result<Answer, AllocError> {
-    let (word, status) = if applies {
-        ("yes\n", Status::Fine)
-    } else {
-        ("no\n", Status::Found)
-    };
-    Ok(Answer {
-        output: String::from_str(alloc, word)?,
-        errors,
-        status,
-    })
+/// Appends the word for whether a key applies, after the name of the target if it is one of several.
+fn push_verdict(
+    text: &mut String,
+    alloc: Global,
+    name: Option<&str>,
+    applies: bool,
+) -> Result<(), AllocError> {
+    if let Some(name) = name {
+        text.push_str(shown_start(alloc, name)?.as_str())?;
+        text.push_str(": ")?;
+    }
+    text.push_str(if applies { "yes\n" } else { "no\n" })
 }
 
-/// Whether the key applies to the target with this name, whose facts come from there.
+/// Whether a condition holds for the target with this name, whose facts come from there.
+fn holds_on(
+    alloc: Global,
+    condition: &Platform,
+    name: &str,
+    from: FactsFrom<'_>,
+    added: &[&str],
+) -> Result<bool, Refusal> {
+    let facts = all_facts(alloc, name, from, added)?;
+    Ok(holds(alloc, condition, name, &facts)?)
+}
+
+/// What there is to tell of a key whose names and facts the targets do not have.
+fn unknown_beside(
+    alloc: Global,
+    key: &str,
+    condition: Platform,
+    from: FactsFrom<'_>,
+    is_added_to: bool,
+) -> Result<String, AllocError> {
+    match from {
+        FactsFrom::File(given) => unknown_in_file(alloc, key, condition, given),
+        FactsFrom::Known => unknown_lines(alloc, key, condition, is_added_to),
+        FactsFrom::Lines(_) => unknown_lines(alloc, key, condition, true),
+    }
+}
+
+/// The answer of the verdicts on each target. Its status is that of the worst.
+fn verdicts(
+    alloc: Global,
+    condition: &Platform,
+    names: &[String],
+    from: FactsFrom<'_>,
+    added: &[&str],
+) -> Result<Answer, Refusal> {
+    let mut answer = Answer::of(alloc, String::new(alloc), Status::Fine);
+    for name in names {
+        let name = name.as_str();
+        let applies = holds_on(alloc, condition, name, from, added)?;
+        let shown = if names.len() > 1 { Some(name) } else { None };
+        push_verdict(&mut answer.output, alloc, shown, applies)?;
+        if !applies {
+            answer.raise(Status::Found);
+        }
+    }
+    Ok(answer)
+}
+
+/// Whether the key applies to each of the targets with these names, whose facts come from there: a line each. If there
+/// are several, a line begins with the name.
+pub fn applies_to_each(
+    alloc: Global,
+    key: &str,
+    names: &[String],
+    from: FactsFrom<'_>,
+    added: &[&str],
+) -> Result<Answer, Refusal> {
+    let condition = read_key(alloc, key)?;
+    let mut answer = verdicts(alloc, &condition, names, from, added)?;
+    let errors = unknown_beside(alloc, key, condition, from, !added.is_empty())?;
+    answer.errors.push_str(errors.as_str())?;
+    Ok(answer)
+}
+
+/// Whether the key is true on the target with this name, whose facts come from there.
 pub fn applies(
     alloc: Global,
     key: &str,
     name: &str,
     from: FactsFrom<'_>,
     added: &[&str],
-) -> Result<Answer, Refusal> {
+) -> Result<bool, Refusal> {
     let condition = read_key(alloc, key)?;
-    let facts = all_facts(alloc, name, from, added)?;
-    let applies = holds(alloc, &condition, name, &facts)?;
-    let errors = match from {
-        FactsFrom::File(given) => unknown_in_file(alloc, key, condition, given)?,
-        FactsFrom::Known => unknown_lines(alloc, key, condition, !added.is_empty())?,
-        FactsFrom::Lines(_) => unknown_lines(alloc, key, condition, true)?,
-    };
-    Ok(verdict(alloc, applies, errors)?)
+    holds_on(alloc, &condition, name, from, added)
 }

@@ -1,13 +1,13 @@
 //! `select`: which dependencies of a manifest are selected.
 
-use crate::cargo_refuses::refused_by_cargo;
+use crate::cargo_refuses::Rejected;
 use crate::described::{Described, first_line};
 use crate::faults::{Asking, Fault, span_of};
 use crate::given_targets::FactsFrom;
 use crate::in_turn::{Question, answer_each};
 use crate::opened::OpenNames;
 use crate::questions::{added_facts, facts_from, unknown_name};
-use cargo_platform::{ParseError, shown_start};
+use cargo_platform::{Cfg, ParseError, shown_start};
 use key_answers::answer::{Answer, Refusal, Status};
 use key_answers::json_lines;
 use key_answers::printing::refused_key;
@@ -17,7 +17,7 @@ use manifests::reading::Manifest;
 use manifests::{Asked, Choice, Dependency, Kind, Row, SelectError, choose, select};
 use serde::Serialize;
 use std::alloc::{AllocError, Global};
-use std::rt::Files;
+use std::rt::{Env, Files};
 use target_tables::TargetRow;
 use workspaces::Documents;
 
@@ -100,15 +100,32 @@ fn push_residual(text: &mut String, alloc: Global, choice: &Choice) -> Result<()
     Ok(())
 }
 
+/// The manifest of some lines, and the target that they name.
+#[derive(Clone, Copy, Drop)]
+struct LinesOn<'p> {
+    path: &'p str,
+    /// The name of the target, if several are selected.
+    target: Option<&'p str>,
+}
+
+/// Appends the target of a line, if lines name it.
+fn push_target(text: &mut String, alloc: Global, on: LinesOn<'_>) -> Result<(), AllocError> {
+    if let Some(target) = on.target {
+        text.push_str(" on ")?;
+        push_shown(text, alloc, target)?;
+    }
+    Ok(())
+}
+
 /// Appends the line of a dependency in a table that is shown so.
 fn push_line(
     text: &mut String,
     alloc: Global,
-    path: &str,
+    on: LinesOn<'_>,
     table: &str,
     row: &Row<'_>,
 ) -> Result<(), AllocError> {
-    text.push_str(path)?;
+    text.push_str(on.path)?;
     text.push_str(": ")?;
     push_shown(text, alloc, row.dependency.name)?;
     text.push_str(" (")?;
@@ -116,7 +133,9 @@ fn push_line(
     if row.dependency.optional {
         text.push_str(", optional")?;
     }
-    text.push_str("): ")?;
+    text.push_str(")")?;
+    push_target(text, alloc, on)?;
+    text.push_str(": ")?;
     text.push_str(choice_word(&row.choice))?;
     push_residual(text, alloc, &row.choice)?;
     text.push_str("\n")
@@ -126,7 +145,7 @@ fn push_line(
 fn push_lines(
     text: &mut String,
     alloc: Global,
-    path: &str,
+    on: LinesOn<'_>,
     rows: &[Row<'_>],
 ) -> Result<(), AllocError> {
     let Some(first) = rows.first() else {
@@ -137,7 +156,7 @@ fn push_lines(
         if !table.shows_that_of(&row.dependency) {
             table = ShownTable::of(alloc, &row.dependency)?;
         }
-        push_line(text, alloc, path, table.shown.as_str(), row)?;
+        push_line(text, alloc, on, table.shown.as_str(), row)?;
     }
     Ok(())
 }
@@ -281,59 +300,128 @@ fn refused<'a>(
     asking.tell(alloc, &fault, lines.as_str())
 }
 
-/// The answer on a manifest that Cargo refuses for this reason.
-fn refused_for(
+/// The answer on a manifest that Cargo rejects.
+fn answer_on_rejected(
     alloc: Global,
     asking: &Asking<'_>,
     path: &str,
-    reason: &str,
+    rejected: &Rejected,
 ) -> Result<Answer, AllocError> {
-    let line = format!(in alloc; "{path}: error: {reason}\n")?;
-    asking.tell(alloc, &Fault::of(Some(path), reason), line.as_str())
+    let text = rejected.text(alloc, path)?;
+    let fault = Fault {
+        manifest: Some(path),
+        key: None,
+        line: rejected.line,
+        span: None,
+        message: rejected.reason.as_str(),
+    };
+    asking.tell(alloc, &fault, text.as_str())
 }
 
-/// Appends what is printed of the rows, a line each; objects where these are asked.
+/// Appends what is printed of the rows of a target, a line each; objects if JSON is selected.
 fn push_rows(
     text: &mut String,
     alloc: Global,
     manifest: &Manifest,
     asking: &Asking<'_>,
+    target: &str,
     rows: &[Row<'_>],
 ) -> Result<(), AllocError> {
     if !asking.json {
-        return push_lines(text, alloc, manifest.path.as_str(), rows);
+        let on = LinesOn {
+            path: manifest.path.as_str(),
+            target: if asking.target.is_some() {
+                None
+            } else {
+                Some(target)
+            },
+        };
+        return push_lines(text, alloc, on, rows);
     }
     for row in rows {
-        push_object(text, alloc, manifest, asking.target, row)?;
+        push_object(text, alloc, manifest, target, row)?;
     }
     Ok(())
 }
 
-/// Adds the answer on a manifest of which these rows are selected, unless Cargo refuses it beside its keys.
-fn add_selected(
-    alloc: Global,
-    asking: &Asking<'_>,
-    manifest: &Manifest,
-    rows: &[Row<'_>],
-    whole: &mut Answer,
-) -> Result<(), AllocError> {
-    match refused_by_cargo(alloc, &manifest.document.table)? {
-        Some(reason) => {
-            let path = manifest.path.as_str();
-            whole.append(refused_for(alloc, asking, path, reason.as_str())?)
-        }
-        None => push_rows(&mut whole.output, alloc, manifest, asking, rows),
-    }
+/// A selected target, with the facts that are known of it.
+#[derive(Drop)]
+struct KnownOf {
+    name: String,
+    facts: Vec<Cfg>,
+    added: Vec<Cfg>,
 }
 
-/// `select`: the target and the host that are asked, and how the answer is printed.
+/// `select`: the targets and the host, and how the answer is printed.
 #[derive(Drop)]
 struct Selecting<'a> {
     asking: Asking<'a>,
-    known: &'a Asked<'a>,
+    targets: &'a [KnownOf],
+    open: &'a [&'a str],
     host: Host<'a>,
     /// The names that are left open.
     opened: OpenNames,
+}
+
+impl<'a> Selecting<'a> {
+    /// Adds the rows of a manifest for a target, or what Cargo rejects in it. Returns whether rows were added.
+    fn add_selected(
+        &self,
+        alloc: Global,
+        manifest: &Manifest,
+        rejected: &Option<Rejected>,
+        rows: &[Row<'_>],
+        target: &str,
+        whole: &mut Answer,
+    ) -> Result<bool, AllocError> {
+        match rejected {
+            Some(rejected) => {
+                let path = manifest.path.as_str();
+                whole.append(answer_on_rejected(alloc, &self.asking, path, rejected)?)?;
+                Ok(false)
+            }
+            None => {
+                push_rows(
+                    &mut whole.output,
+                    alloc,
+                    manifest,
+                    &self.asking,
+                    target,
+                    rows,
+                )?;
+                Ok(true)
+            }
+        }
+    }
+
+    /// Adds the rows of a manifest for a target. Returns whether rows were added: not if a key is invalid, or if Cargo
+    /// rejects something else, which is reported.
+    fn add_rows(
+        &self,
+        alloc: Global,
+        manifest: &Manifest,
+        rejected: &Option<Rejected>,
+        target: &KnownOf,
+        whole: &mut Answer,
+    ) -> Result<bool, AllocError> {
+        let known = Asked {
+            facts: &target.facts,
+            added: &target.added,
+            open: self.open,
+        };
+        let name = target.name.as_str();
+        let table = &manifest.document.table;
+        match select(alloc, table, name, &known, self.host.known()) {
+            Ok(mut rows) => {
+                self.host.decide(alloc, &mut rows)?;
+                self.add_selected(alloc, manifest, rejected, &rows, name, whole)
+            }
+            Err(error) => {
+                whole.append(refused(alloc, &self.asking, manifest, &error)?)?;
+                Ok(false)
+            }
+        }
+    }
 }
 
 impl<'a> Question for Selecting<'a> {
@@ -345,23 +433,16 @@ impl<'a> Question for Selecting<'a> {
         &mut self,
         alloc: Global,
         manifest: &Manifest,
+        rejected: &Option<Rejected>,
         whole: &mut Answer,
     ) -> Result<(), AllocError> {
-        let table = &manifest.document.table;
-        self.opened.note(alloc, table)?;
-        match select(
-            alloc,
-            table,
-            self.asking.target,
-            self.known,
-            self.host.known(),
-        ) {
-            Ok(mut rows) => {
-                self.host.decide(alloc, &mut rows)?;
-                add_selected(alloc, &self.asking, manifest, &rows, whole)
+        self.opened.note(alloc, &manifest.document.table)?;
+        for target in self.targets {
+            if !self.add_rows(alloc, manifest, rejected, target, whole)? {
+                return Ok(());
             }
-            Err(error) => whole.append(refused(alloc, &self.asking, manifest, &error)?),
         }
+        Ok(())
     }
 
     fn refuse(
@@ -376,13 +457,19 @@ impl<'a> Question for Selecting<'a> {
     }
 }
 
-/// A target, by what people write of it.
+/// A target that is selected.
+#[derive(Drop)]
+pub struct Target {
+    pub name: String,
+    /// The facts that are added to its own.
+    pub added: Vec<String>,
+}
+
+/// What a selection depends on beside its targets.
 #[derive(Clone, Copy, Drop)]
-pub struct Target<'a> {
-    /// Its name, and how the answer is told.
+pub struct Selection<'a> {
+    /// The name of the target, if it is the only one, and how the answer is told.
     pub asking: Asking<'a>,
-    /// Facts that it has beside its own.
-    pub added: &'a [&'a str],
     /// Names and keys of which each fact is open.
     pub open: &'a [&'a str],
     /// Where the facts of targets come from.
@@ -453,28 +540,55 @@ fn add_unasked(answer: &mut Answer, alloc: Global, opened: &OpenNames) -> Result
     answer.errors.push_str(unasked.as_str())
 }
 
-/// What is selected of the manifests that are named, in their order, by the facts that the target and the host have
-/// there. Those of the documents are not read again. Manifests of more bytes than their limit are refused.
-pub fn select_each<R: Files + Input + AllocGlobal>(
+/// Returns the facts that are known of a target.
+fn known_of(alloc: Global, target: &Target, from: FactsFrom<'_>) -> Result<KnownOf, Refusal> {
+    let name = target.name.as_str();
+    let facts = facts_from(alloc, name, from)?;
+    let texts: Vec<&str> = target
+        .added
+        .iter()
+        .map(|text| text.as_str())
+        .collect(alloc)?;
+    let added = added_facts(alloc, &texts)?;
+    Ok(KnownOf {
+        name: String::from_str(alloc, name)?,
+        facts,
+        added,
+    })
+}
+
+/// Returns the facts that are known of each target.
+fn known_of_each(
+    alloc: Global,
+    targets: &[Target],
+    from: FactsFrom<'_>,
+) -> Result<Vec<KnownOf>, Refusal> {
+    let mut known = Vec::new(alloc);
+    for target in targets {
+        let it = known_of(alloc, target, from)?;
+        known.push(it).map_err(AllocError::from)?;
+    }
+    Ok(known)
+}
+
+/// Returns what each target selects from the manifests at these paths, in their order, by the facts that the target and
+/// the host have. Those of the documents are not read again. Manifests of more bytes than their limit are rejected.
+pub fn select_each<R: Files + Input + Env + AllocGlobal>(
     rt: &R,
     documents: &mut Documents,
     paths: &[&str],
-    target: &Target<'_>,
+    targets: &[Target],
+    selection: &Selection<'_>,
 ) -> Result<Answer, Refusal> {
     let alloc = rt.alloc();
-    let facts = facts_from(alloc, target.asking.target, target.facts_from)?;
-    let added = added_facts(alloc, target.added)?;
-    let known = Asked {
-        facts: &facts,
-        added: &added,
-        open: target.open,
-    };
-    let host = Host::of(alloc, target.host, target.facts_from)?;
+    let targets = known_of_each(alloc, targets, selection.facts_from)?;
+    let host = Host::of(alloc, selection.host, selection.facts_from)?;
     let mut selecting = Selecting {
-        asking: target.asking,
-        known: &known,
+        asking: selection.asking,
+        targets: &targets,
+        open: selection.open,
         host,
-        opened: OpenNames::new(alloc, target.open)?,
+        opened: OpenNames::new(alloc, selection.open)?,
     };
     let mut answer = answer_each(rt, documents, paths, &mut selecting)?;
     add_unasked(&mut answer, alloc, &selecting.opened)?;

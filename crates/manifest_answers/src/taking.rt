@@ -1,13 +1,16 @@
-//! Manifests that are taken from the documents of a workspace.
+//! Manifests that are taken from the documents of a workspace, and what they inherit from its root.
 
+use crate::cargo_refuses::{Rejected, rejected_by_cargo};
 use crate::deep::has_deep;
+use crate::dependency_rules::Inheriting;
 use cargo_platform::shown_text;
-use input_limits::without_mark;
+use input_limits::{INPUT, without_mark};
 use manifests::document;
 use manifests::reading::{Manifest, ManifestText, ReadError};
 use std::alloc::{AllocError, Global};
-use std::rt::Files;
-use workspaces::{Document, Documents};
+use std::rt::{Env, Files};
+use toml::Table;
+use workspaces::{Document, Documents, inherits, put_inherited, root_of};
 
 /// Returns the manifest that a document is, with the lines of its keys where they are asked for, or a key is too deep.
 fn manifest_of(
@@ -27,21 +30,29 @@ fn manifest_of(
     Ok(Manifest { path, document })
 }
 
-/// Reads the manifest that is named, with the lines of its keys where they are asked for, or a key is too deep.
-fn manifest_read<R: Files + Input + AllocGlobal>(
+/// Reads and parses the manifest that is named.
+fn document_read<R: Files + Input + AllocGlobal>(
     rt: &R,
     path: &str,
     limit: u64,
-    with_lines: bool,
-) -> Result<Manifest, ReadError> {
-    let alloc = rt.alloc();
+) -> Result<Document, ReadError> {
     let text = ManifestText::read(rt, path, limit)?;
-    let table = text.table(alloc)?;
-    if with_lines || has_deep(alloc, &table)? {
-        let manifest = text.with_lines(alloc, table)?;
-        return Ok(manifest);
+    let table = text.table(rt.alloc())?;
+    let text = text.into_text();
+    Ok(Document { text, table })
+}
+
+/// Returns the document of the manifest that is named. It is taken from the documents, if it is among them, and else
+/// read.
+fn document_at<R: Files + Input + AllocGlobal>(
+    rt: &R,
+    documents: &mut Documents,
+    path: &str,
+) -> Result<Document, ReadError> {
+    match documents.take(rt, path)? {
+        Some(read) => Ok(read),
+        None => document_read(rt, path, documents.limit),
     }
-    Ok(text.without_lines(alloc, table))
 }
 
 /// Returns the manifest that is named, with the lines of its keys where they are asked for, or a key is too deep. It is
@@ -54,11 +65,70 @@ pub fn manifest_at<R: Files + Input + AllocGlobal>(
     path: &str,
     with_lines: bool,
 ) -> Result<Manifest, ReadError> {
-    match documents.take(rt, path)? {
-        Some(read) => {
-            let manifest = manifest_of(rt.alloc(), path, read, with_lines)?;
-            Ok(manifest)
-        }
-        None => manifest_read(rt, path, documents.limit, with_lines),
+    let document = document_at(rt, documents, path)?;
+    let manifest = manifest_of(rt.alloc(), path, document, with_lines)?;
+    Ok(manifest)
+}
+
+/// A manifest with what it inherits in its place.
+#[derive(Drop)]
+pub struct Taken {
+    pub manifest: Manifest,
+    /// The first thing that Cargo rejects in it, beside its keys of `target`.
+    pub rejected: Option<Rejected>,
+}
+
+/// Puts what a manifest inherits from the table `workspace` of its root in its place. Returns what Cargo rejects then.
+fn inherit_from(
+    alloc: Global,
+    document: &mut Document,
+    workspace: Option<&Table>,
+) -> Result<Option<Rejected>, AllocError> {
+    if let Some(workspace) = workspace {
+        put_inherited(alloc, &mut document.table, workspace)?;
     }
+    let inheriting = Inheriting {
+        is_known: true,
+        workspace,
+    };
+    rejected_by_cargo(alloc, document, inheriting)
+}
+
+/// Puts what a manifest inherits from the root of its workspace in its place. Returns what Cargo rejects then. Standard
+/// input is in no workspace that is known.
+fn inherit<R: Files + Env + AllocGlobal>(
+    rt: &R,
+    documents: &mut Documents,
+    path: &str,
+    document: &mut Document,
+) -> Result<Option<Rejected>, AllocError> {
+    let alloc = rt.alloc();
+    if path == INPUT || !inherits(&document.table) {
+        let inheriting = Inheriting {
+            is_known: false,
+            workspace: None,
+        };
+        return rejected_by_cargo(alloc, document, inheriting);
+    }
+    let root = root_of(rt, documents, path)?;
+    match documents.get(rt, root.as_str())? {
+        Some(root) => inherit_from(alloc, document, root.workspace()),
+        None => inherit_from(alloc, document, None),
+    }
+}
+
+/// Returns the manifest that is named, as `manifest_at` does, with what it inherits from the root of its workspace in
+/// its place, and what Cargo rejects in it.
+///
+/// Fails where it can't be used.
+pub fn taken_at<R: Files + Input + Env + AllocGlobal>(
+    rt: &R,
+    documents: &mut Documents,
+    path: &str,
+    with_lines: bool,
+) -> Result<Taken, ReadError> {
+    let mut document = document_at(rt, documents, path)?;
+    let rejected = inherit(rt, documents, path, &mut document)?;
+    let manifest = manifest_of(rt.alloc(), path, document, with_lines)?;
+    Ok(Taken { manifest, rejected })
 }

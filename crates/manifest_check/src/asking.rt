@@ -8,17 +8,16 @@ use crate::linting::{Asked, lint_each};
 use crate::named::{Named, named_manifests};
 use crate::other_rustc::OtherRustc;
 use crate::styles::{Shown, style_of};
+use crate::target_names::{EVERY, Flagged, flagged_targets, named_targets};
 use anyhow::Result;
-use cargo_configuration::{FlagFacts, FlaggedTarget, flag_facts};
 use cargo_platform::shown_text;
 use clap::ArgMatches;
 use key_answers::answer::{Answer, Refusal, Status, answered};
 use key_answers::comparing::compare;
-use lint_reports::codes::words;
 use manifest_answers::faults::Asking;
 use manifest_answers::given_targets::{FactsFrom, GivenTargets};
 use manifest_answers::questions;
-use manifest_answers::selecting::{Target, select_each};
+use manifest_answers::selecting::{Selection, select_each};
 use std::alloc::{AllocError, Global};
 use std::rt::{Env, Files};
 use workspaces::Documents;
@@ -69,46 +68,52 @@ fn match_answer<R: Files + Input + AllocGlobal>(
 ) -> Result<Answer, Refusal> {
     let lines = facts_file(rt, matches)?;
     let given = given_targets(rt, matches)?;
-    questions::applies(
-        rt.alloc(),
-        word(matches, "key"),
-        word(matches, "target"),
-        facts_from(&lines, &given),
-        matches.get_strs("cfg").unwrap_or(&[]),
-    )
+    let from = facts_from(&lines, &given);
+    let names = named_targets(rt.alloc(), matches, from)?;
+    let added = matches.get_strs("cfg").unwrap_or(&[]);
+    questions::applies_to_each(rt.alloc(), word(matches, "key"), &names, from, added)
 }
 
-/// Returns the target and the output format of `select`.
+/// Returns the target of `select`, if it is the only one, and the output format.
 fn asking_of<'a>(matches: &ArgMatches<'a>) -> Asking<'a> {
+    let names = matches.get_strs("target").unwrap_or(&[]);
+    let is_one = names.len() == 1 && word(matches, "target") != EVERY;
     Asking {
-        target: word(matches, "target"),
+        target: if is_one {
+            matches.get_str("target")
+        } else {
+            None
+        },
         json: matches.get_flag("json"),
     }
 }
 
-/// Selects dependencies with the facts that compiler flags set.
-fn selected_with<R: Files + Input + Env + AllocGlobal + Clone + Drop>(
+/// Selects dependencies from the selected manifests.
+fn selected_by<R: Files + Input + Env + AllocGlobal + Clone + Drop>(
     rt: &R,
     matches: &ArgMatches<'_>,
     from: FactsFrom<'_>,
-    flags: &FlagFacts,
+    flagged: &Flagged,
 ) -> Result<Answer, Refusal> {
     let alloc = rt.alloc();
     let asking = asking_of(matches);
-    let added = flags.behind(alloc, matches.get_strs("cfg").unwrap_or(&[]))?;
-    let target = Target {
+    let selection = Selection {
         asking,
-        added: &added,
         open: matches.get_strs("open").unwrap_or(&[]),
         facts_from: from,
         host: matches.get_str("host"),
     };
     let mut documents = Documents::new(alloc, limit_of(matches));
-    let Named { paths, unusable } = named_manifests(rt, &mut documents, matches)?;
+    let Named {
+        paths,
+        unusable,
+        warnings,
+    } = named_manifests(rt, &mut documents, matches)?;
     let mut answer = asking.tell_each(alloc, &unusable)?;
-    answer.errors.push_str(flags.notes.as_str())?;
+    answer.errors.push_str(warnings.as_str())?;
+    answer.errors.push_str(flagged.notes.as_str())?;
     let paths: Vec<&str> = paths.iter().map(|path| path.as_str()).collect(alloc)?;
-    let selected = select_each(rt, &mut documents, &paths, &target)?;
+    let selected = select_each(rt, &mut documents, &paths, &flagged.targets, &selection)?;
     answer.append(selected)?;
     Ok(answer)
 }
@@ -121,17 +126,9 @@ fn select_answer<R: Files + Input + Env + AllocGlobal + Clone + Drop>(
     let lines = facts_file(rt, matches)?;
     let given = given_targets(rt, matches)?;
     let from = facts_from(&lines, &given);
-    let target = FlaggedTarget {
-        name: word(matches, "target"),
-        facts_from: from,
-        added: matches.get_strs("cfg").unwrap_or(&[]),
-    };
-    let flags = if matches.get_flag("no-config") {
-        FlagFacts::none(rt.alloc())
-    } else {
-        flag_facts(rt, &target, limit_of(matches))?
-    };
-    selected_with(rt, matches, from, &flags)
+    let names = named_targets(rt.alloc(), matches, from)?;
+    let flagged = flagged_targets(rt, matches, &names, from)?;
+    selected_by(rt, matches, from, &flagged)
 }
 
 /// Runs `select`, and reports an invalid argument in the output format that is selected.
@@ -175,12 +172,10 @@ fn lint_answer<R: Files + Input + Env + AllocGlobal + Clone + Drop>(
         Err(Refusal::Unusable(lines)) => return Ok(Answer::unusable(alloc, lines)),
         Err(Refusal::Memory(refused)) => return Err(refused.into()),
     };
-    let codes = words(alloc)?;
     let asked = Asked {
         style: style_of(rt, matches, shown.on_terminal),
         version: String::from_str(alloc, shown.version)?,
-        rules: command_rules(alloc, matches, &codes)?,
-        codes,
+        rules: command_rules(alloc, matches)?,
         is_verbose: matches.get_flag("verbose"),
         is_quiet: matches.get_flag("quiet"),
         fails_from: fails_from(matches),
@@ -188,8 +183,13 @@ fn lint_answer<R: Files + Input + Env + AllocGlobal + Clone + Drop>(
         other,
     };
     let mut documents = Documents::new(alloc, limit_of(matches));
-    let Named { paths, unusable } = named_manifests(rt, &mut documents, matches)?;
+    let Named {
+        paths,
+        unusable,
+        warnings,
+    } = named_manifests(rt, &mut documents, matches)?;
     let mut answer = Answer::of(alloc, String::new(alloc), Status::Fine);
+    answer.errors.push_str(warnings.as_str())?;
     for it in &unusable {
         answer.append(Answer::unusable(alloc, it.line(alloc)?))?;
     }

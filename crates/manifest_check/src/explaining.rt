@@ -11,7 +11,7 @@ pub fn listed_codes(alloc: Global) -> Result<Answer, AllocError> {
     let mut text = String::new(alloc);
     for explained in &all_explained(alloc)? {
         let weight = weight_word(explained.weight);
-        let word = explained.word;
+        let word = explained.lint.word();
         let short = explained.short;
         let line = format!(in alloc; "{word} ({weight}): {short}\n")?;
         text.push_str(line.as_str())?;
@@ -22,7 +22,7 @@ pub fn listed_codes(alloc: Global) -> Result<Answer, AllocError> {
 /// Explains the lint of this name. Fails if there is no such lint.
 pub fn explained_code(alloc: Global, word: &str) -> Result<Answer> {
     for explained in &all_explained(alloc)? {
-        if explained.word == word {
+        if explained.lint.word() == word {
             let weight = weight_word(explained.weight);
             let text = explained.text;
             let text = format!(in alloc; "{word} ({weight})\n\n{text}\n")?;

@@ -29,12 +29,13 @@ struct Placed {
 }
 
 /// Returns the rule of an option with this value. Fails if no lint has the name.
-fn rule_of(alloc: Global, setting: Setting, word: &str, codes: &[&str]) -> Result<Rule> {
-    match Subject::of(alloc, word, codes)? {
+fn rule_of(alloc: Global, setting: Setting, word: &str) -> Result<Rule> {
+    match Subject::of(word) {
         Some(subject) => Ok(Rule {
             setting,
             subject,
             key: None,
+            entry: None,
         }),
         None => {
             let message = unknown_lint(alloc, word)?;
@@ -44,13 +45,13 @@ fn rule_of(alloc: Global, setting: Setting, word: &str, codes: &[&str]) -> Resul
 }
 
 /// Returns the rules of the command line, in the order of its arguments. Fails if a value is not the name of a lint.
-pub fn command_rules(alloc: Global, matches: &ArgMatches<'_>, codes: &[&str]) -> Result<Vec<Rule>> {
+pub fn command_rules(alloc: Global, matches: &ArgMatches<'_>) -> Result<Vec<Rule>> {
     let mut placed: Vec<Placed> = Vec::new(alloc);
     for setting in OPTIONS {
         let words = matches.get_strs(setting.word()).unwrap_or(&[]);
         let places = matches.indices_of(setting.word()).unwrap_or(&[]);
         for (word, place) in words.iter().zip(places) {
-            let rule = rule_of(alloc, setting, word, codes)?;
+            let rule = rule_of(alloc, setting, word)?;
             placed.push(Placed {
                 place: *place,
                 rule,

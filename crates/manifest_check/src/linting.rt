@@ -8,16 +8,19 @@ use cargo_configuration::{
     manifest_with_targets,
 };
 use cargo_platform::{shown_start, shown_text};
+use input_limits::without_mark;
 use key_answers::answer::{Answer, Status};
 use lint_reports::{
-    Counts, Formers, Printed, Project, Rule, Settings, Style, Told, Weighed, Weight, fault_message,
-    own_weight, place_of, settings_at, status_of, told_of, told_of_fault, told_of_unneeded,
-    told_of_wrong, unneeded_message, weight_by_each, wrong_fields,
+    Counts, Diagnostic, Formers, Printed, Project, Reported, Rule, Settings, Style, Weighed,
+    Weight, diagnostic_of, diagnostic_of_fault, diagnostic_of_unneeded, diagnostic_of_wrong,
+    settings_at, status_of, weight_by_each, wrong_fields,
 };
+use manifest_answers::cargo_refuses::Rejected;
 use manifest_answers::deep::first_deep;
-use manifest_answers::taking::manifest_at;
+use manifest_answers::taking::{Taken, manifest_at, taken_at};
 use manifest_lints::{Code, Finding, Report, Words, lint};
 use manifest_lints_findings::{WrongPlace, wrong_places};
+use manifests::places::Places;
 use manifests::reading::{Manifest, ReadError};
 use std::alloc::{AllocError, Global};
 use std::rt::{Env, Files};
@@ -32,8 +35,6 @@ pub struct Asked {
     pub version: String,
     /// The rules of the options `--allow`, `--warn` and `--deny`.
     pub rules: Vec<Rule>,
-    /// The names of all lints.
-    pub codes: Vec<&'static str>,
     /// True if each manifest without a key is named.
     pub is_verbose: bool,
     /// True if there is no summary.
@@ -46,10 +47,10 @@ pub struct Asked {
     pub other: Option<OtherRustc>,
 }
 
-/// The tables of a manifest that contain rules.
-const PACKAGE: &str = "package.metadata.manifest-check";
+/// The tables of a manifest whose metadata contain rules.
+const PACKAGE: &str = "package";
 
-const WORKSPACE: &str = "workspace.metadata.manifest-check";
+const WORKSPACE: &str = "workspace";
 
 /// The rules that apply to diagnostics: those of the workspace, of the package and of the command line.
 #[derive(Clone, Copy, Drop)]
@@ -70,82 +71,80 @@ struct Telling<'a> {
     answer: Answer,
 }
 
+/// A manifest to whose text diagnostics point.
+#[derive(Clone, Copy, Drop)]
+struct Source<'a> {
+    /// The path, as it is displayed.
+    path: &'a str,
+    places: &'a Places,
+}
+
 impl<'a> Telling<'a> {
     /// Prints a diagnostic, unless a rule allows it.
     fn tell(
         &mut self,
         alloc: Global,
         rules: &Rules<'_>,
-        told: &Told<'_>,
+        source: &Source<'_>,
+        diagnostic: &Diagnostic,
     ) -> Result<(), AllocError> {
         let weight = weight_by_each(
             rules.of_workspace,
             rules.of_package,
             rules.of_command,
-            &weighed_of(told),
+            &diagnostic.weighed(),
         );
         if weight == Weight::Allowed {
             return Ok(());
         }
-        let told = Told { weight, ..*told };
-        self.printed.push(&mut self.answer.output, alloc, &told)?;
+        let reported = Reported {
+            diagnostic,
+            weight,
+            path: source.path,
+            text: source.places.text.as_str(),
+        };
+        self.printed
+            .push(&mut self.answer.output, alloc, &reported)?;
         self.counts.add(weight);
         self.answer.raise(status_of(weight, self.asked.fails_from));
         Ok(())
     }
 
-    /// Reports the invalid settings in a table of a manifest.
-    fn tell_faults(
+    /// Reports the diagnostics on the rules of a part of a manifest: the invalid ones, and those that are not needed.
+    fn tell_rules(
         &mut self,
         alloc: Global,
         rules: &Rules<'_>,
-        path: &str,
-        part: &str,
-        settings: &Settings,
+        source: &Source<'_>,
+        found: &[Diagnostic],
     ) -> Result<(), AllocError> {
-        for fault in &settings.faults {
-            let message = fault_message(alloc, fault)?;
-            self.tell(alloc, rules, &told_of_fault(path, part, message.as_str()))?;
+        for diagnostic in found {
+            self.tell(alloc, rules, source, diagnostic)?;
         }
         Ok(())
     }
 
-    /// Reports a rule in a table of a manifest that no diagnostic needs.
-    fn tell_unneeded(
-        &mut self,
-        alloc: Global,
-        rules: &Rules<'_>,
-        path: &str,
-        part: &str,
-        rule: &Rule,
-    ) -> Result<(), AllocError> {
-        let message = unneeded_message(alloc, rule)?;
-        self.tell(
-            alloc,
-            rules,
-            &told_of_unneeded(path, part, message.as_str()),
-        )
-    }
-
     /// Reports the diagnostics on the settings of a workspace's root, after those on its members.
-    fn tell_root(&mut self, alloc: Global, root: &Root) -> Result<(), AllocError> {
+    fn tell_root<R: Files + AllocGlobal>(&mut self, rt: &R, root: &Root) -> Result<(), AllocError> {
+        let alloc = rt.alloc();
         let asked = self.asked;
+        let is_whole = asked.is_whole && root.is_asked;
+        if !root.has_diagnostics(is_whole) {
+            return Ok(());
+        }
         let rules = Rules {
             of_workspace: &root.settings.rules,
             of_package: &[],
             of_command: &asked.rules,
         };
         let path = shown_text(alloc, root.file.as_str())?;
-        self.tell_faults(alloc, &rules, path.as_str(), WORKSPACE, &root.settings)?;
-        if !asked.is_whole || !root.is_asked {
-            return Ok(());
-        }
-        for (rule, is_needed) in root.settings.rules.iter().zip(&root.needed) {
-            if is_unneeded(rule, *is_needed) {
-                self.tell_unneeded(alloc, &rules, path.as_str(), WORKSPACE, rule)?;
-            }
-        }
-        Ok(())
+        let places = places_at(rt, &mut self.documents, root.file.as_str())?;
+        let found = found_in_root(alloc, root, &places, is_whole)?;
+        let source = Source {
+            path: path.as_str(),
+            places: &places,
+        };
+        self.tell_rules(alloc, &rules, &source, &found)
     }
 
     /// Reports the diagnostics on a manifest and on its settings.
@@ -155,7 +154,7 @@ impl<'a> Telling<'a> {
         root: &mut Root,
         settings: &Settings,
         manifest: &Manifest,
-        found: &[Told<'_>],
+        found: &[Diagnostic],
     ) -> Result<(), AllocError> {
         let asked = self.asked;
         let weighed = weighed_in(alloc, found)?;
@@ -165,18 +164,77 @@ impl<'a> Telling<'a> {
             of_package: &settings.rules,
             of_command: &asked.rules,
         };
-        for told in found {
-            self.tell(alloc, &rules, told)?;
-        }
-        let path = manifest.path.as_str();
-        self.tell_faults(alloc, &rules, path, PACKAGE, settings)?;
-        for rule in &settings.rules {
-            if is_unneeded(rule, rule.is_needed(&weighed)) {
-                self.tell_unneeded(alloc, &rules, path, PACKAGE, rule)?;
-            }
-        }
-        Ok(())
+        let source = Source {
+            path: manifest.path.as_str(),
+            places: &manifest.document.places,
+        };
+        self.tell_rules(alloc, &rules, &source, found)?;
+        let places = &manifest.document.places;
+        let found = found_in_settings(alloc, settings, places, &weighed)?;
+        self.tell_rules(alloc, &rules, &source, &found)
     }
+}
+
+/// Returns the places in the text of the manifest of a root. There are none if it can't be read.
+fn places_at<R: Files + AllocGlobal>(
+    rt: &R,
+    documents: &mut Documents,
+    file: &str,
+) -> Result<Places, AllocError> {
+    let alloc = rt.alloc();
+    match documents.get(rt, file)? {
+        Some(document) => Places::of(alloc, without_mark(document.text.as_str())),
+        None => Ok(Places::none(alloc)),
+    }
+}
+
+/// Returns the diagnostics on the rules of a root: the invalid ones and, if `is_whole`, those that no diagnostic needs.
+fn found_in_root(
+    alloc: Global,
+    root: &Root,
+    places: &Places,
+    is_whole: bool,
+) -> Result<Vec<Diagnostic>, AllocError> {
+    let mut found = faults_in(alloc, &root.settings, places, WORKSPACE)?;
+    if !is_whole {
+        return Ok(found);
+    }
+    for (rule, is_needed) in root.settings.rules.iter().zip(&root.needed) {
+        if is_unneeded(rule, *is_needed) {
+            found.push(diagnostic_of_unneeded(alloc, places, WORKSPACE, rule)?)?;
+        }
+    }
+    Ok(found)
+}
+
+/// Returns the diagnostics on the invalid rules of a part of a manifest.
+fn faults_in(
+    alloc: Global,
+    settings: &Settings,
+    places: &Places,
+    part: &str,
+) -> Result<Vec<Diagnostic>, AllocError> {
+    let mut found = Vec::new(alloc);
+    for fault in &settings.faults {
+        found.push(diagnostic_of_fault(alloc, places, part, fault)?)?;
+    }
+    Ok(found)
+}
+
+/// Returns the diagnostics on the rules of a package: the invalid ones, and those that none of `weighed` needs.
+fn found_in_settings(
+    alloc: Global,
+    settings: &Settings,
+    places: &Places,
+    weighed: &[Weighed<'_>],
+) -> Result<Vec<Diagnostic>, AllocError> {
+    let mut found = faults_in(alloc, settings, places, PACKAGE)?;
+    for rule in &settings.rules {
+        if is_unneeded(rule, rule.is_needed(weighed)) {
+            found.push(diagnostic_of_unneeded(alloc, places, PACKAGE, rule)?)?;
+        }
+    }
+    Ok(found)
 }
 
 /// The settings of a package, and the diagnostics on its manifest that are not in the report.
@@ -199,25 +257,17 @@ impl<'a> Telling<'a> {
         report: &Report<'_>,
         beside: &Beside<'_>,
     ) -> Result<(), AllocError> {
-        let told = told_in(alloc, root, manifest, report, beside)?;
-        self.tell_of(alloc, root, beside.settings, manifest, &told)
-    }
-}
-
-/// Returns the properties of a diagnostic on which rules depend.
-fn weighed_of<'a>(told: &Told<'a>) -> Weighed<'a> {
-    Weighed {
-        code: told.code,
-        key: told.place.key,
-        weight: told.weight,
+        let places = &manifest.document.places;
+        let found = found_in(alloc, root, places, report, beside)?;
+        self.tell_of(alloc, root, beside.settings, manifest, &found)
     }
 }
 
 /// Returns the properties of diagnostics on which rules depend.
-fn weighed_in<'a>(alloc: Global, found: &[Told<'a>]) -> Result<Vec<Weighed<'a>>, AllocError> {
+fn weighed_in(alloc: Global, found: &[Diagnostic]) -> Result<Vec<Weighed<'_>>, AllocError> {
     let mut weighed = Vec::new(alloc);
-    for told in found {
-        weighed.push(weighed_of(told))?;
+    for diagnostic in found {
+        weighed.push(diagnostic.weighed())?;
     }
     Ok(weighed)
 }
@@ -247,42 +297,40 @@ fn is_left_out(root: &Root, report: &Report<'_>, beside: &Beside<'_>, finding: &
 }
 
 /// Returns the diagnostics on a manifest, before rules apply.
-fn told_in<'a>(
+fn found_in(
     alloc: Global,
     root: &Root,
-    manifest: &'a Manifest,
-    report: &'a Report<'a>,
-    beside: &'a Beside<'a>,
-) -> Result<Vec<Told<'a>>, AllocError> {
-    let mut told = Vec::new(alloc);
+    places: &Places,
+    report: &Report<'_>,
+    beside: &Beside<'_>,
+) -> Result<Vec<Diagnostic>, AllocError> {
+    let mut found = Vec::new(alloc);
     for finding in &report.findings {
-        if is_left_out(root, report, beside, finding) {
-            continue;
+        if !is_left_out(root, report, beside, finding) {
+            found.push(diagnostic_of(alloc, places, report, finding)?)?;
         }
-        let weight = own_weight(finding.code, finding.level);
-        told.push(told_of(place_of(manifest, report, finding), finding, weight))?;
     }
-    for it in formers_told(alloc, manifest, &beside.formers)? {
-        told.push(it)?;
+    for it in formers_in(alloc, places, &beside.formers)? {
+        found.push(it)?;
     }
     for it in &beside.wrong {
-        told.push(told_of_wrong(manifest, it))?;
+        found.push(diagnostic_of_wrong(alloc, places, it)?)?;
     }
-    Ok(told)
+    Ok(found)
 }
 
-/// Returns the diagnostics on names that rustc knew only until some release, in the order of the lines of their keys.
-fn formers_told<'a>(
+/// Returns the diagnostics on names that rustc knew only until some release, in the order of their places.
+fn formers_in(
     alloc: Global,
-    manifest: &'a Manifest,
-    formers: &'a Formers,
-) -> Result<Vec<Told<'a>>, AllocError> {
-    let mut told = Vec::new(alloc);
+    places: &Places,
+    formers: &Formers,
+) -> Result<Vec<Diagnostic>, AllocError> {
+    let mut found = Vec::new(alloc);
     for it in &formers.told {
-        told.push(told_of_wrong(manifest, it))?;
+        found.push(diagnostic_of_wrong(alloc, places, it)?)?;
     }
-    told.sort_by_key(|it| it.place.line.unwrap_or(0))?;
-    Ok(told)
+    found.sort_by_key(|it| it.location().map_or(0, |at| at.span.start))?;
+    Ok(found)
 }
 
 /// Appends a note for each key that takes too many case splits to decide.
@@ -338,23 +386,88 @@ fn declare_formers(
     Ok(formers)
 }
 
-/// Returns the manifest at a path. If it can't be used, this is reported and `None` returned.
+/// Returns a manifest, unless a key is nested too deep, which is reported.
+fn usable(
+    alloc: Global,
+    manifest: Manifest,
+    telling: &mut Telling<'_>,
+) -> Result<Option<Manifest>, AllocError> {
+    match first_deep(alloc, &manifest)? {
+        Some(deep) => {
+            let line = deep.line(alloc)?;
+            telling.answer.append(Answer::unusable(alloc, line))?;
+            Ok(None)
+        }
+        None => Ok(Some(manifest)),
+    }
+}
+
+/// Reports that a manifest can't be used.
+fn tell_unusable(
+    alloc: Global,
+    error: ReadError,
+    telling: &mut Telling<'_>,
+) -> Result<(), AllocError> {
+    match error {
+        ReadError::Unusable(unusable) => {
+            let line = unusable.line(alloc)?;
+            telling.answer.append(Answer::unusable(alloc, line))
+        }
+        ReadError::Memory(refused) => Err(refused),
+    }
+}
+
+/// Returns the configuration at a path. If it can't be used, this is reported and `None` returned.
 fn usable_at<R: Files + Input + AllocGlobal>(
     rt: &R,
     path: &str,
     telling: &mut Telling<'_>,
 ) -> Result<Option<Manifest>, AllocError> {
     let alloc = rt.alloc();
-    let line = match manifest_at(rt, &mut telling.documents, path, true) {
-        Ok(manifest) => match first_deep(alloc, &manifest)? {
-            Some(deep) => deep.line(alloc)?,
-            None => return Ok(Some(manifest)),
-        },
-        Err(ReadError::Unusable(unusable)) => unusable.line(alloc)?,
-        Err(ReadError::Memory(refused)) => return Err(refused),
+    match manifest_at(rt, &mut telling.documents, path, true) {
+        Ok(manifest) => usable(alloc, manifest, telling),
+        Err(error) => {
+            tell_unusable(alloc, error, telling)?;
+            Ok(None)
+        }
+    }
+}
+
+/// Reports what Cargo rejects in a manifest, unless a lint reports it.
+fn tell_rejected(
+    alloc: Global,
+    path: &str,
+    rejected: &Option<Rejected>,
+    telling: &mut Telling<'_>,
+) -> Result<(), AllocError> {
+    let Some(rejected) = rejected else {
+        return Ok(());
     };
-    telling.answer.append(Answer::unusable(alloc, line))?;
-    Ok(None)
+    if rejected.is_lint {
+        return Ok(());
+    }
+    let line = rejected.text(alloc, path)?;
+    telling.answer.append(Answer::unusable(alloc, line))
+}
+
+/// Returns the manifest at a path, with what it inherits from the root of its workspace in its place. What Cargo
+/// rejects in it is reported, and so is a manifest that can't be used, for which `None` is returned.
+fn manifest_taken<R: Files + Input + Env + AllocGlobal>(
+    rt: &R,
+    path: &str,
+    telling: &mut Telling<'_>,
+) -> Result<Option<Manifest>, AllocError> {
+    let alloc = rt.alloc();
+    match taken_at(rt, &mut telling.documents, path, true) {
+        Ok(Taken { manifest, rejected }) => {
+            tell_rejected(alloc, manifest.path.as_str(), &rejected, telling)?;
+            usable(alloc, manifest, telling)
+        }
+        Err(error) => {
+            tell_unusable(alloc, error, telling)?;
+            Ok(None)
+        }
+    }
 }
 
 /// Lints a manifest, with the targets of another rustc if `--facts-of` is given.
@@ -386,7 +499,7 @@ fn lint_configuration<R: Files + Input + AllocGlobal>(
     let mut table = manifest_with_targets(alloc, &manifest.document.table, lints)?;
     declare(alloc, &mut table, &root.settings.facts)?;
     declare_by(alloc, &telling.asked.other, &mut table)?;
-    let settings = Settings::of(alloc, None, &[])?;
+    let settings = Settings::of(alloc, None)?;
     let project = Project {
         of_workspace: &root.settings,
         of_package: &settings,
@@ -408,7 +521,7 @@ fn lint_configuration<R: Files + Input + AllocGlobal>(
 }
 
 /// Lints the manifest at a path, or reports that it can't be used.
-fn lint_at<R: Files + Input + AllocGlobal>(
+fn lint_at<R: Files + Input + Env + AllocGlobal>(
     rt: &R,
     path: &str,
     words: &Words,
@@ -416,13 +529,13 @@ fn lint_at<R: Files + Input + AllocGlobal>(
     telling: &mut Telling<'_>,
 ) -> Result<(), AllocError> {
     let alloc = rt.alloc();
-    let Some(mut manifest) = usable_at(rt, path, telling)? else {
+    let Some(mut manifest) = manifest_taken(rt, path, telling)? else {
         return Ok(());
     };
     let table = &mut manifest.document.table;
     root.put_lints(alloc, table)?;
     declare(alloc, table, &root.settings.facts)?;
-    let settings = Settings::of(alloc, settings_at(table, "package"), &telling.asked.codes)?;
+    let settings = Settings::of(alloc, settings_at(table, PACKAGE))?;
     declare(alloc, table, &settings.facts)?;
     declare_by(alloc, &telling.asked.other, table)?;
     let project = Project {
@@ -457,7 +570,7 @@ fn has_path(alloc: Global, paths: &[&str], file: &str) -> Result<bool, AllocErro
 
 /// Lints one of the selected files, a configuration or a manifest. With the manifest of a root, the configuration
 /// beside it is linted too, unless it is selected itself.
-fn lint_named<R: Files + Input + AllocGlobal>(
+fn lint_named<R: Files + Input + Env + AllocGlobal>(
     rt: &R,
     paths: &[&str],
     path: &str,
@@ -515,13 +628,13 @@ pub fn lint_each<R: Files + Input + Env + AllocGlobal>(
     for path in paths {
         let manifest = manifest_of(alloc, path)?;
         let documents = &mut telling.documents;
-        if let Some(other) = Root::of(rt, documents, manifest.as_str(), &asked.codes, &root)? {
-            telling.tell_root(alloc, &root)?;
+        if let Some(other) = Root::of(rt, documents, manifest.as_str(), &root)? {
+            telling.tell_root(rt, &root)?;
             root = other;
         }
         lint_named(rt, paths, path, &words, &mut root, &mut telling)?;
     }
-    telling.tell_root(alloc, &root)?;
+    telling.tell_root(rt, &root)?;
     let Telling {
         asked: _,
         documents: _,

@@ -12,6 +12,7 @@ mod named;
 mod other_rustc;
 mod roots;
 mod styles;
+mod target_names;
 mod words;
 
 use anyhow::Result;

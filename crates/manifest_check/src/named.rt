@@ -11,6 +11,8 @@ use workspaces::{Asked, Documents, Found, find};
 pub struct Named {
     pub paths: Vec<String>,
     pub unusable: Vec<Unusable>,
+    /// A warning a line.
+    pub warnings: String,
 }
 
 /// Returns the values of an argument.
@@ -37,7 +39,16 @@ pub fn named_manifests<R: Files + Env + AllocGlobal + Clone + Drop>(
         packages: values(alloc, matches, "package")?,
         excluded: values(alloc, matches, "exclude")?,
         whole: matches.get_flag("workspace"),
+        alone: matches.get_flag("no-workspace"),
     };
-    let Found { paths, unusable } = find(rt, documents, &asked)?;
-    Ok(Named { paths, unusable })
+    let Found {
+        paths,
+        unusable,
+        warnings,
+    } = find(rt, documents, &asked)?;
+    Ok(Named {
+        paths,
+        unusable,
+        warnings,
+    })
 }

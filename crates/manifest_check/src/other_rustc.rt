@@ -6,8 +6,8 @@ use former_names::former_target;
 use known_targets::KnownTarget;
 use manifest_answers::given_targets::GivenTargets;
 use manifest_lints::{Code, Report};
-use manifest_lints_findings::Finding;
 use manifest_lints_findings::readings::Spelled;
+use manifest_lints_findings::{Finding, Pointed};
 use manifest_lints_standings::asked_facts::{asked_facts, open_names};
 use manifests::Declared;
 use std::alloc::{AllocError, Global};
@@ -92,11 +92,11 @@ impl OtherRustc {
             let told = format!(in alloc;
                 "no target of {file} has facts that make the condition true"
             )?;
-            added.push(finding(place, Code::Nowhere, told, None))?;
+            added.push(finding(alloc, place, Code::Nowhere, told, None))?;
         }
         if each && !hides.everywhere {
             let told = format!(in alloc; "the condition holds at every target of {file}")?;
-            added.push(finding(place, Code::Everywhere, told, None))?;
+            added.push(finding(alloc, place, Code::Everywhere, told, None))?;
         }
         Ok(())
     }
@@ -118,13 +118,13 @@ impl OtherRustc {
         let mut told = format!(in alloc; "no target of {file} has this name")?;
         let nearest = match self.given.nearest(alloc, name)? {
             Some(nearest) => {
-                let perhaps = format!(in alloc; " (perhaps `{nearest}` is meant)")?;
+                let perhaps = format!(in alloc; " (did you mean `{nearest}`?)")?;
                 told.push_str(perhaps.as_str())?;
                 Some(String::from_str(alloc, nearest)?)
             }
             None => None,
         };
-        Ok(finding(place, Code::UnknownTarget, told, nearest))
+        Ok(finding(alloc, place, Code::UnknownTarget, told, nearest))
     }
 
     /// Returns whether the condition is true on none and on all of its targets, whatever the open names are.
@@ -230,7 +230,13 @@ fn hiding_of(alloc: Global, report: &Report<'_>) -> Result<Vec<Hiding>, AllocErr
 }
 
 /// Returns a diagnostic on the key at this index.
-fn finding(place: usize, code: Code, message: String, suggestion: Option<String>) -> Finding {
+fn finding(
+    alloc: Global,
+    place: usize,
+    code: Code,
+    message: String,
+    suggestion: Option<String>,
+) -> Finding {
     Finding {
         level: code.row().level,
         code,
@@ -239,5 +245,6 @@ fn finding(place: usize, code: Code, message: String, suggestion: Option<String>
         suggestion,
         span: None,
         snippet: None,
+        pointed: Pointed::nothing(alloc),
     }
 }

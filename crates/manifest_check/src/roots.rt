@@ -32,9 +32,8 @@ fn settings_in(document: Option<&Document>) -> Option<&Value> {
 fn settings_of(
     alloc: Global,
     document: Option<&Document>,
-    codes: &[&str],
 ) -> Result<(Settings, Vec<bool>), AllocError> {
-    let settings = Settings::of(alloc, settings_in(document), codes)?;
+    let settings = Settings::of(alloc, settings_in(document))?;
     let mut needed = Vec::new(alloc);
     for _ in &settings.rules {
         needed.push(false)?;
@@ -45,17 +44,12 @@ fn settings_of(
 impl Root {
     /// Returns the root of no workspace, without rules.
     pub fn none(alloc: Global) -> Result<Root, AllocError> {
-        Root::at(alloc, String::new(alloc), None, &[])
+        Root::at(alloc, String::new(alloc), None)
     }
 
     /// Returns the root with this manifest, or with none.
-    fn at(
-        alloc: Global,
-        file: String,
-        document: Option<&Document>,
-        codes: &[&str],
-    ) -> Result<Root, AllocError> {
-        let (settings, needed) = settings_of(alloc, document, codes)?;
+    fn at(alloc: Global, file: String, document: Option<&Document>) -> Result<Root, AllocError> {
+        let (settings, needed) = settings_of(alloc, document)?;
         let inheritable = match document {
             Some(document) => Inheritable::of(alloc, document)?,
             None => Inheritable::none(),
@@ -75,7 +69,6 @@ impl Root {
         rt: &R,
         documents: &mut Documents,
         path: &str,
-        codes: &[&str],
         current: &Root,
     ) -> Result<Option<Root>, AllocError> {
         let alloc = rt.alloc();
@@ -89,7 +82,15 @@ impl Root {
             return Ok(None);
         }
         let document = documents.get(rt, file.as_str())?;
-        Ok(Some(Root::at(alloc, file, document, codes)?))
+        Ok(Some(Root::at(alloc, file, document)?))
+    }
+
+    /// Returns whether there is something to report on its rules: an invalid one or, if `is_whole`, one that is not
+    /// needed.
+    pub fn has_diagnostics(&self, is_whole: bool) -> bool {
+        let mut unneeded = self.settings.rules.iter().zip(&self.needed);
+        !self.settings.faults.is_empty()
+            || is_whole && unneeded.any(|(rule, is_needed)| is_unneeded(rule, *is_needed))
     }
 
     /// Returns whether its manifest is the one at a path.

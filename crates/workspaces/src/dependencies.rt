@@ -1,11 +1,12 @@
 //! The folders in which path dependencies of a manifest lie.
 
+use crate::inheritance::is_inherited;
 use crate::manifests::{table_in, text_in};
 use std::alloc::{AllocError, Global};
 use toml::{Table, Value};
 
-/// The tables of dependencies, with the names that they had once.
-const TABLES: [&str; 5] = [
+/// The names of the tables of dependencies, their former names included.
+pub const TABLES: [&str; 5] = [
     "dependencies",
     "dev-dependencies",
     "dev_dependencies",
@@ -21,27 +22,21 @@ pub struct PathDependency<'a> {
     pub is_of_root: bool,
 }
 
-/// The path of a dependency, where it has one: its own, or of `workspace = true` the one in the root's table.
+/// Returns the path of a dependency, if it has one: its own or, with `workspace = true`, the one in the root's table.
 fn path_of<'a>(
     name: &str,
     value: &'a Value,
     shared: Option<&'a Table>,
 ) -> Option<PathDependency<'a>> {
     let table = value.as_table()?;
-    if let Some(path) = text_in(table, "path") {
-        return Some(PathDependency {
-            path,
-            is_of_root: false,
-        });
-    }
-    if table.get("workspace").is_none() {
-        return None;
-    }
-    let path = text_in(table_in(shared?, name)?, "path")?;
-    Some(PathDependency {
-        path,
-        is_of_root: true,
-    })
+    let is_of_root = is_inherited(Some(table));
+    let table = if is_of_root {
+        table_in(shared?, name)?
+    } else {
+        table
+    };
+    let path = text_in(table, "path")?;
+    Some(PathDependency { path, is_of_root })
 }
 
 /// Adds the path dependencies of the tables in a table.

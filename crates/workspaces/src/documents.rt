@@ -146,7 +146,7 @@ impl ReadFile {
 }
 
 /// Returns the path of a file without links, or the path as it is given where that is not known.
-fn real_path<R: Files + AllocGlobal>(rt: &R, file: &str) -> Result<String, AllocError> {
+pub(crate) fn real_path<R: Files + AllocGlobal>(rt: &R, file: &str) -> Result<String, AllocError> {
     match unless_refused(fs::canonicalize(rt, file))? {
         Some(path) => Ok(path.into_string()),
         None => String::from_str(rt.alloc(), file),

@@ -1,14 +1,15 @@
 //! Which manifests are meant: by their names, or by the folder at hand.
 
-use crate::documents::{Documents, RootPlace};
+use crate::choosing::choose;
+use crate::documents::{Documents, RootPlace, real_path};
 use crate::manifests::{
-    MANIFEST, folder_of, from_above, inside, is_file, is_folder, manifest_inside, package_name,
-    shorter, unless_refused,
+    MANIFEST, folder_of, from_above, inside, is_file, is_folder, manifest_inside, nearer, shorter,
+    unless_refused,
 };
 use crate::members::members_of;
-use cargo_platform::shown_text;
 use input_limits::{INPUT, Unusable};
 use std::alloc::{AllocError, Global};
+use std::collections::BTreeSet;
 use std::env;
 use std::rt::{Env, Files};
 
@@ -20,12 +21,14 @@ pub struct Asked {
     /// Manifests, and folders that hold one. Without any of both it is the one of the folder at hand, or of the nearest
     /// above.
     pub manifests: Vec<String>,
-    /// The names of packages that alone are meant.
+    /// The packages that alone are meant: names or globs of names, each with a version or without.
     pub packages: Vec<String>,
-    /// The names of packages that are left out.
+    /// The packages that are left out, or paths or globs of folders whose manifests are left out.
     pub excluded: Vec<String>,
     /// All members of the workspace, from a member too.
     pub whole: bool,
+    /// The manifests that are named alone, without the members of a workspace.
+    pub alone: bool,
 }
 
 /// The manifests that are meant.
@@ -34,11 +37,13 @@ pub struct Found {
     pub paths: Vec<String>,
     /// What can't be found.
     pub unusable: Vec<Unusable>,
+    /// A warning a line: what `excluded` has and no manifest matches.
+    pub warnings: String,
 }
 
 impl Found {
     /// Adds what can't be found.
-    fn push(&mut self, reason: String) -> Result<(), AllocError> {
+    pub(crate) fn push(&mut self, reason: String) -> Result<(), AllocError> {
         self.unusable.push(Unusable { file: None, reason })?;
         Ok(())
     }
@@ -139,11 +144,6 @@ pub fn root_of<R: Files + Env + AllocGlobal>(
     }
 }
 
-/// Whether the texts have this one.
-fn has(texts: &[String], wanted: &str) -> bool {
-    texts.iter().any(|text| text.as_str() == wanted)
-}
-
 /// The manifest that one stands for: that of the root of its workspace, where the root's members are asked for.
 fn first_of<R: Files + Env + AllocGlobal>(
     rt: &R,
@@ -188,84 +188,10 @@ fn add_meant<R: Files + Env + AllocGlobal + Clone + Drop>(
     }
     let file = first_of(rt, documents, asked, file)?;
     found.paths.push(file.clone()?)?;
+    if asked.alone {
+        return Ok(());
+    }
     add_members(rt, documents, file.as_str(), found)
-}
-
-/// The name of the package of a manifest, or an empty text.
-fn name_at<R: Files + AllocGlobal>(
-    rt: &R,
-    documents: &mut Documents,
-    file: &str,
-) -> Result<String, AllocError> {
-    match documents.get(rt, file)? {
-        Some(document) => {
-            String::from_str(rt.alloc(), package_name(&document.table).unwrap_or(""))
-        }
-        None => Ok(String::new(rt.alloc())),
-    }
-}
-
-/// The name of the package of each manifest.
-fn names_at<R: Files + AllocGlobal>(
-    rt: &R,
-    documents: &mut Documents,
-    files: &[String],
-) -> Result<Vec<String>, AllocError> {
-    let mut names = Vec::new(rt.alloc());
-    for file in files {
-        names.push(name_at(rt, documents, file.as_str())?)?;
-    }
-    Ok(names)
-}
-
-/// Those of the manifests, with these names of packages, that are asked for.
-fn chosen_of(
-    alloc: Global,
-    asked: &Asked,
-    files: &[String],
-    names: &[String],
-) -> Result<Vec<String>, AllocError> {
-    let mut chosen = Vec::new(alloc);
-    for (file, name) in files.iter().zip(names) {
-        let is_asked = asked.packages.is_empty() || has(&asked.packages, name.as_str());
-        if is_asked && !has(&asked.excluded, name.as_str()) {
-            chosen.push(file.clone()?)?;
-        }
-    }
-    Ok(chosen)
-}
-
-/// Leaves the packages that are asked for. A name that no package has is told.
-fn choose<R: Files + AllocGlobal>(
-    rt: &R,
-    documents: &mut Documents,
-    asked: &Asked,
-    found: &mut Found,
-) -> Result<(), AllocError> {
-    let alloc = rt.alloc();
-    let names = names_at(rt, documents, &found.paths)?;
-    let chosen = chosen_of(alloc, asked, &found.paths, &names)?;
-    tell_unknown(alloc, &asked.packages, &names, found)?;
-    tell_unknown(alloc, &asked.excluded, &names, found)?;
-    found.paths = chosen;
-    Ok(())
-}
-
-/// Tells those of the asked names that no package has.
-fn tell_unknown(
-    alloc: Global,
-    asked: &[String],
-    names: &[String],
-    found: &mut Found,
-) -> Result<(), AllocError> {
-    for name in asked {
-        if !has(names, name.as_str()) {
-            let name = shown_text(alloc, name.as_str())?;
-            let reason = format!(in alloc; "no package of the workspace is named {name}")?;
-            found.push(reason)?;
-        }
-    }
-    Ok(())
 }
 
 /// Adds the manifests that these stand for.
@@ -297,8 +223,49 @@ fn add_at_hand<R: Files + Env + AllocGlobal + Clone + Drop>(
     add_meant(rt, documents, asked, file.as_str(), found)
 }
 
-/// The manifests that are meant, in the order of the arguments: the root of a workspace before its members, and these
-/// in the order of their paths. They stay in `documents`.
+/// Returns those of the paths that lead to a manifest to which no path before leads.
+fn each_once<R: Files + AllocGlobal>(rt: &R, paths: &[String]) -> Result<Vec<String>, AllocError> {
+    let mut seen = BTreeSet::new(rt.alloc());
+    let mut once = Vec::new(rt.alloc());
+    for path in paths {
+        let real = real_path(rt, path.as_str())?;
+        if seen.insert(real)? {
+            once.push(path.clone()?)?;
+        }
+    }
+    Ok(once)
+}
+
+/// Returns the path of the current folder, if it is known.
+fn current_folder<R: Env + AllocGlobal>(rt: &R) -> Result<String, AllocError> {
+    match unless_refused(env::current_dir(rt))? {
+        Some(folder) => Ok(folder.into_string()),
+        None => Ok(String::new(rt.alloc())),
+    }
+}
+
+/// Returns the paths without the folders that they leave at once, from the folder with this absolute path.
+fn nearer_paths(alloc: Global, folder: &str, paths: &[String]) -> Result<Vec<String>, AllocError> {
+    let mut found = Vec::new(alloc);
+    for path in paths {
+        found.push(nearer(alloc, folder, path.as_str())?)?;
+    }
+    Ok(found)
+}
+
+/// Returns those of the paths that lead to a manifest to which no path before leads, as they lead from the current
+/// folder.
+fn once_from_here<R: Files + Env + AllocGlobal>(
+    rt: &R,
+    paths: &[String],
+) -> Result<Vec<String>, AllocError> {
+    let once = each_once(rt, paths)?;
+    let folder = current_folder(rt)?;
+    nearer_paths(rt.alloc(), folder.as_str(), &once)
+}
+
+/// The manifests that are meant, each once, in the order of the arguments: the root of a workspace before its members,
+/// and these in the order of their paths. They stay in `documents`.
 pub fn find<R: Files + Env + AllocGlobal + Clone + Drop>(
     rt: &R,
     documents: &mut Documents,
@@ -308,12 +275,14 @@ pub fn find<R: Files + Env + AllocGlobal + Clone + Drop>(
     let mut found = Found {
         paths: Vec::new(alloc),
         unusable: Vec::new(alloc),
+        warnings: String::new(alloc),
     };
     if asked.paths.is_empty() && asked.manifests.is_empty() {
         add_at_hand(rt, documents, asked, &mut found)?;
     }
     add_all(rt, documents, asked, &asked.paths, &mut found)?;
     add_all(rt, documents, asked, &asked.manifests, &mut found)?;
+    found.paths = once_from_here(rt, &found.paths)?;
     if !asked.packages.is_empty() || !asked.excluded.is_empty() {
         choose(rt, documents, asked, &mut found)?;
     }

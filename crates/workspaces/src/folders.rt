@@ -171,7 +171,14 @@ fn text_at<'a>(texts: &[&'a str], at: usize) -> &'a str {
     texts.get(at).copied().unwrap_or(ANY)
 }
 
-/// The paths, from the root on, of the folders that the pattern of this text may take.
+/// Returns the path of the folder at which a glob begins: the root of the file system for an absolute one, and else the
+/// root of the workspace.
+fn start_of(text: &str) -> &'static str {
+    if text.starts_with('/') { "/" } else { "" }
+}
+
+/// The paths, from the root on, of the folders that the pattern of this text may take. Those of an absolute pattern are
+/// absolute.
 pub fn candidates<R: Files + AllocGlobal + Clone + Drop>(
     rt: &R,
     root: &str,
@@ -180,7 +187,7 @@ pub fn candidates<R: Files + AllocGlobal + Clone + Drop>(
 ) -> Result<Vec<String>, AllocError> {
     let alloc = rt.alloc();
     let mut found = Vec::new(alloc);
-    found.push(String::new(alloc))?;
+    found.push(String::from_str(alloc, start_of(text))?)?;
     let texts = plain_components(alloc, text)?;
     for (at, component) in pattern.components.iter().enumerate() {
         if component.is_many() {

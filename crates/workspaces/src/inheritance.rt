@@ -111,7 +111,7 @@ impl Inheritable {
 }
 
 /// Returns whether a field says `workspace = true`.
-fn is_inherited(field: Option<&Table>) -> bool {
+pub(crate) fn is_inherited(field: Option<&Table>) -> bool {
     match field {
         Some(field) => match field.get("workspace") {
             Some(value) => value.as_bool() == Some(true),

@@ -5,12 +5,14 @@
 //! crate `glob`. A path is the names of folders from the root of the workspace on.
 #![tactic(auto)]
 
+mod choosing;
 mod components;
 mod dependencies;
 mod documents;
 mod finding;
 mod folders;
 mod inheritance;
+mod inherited;
 mod manifests;
 mod member_rules;
 mod members;
@@ -21,6 +23,7 @@ pub use components::{CharacterRange, Characters, Component, Name, Part};
 pub use documents::{Document, Documents};
 pub use finding::{Asked, Found, depth_at_hand, find, root_of};
 pub use inheritance::{Inheritable, inherits_lints};
+pub use inherited::{inherits, is_of_2024, put_inherited, uninheritable};
 pub use manifests::{
     MANIFEST, folder_of, from_above, inside, is_file, manifest_inside, put, shorter, table_in,
     text_in,

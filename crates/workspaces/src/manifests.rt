@@ -11,9 +11,12 @@ use toml::{Table, Value, table_from_str};
 /// The name of a manifest.
 pub const MANIFEST: &str = "Cargo.toml";
 
-/// A path inside a folder. The folder `""` is the one at hand.
+/// Returns the path to which a path leads from a folder. An absolute path stays as it is. The folder `""` is the
+/// current one.
+///
+/// Fails only where memory runs out.
 pub fn inside(alloc: Global, folder: &str, path: &str) -> Result<String, AllocError> {
-    if folder.is_empty() {
+    if folder.is_empty() || path.starts_with('/') {
         return String::from_str(alloc, path);
     }
     if folder.ends_with('/') {
@@ -48,6 +51,66 @@ pub fn shorter(alloc: Global, path: &str) -> Result<String, AllocError> {
         text.push_str(component)?;
     }
     Ok(text)
+}
+
+/// Returns how many components of a path are `..`, before another one comes.
+fn steps_up(path: &str) -> usize {
+    let mut count: usize = 0;
+    for component in path.split('/') {
+        if component != ".." {
+            break;
+        }
+        count = count.saturating_add(1);
+    }
+    count
+}
+
+/// Returns how many names at the beginning of two lists are the same.
+fn shared_names(first: &[&str], second: &[&str]) -> usize {
+    let mut count: usize = 0;
+    for (name, other) in first.iter().zip(second) {
+        if *name != *other {
+            break;
+        }
+        count = count.saturating_add(1);
+    }
+    count
+}
+
+/// Appends a component to a path.
+fn push_component(path: &mut String, component: &str) -> Result<(), AllocError> {
+    if !path.is_empty() && !path.ends_with('/') {
+        path.push('/')?;
+    }
+    path.push_str(component)
+}
+
+/// Returns the path of these components that begins so many folders above.
+fn joined_above(alloc: Global, count: usize, components: &[&str]) -> Result<String, AllocError> {
+    let mut path = from_above(alloc, count, "")?;
+    for component in components {
+        push_component(&mut path, component)?;
+    }
+    Ok(path)
+}
+
+/// Returns a path from a folder, whose absolute path this is, without the folders that it leaves by `..` and enters
+/// again at once.
+///
+/// Fails only where memory runs out.
+pub fn nearer(alloc: Global, folder: &str, path: &str) -> Result<String, AllocError> {
+    let up = steps_up(path);
+    let names: Vec<&str> = folder.split('/').collect(alloc)?;
+    if up == 0 || names.len() < up {
+        return String::from_str(alloc, path);
+    }
+    let components: Vec<&str> = path.split('/').collect(alloc)?;
+    let below = components.get(up..).unwrap_or(&[]);
+    let left = names.get(names.len().saturating_sub(up)..).unwrap_or(&[]);
+    let entered = below.get(..below.len().saturating_sub(1)).unwrap_or(&[]);
+    let count = shared_names(left, entered);
+    let rest = below.get(count..).unwrap_or(&[]);
+    joined_above(alloc, up.saturating_sub(count), rest)
 }
 
 /// The folder of a file.

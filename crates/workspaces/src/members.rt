@@ -2,9 +2,9 @@
 //! lead.
 
 use crate::dependencies::{PathDependency, path_dependencies};
-use crate::documents::{Document, Documents};
+use crate::documents::{Document, Documents, real_path};
 use crate::folders::candidates;
-use crate::manifests::{folder_of, inside, manifest_inside, shorter, table_in, texts_in};
+use crate::manifests::{folder_of, inside, is_file, manifest_inside, shorter, table_in, texts_in};
 use crate::member_rules::Rules;
 use crate::patterns::{Fault, Pattern, PatternError, names_of};
 use cargo_platform::shown_text;
@@ -36,15 +36,47 @@ fn fault_text(fault: Fault) -> &'static str {
     }
 }
 
+/// Returns the path from a folder, which has an absolute path, to what an absolute path names in or below it.
+fn below<'a>(folder: &str, path: &'a str) -> Option<&'a str> {
+    let rest = path.strip_prefix(folder)?;
+    if rest.is_empty() || folder.ends_with('/') {
+        return Some(rest);
+    }
+    rest.strip_prefix("/")
+}
+
+/// Returns a path or glob as it leads from the root of a workspace, whose real path this is. What is absolute and does
+/// not lie in the root's folder stays absolute.
+fn from_root(alloc: Global, root: &str, path: &str) -> Result<String, AllocError> {
+    if !path.starts_with('/') {
+        return String::from_str(alloc, path);
+    }
+    let path = shorter(alloc, path)?;
+    match below(root, path.as_str()) {
+        Some(path) => String::from_str(alloc, path),
+        None => Ok(path),
+    }
+}
+
+/// Returns paths or globs as they lead from the root of a workspace.
+fn all_from_root(alloc: Global, root: &str, paths: &[&str]) -> Result<Vec<String>, AllocError> {
+    let mut found = Vec::new(alloc);
+    for path in paths {
+        found.push(from_root(alloc, root, path)?)?;
+    }
+    Ok(found)
+}
+
 /// Returns the globs that texts of `members` spell. Those that are no glob are added to what can't be used.
 fn globs_of(
     alloc: Global,
     file: &str,
-    texts: &[&str],
+    texts: &[String],
     unusable: &mut Vec<Unusable>,
 ) -> Result<Vec<Pattern>, AllocError> {
     let mut globs = Vec::new(alloc);
     for text in texts {
+        let text = text.as_str();
         match Pattern::from_str(alloc, text) {
             Ok(pattern) => globs.push(pattern)?,
             Err(PatternError::Memory(refused)) => return Err(refused),
@@ -59,27 +91,37 @@ fn globs_of(
 }
 
 /// Returns, for each path, the pattern of what is in or below it.
-fn all_below(alloc: Global, paths: &[&str]) -> Result<Vec<Pattern>, AllocError> {
+fn all_below(alloc: Global, paths: &[String]) -> Result<Vec<Pattern>, AllocError> {
     let mut patterns = Vec::new(alloc);
     for path in paths {
-        patterns.push(Pattern::below(alloc, path)?)?;
+        patterns.push(Pattern::below(alloc, path.as_str())?)?;
     }
     Ok(patterns)
 }
 
-/// Returns the rules of a workspace with these texts of `members`. Those that are no glob are added to what can't be
-/// used.
+/// Returns the texts of an array of a root's table `workspace`, as paths that lead from the root.
+fn paths_in(
+    alloc: Global,
+    root: &str,
+    workspace: &Table,
+    field: &str,
+) -> Result<Vec<String>, AllocError> {
+    let texts = texts_in(alloc, workspace, field)?;
+    all_from_root(alloc, root, &texts)
+}
+
+/// Returns the rules of a workspace with these texts of `members` and paths of `exclude`. Texts that are no glob are
+/// added to what can't be used.
 fn rules_of(
     alloc: Global,
     file: &str,
-    workspace: &Table,
-    texts: &[&str],
+    texts: &[String],
+    excluded: &[String],
     unusable: &mut Vec<Unusable>,
 ) -> Result<Rules, AllocError> {
-    let excluded = texts_in(alloc, workspace, "exclude")?;
     Ok(Rules {
         members: globs_of(alloc, file, texts, unusable)?,
-        excluded: all_below(alloc, &excluded)?,
+        excluded: all_below(alloc, excluded)?,
         named: all_below(alloc, texts)?,
     })
 }
@@ -95,13 +137,15 @@ fn shared_dependencies(workspace: &Table) -> Result<Option<Table>, AllocError> {
 /// Returns the path, from the root on, to which a path dependency of the package in a folder leads.
 fn path_from_root(
     alloc: Global,
+    root: &str,
     folder: &str,
     dependency: &PathDependency<'_>,
 ) -> Result<String, AllocError> {
-    if dependency.is_of_root {
-        return shorter(alloc, dependency.path);
+    let path = from_root(alloc, root, dependency.path)?;
+    if dependency.is_of_root || dependency.path.starts_with('/') {
+        return shorter(alloc, path.as_str());
     }
-    let path = inside(alloc, folder, dependency.path)?;
+    let path = inside(alloc, folder, path.as_str())?;
     shorter(alloc, path.as_str())
 }
 
@@ -110,9 +154,19 @@ fn is_outside(path: &str) -> bool {
     path.starts_with("../") || path.starts_with('/') || path == ".."
 }
 
+/// Returns the path of the manifest of the member in a folder of the workspace whose root has this manifest.
+fn manifest_of(alloc: Global, root: &str, folder: &str) -> Result<String, AllocError> {
+    if folder.is_empty() {
+        return String::from_str(alloc, root);
+    }
+    manifest_inside(alloc, folder_of(root), folder)
+}
+
 /// The members of a workspace that have been found so far.
 #[derive(Drop)]
 struct Members {
+    /// The real path of the root's folder.
+    root: String,
     rules: Rules,
     /// `workspace.dependencies` of the root.
     shared: Option<Table>,
@@ -120,6 +174,8 @@ struct Members {
     folders: BTreeSet<String>,
     /// Those of the folders whose path dependencies have not been followed yet.
     unfollowed: Vec<String>,
+    /// Texts of `members` for which there is no folder, and folders without a manifest.
+    missing: Vec<String>,
 }
 
 impl Members {
@@ -147,13 +203,12 @@ impl Members {
         Ok(!self.rules.exclude(alloc, &names)?)
     }
 
-    /// Adds the folders that a glob takes. A glob for which there is no folder is added to what can't be used.
+    /// Adds the folders that a glob takes.
     fn add_by_glob<R: Files + AllocGlobal + Clone + Drop>(
         &mut self,
         rt: &R,
         file: &str,
         text: &str,
-        unusable: &mut Vec<Unusable>,
     ) -> Result<(), AllocError> {
         let alloc = rt.alloc();
         let pattern = match Pattern::from_str(alloc, text) {
@@ -163,8 +218,7 @@ impl Members {
         };
         let folders = candidates(rt, folder_of(file), text, &pattern)?;
         if folders.is_empty() {
-            let reason = format!(in alloc; "workspace.members: no folder matches {text}")?;
-            return push_unusable(unusable, alloc, file, reason.as_str());
+            self.missing.push(String::from_str(alloc, text)?)?;
         }
         for folder in &folders {
             if self.is_member(alloc, folder.as_str(), &pattern)? {
@@ -195,7 +249,7 @@ impl Members {
     ) -> Result<(), AllocError> {
         let mut paths = Vec::new(alloc);
         for dependency in &path_dependencies(alloc, manifest, self.shared.as_ref())? {
-            paths.push(path_from_root(alloc, folder, dependency)?)?;
+            paths.push(path_from_root(alloc, self.root.as_str(), folder, dependency)?)?;
         }
         for path in &paths {
             self.add_inside(alloc, path.as_str())?;
@@ -215,13 +269,92 @@ impl Members {
             let Some(folder) = self.unfollowed.pop() else {
                 return Ok(());
             };
-            let file = manifest_inside(rt.alloc(), root, folder.as_str())?;
-            if let Some(document) = documents.get(rt, file.as_str())? {
-                self.add_dependencies(rt.alloc(), folder.as_str(), &document.table)?;
-            }
+            self.follow_one(rt, documents, root, folder.as_str())?;
         }
         Ok(())
     }
+
+    /// Adds the folders in the workspace to which path dependencies of the member in a folder lead. A member without a
+    /// manifest is removed.
+    fn follow_one<R: Files + AllocGlobal>(
+        &mut self,
+        rt: &R,
+        documents: &mut Documents,
+        root: &str,
+        folder: &str,
+    ) -> Result<(), AllocError> {
+        let file = manifest_of(rt.alloc(), root, folder)?;
+        match documents.get(rt, file.as_str())? {
+            Some(document) => self.add_dependencies(rt.alloc(), folder, &document.table),
+            None => self.remove_missing(rt, file.as_str(), folder),
+        }
+    }
+
+    /// Removes a member whose manifest is not at its path, and adds it to those that are missing.
+    fn remove_missing<R: Files + AllocGlobal>(
+        &mut self,
+        rt: &R,
+        file: &str,
+        folder: &str,
+    ) -> Result<(), AllocError> {
+        if is_file(rt, file)? {
+            return Ok(());
+        }
+        let _was_member = self.folders.remove(folder);
+        self.missing.push(String::from_str(rt.alloc(), folder)?)?;
+        Ok(())
+    }
+
+    /// Adds one error for all members that are missing to what can't be used.
+    fn report_missing(
+        &self,
+        alloc: Global,
+        file: &str,
+        unusable: &mut Vec<Unusable>,
+    ) -> Result<(), AllocError> {
+        if self.missing.is_empty() {
+            return Ok(());
+        }
+        let reason = missing_text(alloc, &self.missing)?;
+        push_unusable(unusable, alloc, file, reason.as_str())
+    }
+}
+
+/// Returns the real path of the folder of a file.
+fn real_folder<R: Files + AllocGlobal>(rt: &R, file: &str) -> Result<String, AllocError> {
+    let folder = folder_of(file);
+    real_path(rt, if folder.is_empty() { "." } else { folder })
+}
+
+/// How many missing members an error names.
+const NAMED: usize = 3;
+
+/// Appends a name to a list, after a comma unless it is the first.
+fn push_listed(list: &mut String, name: &str) -> Result<(), AllocError> {
+    if !list.is_empty() {
+        list.push_str(", ")?;
+    }
+    list.push_str(name)
+}
+
+/// Returns the list of the first missing members.
+fn first_missing(alloc: Global, missing: &[String]) -> Result<String, AllocError> {
+    let mut list = String::new(alloc);
+    for it in missing.get(..NAMED).unwrap_or(missing) {
+        push_listed(&mut list, it.as_str())?;
+    }
+    Ok(list)
+}
+
+/// Returns the message on members that are missing.
+fn missing_text(alloc: Global, missing: &[String]) -> Result<String, AllocError> {
+    let first = first_missing(alloc, missing)?;
+    let more = missing.len().saturating_sub(NAMED);
+    let text = "no manifest is found for these members of the workspace:";
+    if more == 0 {
+        return format!(in alloc; "{text} {first}");
+    }
+    format!(in alloc; "{text} {first} and {more} more")
 }
 
 /// Returns the members of the workspace of a root before path dependencies are followed: the root's own package, and
@@ -236,15 +369,19 @@ fn members_by_globs<R: Files + AllocGlobal + Clone + Drop>(
     let Some(workspace) = root.workspace() else {
         return Ok(None);
     };
-    let texts = texts_in(alloc, workspace, "members")?;
+    let folder = real_folder(rt, file)?;
+    let texts = paths_in(alloc, folder.as_str(), workspace, "members")?;
+    let excluded = paths_in(alloc, folder.as_str(), workspace, "exclude")?;
     let mut members = Members {
-        rules: rules_of(alloc, file, workspace, &texts, unusable)?,
+        root: folder,
+        rules: rules_of(alloc, file, &texts, &excluded, unusable)?,
         shared: shared_dependencies(workspace)?,
         folders: BTreeSet::new(alloc),
         unfollowed: Vec::new(alloc),
+        missing: Vec::new(alloc),
     };
     for text in &texts {
-        members.add_by_glob(rt, file, text, unusable)?;
+        members.add_by_glob(rt, file, text.as_str())?;
     }
     if root.table.get("package").is_some() {
         members.add(alloc, "")?;
@@ -253,8 +390,8 @@ fn members_by_globs<R: Files + AllocGlobal + Clone + Drop>(
 }
 
 /// Returns the folders of the packages of the workspace whose root has the manifest at a path, from the root on: the
-/// root's own, those that its globs take, and those in it to which path dependencies lead. Globs that are none, and
-/// those for which there is no folder, are added to what can't be used.
+/// root's own, those that its globs take, and those in it to which path dependencies lead. Globs that are none are
+/// added to what can't be used, and so are all members that are missing, as one error.
 ///
 /// Fails only where memory runs out.
 pub fn members_of<R: Files + AllocGlobal + Clone + Drop>(
@@ -270,6 +407,7 @@ pub fn members_of<R: Files + AllocGlobal + Clone + Drop>(
     let Some(mut members) = members else {
         return Ok(BTreeSet::new(rt.alloc()));
     };
-    members.follow(rt, documents, folder_of(file))?;
+    members.follow(rt, documents, file)?;
+    members.report_missing(rt.alloc(), file, unusable)?;
     Ok(members.folders)
 }

@@ -1,0 +1,145 @@
+//! The targets that a command line selects, with the facts that compiler flags add to each.
+
+use crate::limits::limit_of;
+use cargo_configuration::{FlagFacts, FlaggedTarget, flag_facts};
+use clap::ArgMatches;
+use key_answers::answer::Refusal;
+use key_answers::targets::names_of;
+use known_targets::TargetSet;
+use manifest_answers::given_targets::FactsFrom;
+use manifest_answers::selecting::Target;
+use std::alloc::{AllocError, Global};
+use std::rt::{Env, Files};
+
+/// The value of `--target` for all known targets, or for all of `--facts-of`.
+pub const EVERY: &str = "all";
+
+/// Returns the names of all targets whose facts are known: the known ones, or those of a file.
+fn every_name(alloc: Global, from: FactsFrom<'_>) -> Result<Vec<String>, AllocError> {
+    let mut names = Vec::new(alloc);
+    match from {
+        FactsFrom::File(given) => {
+            for row in given.table().rows() {
+                names.push(String::from_str(alloc, row.name())?)?;
+            }
+        }
+        FactsFrom::Known | FactsFrom::Lines(_) => {
+            for name in names_of(alloc, TargetSet::all())? {
+                names.push(String::from_str(alloc, name)?)?;
+            }
+        }
+    }
+    Ok(names)
+}
+
+/// Appends a name, unless it is present.
+fn add_name(names: &mut Vec<String>, alloc: Global, name: &str) -> Result<(), AllocError> {
+    if names.iter().any(|it| it.as_str() == name) {
+        return Ok(());
+    }
+    names.push(String::from_str(alloc, name)?)?;
+    Ok(())
+}
+
+/// Returns whether a value of `--target` stands for all targets. With `--facts` it is the name of a target.
+fn is_every(name: &str, from: FactsFrom<'_>) -> bool {
+    match from {
+        FactsFrom::Known | FactsFrom::File(_) => name == EVERY,
+        FactsFrom::Lines(_) => false,
+    }
+}
+
+/// Returns the names of the selected targets, each once. With `all` among the values of `--target`, they are all whose
+/// facts are known.
+pub fn named_targets(
+    alloc: Global,
+    matches: &ArgMatches<'_>,
+    from: FactsFrom<'_>,
+) -> Result<Vec<String>, AllocError> {
+    let mut names = Vec::new(alloc);
+    for name in matches.get_strs("target").unwrap_or(&[]) {
+        if is_every(name, from) {
+            return every_name(alloc, from);
+        }
+        add_name(&mut names, alloc, name)?;
+    }
+    Ok(names)
+}
+
+/// The selected targets with the facts that are added to each, and a note on each fact that flags set.
+#[derive(Drop)]
+pub struct Flagged {
+    pub targets: Vec<Target>,
+    pub notes: String,
+}
+
+impl Flagged {
+    /// Appends those of some lines that are not present.
+    fn add_notes(&mut self, notes: &str) -> Result<(), AllocError> {
+        for note in notes.lines() {
+            if !self.notes.lines().any(|it| it == note) {
+                self.notes.push_str(note)?;
+                self.notes.push_str("\n")?;
+            }
+        }
+        Ok(())
+    }
+}
+
+/// Returns the facts that compiler flags set for a target, unless `--no-config` is given.
+fn flags_of<R: Files + Input + Env + AllocGlobal>(
+    rt: &R,
+    matches: &ArgMatches<'_>,
+    name: &str,
+    from: FactsFrom<'_>,
+) -> Result<FlagFacts, Refusal> {
+    if matches.get_flag("no-config") {
+        return Ok(FlagFacts::none(rt.alloc()));
+    }
+    let target = FlaggedTarget {
+        name,
+        facts_from: from,
+        added: matches.get_strs("cfg").unwrap_or(&[]),
+    };
+    flag_facts(rt, &target, limit_of(matches))
+}
+
+/// Returns the facts of `--cfg`, followed by those that flags set.
+fn added_by(
+    alloc: Global,
+    matches: &ArgMatches<'_>,
+    flags: &FlagFacts,
+) -> Result<Vec<String>, AllocError> {
+    let mut added = Vec::new(alloc);
+    for fact in matches.get_strs("cfg").unwrap_or(&[]) {
+        added.push(String::from_str(alloc, fact)?)?;
+    }
+    for fact in &flags.facts {
+        added.push(fact.clone()?)?;
+    }
+    Ok(added)
+}
+
+/// Returns the targets of these names with the facts that are added to each. Fails if a configuration is invalid.
+pub fn flagged_targets<R: Files + Input + Env + AllocGlobal>(
+    rt: &R,
+    matches: &ArgMatches<'_>,
+    names: &[String],
+    from: FactsFrom<'_>,
+) -> Result<Flagged, Refusal> {
+    let alloc = rt.alloc();
+    let mut flagged = Flagged {
+        targets: Vec::new(alloc),
+        notes: String::new(alloc),
+    };
+    for name in names {
+        let flags = flags_of(rt, matches, name.as_str(), from)?;
+        let target = Target {
+            name: name.clone()?,
+            added: added_by(alloc, matches, &flags)?,
+        };
+        flagged.targets.push(target).map_err(AllocError::from)?;
+        flagged.add_notes(flags.notes.as_str())?;
+    }
+    Ok(flagged)
+}
