@@ -1,4 +1,4 @@
-//! The questions.
+//! The queries on expressions.
 
 ghost use Rattle.std.specs.Prelude.{◌≡◌, true, false, not, IfOk};
 ghost use Rattle.cargo_platform.specs.Trees.{tree_of, tree, none};
@@ -14,31 +14,31 @@ use crate::search::{Found, search};
 use cargo_platform::{Cfg, CfgExpr};
 use std::alloc::{AllocError, Global};
 
-/// Whether something can hold.
+/// Whether an expression can be true.
 #[derive(Drop)]
 pub enum CanHold {
-    /// It does over these facts, which are possible.
+    /// It is true over these facts, which are possible.
     Yes(Vec<Cfg>),
-    /// It does over no possible set of facts.
+    /// It is true over no possible set of facts.
     No,
-    /// The splits are used up.
+    /// The budget of case splits is used up.
     Undecided,
 }
 
-/// Whether something holds whatever is possible.
+/// Whether something is true over each possible set of facts.
 #[derive(Drop)]
 pub enum MustHold {
-    /// It holds over each possible set of facts.
+    /// It is true over each possible set of facts.
     Yes,
-    /// It does not over these facts, which are possible.
+    /// It is false over these facts, which are possible.
     No(Vec<Cfg>),
-    /// The splits are used up.
+    /// The budget of case splits is used up.
     Undecided,
 }
 
-/// Whether any set of facts is possible: facts, complete names and keys with one value always leave some, and what is
-/// assumed may be true over none of them. Where this says `No`, so does `can_hold` of each expression, and `always`,
-/// `implies`, `exclude` and `equivalent` say `Yes`.
+/// Returns whether any set of facts is possible. Facts, complete names and keys with one value always leave some set,
+/// but what is assumed may be true over none of them. If this returns `No`, so does `can_hold` for each expression, and
+/// `always`, `implies`, `exclude` and `equivalent` return `Yes`.
 pub fn can_be_met<'a>(
     alloc: Global,
     known: &'a Known<'a>,
@@ -57,7 +57,7 @@ pub fn can_be_met<'a>(
     }
 }
 
-/// Whether the expression is true over some possible set of facts.
+/// Returns whether the expression is true over some possible set of facts.
 pub fn can_hold<'a>(
     alloc: Global,
     e: &'a CfgExpr,
@@ -80,7 +80,7 @@ pub fn can_hold<'a>(
     }
 }
 
-/// Whether the expression is true over each possible set of facts.
+/// Returns whether the expression is true over each possible set of facts.
 pub fn always<'a>(
     alloc: Global,
     e: &'a CfgExpr,
@@ -102,7 +102,7 @@ pub fn always<'a>(
     }
 }
 
-/// Whether `b` is true over each possible set of facts over which `a` is.
+/// Returns whether `b` is true over each possible set of facts over which `a` is.
 pub fn implies<'a>(
     alloc: Global,
     a: &'a CfgExpr,
@@ -125,7 +125,7 @@ pub fn implies<'a>(
     }
 }
 
-/// Whether `a` and `b` are never both true over a possible set of facts.
+/// Returns whether `a` and `b` are never both true over a possible set of facts.
 pub fn exclude<'a>(
     alloc: Global,
     a: &'a CfgExpr,
@@ -148,8 +148,8 @@ pub fn exclude<'a>(
     }
 }
 
-/// Whether `a` and `b` are as true as each other over each possible set of facts. Each of the two implications has the
-/// budget.
+/// Returns whether `a` and `b` have the same truth over each possible set of facts. Each of the two implications has
+/// the budget.
 #[tactic(auto, using(crate::proofs::Answering::both_ways, crate::proofs::Spending::other_order))]
 pub fn equivalent<'a>(
     alloc: Global,

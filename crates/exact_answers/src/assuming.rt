@@ -1,4 +1,4 @@
-//! A search that first passes over what is assumed.
+//! A search that leaves out what is assumed at first.
 
 ghost use Rattle.std.specs.Prelude.{◌≡◌, ℕ, map, IfOk, IfSome};
 ghost use Rattle.cargo_platform.specs.Trees.{tree_of, value_of};
@@ -14,10 +14,10 @@ use crate::search::{Found, search};
 use cargo_platform::{Cfg, CfgExpr};
 use std::alloc::{AllocError, Global};
 
-/// How many splits are made while what is assumed is passed over. Most questions of real manifests take fewer.
+/// The number of case splits before what is assumed counts. Most queries on real manifests take fewer.
 const SPLITS: u64 = 6;
 
-/// Whether the goal is met over the facts.
+/// Returns whether the goal is met over the facts.
 fn is_met(goal: &Goal<'_>, facts: &[Cfg]) -> bool
     ensures { result ≡ true_as_wanted goal.now.wanted
         (truth (fact_set (map value_of facts.now)) (tree_of goal.now.e.now)) }
@@ -25,8 +25,8 @@ fn is_met(goal: &Goal<'_>, facts: &[Cfg]) -> bool
     as_wanted(goal.e.matches(facts), goal.wanted)
 }
 
-/// What is found of others, where that ends the search for one goal more too: it is met over these facts, or there is
-/// nothing even without it.
+/// Returns the result of a search for other goals, if it is the result with this goal too: the goal is met over the
+/// facts that were found, or nothing was found even without it.
 fn with_one_more(found: Found, goal: &Goal<'_>) -> Option<Found>
     ensures same { IfSome result (λ r. r ≡ found) }
     ensures met { IfSome result (IsMetBy goal.now) }

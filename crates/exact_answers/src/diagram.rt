@@ -1,4 +1,4 @@
-//! The end of a search by a decision diagram.
+//! Searches that a decision diagram ends.
 
 ghost use Rattle.std.specs.Prelude.{◌≡◌, [], IfOk, OnOk, IfSome};
 ghost use Rattle.exact_answers.specs.Goals.{pairs_of};
@@ -15,7 +15,7 @@ use crate::search::{Step, next_step};
 use cargo_platform::Cfg;
 use std::alloc::{AllocError, Global};
 
-/// What a diagram tells of goals.
+/// The result of a diagram on goals.
 #[derive(Drop)]
 pub enum End<'a> {
     /// They are met on this path.
@@ -24,14 +24,15 @@ pub enum End<'a> {
     Missed,
 }
 
-/// How many nodes the diagrams may have that are tried one after the other. The table of the first one is made in no
-/// time. Of 500 hard pairs of keys with up to 27 facts, each takes fewer than half of the last one.
+/// The numbers of nodes of the diagrams that are tried one after the other. The table of the first one takes no
+/// noticeable time. Of 500 hard pairs of keys with up to 27 facts, each takes fewer than half of the last number.
 const MOST_NODES: [usize; 3] = [1_024, 8_192, 131_072];
 
-/// Of more pairs no diagram is made: it takes stack for each of them, and would mostly be too large.
+/// The maximal number of pairs for which a diagram is made. Each of them takes stack, and a diagram of more would
+/// mostly be too large.
 const MOST_PAIRS: usize = 512;
 
-/// What a diagram of so many nodes finds of the goals.
+/// Returns what a diagram of at most this many nodes finds for the goals.
 fn outcome_within<'a>(
     alloc: Global,
     goals: &[Goal<'a>],
@@ -45,7 +46,7 @@ fn outcome_within<'a>(
     find_way(alloc, goals, pairs, &path, known.single, most_nodes)
 }
 
-/// What a diagram finds of the goals: a small one, or a larger one.
+/// Returns what a diagram finds for the goals: a small one, or else a larger one.
 fn outcome_of<'a>(
     alloc: Global,
     goals: &[Goal<'a>],
@@ -81,7 +82,7 @@ fn take_at<'a>(
     }
 }
 
-/// The path of these choices. What they leave open is taken as none.
+/// Returns the path of these choices. A pair without a choice is taken not to be a fact.
 fn path_of<'a>(
     alloc: Global,
     pairs: &[&'a Cfg],
@@ -101,7 +102,7 @@ fn path_of<'a>(
     Ok(path)
 }
 
-/// The path of these choices, where the goals are met on it: that is tried, whoever chose.
+/// Returns the path of these choices, if the goals are met on it. This is checked, whoever made the choices.
 fn tried<'a>(
     alloc: Global,
     goals: &[Goal<'a>],
@@ -119,7 +120,7 @@ fn tried<'a>(
     }
 }
 
-/// The end of a search for the goals, where a diagram tells it. These are the pairs that they ask for.
+/// Returns the end of a search for the goals, if a diagram decides it. `pairs` are the pairs in the goals.
 pub fn by_diagram<'a>(
     alloc: Global,
     goals: &[Goal<'a>],

@@ -1,5 +1,5 @@
-//! Whether expressions can have the truths that are wanted of them, by a decision diagram over sets of facts. A search
-//! that splits pair by pair takes long where a question repeats itself; here what repeats itself is made once.
+//! Decision diagrams over sets of facts, which decide whether expressions can have the wanted truths. A search that
+//! splits pair by pair takes long if subproblems repeat; here each is solved once.
 
 mod answers;
 mod making;

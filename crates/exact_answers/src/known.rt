@@ -16,7 +16,9 @@ pub const FAMILY_RULE: &str = "all(\
     any(all(unix, target_family = \"unix\"), not(any(unix, target_family = \"unix\"))), \
     any(all(windows, target_family = \"windows\"), not(any(windows, target_family = \"windows\"))))";
 
-/// The rule of `FAMILY_RULE`, for a caller that assumes it.
+/// Returns the rule of `FAMILY_RULE`, for a caller that assumes it.
+///
+/// Fails only where memory runs out.
 pub fn family_rule(alloc: Global) -> Result<CfgExpr, AllocError>
     // The rule is what `FAMILY_RULE` spells.
     ensures text { IfOk result (λ rule. IsTreeText FAMILY_RULE.now (tree_of rule)) }

@@ -1,10 +1,10 @@
-//! Exact answers on conditions over a target that is known only in part: whether an expression can hold, must hold,
-//! implies another one, is the same as another one, or excludes it.
+//! Exact answers on conditions over a target that is known only in part: whether an expression can be true, must be
+//! true, implies another one, is equivalent to it, or excludes it.
 //!
 //! `partial_facts` takes each name and pair by itself, so that `any(loom, not(loom))` stays unknown. Here the answers
-//! are exact: where three-valued logic does not decide, an open pair is taken as a fact, and then as none. The worst
-//! case takes `2^n - 1` such splits for `n` open names and pairs; a budget bounds them. A question that takes many is
-//! asked of a decision diagram too.
+//! are exact: where three-valued logic does not decide, an open pair is taken as a fact, and then as not one. The worst
+//! case takes `2^n - 1` such splits for `n` open names and pairs; a budget bounds them. A query that takes many splits
+//! is also tried by a decision diagram.
 #![tactic(auto)]
 
 mod answers;

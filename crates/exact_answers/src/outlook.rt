@@ -1,7 +1,6 @@
-//! Goals as operations on numbers of pairs, and a look ahead. The operations are worked out over the 64 sets of six
-//! open pairs at once, a bit of a word for each set: where no bit is left, the goals are missed whatever becomes of
-//! these pairs. The same pass sees whether what is told of pairs decides the goals, and else an open pair that they
-//! hang on.
+//! Goals as operations on numbers of pairs, and a look ahead. The operations are evaluated over the 64 sets of six open
+//! pairs at once, a bit of a word for each set: where no bit is left, the goals are missed whatever these pairs are.
+//! The same pass finds out whether what is known of pairs decides the goals, or else an open pair on which they depend.
 
 ghost use Rattle.std.specs.Prelude.{◌≡◌, ◌≤◌, ◌<◌, ◌+◌, ◌++◌, false, ◌∷◌, [], ℕ, Bool, true, map, reverse, drop, List};
 ghost use Rattle.std.specs.Prelude.{IfOk, OnOk, IfSome, Some, None, length};
@@ -26,18 +25,18 @@ use cargo_platform::{Cfg, CfgExpr};
 use partial_facts::Knowledge;
 use std::alloc::{AllocError, Global};
 
-/// What is done to work out whether goals are met. What is worked out stands in a list, the last one last.
+/// A step that evaluates whether goals are met. The results are a list, to which each step appends.
 #[derive(Clone, Copy)]
 pub enum Operation<'a> {
-    /// A pair, the truth that is wanted of it, and its number.
+    /// A pair, its wanted truth, and its number.
     Pair(&'a Cfg, bool, usize),
     /// A goal that is met, or missed, over each set of facts.
     Is(bool),
-    /// The last goals, so many: whether each of them is met, or one.
+    /// A group of the last findings: whether each of them is met, or one. The number is their count.
     Group(bool, usize),
 }
 
-/// What is told of a pair, the sets that may have it, and those that may be without it, a bit for each set.
+/// What is known of a pair, the sets that may have it, and those that may lack it, a bit for each set.
 #[derive(Clone, Copy)]
 pub struct Words<'a> {
     pub pair: &'a Cfg,
@@ -46,23 +45,23 @@ pub struct Words<'a> {
     pub without: u64,
 }
 
-/// What is seen of a goal by what is told of pairs.
+/// What is seen of a goal by what is known of pairs.
 #[derive(Clone, Copy)]
 pub enum Seen {
     /// Whether it is met.
     Known(bool),
-    /// It hangs on the pair with this number, which is open.
+    /// It depends on the pair with this number, which is open.
     Open(usize),
 }
 
-/// What is found of a goal: the sets over which it may be met, and what is seen of it.
+/// The finding on a goal: the sets over which it may be met, and what is seen of it.
 #[derive(Clone, Copy)]
 pub struct Finding {
     pub sets: u64,
     pub seen: Seen,
 }
 
-/// How goals are worked out, and the pairs that they ask for, in the order of their numbers.
+/// The operations that evaluate goals, and the pairs in the goals in the order of their numbers.
 #[derive(Drop)]
 pub struct Outlook<'a> {
     pub pairs: Vec<&'a Cfg>,
@@ -70,7 +69,7 @@ pub struct Outlook<'a> {
 }
 
 impl<'a> Outlook<'a> {
-    /// How these goals are worked out.
+    /// Returns the operations that evaluate these goals.
     pub fn new(alloc: Global, goals: &[Goal<'a>]) -> Result<Outlook<'a>, AllocError>
         ensures { IfOk result (λ outlook. IsOutlook outlook goals.now) }
     {
@@ -136,7 +135,7 @@ impl<'a> Outlook<'a> {
         }
     }
 
-    /// What is known of the goals on the path, or seen ahead.
+    /// Returns what is known of the goals on the path, or by a look ahead.
     pub fn step(&self, alloc: Global, path: &Path<'a>) -> Result<Step<'a>, AllocError>
         requires { (gs : List Goal) × IsOutlook self.now gs }
         ensures { IfOk result (λ step. (gs : List Goal) → IsOutlook self.now gs
@@ -154,7 +153,7 @@ impl<'a> Outlook<'a> {
     }
 }
 
-/// The goals, the first one last.
+/// Returns the goals in reverse order.
 fn backwards<'a>(alloc: Global, goals: &[Goal<'a>]) -> Result<Vec<Goal<'a>>, AllocError>
     ensures { IfOk result (λ all. all.items ≡ reverse goals.now) }
 {
@@ -185,7 +184,7 @@ fn add_members<'a>(
     Ok(())
 }
 
-/// The number of the pair. One that has none gets the next one.
+/// Returns the number of the pair. A new pair gets the next one.
 fn number_or_next<'a>(pairs: &mut Vec<&'a Cfg>, c: &'a Cfg) -> Result<usize, AllocError>
     ensures number { IfOk result (λ n. StandsAt (pairs_of pairs.new.items) n (pair_of (value_of c.now))) }
     ensures kept { OnOk result ((n : ℕ) (p : Pair) → StandsAt (pairs_of pairs.old.items) n p
@@ -203,14 +202,14 @@ fn number_or_next<'a>(pairs: &mut Vec<&'a Cfg>, c: &'a Cfg) -> Result<usize, All
     }
 }
 
-/// All sets, or none.
+/// Returns all sets, or none.
 fn all_or_none(all: bool) -> u64
     ensures { (l : ℕ) → l < 64 → all ≡ true → bit_at result l ≡ 1 }
 {
     if all { u64::MAX } else { 0 }
 }
 
-/// What is found of a goal whose truth is known.
+/// Returns the finding on a goal whose truth is known.
 fn literal(met: bool) -> Finding
     ensures { (table : List Words) (l : ℕ) → l < 64 → Says table l result met }
 {
@@ -220,7 +219,7 @@ fn literal(met: bool) -> Finding
     }
 }
 
-/// The sets of both words, or of either.
+/// Returns the sets of both words, or of either.
 fn joined_sets(each: bool, word: u64, other: u64) -> u64
     ensures { (l : ℕ) (a b : Bool) → (a ≡ true → bit_at word l ≡ 1) → (b ≡ true → bit_at other l ≡ 1)
         → both each a b ≡ true → bit_at result l ≡ 1 }
@@ -228,7 +227,7 @@ fn joined_sets(each: bool, word: u64, other: u64) -> u64
     if each { word & other } else { word | other }
 }
 
-/// What is seen of two goals together. The first one that is open gives the open pair.
+/// Returns what is seen of two goals together. If one is open, the first such goal gives the open pair.
 fn joined_seen(each: bool, one: Seen, other: Seen) -> Seen
     ensures { (table : List Words) (a b : Bool) → IsSeen table one a → IsSeen table other b
         → IsSeen table result (both each a b) }
@@ -242,7 +241,7 @@ fn joined_seen(each: bool, one: Seen, other: Seen) -> Seen
     }
 }
 
-/// What is found of two goals together.
+/// Returns the finding on two goals together.
 fn joined(each: bool, one: Finding, other: Finding) -> Finding
     ensures { (table : List Words) (l : ℕ) (a b : Bool) → Says table l one a → Says table l other b
         → Says table l result (both each a b) }
@@ -252,7 +251,7 @@ fn joined(each: bool, one: Finding, other: Finding) -> Finding
     Finding { sets, seen }
 }
 
-/// The words of a pair of which it is told whether it is a fact.
+/// Returns the words of a pair of which it is known whether it is a fact.
 fn told<'a>(pair: &'a Cfg, fact: bool) -> Words<'a>
     ensures same { pair_of (value_of result.pair.now) ≡ pair_of (value_of pair.now) }
     ensures tells { result.tells ≡ Some fact }
@@ -266,7 +265,7 @@ fn told<'a>(pair: &'a Cfg, fact: bool) -> Words<'a>
     }
 }
 
-/// The words of an open pair that the sets of a pattern have.
+/// Returns the words of an open pair, which the sets of a pattern have.
 fn split<'a>(pair: &'a Cfg, pattern: u64) -> Words<'a>
     ensures same { pair_of (value_of result.pair.now) ≡ pair_of (value_of pair.now) }
     ensures tells { result.tells ≡ None }
@@ -282,7 +281,7 @@ fn split<'a>(pair: &'a Cfg, pattern: u64) -> Words<'a>
     }
 }
 
-/// The words of a pair that any set may have.
+/// Returns the words of a pair that any set may have.
 fn unsplit<'a>(pair: &'a Cfg) -> Words<'a>
     ensures same { pair_of (value_of result.pair.now) ≡ pair_of (value_of pair.now) }
     ensures tells { result.tells ≡ None }
@@ -296,7 +295,7 @@ fn unsplit<'a>(pair: &'a Cfg) -> Words<'a>
     }
 }
 
-/// The words of a pair, and the patterns that are left.
+/// Returns the words of a pair, and the patterns that are left.
 fn next_words<'a, 'b>(
     pair: &'a Cfg,
     tells: Option<bool>,
@@ -315,8 +314,8 @@ fn next_words<'a, 'b>(
     }
 }
 
-/// The words of the pairs on the path. The first six open ones tell the sets apart: whatever set of facts is possible
-/// there, one of the 64 agrees with it.
+/// Returns the words of the pairs on the path. The first six open pairs distinguish the sets: each set of facts that is
+/// possible there agrees with one of the 64.
 fn words_of<'a>(
     alloc: Global,
     pairs: &[&'a Cfg],
@@ -345,7 +344,7 @@ fn words_of<'a>(
     Ok(table)
 }
 
-/// The sets over which the pair may have this truth.
+/// Returns the sets over which the pair may have this truth.
 fn sets_of(words: &Words<'_>, wanted: bool) -> u64
     ensures { (s : FactSet) (l : ℕ) → Fits s l words.now
         → true_as_wanted wanted (contains s (pair_of (value_of words.now.pair.now))) ≡ true → bit_at result l ≡ 1 }
@@ -353,7 +352,7 @@ fn sets_of(words: &Words<'_>, wanted: bool) -> u64
     if wanted { words.with } else { words.without }
 }
 
-/// What is seen of a pair of which this is told, where a truth is wanted of it.
+/// Returns what is seen of a pair with a wanted truth.
 fn seen_of(tells: Option<bool>, wanted: bool, number: usize) -> Seen
     ensures { (table : List Words) (b : Bool) → (tells ≡ None → IsOpenAt table number) → IfSome tells (λ t. b ≡ t)
         → IsSeen table result (true_as_wanted wanted b) }
@@ -364,7 +363,7 @@ fn seen_of(tells: Option<bool>, wanted: bool, number: usize) -> Seen
     }
 }
 
-/// What is found of the pair with this number, where a truth is wanted of it.
+/// Returns the finding on the pair with this number and a wanted truth.
 fn finding_of(table: &[Words<'_>], wanted: bool, number: usize) -> Finding
     requires { number < length table.now }
     ensures { (s : FactSet) (l : ℕ) (p : Pair) → All (Fits s l) table.now → StandsAt (table_pairs table.now) number p
@@ -403,7 +402,7 @@ fn pushed(findings: &mut Vec<Finding>, finding: Finding) -> Result<(), AllocErro
     Ok(())
 }
 
-/// Works out one operation.
+/// Evaluates one operation.
 fn work_out(
     operation: Operation<'_>,
     table: &[Words<'_>],
@@ -427,7 +426,7 @@ fn work_out(
     }
 }
 
-/// The last finding.
+/// Returns the last finding.
 fn last(findings: Vec<Finding>) -> Finding
     ensures { (table : List Words) (l : ℕ) (b : Bool) → Covers table l (reverse findings.items) (b ∷ [])
         → Says table l result b }
@@ -439,7 +438,7 @@ fn last(findings: Vec<Finding>) -> Finding
     }
 }
 
-/// What is found of all goals together.
+/// Returns the finding on all goals together.
 fn work_out_all(
     alloc: Global,
     operations: &[Operation<'_>],
@@ -456,7 +455,7 @@ fn work_out_all(
     Ok(last(findings))
 }
 
-/// The pair with this number, which is open.
+/// Returns the pair with this number, which is open.
 fn open_pair<'a>(table: &[Words<'a>], number: usize) -> &'a Cfg
     requires short { number < length table.now }
     requires untold { IsOpenAt table.now number }

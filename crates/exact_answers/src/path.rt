@@ -1,4 +1,4 @@
-//! The splits that lead to a part of the possible sets of facts, and what is known there.
+//! The case splits that lead to a part of the possible sets of facts, and what is known there.
 
 ghost use Rattle.std.specs.Prelude.{◌≡◌, ◌<◌, ◌+◌, ◌^◌, ◌++◌, ◌∷◌, [], true, false, Some, None, map, reverse};
 ghost use Rattle.std.specs.Prelude.{IfOk, OnOk, string_bytes};
@@ -30,7 +30,7 @@ pub struct Split<'a> {
     pub holds: bool,
 }
 
-/// Whether the pair of `c` is taken as a fact.
+/// Returns whether the pair of `c` is taken as a fact.
 fn takes(splits: &[Split<'_>], c: &Cfg) -> bool
     ensures { result ≡ takes (is_pair (pair_of (value_of c.now))) (map turn_of splits.now) }
 {
@@ -42,7 +42,7 @@ fn takes(splits: &[Split<'_>], c: &Cfg) -> bool
     false
 }
 
-/// Whether the pair of `c` is taken as none.
+/// Returns whether the pair of `c` is taken not to be a fact.
 fn refuses(splits: &[Split<'_>], c: &Cfg) -> bool
     ensures { result ≡ refuses (is_pair (pair_of (value_of c.now))) (map turn_of splits.now) }
 {
@@ -54,7 +54,7 @@ fn refuses(splits: &[Split<'_>], c: &Cfg) -> bool
     false
 }
 
-/// Whether the key with some value is taken as a fact.
+/// Returns whether the key with some value is taken as a fact.
 fn takes_value(splits: &[Split<'_>], key: &Ident) -> bool
     ensures { result ≡ takes (is_value (string_bytes key.now.name)) (map turn_of splits.now) }
 {
@@ -71,7 +71,7 @@ fn takes_value(splits: &[Split<'_>], key: &Ident) -> bool
 pub struct Path<'a> {
     known: &'a Known<'a>,
     splits: Vec<Split<'a>>,
-    /// How many splits were made on it, those that were undone since too. Pairs that a diagram chose count none.
+    /// The number of splits that were made, also those that were undone since. Pairs that a diagram chose do not count.
     made: u64,
 }
 
@@ -100,7 +100,7 @@ impl<'a> Knowledge for Path<'a> {
 }
 
 impl<'a> Path<'a> {
-    /// No splits.
+    /// Returns a path without splits.
     pub fn new(alloc: Global, known: &'a Known<'a>) -> Path<'a>
         ensures known { result.known.now ≡ known.now }
         ensures none { turns result ≡ [] }
@@ -113,36 +113,36 @@ impl<'a> Path<'a> {
         }
     }
 
-    /// How many splits were made.
+    /// Returns how many splits were made.
     pub fn made(&self) -> u64
         ensures { result ≡ self.now.made }
     {
         self.made
     }
 
-    /// What is known where no pair is split.
+    /// Returns what is known where no pair is split.
     pub fn known(&self) -> &'a Known<'a>
         ensures { result.now ≡ self.now.known.now }
     {
         self.known
     }
 
-    /// Whether the pair of `c` is a fact so far.
+    /// Returns whether the pair of `c` is a fact so far.
     fn has_fact(&self, c: &Cfg) -> bool
         ensures { result ≡ contains (set_on (base_of self.now.known.now) (turns self.now)) (pair_of (value_of c.now)) }
     {
         takes(&self.splits, c) || Listed(self.known.facts).holds(c)
     }
 
-    /// Whether the pair of `c`, which is no fact so far, is taken as none or ruled out.
+    /// Returns whether the pair of `c`, which is not a fact so far, is taken not to be one or is ruled out.
     fn refutes(&self, c: &Cfg) -> bool
         ensures { result ≡ is_refuted (base_of self.now.known.now) (turns self.now) (pair_of (value_of c.now)) }
     {
         refuses(&self.splits, c) || self.rules_out(c)
     }
 
-    /// Whether what is known rules out the pair of `c`, which is no fact so far: its name or key is complete, or its
-    /// key has one value, and has it already.
+    /// Returns whether what is known rules out the pair of `c`, which is not a fact so far: its name or key is
+    /// complete, or its key has one value, and has it already.
     fn rules_out(&self, c: &Cfg) -> bool
         ensures { result ≡ rules_out (base_of self.now.known.now)
             (facts_on (base_of self.now.known.now) (turns self.now)) (pair_of (value_of c.now)) }
@@ -156,7 +156,7 @@ impl<'a> Path<'a> {
         }
     }
 
-    /// Whether the key with some value is a fact so far.
+    /// Returns whether the key with some value is a fact so far.
     fn has_value(&self, key: &Ident) -> bool
         ensures { result ≡ has_value (string_bytes key.now.name)
             (facts_on (base_of self.now.known.now) (turns self.now)) }
@@ -209,8 +209,8 @@ impl<'a> Path<'a> {
         self.splits.clear();
     }
 
-    /// Goes back to the last pair that is taken as none, and takes it as a fact. `false` where there is no such pair:
-    /// each split is undone then.
+    /// Returns to the last pair that is taken not to be a fact, and takes it as a fact. Returns `false` if there is no
+    /// such pair; then all splits are undone.
     pub fn turn(&mut self) -> Result<bool, AllocError>
         ensures known { self.new.known.now ≡ self.old.known.now }
         ensures counted { self.new.made ≡ self.old.made }
@@ -230,7 +230,7 @@ impl<'a> Path<'a> {
         Ok(false)
     }
 
-    /// The pairs that are taken as facts, the last one first, and the facts that are listed, all without marks.
+    /// Returns the pairs that are taken as facts, the last one first, and the facts that are listed, all without marks.
     pub fn facts(&self, alloc: Global) -> Result<Vec<Cfg>, AllocError>
         ensures pairs { IfOk result (λ facts. map pair_of (map value_of facts.items)
             ≡ facts_on (base_of self.now.known.now) (turns self.now)) }
@@ -242,14 +242,14 @@ impl<'a> Path<'a> {
     }
 }
 
-/// A copy of the splits.
+/// Returns a copy of the splits.
 fn copied<'a>(alloc: Global, splits: &[Split<'a>]) -> Result<Vec<Split<'a>>, AllocError>
     ensures { IfOk result (λ copy. copy.items ≡ splits.now) }
 {
     Vec::from_slice(alloc, splits)
 }
 
-/// The pairs that are taken as facts, the last one first, without marks.
+/// Returns the pairs that are taken as facts, the last one first, without marks.
 #[tactic(auto, using(crate::proofs::OnPath::unmarked_facts))]
 fn taken_facts(alloc: Global, splits: Vec<Split<'_>>) -> Result<Vec<Cfg>, AllocError>
     ensures pairs { IfOk result (λ facts. map pair_of (map value_of facts.items)
@@ -266,7 +266,7 @@ fn taken_facts(alloc: Global, splits: Vec<Split<'_>>) -> Result<Vec<Cfg>, AllocE
     Ok(facts)
 }
 
-/// The facts, and others after them. The others lose their marks.
+/// Appends copies of facts, without their raw marks, to the others.
 fn with_copies(alloc: Global, mut facts: Vec<Cfg>, others: &[Cfg]) -> Result<Vec<Cfg>, AllocError>
     ensures { IfOk result (λ all. map value_of all.items
         ≡ map value_of facts.items ++ map unmarked (map value_of others.now)) }
@@ -277,7 +277,7 @@ fn with_copies(alloc: Global, mut facts: Vec<Cfg>, others: &[Cfg]) -> Result<Vec
     Ok(facts)
 }
 
-/// The fact without its raw mark.
+/// Returns the fact without its raw mark.
 fn unmarked(alloc: Global, fact: &Cfg) -> Result<Cfg, AllocError>
     ensures { IfOk result (λ r. value_of r ≡ unmarked (value_of fact.now)) }
 {

@@ -1,4 +1,4 @@
-//! The questions on conditions: the name of a target, or an expression.
+//! The queries on conditions, which are target names or expressions.
 
 ghost use Rattle.std.specs.Prelude.{◌≡◌, ◌↔◌, true, false, not, [], ◌∷◌, string_bytes, IfOk};
 ghost use Rattle.std.specs.Option.{option_copied};
@@ -17,35 +17,35 @@ use std::alloc::{AllocError, Global};
 /// A target that is possible.
 #[derive(Drop)]
 pub struct PossibleTarget {
-    /// The name that it has. `None`: any name that the conditions of the question do not name.
+    /// Its name. `None` stands for any name that is not in the conditions of the query.
     pub name: Option<String>,
     /// Its facts.
     pub facts: Vec<Cfg>,
 }
 
-/// Whether a condition can hold.
+/// Whether a condition can be true.
 #[derive(Drop)]
 pub enum CanSelect {
-    /// It does for this target.
+    /// It is true on this target.
     Yes(PossibleTarget),
-    /// It does for no possible target.
+    /// It is true on no possible target.
     No,
-    /// The splits are used up.
+    /// The budget of case splits is used up.
     Undecided,
 }
 
-/// Whether something holds for each target.
+/// Whether something is true on each possible target.
 #[derive(Drop)]
 pub enum MustSelect {
-    /// It holds for each possible target.
+    /// It is true on each possible target.
     Yes,
-    /// It does not for this target.
+    /// It is false on this target.
     No(PossibleTarget),
-    /// The splits are used up.
+    /// The budget of case splits is used up.
     Undecided,
 }
 
-/// Which targets are looked for: the possible ones for which both conditions are as true as wanted.
+/// The targets of a search: the possible ones on which both conditions have the wanted truths.
 #[derive(Clone, Copy)]
 struct Question<'a> {
     known: &'a Known<'a>,
@@ -55,7 +55,7 @@ struct Question<'a> {
     second_wanted: bool,
 }
 
-/// What became of a search for a target.
+/// The result of a search for a target.
 #[derive(Drop)]
 enum FoundTarget {
     Target(PossibleTarget),
@@ -63,7 +63,7 @@ enum FoundTarget {
     Undecided,
 }
 
-/// Whether the condition holds for some possible target. A target may have any name, and the name says nothing of its
+/// Returns whether the condition is true on some possible target. A target may have any name, and its name implies no
 /// facts.
 pub fn can_hold_platform<'a>(
     alloc: Global,
@@ -84,7 +84,7 @@ pub fn can_hold_platform<'a>(
     Ok(as_can(found))
 }
 
-/// Whether the condition holds for each possible target.
+/// Returns whether the condition is true on each possible target.
 pub fn always_platform<'a>(
     alloc: Global,
     platform: &'a Platform,
@@ -103,7 +103,7 @@ pub fn always_platform<'a>(
     Ok(as_must(found))
 }
 
-/// Whether `b` holds for each possible target for which `a` does.
+/// Returns whether `b` is true on each possible target on which `a` is.
 pub fn implies_platform<'a>(
     alloc: Global,
     a: &'a Platform,
@@ -130,7 +130,7 @@ pub fn implies_platform<'a>(
     Ok(as_must(found))
 }
 
-/// Whether no possible target has `a` and `b` both hold.
+/// Returns whether `a` and `b` are both true on no possible target.
 pub fn exclude_platform<'a>(
     alloc: Global,
     a: &'a Platform,
@@ -157,7 +157,7 @@ pub fn exclude_platform<'a>(
     Ok(as_must(found))
 }
 
-/// Whether `a` and `b` hold for the same ones of the possible targets. Each of the two implications has the budget.
+/// Returns whether `a` and `b` are true on the same possible targets. Each of the two implications has the budget.
 pub fn equivalent_platform<'a>(
     alloc: Global,
     a: &'a Platform,
@@ -200,7 +200,7 @@ pub fn equivalent_platform<'a>(
     }
 }
 
-/// The answer of a search for an example.
+/// Returns the answer of a search for an example.
 fn as_can(found: FoundTarget) -> CanSelect
     ensures { result ≡ as_can found }
 {
@@ -211,7 +211,7 @@ fn as_can(found: FoundTarget) -> CanSelect
     }
 }
 
-/// The answer of a search for a counterexample.
+/// Returns the answer of a search for a counterexample.
 fn as_must(found: FoundTarget) -> MustSelect
     ensures { result ≡ as_must found }
 {
@@ -329,7 +329,7 @@ fn search_unnamed(
     Ok(with_name(found, None))
 }
 
-/// The target of the facts that are found.
+/// Returns the target with the facts that were found.
 fn with_name(found: Found, name: Option<String>) -> FoundTarget
     ensures { result ≡ with_name found name }
 {
@@ -340,7 +340,7 @@ fn with_name(found: Found, name: Option<String>) -> FoundTarget
     }
 }
 
-/// What is found, where another search took too many splits.
+/// Returns the result of a search, if another one used up its splits.
 fn or_undecided(found: FoundTarget) -> FoundTarget
     ensures { result ≡ or_undecided found }
 {
@@ -372,7 +372,7 @@ fn search_under(
     )
 }
 
-/// What the condition says of the facts of a target with this name, or with `None` of one that no condition names.
+/// Returns the condition on the facts of a target with this name, or for `None` with a name that is in no condition.
 fn under<'a>(
     platform: &'a Platform,
     name: Option<&str>,

@@ -1,23 +1,23 @@
-//! What a run prints, and the status that it ends with.
+//! The output of a run, and its exit status.
 
 ghost use Rattle.std.specs.Prelude.{◌≡◌, ◌++◌, [], OnOk, max, string_bytes};
 ghost use Rattle.key_answers.specs.Printing.{code_of};
 
 use std::alloc::{AllocError, Global};
 
-/// How a run ends.
+/// The exit status of a run.
 #[derive(Clone, Copy, Debug, PartialEq, Eq)]
 pub enum Status {
-    /// Nothing is found, or the question is answered.
+    /// There is nothing to report, or the query is answered.
     Fine,
-    /// Something is found, or a key does not apply.
+    /// There is something to report, or a key does not apply.
     Found,
-    /// The words, a key or a file can't be used.
+    /// An argument, a key or a file is invalid.
     Unusable,
 }
 
 impl Status {
-    /// The number that the process ends with.
+    /// Returns the number of the exit status.
     pub fn code(self) -> u8
         ensures { result ≡ code_of self }
     {
@@ -29,18 +29,18 @@ impl Status {
     }
 }
 
-/// What is to be printed, and how the run ends then.
+/// The output of a run, and its exit status.
 #[derive(Drop)]
 pub struct Answer {
-    /// Goes to standard output.
+    /// The text for standard output.
     pub output: String,
-    /// Goes to standard error.
+    /// The text for standard error.
     pub errors: String,
     pub status: Status,
 }
 
 impl Answer {
-    /// The answer that is this text on standard output.
+    /// Returns an answer with this text on standard output.
     pub fn of(alloc: Global, output: String, status: Status) -> Answer
         ensures output { string_bytes result.output ≡ string_bytes output }
         ensures errors { string_bytes result.errors ≡ [] }
@@ -53,7 +53,7 @@ impl Answer {
         }
     }
 
-    /// Adds an answer after this one. Of the two statuses the one with the greater number counts.
+    /// Appends an answer. The status is the greater one of both.
     pub fn append(&mut self, other: Answer) -> Result<(), AllocError>
         ensures output { OnOk result
             (string_bytes self.new.output ≡ string_bytes self.old.output ++ string_bytes other.output) }
@@ -67,7 +67,7 @@ impl Answer {
         Ok(())
     }
 
-    /// Of the answer's status and this one the one with the greater number counts.
+    /// Sets the status to this one, if it is greater.
     pub fn raise(&mut self, status: Status)
         ensures texts { (self.new.output ≡ self.old.output) × (self.new.errors ≡ self.old.errors) }
         ensures status { code_of self.new.status ≡ max (code_of self.old.status) (code_of status) }
@@ -77,7 +77,7 @@ impl Answer {
         }
     }
 
-    /// The answer to what can't be used: nothing on standard output, and this text on standard error.
+    /// Returns the answer to an invalid input: nothing on standard output, and this text on standard error.
     pub fn unusable(alloc: Global, errors: String) -> Answer
         ensures output { string_bytes result.output ≡ [] }
         ensures errors { string_bytes result.errors ≡ string_bytes errors }
@@ -91,10 +91,10 @@ impl Answer {
     }
 }
 
-/// Why a question gets no answer of its own.
+/// The reason why a query has no answer.
 #[derive(Drop)]
 pub enum Refusal {
-    /// A key, a name or a fact can't be used, as this text says.
+    /// A key, a name or a fact is invalid, with this message.
     Unusable(String),
     Memory(AllocError),
 }
@@ -105,7 +105,7 @@ impl From<AllocError> for Refusal {
     }
 }
 
-/// The answer, or the one that says why there is none.
+/// Returns the answer, or the one that says why there is none.
 pub fn answered(alloc: Global, answer: Result<Answer, Refusal>) -> Result<Answer, AllocError> {
     match answer {
         Ok(answer) => Ok(answer),

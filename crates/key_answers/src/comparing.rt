@@ -1,4 +1,4 @@
-//! `compare`: how two keys stand to each other.
+//! `compare`: how two keys relate to each other.
 
 use crate::answer::{Answer, Refusal, Status};
 use crate::comparison::json_line;
@@ -12,7 +12,7 @@ use exact_answers::{
 use known_targets::{COUNT, TargetSet, matching};
 use std::alloc::{AllocError, Global};
 
-/// The relations, as they are asked and told.
+/// The relations between two keys, in the order in which they are printed.
 #[derive(Clone, Copy, Debug, PartialEq, Eq)]
 pub enum Relation {
     Implies,
@@ -21,7 +21,7 @@ pub enum Relation {
     Excludes,
 }
 
-/// How many names of targets a line has at most.
+/// The maximal number of target names in a line.
 const SHOWN: usize = 3;
 
 pub const RELATIONS: [Relation; 4] = [
@@ -32,7 +32,7 @@ pub const RELATIONS: [Relation; 4] = [
 ];
 
 impl Relation {
-    /// As people read it.
+    /// Returns the relation's name in text.
     pub fn words(self) -> &'static str {
         match self {
             Relation::Implies => "implies",
@@ -42,7 +42,7 @@ impl Relation {
         }
     }
 
-    /// The field of JSON.
+    /// Returns the relation's field in JSON.
     pub fn field(self) -> &'static str {
         match self {
             Relation::Implies => "implies",
@@ -53,7 +53,7 @@ impl Relation {
     }
 }
 
-/// How two keys stand to each other at every target, over every set of facts that is possible.
+/// How two keys relate at every possible target, that is for every possible set of facts.
 #[derive(Drop)]
 pub struct Everywhere {
     pub implies: MustSelect,
@@ -62,7 +62,7 @@ pub struct Everywhere {
 }
 
 impl Everywhere {
-    /// Whether each key implies the other one. What shows that one does not shows that they are not equivalent.
+    /// Returns whether each key implies the other one. An example against either shows that they are not equivalent.
     pub fn equivalent(&self) -> &MustSelect {
         match (&self.implies, &self.implied_by) {
             (MustSelect::Yes, _) | (MustSelect::Undecided, MustSelect::No(_)) => &self.implied_by,
@@ -70,7 +70,7 @@ impl Everywhere {
         }
     }
 
-    /// The answer on a relation.
+    /// Returns the answer on a relation.
     fn on(&self, relation: Relation) -> &MustSelect {
         match relation {
             Relation::Implies => &self.implies,
@@ -81,20 +81,20 @@ impl Everywhere {
     }
 }
 
-/// How two keys stand to each other at the known targets, each with its own facts.
+/// How two keys relate on the known targets, each with its own facts.
 #[derive(Clone, Copy, Drop)]
 pub struct AtKnown {
-    /// Which relations hold at each of them, in the order of `RELATIONS`.
+    /// Whether each relation is true on all known targets, in the order of `RELATIONS`.
     pub held: [bool; 4],
-    /// Those at which both keys hold.
+    /// The targets on which both keys are true.
     pub both: TargetSet,
-    /// Those at which the first key holds and the second does not.
+    /// The targets on which the first key is true and the second is false.
     pub first_alone: TargetSet,
-    /// Those at which the second key holds and the first does not.
+    /// The targets on which the second key is true and the first is false.
     pub second_alone: TargetSet,
 }
 
-/// How `a` stands to `b` at the known targets.
+/// Returns how `a` relates to `b` on the known targets.
 pub fn at_known_targets(alloc: Global, a: &Platform, b: &Platform) -> Result<AtKnown, AllocError> {
     let at_a = matching(alloc, a)?;
     let at_b = matching(alloc, b)?;
@@ -111,7 +111,7 @@ pub fn at_known_targets(alloc: Global, a: &Platform, b: &Platform) -> Result<AtK
     })
 }
 
-/// The example with its facts in their order, each once.
+/// Returns the answer with the facts of its example sorted, each once.
 fn tidy(answer: MustSelect) -> Result<MustSelect, AllocError> {
     match answer {
         MustSelect::No(PossibleTarget { name, mut facts }) => {
@@ -123,7 +123,7 @@ fn tidy(answer: MustSelect) -> Result<MustSelect, AllocError> {
     }
 }
 
-/// What is told of one relation.
+/// Returns the text for the answer on a relation.
 fn told(alloc: Global, answer: &MustSelect) -> Result<String, AllocError> {
     match answer {
         MustSelect::Yes => String::from_str(alloc, "yes"),
@@ -135,7 +135,7 @@ fn told(alloc: Global, answer: &MustSelect) -> Result<String, AllocError> {
     }
 }
 
-/// The relations that hold at each known target.
+/// Returns the text for the relations that are true on each known target.
 fn told_at_known(alloc: Global, held: &[bool; 4]) -> Result<String, AllocError> {
     let mut text = String::new(alloc);
     for (relation, holds) in RELATIONS.iter().zip(held.iter()) {
@@ -186,7 +186,7 @@ fn push_targets(
     text.push_str("\n")
 }
 
-/// The lines on the known targets.
+/// Returns the lines on the known targets.
 fn known_lines(alloc: Global, known: &AtKnown) -> Result<String, AllocError> {
     let told = told_at_known(alloc, &known.held)?;
     let mut lines = format!(in alloc; "at the {COUNT} known targets: {told}\n")?;
@@ -196,7 +196,7 @@ fn known_lines(alloc: Global, known: &AtKnown) -> Result<String, AllocError> {
     Ok(lines)
 }
 
-/// How `a` stands to `b` everywhere, within so many splits for each search.
+/// Returns how `a` relates to `b` on every possible target, within this number of case splits for each search.
 fn found_everywhere<'a>(
     alloc: Global,
     a: &'a Platform,
@@ -211,7 +211,7 @@ fn found_everywhere<'a>(
     })
 }
 
-/// What standard error is told of the answers that took too much work.
+/// Returns the notes on relations that would take too many case splits.
 fn undecided_notes(
     alloc: Global,
     everywhere: &Everywhere,
@@ -228,7 +228,7 @@ fn undecided_notes(
     Ok(errors)
 }
 
-/// What a group without members means.
+/// Returns the meaning of a group without members.
 fn empty_group(e: &CfgExpr) -> Option<&'static str> {
     let (members, meaning) = match e {
         CfgExpr::Any(members) => (members, "it holds nowhere"),
@@ -242,7 +242,7 @@ fn empty_group(e: &CfgExpr) -> Option<&'static str> {
     }
 }
 
-/// What is said of a key that is empty: of no text, or a group without members. Of others it is nothing.
+/// Returns the note on an empty key, which has no text or is a group without members. It is empty for other keys.
 fn empty_note(alloc: Global, place: &str, key: &Platform) -> Result<String, AllocError> {
     let meaning = match key {
         Platform::Cfg(e) => empty_group(e),
@@ -260,7 +260,7 @@ fn empty_note(alloc: Global, place: &str, key: &Platform) -> Result<String, Allo
     }
 }
 
-/// The answers, one a line: those at the known targets, and then those at any.
+/// Returns the answers, one a line: those on the known targets, followed by those on every possible target.
 fn lines_of(alloc: Global, everywhere: &Everywhere, known: &AtKnown) -> Result<String, AllocError> {
     let mut lines = known_lines(alloc, known)?;
     lines.push_str("at the targets of any specification:\n")?;
@@ -273,7 +273,7 @@ fn lines_of(alloc: Global, everywhere: &Everywhere, known: &AtKnown) -> Result<S
     Ok(lines)
 }
 
-/// How the keys stand to each other, at every target that may be and at the known ones.
+/// Returns how the keys relate, on every possible target and on the known ones.
 fn compared(
     alloc: Global,
     keys: &Keys<'_>,
@@ -307,7 +307,7 @@ fn compared(
     })
 }
 
-/// How two keys stand to each other. Each search may take so many steps of work.
+/// Returns how two keys relate. Each search may take this number of steps.
 pub fn compare(
     alloc: Global,
     first: &str,

@@ -13,44 +13,44 @@ use std::alloc::{AllocError, Global};
 struct Targets {
     /// Their names, or `all`.
     at: At<'static>,
-    /// How many they are.
+    /// The number of targets.
     targets: usize,
 }
 
-/// Whether a relation holds at every target that may exist.
+/// Whether a relation is true on every possible target.
 #[derive(Drop, Serialize)]
 struct Verdict<'a> {
     /// One of `yes`, `no` and `undecided`.
     answer: &'static str,
-    /// With `no`, the facts of a target at which it does not hold.
+    /// With `no`, the facts of a target on which it is false.
     facts: Option<Vec<String>>,
-    /// With `no`, the name of that target. Null stands for any name that neither key is.
+    /// With `no`, the name of that target. Null stands for any name that is not one of the keys.
     target: Option<&'a str>,
 }
 
 /// The line of `compare --json`: how two keys relate.
 #[derive(Drop, Serialize)]
 struct Comparison<'a> {
-    /// The known targets at which both keys hold.
+    /// The known targets on which both keys are true.
     both: Targets,
-    /// Whether both keys hold at the same targets.
+    /// Whether both keys are true on the same targets.
     equivalent: Verdict<'a>,
-    /// Whether the keys hold at no target together.
+    /// Whether the keys are never true on the same target.
     excludes: Verdict<'a>,
-    /// The known targets at which the first key alone holds.
+    /// The known targets on which only the first key is true.
     first_alone: Targets,
     /// Whether the second key implies the first one.
     implied_by: Verdict<'a>,
     /// Whether the first key implies the second one.
     implies: Verdict<'a>,
-    /// The relations that hold at each known target. Each is one of `implies`, `implied_by`, `equivalent` and
+    /// The relations that are true on all known targets, each one of `implies`, `implied_by`, `equivalent` and
     /// `excludes`.
     known: Vec<&'static str>,
-    /// The known targets at which the second key alone holds.
+    /// The known targets on which only the second key is true.
     second_alone: Targets,
 }
 
-/// Known targets, for JSON.
+/// Returns known targets, for JSON.
 fn targets_of(alloc: Global, targets: TargetSet) -> Result<Targets, AllocError> {
     let at = if targets.equals(TargetSet::all()) {
         At::All(Every::All)
@@ -63,7 +63,7 @@ fn targets_of(alloc: Global, targets: TargetSet) -> Result<Targets, AllocError> 
     })
 }
 
-/// The answer on a relation, for JSON.
+/// Returns the answer on a relation, for JSON.
 fn verdict_of(alloc: Global, answer: &MustSelect) -> Result<Verdict<'_>, AllocError> {
     let example = match answer {
         MustSelect::No(example) => example,
@@ -82,7 +82,7 @@ fn verdict_of(alloc: Global, answer: &MustSelect) -> Result<Verdict<'_>, AllocEr
 }
 
 impl<'a> Verdict<'a> {
-    /// The answer that no example goes with.
+    /// Returns an answer without an example.
     fn without_example(answer: &'static str) -> Verdict<'a> {
         Verdict {
             answer,
@@ -92,7 +92,7 @@ impl<'a> Verdict<'a> {
     }
 }
 
-/// The fields of the relations that hold at each known target.
+/// Returns the fields of the relations that are true on all known targets.
 fn fields_of(alloc: Global, held: &[bool; 4]) -> Result<Vec<&'static str>, AllocError> {
     let mut fields = Vec::new(alloc);
     for (relation, holds) in RELATIONS.iter().zip(held.iter()) {
@@ -103,7 +103,7 @@ fn fields_of(alloc: Global, held: &[bool; 4]) -> Result<Vec<&'static str>, Alloc
     Ok(fields)
 }
 
-/// The answers as a line of JSON.
+/// Returns the answers as a line of JSON.
 pub fn json_line(
     alloc: Global,
     everywhere: &Everywhere,

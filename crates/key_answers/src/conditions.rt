@@ -1,4 +1,4 @@
-//! Keys that are read.
+//! The reader of keys in arguments.
 
 ghost use Rattle.std.specs.Prelude.{IfOk};
 ghost use Rattle.cargo_platform.specs.Trees.{condition_of};
@@ -11,7 +11,7 @@ use cargo_platform::Platform;
 use input_limits::KeyError;
 use std::alloc::Global;
 
-/// The condition that a key spells, which is not nested too deep.
+/// Reads a key, which must not be nested too deep. Fails with a message if it is invalid.
 pub fn read_key(alloc: Global, key: &str) -> Result<Platform, Refusal>
     ensures condition { IfOk result (λ p. IsConditionText key.now (condition_of p)) }
     ensures shallow { IfOk result (λ _. IsShallow key.now) }

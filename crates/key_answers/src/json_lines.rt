@@ -53,14 +53,14 @@ fn with_escapes(alloc: Global, json: &str) -> Result<String, AllocError>
     shown_text(alloc, escaped.as_str())
 }
 
-/// Whether a byte is a printable character of ASCII.
+/// Returns whether a byte is a printable ASCII character.
 fn is_printable(byte: u8) -> bool
     ensures { result ≡ is_printable byte }
 {
     0x20 <= byte && byte < 0x7f
 }
 
-/// Whether each byte is a printable character of ASCII.
+/// Returns whether each byte is a printable ASCII character.
 fn are_printable(bytes: &[u8]) -> bool
     ensures { result ≡ list_all is_printable bytes.now }
 {

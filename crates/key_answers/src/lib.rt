@@ -1,4 +1,4 @@
-//! Answers about keys, as they are printed: how two keys stand to each other, and what is said of a refused one.
+//! Answers about keys, as they are printed: how two keys relate, and the messages for invalid ones.
 #![tactic(auto)]
 
 pub mod answer;

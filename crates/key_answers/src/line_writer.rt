@@ -3,29 +3,30 @@
 use serde::{Case, NameKind, Serialize, Serializer};
 use std::alloc::{AllocError, Global};
 
-/// JSON on one line, as far as it is written.
+/// JSON on one line that is being written.
 #[derive(Drop)]
 pub struct LineWriter {
     alloc: Global,
     json: String,
-    /// Whether a space follows each comma and each colon.
+    /// True if a space follows each comma and each colon.
     is_spaced: bool,
-    /// Whether the next element or key follows another one.
+    /// True if the next element or key follows another one.
     follows: bool,
 }
 
-/// Whether a byte of a string is written as it is: printable ASCII that JSON does not escape.
+/// Returns whether a byte of a string is written unchanged: printable ASCII that JSON does not escape.
 fn is_plain(byte: u8) -> bool {
     0x20 <= byte && byte < 0x7f && byte != b'"' && byte != b'\\'
 }
 
-/// Whether all bytes of a string are written as they are. The loop has no exit, so that it takes many bytes at a time.
+/// Returns whether all bytes of a string are written unchanged. The loop has no exit, so that it takes many bytes at a
+/// time.
 fn are_plain(bytes: &[u8]) -> bool {
     bytes.iter().fold(true, |all, byte| all & is_plain(*byte))
 }
 
 impl LineWriter {
-    /// A writer of which nothing is written.
+    /// Returns a writer of an empty text.
     pub fn new(alloc: Global, is_spaced: bool) -> LineWriter {
         LineWriter {
             alloc,
@@ -73,7 +74,7 @@ impl LineWriter {
         Ok(())
     }
 
-    /// Appends an element that is no list, object or string.
+    /// Appends an element that is not a list, object or string.
     fn element(&mut self, text: &str) -> Result<(), AllocError> {
         self.begin()?;
         self.push_text(text)

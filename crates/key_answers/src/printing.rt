@@ -1,4 +1,4 @@
-//! How facts, examples and refusals are printed.
+//! The text forms of facts, examples and errors.
 
 ghost use Rattle.std.specs.Prelude.{◌≡◌, ◌++◌, IfOk, OnOk, flat_map, map, string_bytes};
 ghost use Rattle.cargo_platform.specs.Trees.{value_of};
@@ -27,7 +27,7 @@ pub fn push_fact_line(text: &mut String, fact: &Cfg) -> Result<(), AllocError>
     }
 }
 
-/// The lines of the facts.
+/// Returns the facts, one a line.
 pub fn fact_lines(alloc: Global, facts: &[Cfg]) -> Result<String, AllocError>
     ensures { IfOk result (λ t. string_bytes t ≡ flat_map fact_line (map value_of facts.now)) }
 {
@@ -38,13 +38,13 @@ pub fn fact_lines(alloc: Global, facts: &[Cfg]) -> Result<String, AllocError>
     Ok(text)
 }
 
-/// The fact as `Cfg` prints it, as it is shown.
+/// Returns the displayed form of a fact, as `Cfg` prints it.
 pub fn shown_fact(alloc: Global, fact: &Cfg) -> Result<String, AllocError> {
     let text = format!(in alloc; "{fact}")?;
     shown_start(alloc, text.as_str())
 }
 
-/// The facts as they are shown, joined by commas.
+/// Returns the displayed forms of facts, joined by commas.
 pub fn shown_facts(alloc: Global, facts: &[Cfg]) -> Result<String, AllocError> {
     if facts.is_empty() {
         return String::from_str(alloc, "no facts");
@@ -60,7 +60,7 @@ pub fn shown_facts(alloc: Global, facts: &[Cfg]) -> Result<String, AllocError> {
     Ok(text)
 }
 
-/// The name as it is shown, and the empty one as two quotes.
+/// Returns the displayed form of a name. That of the empty name is two quotes.
 pub fn shown_name(alloc: Global, name: &str) -> Result<String, AllocError> {
     if name.is_empty() {
         String::from_str(alloc, "\"\"")
@@ -69,7 +69,7 @@ pub fn shown_name(alloc: Global, name: &str) -> Result<String, AllocError> {
     }
 }
 
-/// The target of an example: `over FACTS`, with `at NAME` before it where the name counts.
+/// Returns the target of an example: `over FACTS`, after `at NAME` if the name matters.
 pub fn shown_example(alloc: Global, example: &PossibleTarget) -> Result<String, AllocError> {
     let facts = shown_facts(alloc, &example.facts)?;
     match &example.name {
@@ -91,7 +91,7 @@ pub fn push_indented(text: &mut String, lines: &str) -> Result<(), AllocError> {
     Ok(())
 }
 
-/// Appends where a text is refused and why, indented.
+/// Appends the span and the reason of an error, indented.
 fn push_fault(
     text: &mut String,
     alloc: Global,
@@ -108,7 +108,7 @@ fn push_fault(
     }
 }
 
-/// What is said of a key that spells no condition.
+/// Returns the message for an invalid key.
 pub fn refused_key(alloc: Global, key: &str, error: &ParseError) -> Result<String, AllocError> {
     let mut text = String::from_str(alloc, "error: the key spells no condition\n")?;
     let snippet = error.snippet_in(alloc, key)?;
@@ -116,7 +116,7 @@ pub fn refused_key(alloc: Global, key: &str, error: &ParseError) -> Result<Strin
     Ok(text)
 }
 
-/// What is said of a key that is nested too deep from this byte on.
+/// Returns the message for a key that is nested too deep from this byte on.
 pub fn deep_key(alloc: Global, at: usize) -> Result<String, AllocError>
     ensures { IfOk result (λ text. string_bytes text ≡ deep_key at) }
 {
@@ -124,7 +124,7 @@ pub fn deep_key(alloc: Global, at: usize) -> Result<String, AllocError>
     format!(in alloc; "error: the key is {reason}\n")
 }
 
-/// What is said of a line that spells no fact.
+/// Returns the message for a line that is not a fact.
 pub fn refused_fact(
     alloc: Global,
     number: usize,
@@ -136,7 +136,7 @@ pub fn refused_fact(
     Ok(text)
 }
 
-/// What is said of an argument that spells no fact.
+/// Returns the message for an argument that is not a fact.
 pub fn refused_cfg(alloc: Global, error: &ParseError) -> Result<String, AllocError> {
     let mut text = String::from_str(alloc, "error: what stands after --cfg spells no fact\n")?;
     let snippet = error.snippet(alloc)?;

@@ -4,7 +4,7 @@ use known_targets::TargetSet;
 use serde::Serialize;
 use std::alloc::{AllocError, Global};
 
-/// Targets by their names, or all that are meant.
+/// Targets by their names, or all selected ones.
 #[derive(Drop, Serialize)]
 #[serde(untagged)]
 pub enum At<'a> {

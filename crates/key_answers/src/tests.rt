@@ -26,7 +26,7 @@ fn lines_of(alloc: Global, text: &str) -> Result<String, AllocError> {
     Ok(lines)
 }
 
-/// Whether the lines of a text have this spelling of it.
+/// Returns whether the lines of a text have this spelling of it.
 fn is_spelled(alloc: Global, text: &str, spelling: &str) -> Result<bool, AllocError> {
     let line = format!(in alloc; "{{\"text\":\"{spelling}\",\"at\":\"all\",\"span\":null}}\n")?;
     let spaced = format!(in alloc;

@@ -1,9 +1,9 @@
-//! How much work a question on two keys may take.
+//! The work that a query on two keys may take.
 
 use cargo_platform::{Platform, values_of};
 use std::alloc::{AllocError, Global};
 
-/// How many splits are made at least, of any budget but 0. They take no time that anyone feels.
+/// The number of case splits that every budget but 0 allows. They take no noticeable time.
 const LEAST: u64 = 8;
 
 /// Two keys: their texts and conditions.
@@ -15,7 +15,7 @@ pub struct Keys<'a> {
     pub b: &'a Platform,
 }
 
-/// How many facts the keys ask for, each counted once.
+/// Returns how many facts the keys use, each counted once.
 fn count_of_facts(alloc: Global, keys: &Keys<'_>) -> Result<u64, AllocError> {
     let mut facts = values_of(alloc, keys.a)?;
     for fact in &values_of(alloc, keys.b)? {
@@ -26,8 +26,8 @@ fn count_of_facts(alloc: Global, keys: &Keys<'_>) -> Result<u64, AllocError> {
     Ok(u64::try_from(facts.len()).unwrap_or(u64::MAX))
 }
 
-/// How many steps of work a split takes: one for each byte of both keys, which are looked at whole, and one for each
-/// two of their facts, which are compared.
+/// Returns how many steps a case split takes: one for each byte of both keys, which are read whole, and one for each
+/// pair of their facts, which are compared.
 fn steps_of_split(alloc: Global, keys: &Keys<'_>) -> Result<u64, AllocError> {
     let facts = count_of_facts(alloc, keys)?;
     let bytes = keys.first.len().saturating_add(keys.second.len());
@@ -35,7 +35,7 @@ fn steps_of_split(alloc: Global, keys: &Keys<'_>) -> Result<u64, AllocError> {
     Ok(bytes.saturating_add(facts.saturating_mul(facts) / 2))
 }
 
-/// How many splits fit so many steps of work.
+/// Returns how many case splits fit in this number of steps.
 pub fn splits_within(alloc: Global, keys: &Keys<'_>, steps: u64) -> Result<u64, AllocError> {
     if steps == 0 {
         return Ok(0);

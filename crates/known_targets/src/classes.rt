@@ -1,4 +1,4 @@
-//! Classes of known targets that some sets do not tell apart, and conditions that hold at the targets of a set.
+//! Classes of known targets that some sets do not tell apart, and conditions that are true on the targets of a set.
 
 mod covers;
 mod exact;

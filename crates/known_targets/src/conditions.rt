@@ -1,4 +1,4 @@
-//! The targets at which a condition holds, and those at which it may.
+//! The targets on which a condition is true, and those at which it may.
 
 ghost use Rattle.std.specs.Prelude.{◌≡◌, ◌<◌, ◌↔◌, ℕ, [], Some, true, false, IsTrue, IfOk, length, bytes_eq};
 ghost use Rattle.std.specs.List.{slice_index_or};
@@ -19,10 +19,10 @@ use crate::walk::true_at;
 use cargo_platform::{Cfg, Platform};
 use std::alloc::{AllocError, Global};
 
-/// The targets at which the condition holds, by their names and facts.
+/// Returns the targets on which the condition is true, by their names and facts.
 ///
-/// It goes over the expression once, with a set of targets for each part, and without recursion. It refuses only where
-/// memory is refused. A condition that holds at no known target may hold at one that rustc does not know.
+/// It goes over the expression once, with a set of targets for each part, and without recursion. Fails only where
+/// memory runs out. A condition that holds at no known target may hold at one that rustc does not know.
 pub fn matching(alloc: Global, platform: &Platform) -> Result<TargetSet, AllocError>
     // A target is in the set exactly if the condition holds there.
     ensures { IfOk result (λ set. (k : ℕ) → k < COUNT → IsTrue (is_member set k)
@@ -32,12 +32,12 @@ pub fn matching(alloc: Global, platform: &Platform) -> Result<TargetSet, AllocEr
     taken_at(alloc, platform, &open_keys, false)
 }
 
-/// The targets at which the condition holds, whatever the facts of these names and keys are.
+/// Returns the targets on which the condition is true, whatever the facts of these names and keys are.
 ///
 /// A name in `open_keys` leaves open whether the name alone is a fact, and each value of it as a key. With `loom` in
 /// it, neither `cfg(loom)` nor `cfg(not(loom))` holds anywhere for certain. A fact counts by its name or key without
 /// the raw mark. The truth is that of Kleene's strong logic, which takes each fact by itself: `any(loom, not(loom))` is
-/// not certain either. It refuses only where memory is refused.
+/// not certain either. Fails only where memory runs out.
 pub fn certainly_matching(
     alloc: Global,
     platform: &Platform,
@@ -55,10 +55,10 @@ pub fn certainly_matching(
     taken_at(alloc, platform, open_keys, false)
 }
 
-/// The targets at which the condition may hold, as the facts of these names and keys are.
+/// Returns the targets on which the condition may be true, as the facts of these names and keys are.
 ///
 /// At a target that is not in the set the condition does not hold, whatever those facts are. `open_keys` is as for
-/// `certainly_matching`. It refuses only where memory is refused.
+/// `certainly_matching`. Fails only where memory runs out.
 pub fn possibly_matching(
     alloc: Global,
     platform: &Platform,
@@ -76,7 +76,7 @@ pub fn possibly_matching(
     taken_at(alloc, platform, open_keys, true)
 }
 
-/// The targets at which the condition holds where what is not known is taken as `unknown`.
+/// Returns the targets on which the condition is true where what is not known is taken as `unknown`.
 fn taken_at(
     alloc: Global,
     platform: &Platform,
@@ -94,7 +94,7 @@ fn taken_at(
     }
 }
 
-/// The targets that have the fact, whatever its raw mark.
+/// Returns the targets that have the fact, whatever its raw mark.
 pub fn having(c: &Cfg) -> TargetSet
     // A target is in the set exactly if it has the fact.
     ensures { (k : ℕ) → k < COUNT → is_member result k ≡ contains (target_facts k) (pair_of (value_of c.now)) }
@@ -102,7 +102,7 @@ pub fn having(c: &Cfg) -> TargetSet
     targets_with(keys(), c)
 }
 
-/// The targets with this name.
+/// Returns the targets with this name.
 fn named(names: &[&'static str], name: &str) -> TargetSet
     requires { length names.now ≡ COUNT }
     ensures { (k : ℕ) → k < COUNT

@@ -26,9 +26,9 @@ pub struct KnownFact {
     pub targets: TargetSet,
 }
 
-/// Each fact that some known target has, once, in the order of `Cfg`, with the targets that have it.
+/// Returns each fact that some known target has, once, in the order of `Cfg`, with the targets that have it.
 ///
-/// A fact that is not among them is had by no known target. It refuses only where memory is refused.
+/// No known target has a fact that is not among them. Fails only where memory runs out.
 pub fn all_facts(alloc: Global) -> Result<Vec<KnownFact>, AllocError>
     // The facts are sorted, and each stands once.
     ensures sorted { IfOk result (λ facts. IsStrictlySortedBy value_cmp (fact_values facts.items)) }
@@ -41,7 +41,7 @@ pub fn all_facts(alloc: Global) -> Result<Vec<KnownFact>, AllocError>
     had(alloc, keys())
 }
 
-/// The facts of these rows that some target has: the names alone, and after them the pairs.
+/// Returns the facts of these rows that some target has: the names alone, and after them the pairs.
 fn had(alloc: Global, keys: &[Key]) -> Result<Vec<KnownFact>, AllocError>
     ensures values { IfOk result (λ facts. fact_values facts.items
         ≡ filter (is_had (keys_of keys.now)) (values_in (keys_of keys.now))) }

@@ -1,4 +1,4 @@
-//! The targets that rustc knows: their names and facts, and all of them at which a condition holds, in one walk.
+//! The targets that rustc knows: their names and facts, and all of them on which a condition is true, in one walk.
 //!
 //! The table is what `rustc --print cfg --target NAME` prints for each target of `rustc --print target-list`, with the
 //! flags' defaults. `debug_assertions`, `panic` and `target_feature` are changed by profiles and flags.

@@ -15,7 +15,7 @@ impl Targets {
     ghost use Rattle.std.specs.Prelude.{◌≡◌};
     ghost use Rattle.known_targets.specs.Sets.{left, members};
 
-    /// All targets of the set.
+    /// Returns all targets of the set.
     pub(crate) fn new(set: TargetSet) -> Targets
         ensures { left result ≡ members set }
     {

@@ -5,10 +5,10 @@ use crate::walk::is_open;
 use cargo_platform::{Cfg, Facts};
 use partial_facts::Knowledge;
 
-/// A known target whose facts of some names and keys are open, as flags and profiles change them.
+/// A known target whose facts of some names and keys are open, since flags and profiles change them.
 ///
 /// A name in `open_keys` leaves open whether the name alone is a fact, and each value of it as a key. All other facts
-/// are known. So `decide` and `residual` of `partial_facts` say what hangs on `target_feature`, `panic` or a custom
+/// are known. So `decide` and `residual` of `partial_facts` say what depends on `target_feature`, `panic` or a custom
 /// name.
 #[derive(Clone, Copy, Drop)]
 pub struct OpenTarget<'a> {

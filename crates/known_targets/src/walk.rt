@@ -1,4 +1,4 @@
-//! The targets at which an expression holds, in one walk.
+//! The targets on which an expression is true, in one walk.
 
 ghost use Rattle.std.specs.Prelude.{◌≡◌, ◌<◌, ℕ, IfOk};
 ghost use Rattle.cargo_platform.specs.Trees.{Value, value_of, tree_of};
@@ -15,8 +15,8 @@ use cargo_platform::{Cfg, CfgExpr, Fold, fold_expression};
 use std::alloc::{AllocError, Global};
 use std::ops::ControlFlow;
 
-/// The targets at which an expression is true, where each fact of an open name or key is taken so that the whole
-/// becomes `unknown`.
+/// Returns the targets on which an expression is true, where each fact of an open name or key is taken so that the
+/// whole becomes `unknown`.
 pub fn true_at(
     alloc: Global,
     keys: &[Key],
@@ -34,7 +34,7 @@ pub fn true_at(
     })
 }
 
-/// The targets at which an expression is true whatever the open facts are, and those at which it may be.
+/// The targets on which an expression is true whatever the open facts are, and those at which it may be.
 #[derive(Clone, Copy, Drop)]
 pub struct Bounds {
     pub certain: TargetSet,
@@ -97,7 +97,7 @@ impl<'a> Fold for AtTargets<'a> {
     }
 }
 
-/// All targets or none, for certain.
+/// Returns all targets or none, for certain.
 fn all_or_none(are_in: bool) -> Bounds
     ensures certain { (k : ℕ) → k < COUNT → has result.certain.words k ≡ are_in }
     ensures possible { (k : ℕ) → k < COUNT → has result.possible.words k ≡ are_in }
@@ -113,7 +113,7 @@ fn all_or_none(are_in: bool) -> Bounds
     }
 }
 
-/// The targets that have the fact; where it is open, any may.
+/// Returns the targets that have the fact; where it is open, any may.
 fn told_to_have(keys: &[Key], open_keys: &[&str], c: &Cfg) -> Bounds
     ensures { AreBounds (keys_of keys.now) (names_of open_keys.now) (Value (value_of c.now)) result }
 {
@@ -130,7 +130,7 @@ fn told_to_have(keys: &[Key], open_keys: &[&str], c: &Cfg) -> Bounds
     }
 }
 
-/// Whether the name or key is among these.
+/// Returns whether the name or key is among these.
 pub fn is_open(open_keys: &[&str], c: &Cfg) -> bool
     ensures { result ≡ is_named (pair_of (value_of c.now)).name (names_of open_keys.now) }
 {
@@ -146,7 +146,7 @@ pub fn is_open(open_keys: &[&str], c: &Cfg) -> bool
     }
 }
 
-/// The targets at which a group with one more member is true.
+/// Returns the targets on which a group with one more member is true.
 fn joined(neutral: bool, so_far: TargetSet, set: TargetSet) -> TargetSet
     ensures { (k : ℕ) → k < COUNT → has result.words k ≡ both neutral (has so_far.words k) (has set.words k) }
 {

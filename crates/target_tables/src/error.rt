@@ -1,16 +1,16 @@
-//! Why a text is no table.
+//! The reason why a text is not a table.
 
 use cargo_platform::ParseError;
 use std::alloc::AllocError;
 
-/// Why a text is no table.
+/// The reason why a text is not a table.
 #[derive(Debug, Drop)]
 pub enum TableError {
-    /// This line spells no fact, and a line of a target stands before it.
+    /// This line is not a fact, and a line of a target comes before it.
     Line {
         /// The number of the line in the whole text, counted from 1.
         number: usize,
-        /// What is wrong with it.
+        /// The error in it.
         error: ParseError,
     },
     /// This line names a target that an earlier line names.

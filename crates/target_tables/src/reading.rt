@@ -14,7 +14,7 @@ use crate::table::{TargetRow, TargetTable, place_of};
 use cargo_platform::{Cfg, FactsError, read_facts};
 use std::alloc::{AllocError, Global};
 
-/// The facts of a target, of which this many lines of the whole text stand before the first.
+/// Returns the facts of a target, of which this many lines of the whole text stand before the first.
 fn read_block(alloc: Global, before: usize, text: &str) -> Result<Vec<Cfg>, TableError>
     requires { before + length (lines_of text.now) < 2 ^ 64 }
     ensures facts { IfOk result (λ v. SpellFacts (lines_of text.now) (map value_of v.items)) }
@@ -31,8 +31,8 @@ fn read_block(alloc: Global, before: usize, text: &str) -> Result<Vec<Cfg>, Tabl
     }
 }
 
-/// The row of a target with this name, whose facts stand at the beginning of a text, behind this many lines of the
-/// whole text, and what stands behind them.
+/// Returns the row of a target with this name, whose facts stand at the beginning of a text, behind this many lines of
+/// the whole text, and what stands behind them.
 fn read_row<'a>(
     alloc: Global,
     name: &str,

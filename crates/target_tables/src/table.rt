@@ -1,4 +1,4 @@
-//! A table of targets, its rows, and those at which a condition holds.
+//! A table of targets, its rows, and those on which a condition is true.
 
 ghost use Rattle.std.specs.Prelude.{◌≡◌, ◌≢◌, ◌<◌, ◌↔◌, ℕ, [], map, length, IsTrue, IfOk, IfSome, IfNone};
 ghost use Rattle.std.specs.Prelude.{string_bytes};
@@ -18,21 +18,21 @@ pub struct TargetRow {
 }
 
 impl TargetRow {
-    /// Its name.
+    /// Returns its name.
     pub fn name(&self) -> &str
         ensures { result.now ≡ (row_of self.now).name }
     {
         self.name.as_str()
     }
 
-    /// Its facts, in the order of their lines.
+    /// Returns its facts, in the order of their lines.
     pub fn facts(&self) -> &[Cfg]
         ensures { map value_of result.now ≡ (row_of self.now).facts }
     {
         &self.facts
     }
 
-    /// Whether the condition holds for the target, by its name and its facts.
+    /// Returns whether the condition is true on the target, by its name and its facts.
     pub fn matches(&self, platform: &Platform) -> bool
         // The answer is yes exactly if the condition holds at the target.
         ensures truth { result ≡ truth_of_condition (row_of self.now).name (fact_set (row_of self.now).facts)
@@ -51,14 +51,14 @@ pub struct TargetTable {
 }
 
 impl TargetTable {
-    /// The rows, in the order of the text.
+    /// Returns the rows, in the order of the text.
     pub fn rows(&self) -> &[TargetRow]
         ensures { map row_of result.now ≡ rows_of self.now }
     {
         &self.rows
     }
 
-    /// The row of the target with this name.
+    /// Returns the row of the target with this name.
     pub fn by_name(&self, name: &str) -> Option<&TargetRow>
         // The row is one of the table, and has the name. Without an answer no row has it.
         ensures found { IfSome result (λ row. IsRowNamed (rows_of self.now) name.now (row_of row.now)) }
@@ -67,8 +67,8 @@ impl TargetTable {
         row_named(&self.rows, name)
     }
 
-    /// The places of the rows at which the condition holds, by their names and facts. It refuses only where memory is
-    /// refused.
+    /// Returns the places of the rows on which the condition is true, by their names and facts. Fails only where memory
+    /// runs out.
     pub fn matching(&self, alloc: Global, platform: &Platform) -> Result<Vec<usize>, AllocError>
         // They are the places of all rows at which the condition holds, and of no other, in order.
         ensures { IfOk result (λ places. places.items
@@ -79,7 +79,7 @@ impl TargetTable {
     }
 }
 
-/// The row with this name.
+/// Returns the row with this name.
 fn row_named<'a>(rows: &'a [TargetRow], name: &str) -> Option<&'a TargetRow>
     ensures found { IfSome result (λ row. IsRowNamed (map row_of rows.now) name.now (row_of row.now)) }
     ensures none { IfNone result (HasNoRow (map row_of rows.now) name.now) }
@@ -90,7 +90,7 @@ fn row_named<'a>(rows: &'a [TargetRow], name: &str) -> Option<&'a TargetRow>
     }
 }
 
-/// The place of the row with this name.
+/// Returns the place of the row with this name.
 pub(crate) fn place_of(rows: &[TargetRow], name: &str) -> Option<usize>
     ensures found { IfSome result (λ k. name_at (map row_of rows.now) k ≡ name.now) }
     ensures within { IfSome result (λ k. k < length rows.now) }
@@ -104,7 +104,7 @@ pub(crate) fn place_of(rows: &[TargetRow], name: &str) -> Option<usize>
     None
 }
 
-/// The places of the rows at which the condition holds.
+/// Returns the places of the rows on which the condition is true.
 fn places_where(
     alloc: Global,
     rows: &[TargetRow],

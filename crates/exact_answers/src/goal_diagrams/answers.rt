@@ -1,4 +1,4 @@
-//! Whether goals can be met.
+//! The query whether goals can be met.
 
 ghost use Rattle.std.specs.Prelude.{◌≡◌, ◌<◌, List, IfOk};
 ghost use Rattle.std.specs.Borrow.{Bor};
@@ -15,19 +15,20 @@ use cargo_platform::Cfg;
 use partial_facts::Knowledge;
 use std::alloc::{AllocError, Global};
 
-/// What is found of goals.
+/// The result for goals.
 #[derive(Drop)]
 pub enum Outcome {
-    /// Each goal is met over each possible set of facts that agrees with these choices, by the numbers of pairs.
+    /// Each goal is met over each possible set of facts that agrees with these choices. Pairs are given by their
+    /// numbers.
     Way(Vec<Choice>),
     /// Over no possible set of facts is each goal met.
     Nothing,
-    /// The diagram would be too large, the goals are nested too deep, or a pair of theirs that is open is none of those
-    /// that were given.
+    /// The diagram would be too large, the goals are nested too deep, or an open pair in them is not among those that
+    /// were given.
     TooLarge,
 }
 
-/// What becomes of it where no diagram is made.
+/// Returns the result if no diagram is made.
 fn unmade(stop: Stop) -> Result<Outcome, AllocError>
     ensures { IfOk result (λ r. r ≡ Outcome.TooLarge) }
 {
@@ -37,7 +38,7 @@ fn unmade(stop: Stop) -> Result<Outcome, AllocError>
     }
 }
 
-/// Where each goal is met, and no key in `single` has two values.
+/// Returns the place of the sets over which each goal is met and no key in `single` has two values.
 fn all_made<K: Knowledge>(
     asked: &Asked<'_, '_, K>,
     table: &mut Table,
@@ -54,7 +55,7 @@ fn all_made<K: Knowledge>(
     goals_made(asked, table, among, goals)
 }
 
-/// The choices on a way to what is true, from this place.
+/// Returns choices that lead from this place to what is true.
 fn way_from(alloc: Global, table: &Table, place: usize) -> Result<Outcome, AllocError>
     requires table { AreEarlier (nodes_of table.now) }
     requires place { place < places (nodes_of table.now) }
@@ -68,7 +69,7 @@ fn way_from(alloc: Global, table: &Table, place: usize) -> Result<Outcome, Alloc
     Ok(Outcome::Way(way))
 }
 
-/// Whether each goal can be met, by a diagram whose nodes ask for these pairs, in this order. A set of facts is
+/// Returns whether each goal can be met, by a diagram whose nodes ask for these pairs, in this order. A set of facts is
 /// possible where `known` allows it, and no key in `single` has two values in it that are open by `known`.
 pub fn find_way<K: Knowledge>(
     alloc: Global,

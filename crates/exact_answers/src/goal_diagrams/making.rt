@@ -1,4 +1,4 @@
-//! The diagram of expressions.
+//! Diagrams of expressions.
 
 ghost use Rattle.std.specs.Prelude.{◌≡◌, ◌<◌, ℕ, Bool, ◌&&◌, not, true, Some, None, map, IfOk, IfSome, length};
 ghost use Rattle.std.specs.Prelude.{string_bytes, bytes_eq};
@@ -25,24 +25,24 @@ pub struct Goal<'a> {
     pub wanted: bool,
 }
 
-/// How many groups may stand in one another: each takes some stack.
+/// The maximal nesting of groups. Each level takes some stack.
 const MOST_LEVELS: usize = 500;
 
-/// What is asked: what is known, and the pairs in the order in which nodes ask for them.
+/// The query: what is known, and the pairs in the order in which nodes test them.
 #[derive(Drop)]
 pub struct Asked<'a, 'b, K> {
     pub known: &'b K,
     pub pairs: &'b [&'a Cfg],
 }
 
-/// Whether both are the same pair.
+/// Returns whether both are the same pair.
 fn is_same(c: &Cfg, other: &Cfg) -> bool
     ensures { result ≡ eq_by_cmp pair_cmp (pair_of (value_of c.now)) (pair_of (value_of other.now)) }
 {
     c == other
 }
 
-/// The number of the pair.
+/// Returns the number of the pair.
 pub fn number_of(pairs: &[&Cfg], c: &Cfg) -> Option<usize>
     ensures { IfSome result (λ n. StandsAt (pairs_of pairs.now) n (pair_of (value_of c.now))) }
 {
@@ -56,7 +56,7 @@ pub fn number_of(pairs: &[&Cfg], c: &Cfg) -> Option<usize>
     None
 }
 
-/// The pair with this number.
+/// Returns the pair with this number.
 pub fn pair_at<'a>(pairs: &[&'a Cfg], number: usize) -> &'a Cfg
     requires { number < length pairs.now }
     ensures { StandsAt (pairs_of pairs.now) number (pair_of (value_of result.now)) }
@@ -64,21 +64,21 @@ pub fn pair_at<'a>(pairs: &[&'a Cfg], number: usize) -> &'a Cfg
     pairs[number]
 }
 
-/// The truth, or its negation where the other truth is wanted.
+/// Returns the truth, or its negation if `wanted` is false.
 pub fn as_wanted(truth: bool, wanted: bool) -> bool
     ensures { result ≡ true_as_wanted wanted truth }
 {
     if wanted { truth } else { !truth }
 }
 
-/// Whether both texts are the same.
+/// Returns whether both texts are equal.
 fn is_text(text: &str, other: &str) -> bool
     ensures { result ≡ bytes_eq text.now other.now }
 {
     text == other
 }
 
-/// Whether these are two values of one key, which is among these.
+/// Returns whether these are values of the same key, which is one of `single`.
 fn are_values(
     key: &Ident,
     value: &str,
@@ -100,7 +100,7 @@ fn are_values(
     }
 }
 
-/// Whether both are values of one key among these, and different.
+/// Returns whether these are two different values of the same key, which is one of `single`.
 fn are_two_values(c: &Cfg, other: &Cfg, single: &[&str]) -> bool
     ensures { result ≡ true
         → AreTwoValues (names_of single.now) (pair_of (value_of c.now)) (pair_of (value_of other.now)) }
@@ -120,7 +120,7 @@ fn are_two_values(c: &Cfg, other: &Cfg, single: &[&str]) -> bool
     }
 }
 
-/// Where a name or a pair has the truth that is wanted.
+/// Returns the place of the sets over which a name or a pair has the wanted truth.
 fn value_made<K: Knowledge>(
     asked: &Asked<'_, '_, K>,
     table: &mut Table,
@@ -142,7 +142,7 @@ fn value_made<K: Knowledge>(
     }
 }
 
-/// Where a name or a pair has the truth that is wanted, among the sets that a place leaves.
+/// Returns the place of the sets, among those of a place, over which a name or a pair has the wanted truth.
 fn value_joined<K: Knowledge>(
     asked: &Asked<'_, '_, K>,
     table: &mut Table,
@@ -162,7 +162,7 @@ fn value_joined<K: Knowledge>(
     table.join(true, among, place)
 }
 
-/// Where an expression has the truth that is wanted, among the sets that a place leaves.
+/// Returns the place of the sets, among those of a place, over which an expression has the wanted truth.
 #[cycle(made)]
 fn made<K: Knowledge>(
     asked: &Asked<'_, '_, K>,
@@ -197,7 +197,8 @@ fn made<K: Knowledge>(
     }
 }
 
-/// Where each member has the truth that is wanted, or else where one of them has it.
+/// Returns the place of the sets over which each member has the wanted truth, or else those over which one of them has
+/// it.
 #[cycle(made)]
 fn group_made<K: Knowledge>(
     asked: &Asked<'_, '_, K>,
@@ -224,7 +225,7 @@ fn group_made<K: Knowledge>(
     }
 }
 
-/// Where each member has the truth that is wanted.
+/// Returns the place of the sets over which each member has the wanted truth.
 #[cycle(made)]
 fn each_made<K: Knowledge>(
     asked: &Asked<'_, '_, K>,
@@ -252,7 +253,7 @@ fn each_made<K: Knowledge>(
     Ok(place)
 }
 
-/// Where some member has the truth that is wanted.
+/// Returns the place of the sets over which some member has the wanted truth.
 #[cycle(made)]
 fn some_made<K: Knowledge>(
     asked: &Asked<'_, '_, K>,
@@ -278,7 +279,7 @@ fn some_made<K: Knowledge>(
     Ok(place)
 }
 
-/// Where each goal is met, among the sets that a place leaves.
+/// Returns the place of the sets, among those of a place, over which each goal is met.
 pub fn goals_made<K: Knowledge>(
     asked: &Asked<'_, '_, K>,
     table: &mut Table,
@@ -301,7 +302,7 @@ pub fn goals_made<K: Knowledge>(
     Ok(place)
 }
 
-/// Whether nothing is told of the pair.
+/// Returns whether it is not known if the pair is a fact.
 fn is_open<K: Knowledge>(asked: &Asked<'_, '_, K>, c: &Cfg) -> bool
     ensures { result ≡ true → K.told asked.now.known.now (pair_of (value_of c.now)) ≡ None }
 {
@@ -311,7 +312,7 @@ fn is_open<K: Knowledge>(asked: &Asked<'_, '_, K>, c: &Cfg) -> bool
     }
 }
 
-/// Whether the pairs with these numbers are both open, and two values of a key with one value.
+/// Returns whether the pairs with these numbers are both open, and two values of a key that has one value.
 fn are_apart<K: Knowledge>(
     asked: &Asked<'_, '_, K>,
     single: &[&str],
@@ -336,7 +337,8 @@ fn are_apart<K: Knowledge>(
     }
 }
 
-/// Among the sets that a place leaves, those without the other pair, where both are two values of a key with one value.
+/// Returns the place of the sets, among those of a place, without the other pair, if both are two values of a key that
+/// has one value.
 fn without_other<K: Knowledge>(
     asked: &Asked<'_, '_, K>,
     table: &mut Table,
@@ -364,8 +366,8 @@ fn without_other<K: Knowledge>(
     }
 }
 
-/// Where no later value of the key of this pair is a fact, if that key has one value. The last ones come first: so each
-/// takes one node.
+/// Returns the place of the sets in which no later value of the key of this pair is a fact, if that key has one value.
+/// The last values come first, so that each takes one node.
 fn no_later_value<K: Knowledge>(
     asked: &Asked<'_, '_, K>,
     table: &mut Table,
@@ -390,7 +392,7 @@ fn no_later_value<K: Knowledge>(
     Ok(place)
 }
 
-/// Where the pair with this number is none, or no later value of its key is a fact.
+/// Returns the place of the sets in which the pair with this number is not a fact, or no later value of its key is.
 fn one_value<K: Knowledge>(
     asked: &Asked<'_, '_, K>,
     table: &mut Table,
@@ -409,7 +411,7 @@ fn one_value<K: Knowledge>(
     table.join(false, others, without)
 }
 
-/// Where no key among these has two values that are open.
+/// Returns the place of the sets in which no key among these has two open values.
 pub fn single_values<K: Knowledge>(
     asked: &Asked<'_, '_, K>,
     table: &mut Table,

@@ -7,10 +7,10 @@ ghost use Rattle.exact_answers.specs.Diagrams.{IsJoinOf, IsTable, IsMade, IsNode
 
 use std::alloc::{AllocError, Global};
 
-/// Why no diagram is made.
+/// The reason why no diagram is made.
 #[derive(Drop)]
 pub enum Stop {
-    /// It would be too large.
+    /// The diagram would be too large.
     TooLarge,
     Memory(AllocError),
 }
@@ -21,17 +21,17 @@ impl From<AllocError> for Stop {
     }
 }
 
-/// A node asks for the pair with this number, and goes on at one place without the fact, and at another with it.
+/// A node, which tests the pair with this number, and continues at one place without the fact and at another with it.
 #[derive(Clone, Copy)]
 pub struct Node {
     pub number: usize,
     pub without: usize,
     pub with: usize,
-    /// Where a node stands that shares the hint, or 0.
+    /// The place of a node with the same hint, or 0.
     pub next: usize,
 }
 
-/// What two places were joined to.
+/// Two places that were joined, with the place of the result.
 #[derive(Clone, Copy)]
 pub struct Joined {
     pub each: bool,
@@ -40,14 +40,14 @@ pub struct Joined {
     pub place: usize,
 }
 
-/// A pair by its number, and whether it is taken to hold.
+/// A pair by its number, and whether it is taken as a fact.
 #[derive(Clone, Copy)]
 pub struct Choice {
     pub number: usize,
     pub holds: bool,
 }
 
-/// Two places, by a pair that one of them asks for first.
+/// Two places, split by a pair that one of them tests first.
 #[derive(Clone, Copy)]
 pub struct Halves {
     pub number: usize,
@@ -63,7 +63,7 @@ pub const FALSE: usize = 0;
 /// The place of what is true over each set of facts.
 pub const TRUE: usize = 1;
 
-/// The nodes: the first one stands at place 2, and places below are the two literals. Each node goes on at places
+/// The nodes. The first one is at place 2, and the places below are the two literals. Each node continues at places
 /// before its own.
 #[derive(Drop)]
 pub struct Table {
@@ -75,7 +75,7 @@ pub struct Table {
     pub most_nodes: usize,
 }
 
-/// The place of a literal.
+/// Returns the place of a literal.
 pub fn literal(truth: bool) -> usize
     ensures { result ≡ (if truth then 1 else 0) }
 {
@@ -105,7 +105,7 @@ fn nothing_joined(alloc: Global, count: usize) -> Result<Vec<Joined>, AllocError
     Ok(all)
 }
 
-/// A number below the count that differs for most of what is told apart.
+/// Returns a number below the count that differs for most different arguments.
 fn hint(first: usize, second: usize, third: usize, count: usize) -> usize {
     let mixed = first
         .wrapping_mul(0x9E37_79B9_7F4A_7C15)
@@ -116,21 +116,21 @@ fn hint(first: usize, second: usize, third: usize, count: usize) -> usize {
     (mixed >> 20).checked_rem(count).unwrap_or(0)
 }
 
-/// Whether the node asks for the pair with this number, and goes on at these places.
+/// Returns whether the node tests the pair with this number, and continues at these places.
 fn is_same(node: Node, number: usize, without: usize, with: usize) -> bool
     ensures { result ≡ true → (node.number ≡ number) × (node.without ≡ without) × (node.with ≡ with) }
 {
     node.number == number && node.without == without && node.with == with
 }
 
-/// Where a node goes on, by whether its pair is taken to hold.
+/// Returns the place at which a node continues if its pair is a fact, or if it is not.
 fn chosen(node: Node, holds: bool) -> usize
     ensures { result ≡ (if holds then node.with else node.without) }
 {
     if holds { node.with } else { node.without }
 }
 
-/// Whether these places were joined.
+/// Returns whether these places were joined.
 fn is_join(joined: Joined, each: bool, one: usize, other: usize) -> bool
     ensures { result ≡ true → (joined.each ≡ each) × (joined.one ≡ one) × (joined.other ≡ other) }
 {
@@ -138,7 +138,7 @@ fn is_join(joined: Joined, each: bool, one: usize, other: usize) -> bool
 }
 
 impl Table {
-    /// No nodes yet, and room for so many.
+    /// Returns a table without nodes, with room for this many.
     pub fn new(alloc: Global, most_nodes: usize) -> Result<Table, AllocError>
         ensures { IfOk result (λ table. IsTable (nodes_of table) table.joined.items) }
     {
@@ -153,7 +153,7 @@ impl Table {
         })
     }
 
-    /// The node at a place. Literals have none.
+    /// Returns the node at a place, or `None` for a literal.
     fn at(&self, place: usize) -> Option<Node>
         requires { AreEarlier (nodes_of self.now) }
         ensures node { IfSome result (IsNodeAt (nodes_of self.now) place) }
@@ -166,7 +166,7 @@ impl Table {
         }
     }
 
-    /// The place of a node among those that share its hint, from the last one on.
+    /// Returns the place of a node among those with the same hint, from the last one on.
     fn found(&self, last: usize, number: usize, without: usize, with: usize) -> Option<usize>
         requires { AreEarlier (nodes_of self.now) }
         ensures { IfSome result (IsNode (nodes_of self.now) number without with) }
@@ -200,7 +200,8 @@ impl Table {
         Ok(place)
     }
 
-    /// The place of a node that asks for a pair, where that tells anything; it stands there once.
+    /// Returns the place of a node that tests a pair, which is added unless it exists. If both places are the same,
+    /// there is no node, and it is that place.
     pub fn node(&mut self, number: usize, without: usize, with: usize) -> Result<usize, Stop>
         requires table { IsTable (nodes_of self.old) self.old.joined.items }
         requires without { without < places (nodes_of self.old) }
@@ -249,7 +250,7 @@ impl Table {
         Ok(place)
     }
 
-    /// The last node with this hint, or 0.
+    /// Returns the last node with this hint, or 0.
     fn last(&self, at: usize) -> usize {
         if at < self.lasts.len() {
             self.lasts[at]
@@ -258,7 +259,7 @@ impl Table {
         }
     }
 
-    /// Says where the last node with this hint stands.
+    /// Records the place of the last node with this hint.
     fn place_last(&mut self, at: usize, place: usize)
         ensures nodes { nodes_of self.new ≡ nodes_of self.old }
         ensures joined { self.new.joined ≡ self.old.joined }
@@ -268,7 +269,7 @@ impl Table {
         }
     }
 
-    /// Both places by the pair that comes first.
+    /// Returns both places, split by the pair that comes first.
     fn halves(&self, one: usize, other: usize) -> Result<Halves, Stop>
         requires { AreEarlier (nodes_of self.now) }
         ensures { IfOk result (AreHalves (nodes_of self.now) one other) }
@@ -282,7 +283,7 @@ impl Table {
         }
     }
 
-    /// Both places, where these nodes stand, by the pair that comes first.
+    /// Returns both places, which have these nodes, split by the pair that comes first.
     fn halves_of(&self, one: usize, first: Node, other: usize, second: Node) -> Halves
         requires first { IsNodeAt (nodes_of self.now) one first }
         requires second { IsNodeAt (nodes_of self.now) other second }
@@ -317,7 +318,7 @@ impl Table {
         }
     }
 
-    /// What these places were joined to.
+    /// Returns the recorded place of two joined places.
     fn recalled(&self, at: usize, each: bool, one: usize, other: usize) -> Option<usize>
         requires { All (IsJoin (nodes_of self.now)) self.now.joined.items }
         ensures { IfSome result (IsJoinOf (nodes_of self.now) each one other) }
@@ -331,7 +332,7 @@ impl Table {
         None
     }
 
-    /// Remembers what two places were joined to.
+    /// Records the place of two joined places.
     fn remember(&mut self, at: usize, joined: Joined)
         requires table { IsTable (nodes_of self.old) self.old.joined.items }
         requires joined { IsJoin (nodes_of self.old) joined }
@@ -343,7 +344,7 @@ impl Table {
         }
     }
 
-    /// What these places are joined to, where that is one of them or a literal.
+    /// Returns the place of two joined places, if it is one of them or a literal.
     fn joined_at_once(&self, each: bool, one: usize, other: usize) -> Option<usize>
         ensures { IfSome result (IsJoinOf (nodes_of self.now) each one other) }
     {
@@ -364,7 +365,7 @@ impl Table {
         }
     }
 
-    /// What these places are joined to, where that is known.
+    /// Returns the place of two joined places, if it is known.
     fn known_join(&self, at: usize, each: bool, one: usize, other: usize) -> Option<usize>
         requires { All (IsJoin (nodes_of self.now)) self.now.joined.items }
         ensures { IfSome result (IsJoinOf (nodes_of self.now) each one other) }
@@ -375,7 +376,7 @@ impl Table {
         }
     }
 
-    /// The place of what is true where both are, or else where one of them is.
+    /// Returns the place of what is true where both places are true, or else where one of them is.
     pub fn join(&mut self, each: bool, one: usize, other: usize) -> Result<usize, Stop>
         requires table { IsTable (nodes_of self.old) self.old.joined.items }
         requires one { one < places (nodes_of self.old) }
@@ -404,7 +405,7 @@ impl Table {
         Ok(place)
     }
 
-    /// The place of what is true where the pair with this number holds, or where it does not.
+    /// Returns the place of what is true where the pair with this number is a fact, or where it is not.
     pub fn pair(&mut self, number: usize, wanted: bool) -> Result<usize, Stop>
         requires { IsTable (nodes_of self.old) self.old.joined.items }
         ensures made { IfOk result (IsMade self.old self.new) }
@@ -416,7 +417,7 @@ impl Table {
         self.node(number, without, with)
     }
 
-    /// Choices that make true what a place says. Only what is false over each set of facts has none.
+    /// Returns choices over which a place is true. Only what is false over each set of facts has none.
     pub fn way(&self, alloc: Global, place: usize) -> Result<Vec<Choice>, AllocError>
         requires table { AreEarlier (nodes_of self.now) }
         requires place { place < places (nodes_of self.now) }

@@ -1,4 +1,4 @@
-//! Conditions of several facts that hold at the targets of a set.
+//! Conditions of several facts that are true on the targets of a set.
 
 ghost use Rattle.std.specs.Prelude.{IfOk, IfSome};
 ghost use Rattle.cargo_platform.specs.Trees.{condition_of};
@@ -17,7 +17,7 @@ struct Literal {
 }
 
 impl Literal {
-    /// The targets at which it holds.
+    /// Returns the targets on which it is true.
     fn targets(self, facts: &[KnownFact]) -> TargetSet {
         match facts.get(self.place) {
             Some(known) if self.is_negated => known.targets.complement(),
@@ -26,7 +26,7 @@ impl Literal {
         }
     }
 
-    /// It as an expression.
+    /// Returns the literal as an expression.
     fn expression(self, alloc: Global, facts: &[KnownFact]) -> Result<CfgExpr, AllocError> {
         let Some(known) = facts.get(self.place) else {
             return Ok(CfgExpr::False);
@@ -40,12 +40,12 @@ impl Literal {
     }
 }
 
-/// A condition of some of these facts that holds at exactly the targets of the set, where one is found.
+/// Returns a condition of some of these facts that is true on exactly the targets of the set, if there is one.
 ///
 /// It is an `any(..)` of parts, each an `all(..)` of facts and `not(..)` of facts. A part is made for targets that no
 /// part has yet. It takes the fact, or its `not(..)`, that keeps most of these and leaves out most targets outside the
-/// set, the first of equals, until none outside is left. Then what is not needed is dropped. It refuses only where
-/// memory is refused.
+/// set, the first of equals, until none outside is left. Then what is not needed is dropped. Fails only where memory
+/// runs out.
 pub fn covering(
     alloc: Global,
     facts: &[KnownFact],
@@ -70,7 +70,7 @@ pub fn covering(
     exactly(alloc, Platform::Cfg(expression), set)
 }
 
-/// The only one of the parts, or the `any(..)` of them.
+/// Returns the only one of the parts, or the `any(..)` of them.
 fn joined(parts: Vec<CfgExpr>) -> CfgExpr {
     let mut parts = parts;
     if parts.len() == 1 {
@@ -81,7 +81,7 @@ fn joined(parts: Vec<CfgExpr>) -> CfgExpr {
     CfgExpr::Any(parts)
 }
 
-/// The only one of the literals, or the `all(..)` of them.
+/// Returns the only one of the literals, or the `all(..)` of them.
 fn part_of(
     alloc: Global,
     facts: &[KnownFact],
@@ -99,7 +99,7 @@ fn part_of(
     Ok(CfgExpr::All(members))
 }
 
-/// The targets at which all of the literals hold.
+/// Returns the targets on which all of the literals are true.
 fn held_by(facts: &[KnownFact], literals: &[Literal]) -> TargetSet {
     let mut held = TargetSet::all();
     for literal in literals {
@@ -108,7 +108,7 @@ fn held_by(facts: &[KnownFact], literals: &[Literal]) -> TargetSet {
     held
 }
 
-/// Literals that hold together at some of the targets that are left, and at none outside the set.
+/// Finds literals that are all true on some of the targets that are left, and on none outside the set.
 fn part_for(
     alloc: Global,
     facts: &[KnownFact],
@@ -135,7 +135,7 @@ fn part_for(
     Ok(Some(without_needless(alloc, facts, literals, outside)?))
 }
 
-/// The literal that keeps most of some targets times leaves out most of others; nothing where none does both.
+/// Returns the literal that keeps most of some targets times leaves out most of others; `None` if none does both.
 fn best_literal(facts: &[KnownFact], kept: TargetSet, others: TargetSet) -> Option<Literal> {
     let mut best = None;
     let mut most: usize = 0;
@@ -160,7 +160,7 @@ fn best_literal(facts: &[KnownFact], kept: TargetSet, others: TargetSet) -> Opti
     best
 }
 
-/// The literals without those that are not needed to leave out these targets, the first ones first.
+/// Returns the literals without those that are not needed to leave out these targets, the first ones first.
 fn without_needless(
     alloc: Global,
     facts: &[KnownFact],

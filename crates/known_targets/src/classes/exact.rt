@@ -1,4 +1,4 @@
-//! Conditions that hold at exactly the targets of a set.
+//! Conditions that are true on exactly the targets of a set.
 
 ghost use Rattle.std.specs.Prelude.{◌≡◌, IfOk, IfSome};
 ghost use Rattle.cargo_platform.specs.Trees.{condition_of};
@@ -8,7 +8,7 @@ use crate::{TargetSet, matching};
 use cargo_platform::Platform;
 use std::alloc::{AllocError, Global};
 
-/// The condition, where it holds at exactly the targets of the set. It refuses only where memory is refused.
+/// Returns the condition, where it is true on exactly the targets of the set. Fails only where memory runs out.
 pub fn exactly(
     alloc: Global,
     platform: Platform,

@@ -7,8 +7,8 @@ ghost use Rattle.known_targets.specs.Parts.{AddsPart, AddsParts, AreParts};
 use crate::TargetSet;
 use std::alloc::{AllocError, Global};
 
-/// The known targets in classes: two are in one class exactly if each of the sets has both or neither. It refuses only
-/// where memory is refused.
+/// Returns the known targets in classes: two are in one class exactly if each of the sets has both or neither. Fails
+/// only where memory runs out.
 pub fn classes(alloc: Global, sets: &[TargetSet]) -> Result<Vec<TargetSet>, AllocError>
     // Each known target is in one class, with exactly those that each of the sets has too, or lacks too. No class is
     // empty.
@@ -22,7 +22,7 @@ pub fn classes(alloc: Global, sets: &[TargetSet]) -> Result<Vec<TargetSet>, Allo
     Ok(classes)
 }
 
-/// The parts of each class that are inside and outside the set.
+/// Returns the parts of each class that are inside and outside the set.
 fn split(
     alloc: Global,
     classes: Vec<TargetSet>,

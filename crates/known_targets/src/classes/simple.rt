@@ -1,4 +1,4 @@
-//! Conditions of one fact, or of a target's name, that hold at the targets of a set.
+//! Conditions of one fact, or of a target's name, that are true on the targets of a set.
 
 ghost use Rattle.std.specs.Prelude.{IfOk, IfSome};
 ghost use Rattle.cargo_platform.specs.Trees.{condition_of};
@@ -30,9 +30,9 @@ pub struct Simple {
 }
 
 impl Simple {
-    /// The facts of rustc's table under the names `unix` and `windows`, and then under the keys `target_family`,
-    /// `target_os`, `target_env`, `target_vendor`, `target_arch`, `target_abi`, `target_endian` and
-    /// `target_pointer_width`. It refuses only where memory is refused.
+    /// Returns the facts of rustc's table under the names `unix` and `windows`, and then under the keys
+    /// `target_family`, `target_os`, `target_env`, `target_vendor`, `target_arch`, `target_abi`, `target_endian` and
+    /// `target_pointer_width`. Fails only where memory runs out.
     pub fn new(alloc: Global) -> Result<Simple, AllocError> {
         let known = all_facts(alloc)?;
         let mut facts = Vec::new(alloc);
@@ -49,13 +49,13 @@ impl Simple {
         Ok(Simple { facts })
     }
 
-    /// These facts, each with its targets.
+    /// Returns these facts, each with its targets.
     pub fn facts(&self) -> &[KnownFact] {
         &self.facts
     }
 
-    /// The first condition that holds at exactly the targets of the set: one of the facts, `not(..)` of one, or the
-    /// name of the only target. It refuses only where memory is refused.
+    /// Returns the first condition that is true on exactly the targets of the set: one of the facts, `not(..)` of one,
+    /// or the name of the only target. Fails only where memory runs out.
     pub fn condition(&self, alloc: Global, set: TargetSet) -> Result<Option<Platform>, AllocError>
         // A condition that is answered holds at each target of the set, and at no other known one.
         ensures { IfOk result (λ p. IfSome p (λ p. HoldsExactly set (condition_of p))) }
@@ -78,7 +78,7 @@ impl Simple {
         }
     }
 
-    /// The first fact that exactly these targets have.
+    /// Returns the first fact that exactly these targets have.
     fn first_at(&self, set: TargetSet) -> Option<&KnownFact> {
         for known in &self.facts {
             if known.targets.equals(set) {
@@ -89,7 +89,7 @@ impl Simple {
     }
 }
 
-/// The name or key of a fact.
+/// Returns the name or key of a fact.
 fn name_of<'a>(fact: &'a Cfg) -> &'a str {
     match fact {
         Cfg::Name(name) => name.as_str(),
@@ -97,7 +97,7 @@ fn name_of<'a>(fact: &'a Cfg) -> &'a str {
     }
 }
 
-/// The target of a set of one.
+/// Returns the target of a set of one.
 fn only_target(set: TargetSet) -> Option<KnownTarget> {
     let mut targets = set.iter();
     let first = targets.next()?;
