@@ -4,7 +4,7 @@
 
 mod declared;
 pub mod document;
-pub mod key_lines;
+pub mod key_places;
 pub mod laws;
 mod located;
 mod parts;

@@ -1,5 +1,6 @@
 //! The parts of a manifest whose names have a recorded place.
 
+use known_targets::KnownTarget;
 use std::alloc::{AllocError, Global};
 
 /// A part of a manifest.
@@ -39,9 +40,23 @@ fn is_dependencies(name: &str) -> bool {
     )
 }
 
-/// Returns whether a name in the whole manifest is that of a table which is meant for another place, or is an old name.
+/// Returns whether a name in the whole manifest may be that of a table which is meant for another place, or is an old
+/// name. `target` with a mistake in it has 5 to 7 bytes.
 fn is_odd_at_top(name: &str) -> bool {
-    matches!(name, "targets" | "dev_dependencies" | "build_dependencies")
+    matches!(name, "dev_dependencies" | "build_dependencies")
+        || name.starts_with("cfg(")
+        || name.len() >= 5 && name.len() <= 7
+        || KnownTarget::by_name(name).is_some()
+}
+
+/// Returns whether a name in a dependency table is that of a table which is meant for another place.
+fn is_odd_package(name: &str) -> bool {
+    name == "target" || name.starts_with("cfg(")
+}
+
+/// Returns whether a name in the metadata is that of the table of rules, or that name with an underscore.
+fn is_tool(name: &str) -> bool {
+    matches!(name, "manifest-check" | "manifest_check")
 }
 
 /// Returns the part of the whole manifest that has this name.
@@ -51,7 +66,7 @@ fn at_top(name: &str) -> Part {
         "package" => Part::Package,
         "workspace" => Part::Workspace,
         _ if is_dependencies(name) => Part::Dependencies,
-        _ if is_odd_at_top(name) || name.starts_with("cfg(") => Part::Field,
+        _ if is_odd_at_top(name) => Part::Field,
         _ => Part::Other,
     }
 }
@@ -71,10 +86,11 @@ impl Part {
             Part::Top => at_top(name),
             Part::Target => Part::Key,
             Part::Key => Part::Field,
-            Part::Dependencies if name.starts_with("cfg(") => Part::Field,
-            Part::Workspace if name == "target" => Part::Field,
+            Part::Dependencies if is_odd_package(name) => Part::Field,
+            Part::Package | Part::Workspace if name == "target" => Part::Field,
             Part::Package | Part::Workspace if name == "metadata" => Part::Metadata,
             Part::Metadata if name == "manifest-check" => Part::Settings,
+            Part::Metadata if is_tool(name) => Part::Field,
             Part::Settings => Part::List,
             Part::Entry if name == "code" => Part::Entry,
             _ => Part::Other,
@@ -156,11 +172,11 @@ impl Within {
     /// Returns whether a name in the part is recorded whatever its value is. `member` is the part that has this name.
     pub fn records(&self, name: &str) -> bool {
         match self.part {
-            Part::Top => is_odd_at_top(name) || name.starts_with("cfg("),
+            Part::Top => at_top(name) == Part::Field,
             Part::Key => !is_dependencies(name),
-            Part::Dependencies => name.starts_with("cfg("),
-            Part::Workspace => name == "target",
-            Part::Metadata => name == "manifest-check",
+            Part::Dependencies => is_odd_package(name),
+            Part::Package | Part::Workspace => name == "target",
+            Part::Metadata => is_tool(name),
             Part::Settings => true,
             _ => false,
         }

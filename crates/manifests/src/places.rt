@@ -44,6 +44,10 @@ pub struct Places {
     keys: BTreeMap<String, Appearance>,
     /// The places of other names, by their paths.
     others: BTreeMap<String, Location>,
+    /// The later places of keys that the text spells more than once, by the keys.
+    keys_again: BTreeMap<String, Vec<Location>>,
+    /// The later places of such other names, by their paths.
+    others_again: BTreeMap<String, Vec<Location>>,
 }
 
 /// An open array or inline table.
@@ -100,6 +104,31 @@ impl From<ParseError> for Stop {
     }
 }
 
+/// Returns a copy of places, if there are any.
+fn copied(alloc: Global, places: Option<&Vec<Location>>) -> Result<Vec<Location>, AllocError> {
+    match places {
+        Some(places) => places.clone(),
+        None => Ok(Vec::new(alloc)),
+    }
+}
+
+/// Adds a later place of a name.
+fn note_again(
+    again: &mut BTreeMap<String, Vec<Location>>,
+    alloc: Global,
+    name: &str,
+    at: Location,
+) -> Result<(), AllocError> {
+    if let Some(places) = again.get_mut(name) {
+        places.push(at)?;
+        return Ok(());
+    }
+    let mut places = Vec::new(alloc);
+    places.push(at)?;
+    let _none = again.insert(String::from_str(alloc, name)?, places)?;
+    Ok(())
+}
+
 impl Places {
     /// Returns the places in the text of a manifest. Fails if memory is refused.
     pub fn of(alloc: Global, text: &str) -> Result<Places, AllocError> {
@@ -129,6 +158,8 @@ impl Places {
             target: None,
             keys: BTreeMap::new(alloc),
             others: BTreeMap::new(alloc),
+            keys_again: BTreeMap::new(alloc),
+            others_again: BTreeMap::new(alloc),
         }
     }
 
@@ -155,15 +186,38 @@ impl Places {
 
     /// Returns the place of the name at a path, as `path_of` writes it, if it is recorded. These names are recorded:
     ///
-    /// - at the top, those that begin with `cfg(`, `targets`, `dev_dependencies` and `build_dependencies`;
-    /// - `workspace.target`;
-    /// - in the dependency tables of the package, those that begin with `cfg(`;
-    /// - the table `manifest-check` of the metadata, and its fields.
+    /// - at the top, those that begin with `cfg(`, names of known targets, `dev_dependencies` and `build_dependencies`,
+    ///   and others of 5 to 7 bytes;
+    /// - `workspace.target` and `package.target`;
+    /// - in the dependency tables of the package, `target` and those that begin with `cfg(`;
+    /// - the table `manifest-check` of the metadata, and its fields; and a table `manifest_check` there.
     ///
     /// An entry of such a field has its index as the last part of its path. Its place is that of the text that names a
     /// lint.
     pub fn at_path(&self, path: &str) -> Option<Location> {
         self.others.get(path).copied()
+    }
+
+    /// Returns the later places of a key of `target`, in the order of the text. Fails if memory is refused.
+    pub fn again_at_key(&self, alloc: Global, key: &str) -> Result<Vec<Location>, AllocError> {
+        copied(alloc, self.keys_again.get(key))
+    }
+
+    /// Returns the later places of the name at a path, in the order of the text, if they are recorded. Fails if memory
+    /// is refused.
+    pub fn again_at_path(&self, alloc: Global, path: &str) -> Result<Vec<Location>, AllocError> {
+        copied(alloc, self.others_again.get(path))
+    }
+
+    /// Returns the path of a field of a key of `target`. Fails if memory is refused.
+    pub fn path_of_field(
+        &self,
+        alloc: Global,
+        key: &str,
+        field: &str,
+    ) -> Result<String, AllocError> {
+        let path = path_of_key(alloc, self.place_of(key))?;
+        path_behind(alloc, path.as_str(), field)
     }
 
     /// Returns the place of a field of a key of `target`, if it is recorded. Dependency tables are not. Fails if memory
@@ -174,28 +228,32 @@ impl Places {
         key: &str,
         field: &str,
     ) -> Result<Option<Location>, AllocError> {
-        let path = path_of_key(alloc, self.place_of(key))?;
-        let path = path_behind(alloc, path.as_str(), field)?;
+        let path = self.path_of_field(alloc, key, field)?;
         Ok(self.at_path(path.as_str()))
     }
 
-    /// Records the place of a key of `target`, unless the key appeared before.
+    /// Records a place of a key of `target`.
     fn note_key(&mut self, alloc: Global, key: &str, at: Location) -> Result<(), AllocError> {
-        if self.keys.get(key).is_none() {
-            let place = self.keys.len();
-            let key = String::from_str(alloc, key)?;
-            let _none = self.keys.insert(key, Appearance { place, at })?;
+        if self.keys.get(key).is_some() {
+            return note_again(&mut self.keys_again, alloc, key, at);
         }
+        let place = self.keys.len();
+        let key = String::from_str(alloc, key)?;
+        let _none = self.keys.insert(key, Appearance { place, at })?;
         Ok(())
     }
 
-    /// Records the place of another name, unless it appeared before.
+    /// Records a place of another name, unless it is the first one that is recorded.
     fn note_other(&mut self, alloc: Global, path: &str, at: Location) -> Result<(), AllocError> {
-        if self.others.get(path).is_none() {
-            let path = String::from_str(alloc, path)?;
-            let _none = self.others.insert(path, at)?;
+        match self.at_path(path) {
+            Some(first) if first == at => Ok(()),
+            Some(_) => note_again(&mut self.others_again, alloc, path, at),
+            None => {
+                let path = String::from_str(alloc, path)?;
+                let _none = self.others.insert(path, at)?;
+                Ok(())
+            }
         }
-        Ok(())
     }
 
     /// Records the place of a name in a table, if it is one of those on which `lint` reports. `inside` is its value,

@@ -1,12 +1,15 @@
 //! The reader of manifests from files, folders and standard input.
 
 use crate::document::Document;
+use crate::places::Location;
 use cargo_platform::shown_text;
 use input_limits::{INPUT, Unusable, given_within, without_mark};
 use std::alloc::{AllocError, Global};
 use std::fs;
+use std::io::ErrorKind;
 use std::rt::Files;
 use toml::{Table, table_from_str};
+use toml_spans::{Position, Span};
 
 /// A manifest that was read and parsed.
 #[derive(Drop)]
@@ -16,12 +19,62 @@ pub struct Manifest {
     pub document: Document,
 }
 
+/// An error in the text of a manifest, which is not TOML.
+#[derive(Drop)]
+pub struct SyntaxError {
+    /// The path of the manifest, as it is displayed.
+    pub path: String,
+    /// The text, without a byte order mark.
+    pub text: String,
+    /// The error, as the crate `toml` words it.
+    pub message: String,
+    /// The place of the error. It may be empty.
+    pub at: Location,
+}
+
+impl SyntaxError {
+    /// Returns the manifest and the error on one line. Fails if memory is refused.
+    fn unusable(self, alloc: Global) -> Result<Unusable, AllocError> {
+        let SyntaxError {
+            path,
+            text: _,
+            message,
+            at: Location {
+                span: _,
+                line,
+                column,
+            },
+        } = self;
+        let message = message.as_str();
+        let reason = format!(in alloc;
+            "TOML parse error at line {line}, column {column}: {message}"
+        )?;
+        Ok(Unusable {
+            file: Some(path),
+            reason,
+        })
+    }
+}
+
 /// The reason why a manifest cannot be read.
 #[derive(Drop)]
 pub enum ReadError {
-    /// The manifest cannot be used, which has to be reported.
+    /// The file cannot be read.
     Unusable(Unusable),
+    /// The text of the file is not TOML.
+    Syntax(SyntaxError),
     Memory(AllocError),
+}
+
+impl ReadError {
+    /// Returns the manifest and why it cannot be read, on one line. Fails if memory is or was refused.
+    pub fn unusable(self, alloc: Global) -> Result<Unusable, AllocError> {
+        match self {
+            ReadError::Unusable(unusable) => Ok(unusable),
+            ReadError::Syntax(error) => error.unusable(alloc),
+            ReadError::Memory(refused) => Err(refused),
+        }
+    }
 }
 
 impl From<AllocError> for ReadError {
@@ -44,42 +97,45 @@ fn file_at<R: Files + AllocGlobal>(rt: &R, path: &str) -> Result<String, AllocEr
     String::from_str(alloc, path)
 }
 
-fn unusable_at(alloc: Global, path: &str, reason: &str) -> Result<Unusable, AllocError> {
-    Ok(Unusable {
-        file: Some(String::from_str(alloc, path)?),
-        reason: String::from_str(alloc, reason)?,
+/// Returns the place of a span in a text.
+pub(crate) fn location_of(text: &str, span: Span) -> Location {
+    let start = Position::START.behind(text.get(..span.start).unwrap_or(""));
+    Location {
+        span,
+        line: start.line,
+        column: start.column,
+    }
+}
+
+/// Returns the error with this message at a span of a text.
+fn syntax_error(
+    alloc: Global,
+    path: &str,
+    text: &str,
+    message: &str,
+    span: Span,
+) -> Result<SyntaxError, AllocError> {
+    Ok(SyntaxError {
+        path: String::from_str(alloc, path)?,
+        text: String::from_str(alloc, text)?,
+        message: String::from_str(alloc, message)?,
+        at: location_of(text, span),
     })
 }
 
-/// Returns the error for a manifest that cannot be used.
-fn unusable(alloc: Global, path: &str, reason: &str) -> ReadError {
-    match unusable_at(alloc, path, reason) {
-        Ok(unusable) => ReadError::Unusable(unusable),
-        Err(refused) => ReadError::Memory(refused),
-    }
-}
-
-/// Returns the error for a text that is not TOML, on one line.
-fn no_toml(alloc: Global, path: &str, error: &toml::de::Error) -> ReadError {
-    if error.is_memory() {
+/// Returns the error for a text that is not TOML, or for memory that was refused.
+fn no_toml(alloc: Global, path: &str, text: &str, error: &toml::de::Error) -> ReadError {
+    let Some(range) = error.span() else {
         return ReadError::Memory(AllocError);
-    }
-    match joined_lines(alloc, error) {
-        Ok(reason) => unusable(alloc, path, reason.as_str()),
+    };
+    let span = Span {
+        start: range.start,
+        end: range.end,
+    };
+    match syntax_error(alloc, path, text, error.message(), span) {
+        Ok(error) => ReadError::Syntax(error),
         Err(refused) => ReadError::Memory(refused),
     }
-}
-
-fn joined_lines(alloc: Global, error: &toml::de::Error) -> Result<String, AllocError> {
-    let lines = format!(in alloc; "{error}")?;
-    let mut joined = String::new(alloc);
-    for line in lines.lines() {
-        if !joined.is_empty() {
-            joined.push_str(": ")?;
-        }
-        joined.push_str(line)?;
-    }
-    shown_text(alloc, joined.as_str())
 }
 
 /// The text of a manifest.
@@ -91,6 +147,11 @@ pub struct ManifestText {
 }
 
 impl ManifestText {
+    /// Returns a text as that of the manifest at a path. `path` is as it is displayed.
+    pub fn of(path: String, text: String) -> ManifestText {
+        ManifestText { path, text }
+    }
+
     /// Reads the text of the manifest that an argument names. Fails if it cannot be read, has more than `limit` bytes,
     /// or memory is refused. A longer text is not read to its end.
     pub fn read<R: Files + Input + AllocGlobal>(
@@ -104,6 +165,9 @@ impl ManifestText {
         match given_within(rt, file.as_str(), limit) {
             Ok(text) => Ok(ManifestText { path, text }),
             Err(error) => {
+                if error.kind() == ErrorKind::OutOfMemory {
+                    return Err(ReadError::Memory(AllocError));
+                }
                 let unusable = Unusable::refused(alloc, path, &error, limit)?;
                 Err(ReadError::Unusable(unusable))
             }
@@ -124,7 +188,7 @@ impl ManifestText {
     pub fn table(&self, alloc: Global) -> Result<Table, ReadError> {
         match table_from_str(alloc, self.text()) {
             Ok(table) => Ok(table),
-            Err(error) => Err(no_toml(alloc, self.path.as_str(), &error)),
+            Err(error) => Err(no_toml(alloc, self.path.as_str(), self.text(), &error)),
         }
     }
 

@@ -1,12 +1,15 @@
-//! The line of a manifest on which a path of keys first appears.
+//! The place of a manifest at which a path of keys first appears.
 //!
 //! The text is one that parses. This pass goes through it with the toolchain's readers of keys and values. It ends at
-//! the path, or at anything unexpected, and then the line is not known.
+//! the path, or at anything unexpected, and then the place is not known.
 
+use crate::places::Location;
+use crate::reading::location_of;
 use std::alloc::{AllocError, AllocFailed, Global};
 use std::ops::ControlFlow;
 use toml_parser::text::{first, skip, skip_blank, skip_ws};
 use toml_parser::{Key, ParseError, dotted_key, quoted, starts_string, unquoted};
+use toml_spans::Span;
 
 /// A position beside the path that is searched: how many of its keys lead to a table, or `None` if others do.
 type Depth = Option<usize>;
@@ -53,22 +56,42 @@ impl From<ParseError> for Stop {
 struct Search<'a> {
     alloc: Global,
     rest: &'a str,
-    line: usize,
     path: &'a [String],
     open: Vec<OpenValue>,
     /// The table of the last header.
     table: Depth,
 }
 
-/// Returns the line, counted from 1, on which a path of keys first appears in the text of a manifest: in a header,
+/// Returns the place of the dotted key at the front of the rest of a text.
+fn key_at_front(alloc: Global, text: &str, rest: &str) -> Result<Option<Location>, AllocError> {
+    match dotted_key(alloc, rest) {
+        Ok((_key, behind)) => {
+            let start = text.len().saturating_sub(rest.len());
+            let length = rest.len().saturating_sub(behind.len());
+            let key = rest.get(..length).unwrap_or("").trim_end();
+            let span = Span {
+                start,
+                end: start.saturating_add(key.len()),
+            };
+            Ok(Some(location_of(text, span)))
+        }
+        Err(ParseError::OutOfMemory) => Err(AllocError),
+        Err(ParseError::At(_, _, _)) => Ok(None),
+    }
+}
+
+/// Returns the place of the dotted key with which a path of keys first appears in the text of a manifest: in a header,
 /// before `=`, or in an inline table. Returns `None` if it does not appear, or if an array of tables is above it.
 ///
 /// Fails only where memory runs out.
-pub fn line_of(alloc: Global, text: &str, path: &[String]) -> Result<Option<usize>, AllocError> {
+pub fn place_of_path(
+    alloc: Global,
+    text: &str,
+    path: &[String],
+) -> Result<Option<Location>, AllocError> {
     let mut search = Search {
         alloc,
         rest: text,
-        line: 1,
         path,
         open: Vec::new(alloc),
         table: Some(0),
@@ -77,40 +100,20 @@ pub fn line_of(alloc: Global, text: &str, path: &[String]) -> Result<Option<usiz
         match search.step() {
             Ok(ControlFlow::Continue(())) => {}
             Ok(ControlFlow::Break(())) | Err(Stop::Unexpected) => return Ok(None),
-            Err(Stop::Found) => return Ok(Some(search.line)),
+            Err(Stop::Found) => return key_at_front(alloc, text, search.rest),
             Err(Stop::Memory) => return Err(AllocError),
         }
     }
     Ok(None)
 }
 
-/// Returns the number of line ends in a text.
-fn line_ends(text: &str) -> usize {
-    let mut count: usize = 0;
-    for byte in text.as_bytes() {
-        if *byte == b'\n' {
-            count = count.saturating_add(1);
-        }
-    }
-    count
-}
-
 impl<'a> Search<'a> {
-    /// Moves to the rest of the text, and counts the lines before it.
-    fn go_to(&mut self, rest: &'a str) {
-        let read = self.rest.len().saturating_sub(rest.len());
-        let ends = line_ends(self.rest.get(0..read).unwrap_or(""));
-        self.line = self.line.saturating_add(ends);
-        self.rest = rest;
-    }
-
     /// Consumes one ASCII character, which has to come next.
     fn take(&mut self, byte: u8) -> Result<(), Stop> {
         if byte == 0 || byte >= 128 || first(self.rest) != byte {
             return Err(Stop::Unexpected);
         }
-        let rest = skip(self.rest, 1);
-        self.go_to(rest);
+        self.rest = skip(self.rest, 1);
         Ok(())
     }
 
@@ -143,7 +146,7 @@ impl<'a> Search<'a> {
 
     /// Reads one header, one key with the beginning of its value, or one value. Returns `Break` at the end of the text.
     fn step(&mut self) -> Result<ControlFlow<()>, Stop> {
-        self.go_to(skip_blank(self.rest, true));
+        self.rest = skip_blank(self.rest, true);
         match self.open.pop() {
             None if self.rest.is_empty() => return Ok(ControlFlow::Break(())),
             None => self.line_of_top()?,
@@ -162,10 +165,10 @@ impl<'a> Search<'a> {
         if is_array {
             self.take(b'[')?;
         }
-        self.go_to(skip_ws(self.rest));
+        self.rest = skip_ws(self.rest);
         let (key, rest) = dotted_key(self.alloc, self.rest)?;
         let table = self.below_each(Some(0), &key)?;
-        self.go_to(rest);
+        self.rest = rest;
         self.take(b']')?;
         if is_array {
             self.take(b']')?;
@@ -178,9 +181,9 @@ impl<'a> Search<'a> {
     fn key(&mut self, table: Depth) -> Result<(), Stop> {
         let (key, rest) = dotted_key(self.alloc, self.rest)?;
         let inside = self.below_each(table, &key)?;
-        self.go_to(rest);
+        self.rest = rest;
         self.take(b'=')?;
-        self.go_to(skip_ws(self.rest));
+        self.rest = skip_ws(self.rest);
         self.value(inside)
     }
 
@@ -194,10 +197,10 @@ impl<'a> Search<'a> {
             self.open.push(OpenValue::Inline(inside))?;
         } else if starts_string(self.rest) {
             let (_text, rest) = quoted(self.alloc, self.rest)?;
-            self.go_to(rest);
+            self.rest = rest;
         } else {
             let (_scalar, rest) = unquoted(self.alloc, self.rest)?;
-            self.go_to(rest);
+            self.rest = rest;
         }
         Ok(())
     }
