@@ -1,9 +1,11 @@
 -- The names and numbers that a message contains, by its lint. The words between them are free.
-use Rattle.std.specs.Prelude.{ℕ, false, List, [], ◌∷◌, ◌++◌, codes, take, string_bytes, String}
+use Rattle.std.specs.Prelude.{ℕ, Bool, false, not, ◌&&◌, List, [], ◌∷◌, ◌++◌, codes, cond, nat_eq, take, string_bytes}
+use Rattle.std.specs.Prelude.{String}
 use Rattle.std.specs.Prelude.{Option, Some, None}
-use Rattle.std.specs.List.{join_by}
+use Rattle.std.specs.List.{join_by, starts_with, ends_with}
 use Rattle.std.specs.declared.alloc.Global.{Global}
 use Rattle.cargo_platform.specs.Errors.{fault_in}
+use Rattle.cargo_platform.specs.declared.error.ParseError.{ParseError}
 use Rattle.cargo_platform.specs.Print.{print_fault}
 use Rattle.known_targets.specs.declared.table.TheConstants.{RUSTC_VERSION}
 use Rattle.manifest_lints_standings.specs.declared.asked_facts.AskedFact.{AskedFact}
@@ -45,11 +47,20 @@ mistakes_in fs = listing_of_version (chosen choice.NoFeature fs) ++ listing_of_v
 abbrev pub custom_in : List AskedFact → List (List ℕ)
 custom_in fs = listing_of_version (chosen choice.Stable fs) ++ listing_of_version (chosen choice.Unstable fs)
 
--- the reason why it is rejected
-abbrev pub fault_shown : Spelled → List (List ℕ)
-fault_shown (spelled.Refused e) = shown_cut (print_fault (fault_in e)) ∷ []
-fault_shown (spelled.Condition p) = []
-fault_shown (spelled.ByCargo m) = []
+-- a key that begins with `cfg(` and does not end with `)`
+abbrev pub is_unclosed : List ℕ → Bool
+is_unclosed key = starts_with nat_eq key (codes "cfg(") && not (ends_with nat_eq key (codes ")"))
+
+-- the reason why it is rejected: the error, or that it is not closed
+abbrev pub reason_of : List ℕ → ParseError → List ℕ
+reason_of key e =
+    cond (is_unclosed key) (codes "it begins with `cfg(` and does not end with `)`")
+    (shown_cut (print_fault (fault_in e)))
+
+abbrev pub fault_shown : List ℕ → Spelled → List (List ℕ)
+fault_shown key (spelled.Refused e) = reason_of key e ∷ []
+fault_shown key (spelled.Condition p) = []
+fault_shown key (spelled.ByCargo m) = []
 
 -- Cargo's first warnings on the key, and the number of the others
 abbrev pub cargo_words : Marked → List ℕ
@@ -72,7 +83,7 @@ meant_shown None = []
 
 -- the texts in the message of a diagnostic of this lint on a key, which `meant` can replace
 abbrev pub shown_texts : Code → KnownKey → Option (String Global) → List (List ℕ)
-shown_texts code.Refused k meant = fault_shown k.read.now.spelled
+shown_texts code.Refused k meant = fault_shown k.read.now.text.now k.read.now.spelled ++ meant_shown meant
 shown_texts code.NoTable k meant = first_texts (λ s. string_bytes s) k.no_tables.items
 shown_texts code.ReadOtherwise k meant = read_otherwise k.read.now.spelled k.asked.items
 shown_texts code.Unsupported k meant = unsupported_in (chosen (choice.OfSort sort.Unsupported) k.asked.items) ∷ []

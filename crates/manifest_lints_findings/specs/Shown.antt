@@ -28,8 +28,9 @@ abbrev pub IsShownOn : Code → KnownKey → Finding → Type 0
 IsShownOn code.Refused k f = IsShownBy k.read.now.text.now k.read.now.spelled f
 IsShownOn c k f = (f.span ≡ None) × (f.snippet ≡ None)
 
--- the lint reports nothing on this text, which is the condition
+-- the lint reports nothing on this text, which is the condition; a text that is a condition is not rejected
 abbrev pub IsRidOf : Code → List ℕ → Condition → Type 0
+IsRidOf code.Refused text c = Unit {0}
 IsRidOf code.UnknownTarget text c = IsUnknownTarget c → ⊥
 IsRidOf code.UnknownFact text c = has_sort sort.Mistaken (sorted_in [] c) ≡ false
 IsRidOf code.ReadOtherwise text c = has_marked_literal (sorted_in [] c) ≡ false

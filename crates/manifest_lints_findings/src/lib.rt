@@ -15,6 +15,7 @@ mod no_tables;
 mod places;
 mod pointing;
 pub mod readings;
+mod repairing;
 mod suggestions;
 mod unknown;
 mod wording;

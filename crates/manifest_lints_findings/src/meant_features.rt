@@ -1,25 +1,8 @@
 //! The features that people mean by values of `target_feature` that rustc has for no architecture.
 
-use crate::meant::is_one_edit;
+use crate::meant::{is_one_edit, is_same_but_marks};
 use manifest_lints_standings::rustc_names::target_features;
 use std::alloc::{AllocError, Global};
-
-/// Returns whether a byte separates the parts of a feature's name.
-fn is_mark(byte: u8) -> bool {
-    matches!(byte, b'-' | b'_' | b'.')
-}
-
-/// Returns whether both are the same except for ASCII case and separators.
-fn is_same_but_marks(text: &str, word: &str) -> bool {
-    let mut others = word.bytes().filter(|byte| !is_mark(*byte));
-    for byte in text.bytes().filter(|byte| !is_mark(*byte)) {
-        match others.next() {
-            Some(other) if other.eq_ignore_ascii_case(&byte) => {}
-            _ => return false,
-        }
-    }
-    others.next().is_none()
-}
 
 /// Returns the feature that is one edit away, if there is only one.
 fn one_near(text: &str) -> Option<&'static str> {
@@ -36,8 +19,11 @@ fn one_near(text: &str) -> Option<&'static str> {
 }
 
 /// Returns the feature that is meant by a text: one that differs only in ASCII case and separators, or that is one edit
-/// away.
+/// away. `sse4` is `sse4.2`, as for compilers of C.
 fn meant_feature(text: &str) -> Option<&'static str> {
+    if text == "sse4" {
+        return Some("sse4.2");
+    }
     for feature in target_features() {
         if is_same_but_marks(text, feature) {
             return Some(*feature);

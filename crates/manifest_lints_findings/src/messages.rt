@@ -8,7 +8,7 @@ ghost use Rattle.known_targets.specs.declared.table.TheConstants.{RUSTC_VERSION}
 ghost use Rattle.manifest_lints_findings.specs.Chosen.{chosen, fact_text, is_pair, warnings_on};
 ghost use Rattle.manifest_lints_findings.specs.Messages.{NamesKey, Shows, listing, listing_of_version, meant_shown};
 ghost use Rattle.manifest_lints_findings.specs.Messages.{mistakes_in, custom_in, fault_shown, read_otherwise};
-ghost use Rattle.manifest_lints_findings.specs.Messages.{cargo_words, unsupported_in};
+ghost use Rattle.manifest_lints_findings.specs.Messages.{cargo_words, unsupported_in, is_unclosed, reason_of};
 ghost use Rattle.manifest_lints_findings.specs.Texts.{quoted_text, first_texts, BeginsWith, EndsWith, Mentions};
 
 use crate::chosen::{Choice, chosen};
@@ -17,7 +17,7 @@ use crate::known_keys::KnownKey;
 use crate::readings::{Marked, Spelled};
 use crate::suggestions::{Words, instead_of};
 use crate::wording::{OWN, and_more, both, joined, listed, perhaps, quoted, quoted_fact, told};
-use cargo_platform::{Cfg, CfgExpr, Platform, shown_start, shown_text};
+use cargo_platform::{Cfg, CfgExpr, ParseError, Platform, shown_start, shown_text};
 use known_targets::RUSTC_VERSION;
 use manifest_lints_standings::asked_facts::AskedFact;
 use manifest_lints_standings::standing::{Sort, Standing};
@@ -37,7 +37,7 @@ pub fn message_of(
     ensures shows { IfOk result (λ message. Shows code key.now meant.now (string_bytes message)) }
 {
     match code {
-        Code::Refused => refused_message(alloc, key),
+        Code::Refused => refused_message(alloc, key, meant),
         Code::NoTable => no_table_message(alloc, key),
         Code::ReadOtherwise => read_otherwise_message(alloc, key),
         Code::Unsupported => unsupported_message(alloc, key),
@@ -79,16 +79,16 @@ fn no_table_message(alloc: Global, key: &KnownKey<'_>) -> Result<String, AllocEr
     joined(alloc, &key.no_tables, key.no_tables.len(), ", ")
 }
 
-/// The texts that people write in place of the words of a condition, and a suggestion for each.
+/// The texts that people write in place of the words of a condition, and what to write in place of each.
 const INSTEAD: [(&str, &str); 8] = [
-    ("||", "use `any(..)` in place of `||`"),
-    ("&&", "use `all(..)` in place of `&&`"),
-    ("!=", "use `not(.. = \"..\")` in place of `!=`"),
-    ("!", "use `not(..)` in place of `!`"),
-    ("==", "use `=` in place of `==`"),
-    ("'", "put the value in double quotes"),
-    ("[", "use `any(..)` in place of `[..]`"),
-    (" or ", "use `any(..)` in place of `or`"),
+    ("||", "; use `any(..)` in place of `||`"),
+    ("&&", "; use `all(..)` in place of `&&`"),
+    ("!=", "; use `not(.. = \"..\")` in place of `!=`"),
+    ("!", "; use `not(..)` in place of `!`"),
+    ("==", "; use `=` in place of `==`"),
+    ("'", "; put the value in double quotes"),
+    ("[", "; use `any(..)` in place of `[..]`"),
+    (" or ", "; use `any(..)` in place of `or`"),
 ];
 
 /// Returns whether a key contains these words outside of its values.
@@ -101,42 +101,71 @@ fn stands_outside(key: &str, words: &str) -> bool {
     false
 }
 
-/// Returns a suggestion for what people write in a rejected key. Texts inside values are ignored.
-fn instead_of_fault(key: &str) -> Option<&'static str> {
+/// Returns what to write in place of what people write in a rejected key, or the empty text. Texts inside values are
+/// ignored.
+fn instead_of_fault(key: &str) -> &'static str {
     for (written, hint) in INSTEAD {
         if stands_outside(key, written) {
-            return Some(hint);
+            return hint;
         }
     }
     if key.contains("not(") && key.contains(',') {
-        return Some("`not(..)` takes one condition: use `not(any(..))` or `not(all(..))`");
+        return "; `not(..)` takes one condition: use `not(any(..))` or `not(all(..))`";
     }
-    None
+    ""
 }
 
-/// Returns the error of a rejected key, escaped and shortened.
-fn fault_of(alloc: Global, spelled: &Spelled) -> Result<String, AllocError>
-    ensures { IfOk result (λ s. Mentions (fault_shown spelled.now) (string_bytes s)) }
+/// Returns what to write in place of what people write in a rejected key, if no key is suggested.
+fn hint_beside(meant: &Option<String>, key: &str) -> &'static str {
+    match meant {
+        Some(_) => "",
+        None => instead_of_fault(key),
+    }
+}
+
+/// Returns whether a key begins with `cfg(` and does not end with `)`.
+fn is_unclosed(key: &str) -> bool
+    ensures { result ≡ is_unclosed key.now }
+{
+    key.as_bytes().starts_with(b"cfg(") && !key.as_bytes().ends_with(b")")
+}
+
+/// Returns the error of a rejected key, escaped and shortened, or that the key is not closed.
+fn reason_of(alloc: Global, key: &str, error: &ParseError) -> Result<String, AllocError>
+    ensures { IfOk result (λ s. string_bytes s ≡ reason_of key.now error.now) }
+{
+    if is_unclosed(key) {
+        return String::from_str(alloc, "it begins with `cfg(` and does not end with `)`");
+    }
+    let kind = error.kind();
+    let fault = format!(in alloc; "{kind}")?;
+    shown_start(alloc, fault.as_str())
+}
+
+/// Returns the reason why a key is rejected.
+fn fault_of(alloc: Global, key: &str, spelled: &Spelled) -> Result<String, AllocError>
+    ensures { IfOk result (λ s. Mentions (fault_shown key.now spelled.now) (string_bytes s)) }
 {
     match spelled {
-        Spelled::Refused(error) => {
-            let kind = error.kind();
-            let fault = format!(in alloc; "{kind}")?;
-            shown_start(alloc, fault.as_str())
-        }
+        Spelled::Refused(error) => reason_of(alloc, key, error),
         Spelled::Condition(_) | Spelled::ByCargo(_) => Ok(String::new(alloc)),
     }
 }
 
 /// Returns the message for a rejected key.
-fn refused_message(alloc: Global, key: &KnownKey<'_>) -> Result<String, AllocError>
-    ensures { IfOk result (λ s. Mentions (fault_shown key.now.read.now.spelled) (string_bytes s)) }
+fn refused_message(
+    alloc: Global,
+    key: &KnownKey<'_>,
+    meant: &Option<String>,
+) -> Result<String, AllocError>
+    ensures { IfOk result (λ s. Mentions
+        (fault_shown key.now.read.now.text.now key.now.read.now.spelled ++ meant_shown meant.now)
+        (string_bytes s)) }
 {
-    let fault = fault_of(alloc, &key.read.spelled)?;
-    match instead_of_fault(key.read.text) {
-        Some(hint) => format!(in alloc; "the key spells no condition: {fault}; {hint}"),
-        None => format!(in alloc; "the key spells no condition: {fault}"),
-    }
+    let fault = fault_of(alloc, key.read.text, &key.read.spelled)?;
+    let perhaps = perhaps(alloc, meant)?;
+    let hint = hint_beside(meant, key.read.text);
+    format!(in alloc; "the key spells no condition: {fault}{perhaps}{hint}")
 }
 
 /// Returns the message for a key that only Cargo accepts: Cargo's warnings.
@@ -223,6 +252,14 @@ fn unknown_target_message(alloc: Global, meant: &Option<String>) -> Result<Strin
     format!(in alloc; "{unknown} has this name{OWN}{perhaps}")
 }
 
+/// Returns whether a fact is a pair of `panic`.
+fn is_panic(fact: &Cfg) -> bool {
+    match fact {
+        Cfg::KeyPair(key, _) => key.as_str() == "panic",
+        Cfg::Name(_) => false,
+    }
+}
+
 /// Returns a mistaken fact, with what may be meant.
 fn mistake(alloc: Global, words: &Words, asked: &AskedFact<'_>) -> Result<String, AllocError>
     ensures { IfOk result (λ s. BeginsWith (fact_text asked.now) (string_bytes s)) }
@@ -234,6 +271,9 @@ fn mistake(alloc: Global, words: &Words, asked: &AskedFact<'_>) -> Result<String
     }
     if asked.standing == Standing::OfProfile {
         return format!(in alloc; "{text} (no profile selects dependencies)");
+    }
+    if is_panic(asked.fact) {
+        return format!(in alloc; "{text} (flags set `abort`, `immediate-abort` or `unwind`)");
     }
     Ok(text)
 }

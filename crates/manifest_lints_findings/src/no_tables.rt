@@ -31,13 +31,23 @@ fn is_configuration(name: &str) -> bool {
     matches!(name, "linker" | "runner" | "rustflags" | "rustdocflags")
 }
 
+/// Returns the name of the dependency table that is meant by another word, or that is one edit away.
+fn meant_table(name: &str) -> Option<&'static str> {
+    match name {
+        "dependency" | "deps" => Some("dependencies"),
+        "dev-dependency" | "dev-deps" => Some("dev-dependencies"),
+        "build-dependency" | "build-deps" => Some("build-dependencies"),
+        _ => near(name, &TABLES),
+    }
+}
+
 /// Returns the message for a member of this name, which is not a dependency table.
 fn other_member(alloc: Global, name: &str) -> Result<String, AllocError> {
     let shown = quoted(alloc, name)?;
     if is_configuration(name) {
         return format!(in alloc; "{shown} belongs into .cargo/config.toml");
     }
-    match near(name, &TABLES) {
+    match meant_table(name) {
         Some(table) => format!(in alloc;
             "{shown} is no table of dependencies (did you mean `{table}`?)"
         ),

@@ -2,6 +2,7 @@
 
 use crate::codes::Level;
 use crate::lints::Lint;
+use crate::meant::near;
 use cargo_platform::shown_start;
 use known_targets::KnownTarget;
 use manifests::places::path_of;
@@ -33,7 +34,7 @@ pub struct WrongPlace {
     /// What is at fault.
     pub site: Site,
     pub message: String,
-    /// A text that can replace the whole key.
+    /// A text that can replace the whole key, or the name at fault if there is no key.
     pub suggestion: Option<&'static str>,
 }
 
@@ -98,18 +99,30 @@ fn add_of_name(
         let meant = format!(in alloc; "target.'{name}'")?;
         return add_unread(alloc, name, meant.as_str(), found);
     }
-    if name == "targets" && has_keys(value) {
+    if KnownTarget::by_name(name).is_some() && value.is_table() {
+        let meant = format!(in alloc; "target.{name}")?;
+        return add_unread(alloc, name, meant.as_str(), found);
+    }
+    if name != "target" && near(name, &["target"]).is_some() && has_keys(value) {
         return add_unread(alloc, name, "target", found);
     }
     Ok(())
 }
 
-/// Returns whether the table of the workspace contains `target`.
-fn is_in_workspace(manifest: &Table) -> bool {
-    match manifest.get("workspace") {
-        Some(Value::Table(workspace)) => workspace.get("target").is_some(),
-        _ => false,
+/// Returns the value of `target` in the table `part` of a manifest.
+fn target_in<'a>(manifest: &'a Table, part: &str) -> Option<&'a Value> {
+    match manifest.get(part) {
+        Some(Value::Table(table)) => table.get("target"),
+        _ => None,
     }
+}
+
+/// Adds the diagnostic on `target` in the table `part` of a manifest, which Cargo does not read.
+fn add_inside(alloc: Global, part: &str, found: &mut Vec<WrongPlace>) -> Result<(), AllocError> {
+    let path = path_of(alloc, &[part, "target"])?;
+    let name = format!(in alloc; "{part}.target")?;
+    found.push(unread(alloc, name.as_str(), path, "target")?)?;
+    Ok(())
 }
 
 /// Adds the diagnostics on tables at the top level of a manifest, or of a configuration, that Cargo does not read.
@@ -122,9 +135,13 @@ pub fn add_at_top(
     for (name, value) in manifest.iter() {
         add_of_name(alloc, name.as_str(), value, found)?;
     }
-    if is_in_workspace(manifest) {
-        let path = path_of(alloc, &["workspace", "target"])?;
-        found.push(unread(alloc, "workspace.target", path, "target")?)?;
+    if target_in(manifest, "workspace").is_some() {
+        add_inside(alloc, "workspace", found)?;
+    }
+    if let Some(target) = target_in(manifest, "package") {
+        if has_keys(target) {
+            add_inside(alloc, "package", found)?;
+        }
     }
     Ok(())
 }
@@ -146,6 +163,47 @@ fn among_packages(alloc: Global, name: &str, key: &str) -> Result<WrongPlace, Al
     })
 }
 
+/// Returns whether the table of a dependency says where its package comes from.
+fn has_source(dependency: &Table) -> bool {
+    for field in ["version", "path", "git", "workspace"] {
+        if dependency.get(field).is_some() {
+            return true;
+        }
+    }
+    false
+}
+
+/// Adds the diagnostic on a table `target` with keys in the dependency table of this name. Cargo takes it for a package.
+fn add_as_package(
+    alloc: Global,
+    name: &str,
+    package: &Table,
+    found: &mut Vec<WrongPlace>,
+) -> Result<(), AllocError> {
+    for (key, _) in package.iter() {
+        if is_key(key.as_str()) {
+            let key = shown_start(alloc, key.as_str())?;
+            found.push(WrongPlace {
+                lint: Lint::Misplaced,
+                level: if has_source(package) {
+                    Level::Warning
+                } else {
+                    Level::Error
+                },
+                subject: format!(in alloc; "{name}.target")?,
+                key: None,
+                site: Site::Named(path_of(alloc, &[name, "target"])?),
+                message: format!(in alloc;
+                    "Cargo takes `target` for the name of a package; did you mean `target.'{key}'.{name}`?"
+                )?,
+                suggestion: None,
+            })?;
+            return Ok(());
+        }
+    }
+    Ok(())
+}
+
 /// Adds the diagnostics on keys of `target` in dependency tables, where Cargo takes them for names of packages.
 fn add_among_packages(
     alloc: Global,
@@ -160,6 +218,9 @@ fn add_among_packages(
             if key.as_str().starts_with("cfg(") {
                 found.push(among_packages(alloc, name, key.as_str())?)?;
             }
+        }
+        if let Some(Value::Table(package)) = table.get("target") {
+            add_as_package(alloc, name, package, found)?;
         }
     }
     Ok(())
@@ -213,7 +274,7 @@ fn underscored(
     alloc: Global,
     key: Option<&str>,
     name: &str,
-    other: &str,
+    other: &'static str,
     is_refused: bool,
 ) -> Result<WrongPlace, AllocError> {
     Ok(WrongPlace {
@@ -227,7 +288,7 @@ fn underscored(
         key: None,
         site: site_of_table(alloc, key, name)?,
         message: underscored_message(alloc, other, is_refused)?,
-        suggestion: None,
+        suggestion: Some(other),
     })
 }
 
@@ -242,7 +303,12 @@ fn add_underscored(
 ) -> Result<(), AllocError> {
     for (name, other) in UNDERSCORES {
         if table.get(name).is_some() {
-            found.push(underscored(alloc, key, name, other, is_refused)?)?;
+            let mut wrong = underscored(alloc, key, name, other, is_refused)?;
+            // A table of both names would be two tables of one name.
+            if table.get(other).is_some() {
+                wrong.suggestion = None;
+            }
+            found.push(wrong)?;
         }
     }
     Ok(())

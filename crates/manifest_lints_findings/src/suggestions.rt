@@ -9,6 +9,7 @@ use crate::known_keys::KnownKey;
 use crate::meant::{if_known, meant_value, near, nearest_target};
 use crate::meant_features::feature_instead_of;
 use crate::readings::{ReadKey, Spelled};
+use crate::repairing::repaired_key;
 use cargo_platform::{Cfg, CfgExpr, Platform, ReadError};
 use known_targets::{KnownFact, all_facts};
 use manifest_lints_standings::asked_facts::AskedFact;
@@ -50,7 +51,7 @@ pub fn instead_of(
     asked: &AskedFact<'_>,
 ) -> Result<Option<String>, AllocError> {
     match (asked.standing, asked.fact) {
-        (Standing::ValueAsName(key), Cfg::Name(name)) => with_value(alloc, key, name.as_str()),
+        (Standing::ValueAsName(key), Cfg::Name(name)) => { fact_of_name(alloc, key, name.as_str()) }
         (Standing::OtherValue, Cfg::KeyPair(key, value)) => {
             fact_instead_of(alloc, words, key.as_str(), value.as_str())
         }
@@ -69,6 +70,15 @@ fn with_value(alloc: Global, key: &str, value: &str) -> Result<Option<String>, A
     Ok(Some(format!(in alloc; "{key} = \"{value}\"")?))
 }
 
+/// Returns the fact that is meant by a value of the key that is used as a name, whatever its case.
+fn fact_of_name(alloc: Global, key: &str, name: &str) -> Result<Option<String>, AllocError> {
+    let value = name.to_ascii_lowercase(alloc)?;
+    if value.as_str() == "unix" || value.as_str() == "windows" {
+        return Ok(Some(value));
+    }
+    with_value(alloc, key, value.as_str())
+}
+
 /// Returns the value of the key that may be meant by another one.
 fn value_instead_of<'a>(
     alloc: Global,
@@ -83,13 +93,23 @@ fn value_instead_of<'a>(
 }
 
 /// The keys that are searched for a value that its own key does not have.
-const OTHER_KEYS: [&str; 5] = [
+const OTHER_KEYS: [&str; 6] = [
     "target_os",
     "target_arch",
     "target_vendor",
     "target_env",
     "target_abi",
+    "target_family",
 ];
+
+/// The keys that are searched for a value that is meant by another word for a fact.
+const KEYS_OF_WORDS: [&str; 3] = ["target_os", "target_arch", "target_endian"];
+
+/// The word for the architectures `RISCV`.
+const RISCV_WORD: &str = "riscv";
+
+/// The condition that is meant by a word for several architectures.
+const RISCV: &str = "any(target_arch = \"riscv32\", target_arch = \"riscv64\")";
 
 /// Returns the fact that may be meant by a value of another key.
 fn by_value_of_other(alloc: Global, key: &str, value: &str) -> Result<Option<String>, AllocError> {
@@ -148,6 +168,9 @@ fn fact_instead_of(
             None => by_value_of_other(alloc, key, value),
         };
     }
+    if key == "target_arch" && value == RISCV_WORD {
+        return Ok(Some(String::from_str(alloc, RISCV)?));
+    }
     if let Some(other) = meant_value(alloc, key, value)? {
         return with_value(alloc, key, other);
     }
@@ -165,7 +188,8 @@ fn fact_instead_of(
 
 /// Returns the full key for a shortened one. `platform` stands for `target_os`.
 fn long_key(alloc: Global, key: &str) -> Result<String, AllocError> {
-    if key == "platform" {
+    let key = key.to_ascii_lowercase(alloc)?;
+    if key.as_str() == "platform" {
         String::from_str(alloc, "target_os")
     } else {
         format!(in alloc; "target_{key}")
@@ -184,6 +208,9 @@ fn fact_of_value(
     }
     if value == "unix" || value == "windows" {
         return Ok(Some(String::from_str(alloc, value)?));
+    }
+    if key == "target_arch" && value == RISCV_WORD {
+        return Ok(Some(String::from_str(alloc, RISCV)?));
     }
     match value_instead_of(alloc, words, key, value)? {
         Some(other) => with_value(alloc, key, other),
@@ -204,11 +231,18 @@ fn long_fact(
 
 /// Returns the fact that is meant by another word for it.
 fn by_other_word(alloc: Global, word: &str) -> Result<Option<String>, AllocError> {
-    match meant_value(alloc, "target_os", word)? {
-        Some("windows") => Ok(Some(String::from_str(alloc, "windows")?)),
-        Some(system) => with_value(alloc, "target_os", system),
-        None => Ok(None),
+    let word = word.to_ascii_lowercase(alloc)?;
+    if word.as_str() == RISCV_WORD {
+        return Ok(Some(String::from_str(alloc, RISCV)?));
     }
+    for key in KEYS_OF_WORDS {
+        match meant_value(alloc, key, word.as_str())? {
+            Some("windows") => return Ok(Some(String::from_str(alloc, "windows")?)),
+            Some(value) => return with_value(alloc, key, value),
+            None => {}
+        }
+    }
+    Ok(None)
 }
 
 /// Returns `cfg(..)` around a pair.
@@ -229,9 +263,25 @@ fn cfg_instead_of(alloc: Global, key: &str, name: &str) -> Result<Option<String>
 
 /// Returns the key that can replace the name of a target that is not known.
 fn key_instead_of(alloc: Global, key: &KnownKey<'_>) -> Result<Option<String>, AllocError> {
-    let name = key.read.text;
+    let name = key.read.text.to_ascii_lowercase(alloc)?;
+    let found = cfg_of_name(alloc, name.as_str())?;
+    if found.is_some() {
+        return Ok(found);
+    }
+    let whole = dotted_target(alloc, key)?;
+    if whole.is_some() {
+        return Ok(whole);
+    }
+    nearest_target(alloc, key.read.text)
+}
+
+/// Returns the `cfg(..)` that is meant by a name in lower case, if that is a fact or a value of one of rustc's keys.
+fn cfg_of_name(alloc: Global, name: &str) -> Result<Option<String>, AllocError> {
     if name == "windows" || name == "unix" {
         return Ok(Some(format!(in alloc; "cfg({name})")?));
+    }
+    if name == RISCV_WORD {
+        return Ok(Some(format!(in alloc; "cfg({RISCV})")?));
     }
     for word in ["target_os", "target_arch"] {
         let found = cfg_instead_of(alloc, word, name)?;
@@ -239,11 +289,7 @@ fn key_instead_of(alloc: Global, key: &KnownKey<'_>) -> Result<Option<String>, A
             return Ok(found);
         }
     }
-    let whole = dotted_target(alloc, key)?;
-    if whole.is_some() {
-        return Ok(whole);
-    }
-    nearest_target(alloc, name)
+    Ok(None)
 }
 
 /// Returns the known target whose name TOML splits into two keys, as in `[target.thumbv8m.main-none-eabi]`.
@@ -358,9 +404,11 @@ fn is_rid_of(alloc: Global, text: &str, condition: Platform, code: Code) -> Resu
     let read = ReadKey::alone(text, condition);
     let known = KnownKey::alone(alloc, &read)?;
     match code {
-        Code::ReadOtherwise | Code::UnknownTarget | Code::UnknownFact | Code::NotCanonical => {
-            Ok(!known.holds(code))
-        }
+        Code::Refused
+        | Code::ReadOtherwise
+        | Code::UnknownTarget
+        | Code::UnknownFact
+        | Code::NotCanonical => Ok(!known.holds(code)),
         _ => Ok(false),
     }
 }
@@ -373,6 +421,7 @@ fn text_instead(
     code: Code,
 ) -> Result<Option<String>, AllocError> {
     match (code, &key.read.spelled) {
+        (Code::Refused, _) => repaired_key(alloc, key.read.text),
         (Code::ReadOtherwise, Spelled::ByCargo(marked)) => Ok(Some(marked.key.clone()?)),
         (Code::UnknownTarget, _) => key_instead_of(alloc, key),
         (Code::UnknownFact, _) => repaired(alloc, words, key),

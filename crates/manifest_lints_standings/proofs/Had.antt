@@ -16,7 +16,7 @@ use Rattle.known_targets.specs.declared.table.TheConstants.{COUNT}
 use Rattle.known_targets.proofs.Bits.{no_words, zeros, has_none}
 use Rattle.known_targets.proofs.Found.{has_name-contains, has_pair-contains}
 use Rattle.known_targets.proofs.Listed.{none_some}
-use Rattle.manifest_lints_standings.specs.Standings.{valued, plain_names, target_features, sort_of, sort_of_pair}
+use Rattle.manifest_lints_standings.specs.Standings.{valued, plain_names, target_features, panics, sort_of, sort_of_pair}
 use Rattle.manifest_lints_standings.specs.Rules.{IsNoMistake}
 use Rattle.manifest_lints_standings.specs.declared.standing.Sort.TheVariants as sort
 use Rattle.manifest_lints_standings.proofs.Rules.{takes, skips, or_true, neither, pair_valued, pair_panic, pair_feature}
@@ -44,7 +44,7 @@ is_name_row key = bytes_eq key.1 no_words || is_named key.0 plain_names
 -- rustc sets the pair
 abbrev is_pair : List ℕ → List ℕ → Bool
 is_pair key value =
-    is_named key valued || (bytes_eq key (codes "panic")
+    is_named key valued || ((bytes_eq key (codes "panic") && is_named value panics)
     || (bytes_eq key (codes "target_feature") && is_named value target_features))
 
 abbrev is_pair_row : List ℕ × List ℕ × Values → Bool
@@ -122,8 +122,11 @@ its_pair : (key value : List ℕ) (has : Bool) → has ≡ true → is_pair key 
 its_pair key value has had is =
     elim (or_true (is_named key valued) _ is) [
       | inl v ↦ pair_valued key value has v ∙ takes has _ _ had
-      | inr rest ↦ elim (or_true (bytes_eq key (codes "panic")) _ rest) [
-        | inl p ↦ pair_panic key value has ((bytes_eq-Decides key (codes "panic")).0 p)
+      | inr rest ↦ elim (or_true (bytes_eq key (codes "panic") && is_named value panics) _ rest) [
+        | inl p ↦
+            let parts = and_true (bytes_eq key (codes "panic")) (is_named value panics) p in
+            pair_panic key value has ((bytes_eq-Decides key (codes "panic")).0 parts.0)
+            ∙ takes (is_named value panics) _ _ parts.1
         | inr f ↦
             let parts = and_true (bytes_eq key (codes "target_feature")) (is_named value target_features) f in
             pair_feature key value has ((bytes_eq-Decides key (codes "target_feature")).0 parts.0)

@@ -13,10 +13,10 @@ use Rattle.known_targets.specs.Listed.{is_had}
 use Rattle.manifest_lints_standings.specs.Standings.{valued, flagged, plain_names, unstable_names, unstable_keys}
 use Rattle.manifest_lints_standings.specs.Standings.{named_by_value, has_as_value, target_features, is_near}
 use Rattle.manifest_lints_standings.specs.Standings.{is_taken_for_rustcs, sort_of, sort_of_pair, sort_of_other}
-use Rattle.manifest_lints_standings.specs.Standings.{sort_of_feature}
+use Rattle.manifest_lints_standings.specs.Standings.{sort_of_feature, sort_of_panic, panics}
 use Rattle.manifest_lints_standings.specs.Rules.{IsOf, warned, family, unstable_name, without_value, flag_alone}
-use Rattle.manifest_lints_standings.specs.Rules.{mistaken_name, custom_name, had, not_had, panic, feature, no_feature}
-use Rattle.manifest_lints_standings.specs.Rules.{with_value, target_key, unstable_key, mistaken_key, custom_key}
+use Rattle.manifest_lints_standings.specs.Rules.{mistaken_name, custom_name, had, not_had, panic, no_panic, feature}
+use Rattle.manifest_lints_standings.specs.Rules.{no_feature, with_value, target_key, unstable_key, mistaken_key, custom_key}
 use Rattle.manifest_lints_standings.specs.Rules.{families, is_known_name, is_known_key, is_value, is_mistakable}
 use Rattle.manifest_lints_standings.specs.Rules.{HasSortOfRules, IsSettled, StaysOrIsDeclared, StaysRustcsOrCargos}
 use Rattle.manifest_lints_standings.specs.declared.standing.Sort.{Sort}
@@ -136,7 +136,9 @@ pair_sorted k v =
     branch (IsOf (KeyPair k v)) (bytes_eq k.name (codes "target_feature")) _ _ (λ t.
     let is = (bytes_eq-Decides k.name (codes "target_feature")).0 t in
     branch (IsOf (KeyPair k v)) (is_named v target_features) _ _ (feature k v is) (no_feature k v is)) (λ t.
-    branch (IsOf (KeyPair k v)) (is_named k.name flagged) _ _ (λ g. panic k v (its_panic k.name g t)) (λ g.
+    branch (IsOf (KeyPair k v)) (is_named k.name flagged) _ _ (λ g.
+    let is = its_panic k.name g t in
+    branch (IsOf (KeyPair k v)) (is_named v panics) _ _ (panic k v is) (no_panic k v is)) (λ g.
     branch (IsOf (KeyPair k v)) (is_named k.name valued) _ _ (λ w.
     branch (IsOf (KeyPair k v)) (is_had table_keys (KeyPair k v)) _ _ (had k v w) (not_had k v w)) (λ w.
     branch (IsOf (KeyPair k v)) (is_named k.name plain_names) _ _ (with_value k v) (λ p.
@@ -243,8 +245,8 @@ module _ (key value : List ℕ) (has : Bool) where
       (skips (bytes_eq key (codes "target_feature")) _ _ _ (not_word (codes "target_feature") valued refl h)
       (skips (is_named key flagged) _ _ _ (none_among flagged valued refl h) (takes (is_named key valued) _ _ h)))
 
-  pub pair_panic : key ≡ codes "panic" → sort_of_pair key value has ≡ sort.Rustcs
-  pair_panic e = subst (λ (w : List ℕ). sort_of_pair w value has ≡ sort.Rustcs) (sym e) refl
+  pub pair_panic : key ≡ codes "panic" → sort_of_pair key value has ≡ sort_of_panic value
+  pair_panic e = subst (λ (w : List ℕ). sort_of_pair w value has ≡ sort_of_panic value) (sym e) refl
 
   pub pair_feature : key ≡ codes "target_feature" → sort_of_pair key value has ≡ sort_of_feature value
   pair_feature e = subst (λ (w : List ℕ). sort_of_pair w value has ≡ sort_of_feature value) (sym e) refl
@@ -303,7 +305,8 @@ told _ _ (custom_name n unknown h) =
     unknown_sort n unknown ∙ skips (is_value n.name) _ _ _ nos.0 (custom_other n.name nos.1)
 told _ _ (had k v h has) = pair_valued k.name v _ h ∙ takes (is_had table_keys (KeyPair k v)) _ _ has
 told _ _ (not_had k v h none) = pair_valued k.name v _ h ∙ skips (is_had table_keys (KeyPair k v)) _ _ _ none refl
-told _ _ (panic k v e) = pair_panic k.name v _ e
+told _ _ (panic k v e h) = pair_panic k.name v _ e ∙ takes (is_named v panics) _ _ h
+told _ _ (no_panic k v e h) = pair_panic k.name v _ e ∙ skips (is_named v panics) _ _ _ h refl
 told _ _ (feature k v e h) = pair_feature k.name v _ e ∙ takes (is_named v target_features) _ _ h
 told _ _ (no_feature k v e h) = pair_feature k.name v _ e ∙ skips (is_named v target_features) _ _ _ h refl
 told _ _ (with_value k v h) = pair_plain k.name v _ h

@@ -8,7 +8,7 @@ use Rattle.partial_facts.specs.Partly.{is_named}
 use Rattle.known_targets.specs.Table.{table_keys}
 use Rattle.known_targets.specs.Listed.{is_had}
 use Rattle.manifest_lints_standings.specs.Standings.{valued, flagged, plain_names, unstable_names, unstable_keys}
-use Rattle.manifest_lints_standings.specs.Standings.{named_by_value, has_as_value, target_features, is_near}
+use Rattle.manifest_lints_standings.specs.Standings.{named_by_value, has_as_value, target_features, panics, is_near}
 use Rattle.manifest_lints_standings.specs.Standings.{is_taken_for_rustcs, sort_of, beside}
 use Rattle.manifest_lints_standings.specs.declared.standing.Sort.{Sort}
 use Rattle.manifest_lints_standings.specs.declared.standing.Sort.TheVariants as sort
@@ -64,8 +64,12 @@ pub data IsOf : CfgValue → Sort → Type 0 where
   -- rustc sets the key with a value, and no known target has this value
   not_had : (k : Name) (v : List ℕ) → IsTrue (is_named k.name valued) → IsFalse (is_had table_keys (KeyPair k v))
       → IsOf (KeyPair k v) sort.Mistaken
-  -- whatever the value
-  panic : (k : Name) (v : List ℕ) → k.name ≡ codes "panic" → IsOf (KeyPair k v) sort.Rustcs
+  -- flags set `panic` to the value
+  panic : (k : Name) (v : List ℕ) → k.name ≡ codes "panic" → IsTrue (is_named v panics)
+      → IsOf (KeyPair k v) sort.Rustcs
+  -- no flag sets `panic` to the value
+  no_panic : (k : Name) (v : List ℕ) → k.name ≡ codes "panic" → IsFalse (is_named v panics)
+      → IsOf (KeyPair k v) sort.Mistaken
   -- rustc has the feature for some architecture
   feature : (k : Name) (v : List ℕ) → k.name ≡ codes "target_feature" → IsTrue (is_named v target_features)
       → IsOf (KeyPair k v) sort.Rustcs

@@ -2,9 +2,10 @@
 use Rattle.std.specs.Prelude.{◌≢◌, ◌<◌, ℕ, Bool, true, false, ◌||◌, ◌&&◌, List, [], ◌∷◌, ◌++◌, map, flat_map, length}
 use Rattle.std.specs.Prelude.{cond, codes}
 use Rattle.std.specs.Prelude.{bytes_eq, nat_le, nat_eq}
-use Rattle.std.specs.Str.{chars}
+use Rattle.std.specs.Str.{chars, str_eq_ignore_ascii_case}
+use Rattle.std.specs.Char.{to_ascii_lowercase}
 use Rattle.std.specs.Int.{abs_diff}
-use Rattle.std.specs.List.{list_any}
+use Rattle.std.specs.List.{list_any, starts_with}
 use Rattle.cargo_platform.specs.Trees.{CfgValue, Alone, KeyPair, value_of, Condition, Target, Expression}
 use Rattle.cargo_platform.specs.Spelling.{name_in}
 use Rattle.cargo_platform.specs.Warnings.{is_unsupported_name, condition_values}
@@ -19,7 +20,7 @@ use Rattle.manifest_lints_standings.specs.declared.asked_facts.AskedFact.{AskedF
 use Rattle.manifest_lints_standings.specs.declared.asked_facts.TheConstants.{OPEN}
 use Rattle.manifest_lints_standings.specs.declared.rustc_names.TheConstants.{VALUED, FLAGGED, PLAIN}
 use Rattle.manifest_lints_standings.specs.declared.rustc_names.TheConstants.{SHORTENED, OF_PROFILES, OTHER_WORDS}
-use Rattle.manifest_lints_standings.specs.declared.rustc_names.TheConstants.{UNSTABLE_NAMES, UNSTABLE_KEYS}
+use Rattle.manifest_lints_standings.specs.declared.rustc_names.TheConstants.{UNSTABLE_NAMES, UNSTABLE_KEYS, PANICS}
 use Rattle.manifest_lints_standings.specs.declared.target_features.TheConstants.{TARGET_FEATURES}
 use Rattle.manifest_lints_standings.specs.declared.standing.Sort.{Sort}
 use Rattle.manifest_lints_standings.specs.declared.standing.Sort.TheVariants as sort
@@ -51,18 +52,25 @@ named_by_value = map (λ w. w.now) NAMED_BY_VALUE
 unfoldable pub target_features : List (List ℕ)
 target_features = map (λ w. w.now) TARGET_FEATURES
 
--- some known target has this value of the key
+-- the values of `panic`
+abbrev pub panics : List (List ℕ)
+panics = map (λ w. w.now) PANICS
+
+-- some known target has the text, in lower case, as a value of the key
 abbrev pub has_as_value : List ℕ → List ℕ → Bool
-has_as_value text key = is_had table_keys (KeyPair (plain key) text)
+has_as_value text key = is_had table_keys (KeyPair (plain key) (map to_ascii_lowercase text))
 
 -- the number of edits from one text to the other: a character is inserted, deleted or changed, or two adjacent ones are
 -- swapped
 abbrev pub edits : List ℕ → List ℕ → ℕ
 edits text word = (osa_table (chars text) (chars word)).last_row (length (chars word))
 
--- the word is one edit away, and the lengths in bytes differ by at most one
+-- the word differs at most in the case of ASCII letters; or it is one edit away, and the lengths in bytes differ by at
+-- most one
 abbrev pub is_one_edit_from : List ℕ → List ℕ → Bool
-is_one_edit_from text word = nat_le (abs_diff (length word) (length text)) 1 && nat_eq (edits text word) 1
+is_one_edit_from text word =
+    str_eq_ignore_ascii_case text word
+    || (nat_le (abs_diff (length word) (length text)) 1 && nat_eq (edits text word) 1)
 
 -- one of rustc's names or keys is one edit away
 abbrev pub is_near_one : List ℕ → Bool
@@ -70,14 +78,25 @@ is_near_one name =
     list_any (is_one_edit_from name) plain_names
     || (list_any (is_one_edit_from name) flagged || list_any (is_one_edit_from name) valued)
 
--- a name that is not too short, and one edit away from one of rustc's names or keys
+-- a name that begins as rustc's keys do; and the same whatever the case of ASCII letters
+abbrev pub starts_like_key : List ℕ → Bool
+starts_like_key name = starts_with nat_eq name (codes "target_")
+
+abbrev pub is_like_key : List ℕ → Bool
+is_like_key name = starts_like_key (map to_ascii_lowercase name)
+
+-- a name that is not too short, and one edit away from one of rustc's names or keys, or like its keys
 unfoldable pub is_near : List ℕ → Bool
-is_near name = nat_le SHORTEST (length name) && is_near_one name
+is_near name = nat_le SHORTEST (length name) && (is_near_one name || is_like_key name)
 
 -- a key without `target_`, a setting of a profile, or another word for a fact of rustc's
-abbrev pub is_taken_for_rustcs : List ℕ → Bool
-is_taken_for_rustcs name = is_named name (map (λ w. w.now) SHORTENED)
+abbrev pub is_word_for_rustcs : List ℕ → Bool
+is_word_for_rustcs name = is_named name (map (λ w. w.now) SHORTENED)
     || (is_named name (map (λ w. w.now) OF_PROFILES) || is_named name (map (λ w. w.now) OTHER_WORDS))
+
+-- the same whatever the case of ASCII letters
+abbrev pub is_taken_for_rustcs : List ℕ → Bool
+is_taken_for_rustcs name = is_word_for_rustcs (map to_ascii_lowercase name)
 
 -- the category of a name or key that rustc does not have
 abbrev pub sort_of_other : List ℕ → Sort
@@ -87,12 +106,16 @@ sort_of_other name = cond (is_taken_for_rustcs name) sort.Mistaken (cond (is_nea
 abbrev pub sort_of_feature : List ℕ → Sort
 sort_of_feature value = cond (is_named value target_features) sort.Rustcs sort.Mistaken
 
+-- the category of a value of `panic`
+abbrev pub sort_of_panic : List ℕ → Sort
+sort_of_panic value = cond (is_named value panics) sort.Rustcs sort.Mistaken
+
 -- the category of a pair with this key and value, by whether some known target has it
 abbrev pub sort_of_pair : List ℕ → List ℕ → Bool → Sort
 sort_of_pair key value had =
     cond (bytes_eq key (codes "feature")) sort.Unsupported
     (cond (bytes_eq key (codes "target_feature")) (sort_of_feature value)
-    (cond (is_named key flagged) sort.Rustcs
+    (cond (is_named key flagged) (sort_of_panic value)
     (cond (is_named key valued) (cond had sort.Rustcs sort.Mistaken)
     (cond (is_named key plain_names) sort.Mistaken
     (cond (bytes_eq key (codes "target")) sort.Mistaken
@@ -129,6 +152,7 @@ sort_in standing.Shortened = sort.Mistaken
 sort_in standing.OfProfile = sort.Mistaken
 sort_in standing.OtherWord = sort.Mistaken
 sort_in (standing.Near word) = sort.Mistaken
+sort_in standing.LikeKey = sort.Mistaken
 sort_in standing.Unstable = sort.Custom
 sort_in standing.Custom = sort.Custom
 sort_in standing.Declared = sort.Declared

@@ -28,6 +28,9 @@ pub const VALUED: [&str; 9] = [
 /// The keys whose values depend on flags and profiles.
 pub const FLAGGED: [&str; 2] = ["panic", "target_feature"];
 
+/// The values that flags give `panic`.
+pub const PANICS: [&str; 3] = ["abort", "immediate-abort", "unwind"];
+
 /// The names that rustc sets without a value.
 pub const PLAIN: [&str; 3] = ["debug_assertions", "unix", "windows"];
 
@@ -60,12 +63,13 @@ pub const UNSTABLE_KEYS: [&str; 5] = [
 ];
 
 /// rustc's keys without `target_`, as people write them, and `platform`.
-pub const SHORTENED: [&str; 9] = [
+pub const SHORTENED: [&str; 10] = [
     "abi",
     "arch",
     "endian",
     "env",
     "family",
+    "has_atomic",
     "os",
     "platform",
     "pointer_width",
@@ -76,7 +80,23 @@ pub const SHORTENED: [&str; 9] = [
 pub const OF_PROFILES: [&str; 3] = ["debug", "opt_level", "release"];
 
 /// Other words for facts of rustc's.
-pub const OTHER_WORDS: [&str; 5] = ["darwin", "macosx", "osx", "win32", "win64"];
+pub const OTHER_WORDS: [&str; 15] = [
+    "amd64",
+    "arm64",
+    "big_endian",
+    "bigendian",
+    "darwin",
+    "little_endian",
+    "littleendian",
+    "mac",
+    "macosx",
+    "osx",
+    "riscv",
+    "win",
+    "win32",
+    "win64",
+    "x64",
+];
 
 /// Returns the features that rustc has for some architecture: the values of `target_feature`.
 pub fn target_features() -> &'static [&'static str]

@@ -2,6 +2,7 @@
 
 ghost use Rattle.std.specs.Prelude.{◌≡◌, ◌↔◌, IfOk, IfSome, IsTrue, is_some};
 ghost use Rattle.std.specs.List.{list_any};
+ghost use Rattle.std.specs.Str.{str_eq_ignore_ascii_case};
 ghost use Rattle.cargo_platform.specs.Trees.{Alone, KeyPair, value_of, condition_of};
 ghost use Rattle.cargo_platform.specs.Warnings.{is_unsupported_name};
 ghost use Rattle.known_targets.specs.Listed.{is_had};
@@ -9,13 +10,14 @@ ghost use Rattle.partial_facts.specs.Partly.{names_of};
 ghost use Rattle.known_targets.specs.Rows.{plain};
 ghost use Rattle.known_targets.specs.Table.{table_keys};
 ghost use Rattle.manifest_lints_standings.specs.Standings.{has_as_value, is_near_one, is_one_edit_from, sort_of};
-ghost use Rattle.manifest_lints_standings.specs.Standings.{sort_in, sort_of_feature, sort_of_pair, sort_of_other};
-ghost use Rattle.manifest_lints_standings.specs.Standings.{beside, is_sort, is_open_sort, is_taken_for_rustcs};
+ghost use Rattle.manifest_lints_standings.specs.Standings.{sort_in, sort_of_feature, sort_of_panic, sort_of_pair};
+ghost use Rattle.manifest_lints_standings.specs.Standings.{sort_of_other, beside, is_sort, is_open_sort};
+ghost use Rattle.manifest_lints_standings.specs.Standings.{is_word_for_rustcs, starts_like_key};
 ghost use Rattle.manifest_lints_standings.specs.Standings.{IsUnknownTarget};
 
 use crate::rustc_names::{
-    FLAGGED, OF_PROFILES, OTHER_WORDS, PLAIN, SHORTENED, UNSTABLE_KEYS, UNSTABLE_NAMES, VALUED,
-    is_target_feature, pair,
+    FLAGGED, OF_PROFILES, OTHER_WORDS, PANICS, PLAIN, SHORTENED, UNSTABLE_KEYS, UNSTABLE_NAMES,
+    VALUED, is_target_feature, pair,
 };
 use cargo_platform::{Cfg, Platform};
 use known_targets::{KnownTarget, having};
@@ -62,8 +64,10 @@ pub enum Standing {
     OfProfile,
     /// Another word for a fact of rustc's.
     OtherWord,
-    /// A name or key that is one edit away from this one of rustc's.
+    /// A name or key that is one edit away from this one of rustc's, or differs only in the case of ASCII letters.
     Near(&'static str),
+    /// Another name or key that begins with `target_`, as rustc's keys do.
+    LikeKey,
     /// Only unstable features of rustc set it.
     Unstable,
     /// Only `--cfg` sets it.
@@ -103,7 +107,8 @@ impl Standing {
             | Standing::Shortened
             | Standing::OfProfile
             | Standing::OtherWord
-            | Standing::Near(_) => Sort::Mistaken,
+            | Standing::Near(_)
+            | Standing::LikeKey => Sort::Mistaken,
             Standing::Unstable => Sort::Custom,
             Standing::Custom => Sort::Custom,
             Standing::Declared => Sort::Declared,
@@ -161,7 +166,7 @@ pub fn is_value_of(alloc: Global, key: &str, value: &str) -> Result<bool, AllocE
     Ok(is_had(&pair))
 }
 
-/// Returns the first of the keys for which a known target has this value.
+/// Returns the first of the keys for which a known target has this value, in lower case.
 fn key_of_value(
     alloc: Global,
     value: &str,
@@ -169,12 +174,31 @@ fn key_of_value(
 ) -> Result<Option<&'static str>, AllocError>
     ensures { IfOk result (λ key. is_some key ≡ list_any (has_as_value value.now) (names_of keys.now)) }
 {
+    let lower = value.to_ascii_lowercase(alloc)?;
     'keys: for key in keys {
-        if is_value_of(alloc, key, value)? {
+        if is_value_of(alloc, key, lower.as_str())? {
             return Ok(Some(*key));
         }
     }
     Ok(None)
+}
+
+/// Returns whether both are the same except for the case of ASCII letters.
+fn is_same_but_case(text: &str, word: &str) -> bool
+    ensures { result ≡ str_eq_ignore_ascii_case text.now word.now }
+{
+    text.as_bytes().eq_ignore_ascii_case(word.as_bytes())
+}
+
+/// Returns whether one edit changes a text into a word: a character is inserted, deleted or changed, two adjacent ones
+/// are swapped, or the case of ASCII letters is changed.
+fn is_one_edit(alloc: Global, text: &str, word: &str) -> Result<bool, AllocError>
+    ensures { IfOk result (λ b. b ≡ is_one_edit_from text.now word.now) }
+{
+    if is_same_but_case(text, word) {
+        return Ok(true);
+    }
+    Ok(word.len().abs_diff(text.len()) <= 1 && osa_distance(alloc, text, word)? == 1)
 }
 
 /// Returns the first of the words that is one edit away.
@@ -186,7 +210,7 @@ fn near(
     ensures { IfOk result (λ word. is_some word ≡ list_any (is_one_edit_from text.now) (names_of words.now)) }
 {
     'words: for word in words {
-        if word.len().abs_diff(text.len()) <= 1 && osa_distance(alloc, text, word)? == 1 {
+        if is_one_edit(alloc, text, word)? {
             return Ok(Some(*word));
         }
     }
@@ -206,9 +230,10 @@ fn near_one(alloc: Global, text: &str) -> Result<Option<&'static str>, AllocErro
     near(alloc, text, &VALUED)
 }
 
-/// Returns the class of a name or key that people take for one of rustc's, whether or not one is similar to it.
+/// Returns the class of a name or key in lower case that people take for one of rustc's, whether or not one is similar
+/// to it.
 fn taken_for_rustcs(name: &str) -> Option<Standing>
-    ensures is_one { is_some result ≡ is_taken_for_rustcs name.now }
+    ensures is_one { is_some result ≡ is_word_for_rustcs name.now }
     ensures mistaken { IfSome result (λ s. sort_in s ≡ Sort.Mistaken) }
 {
     if is_among(name, &SHORTENED) {
@@ -223,12 +248,20 @@ fn taken_for_rustcs(name: &str) -> Option<Standing>
     None
 }
 
+/// Returns whether a name in lower case begins as rustc's keys do.
+fn is_like_key(name: &str) -> bool
+    ensures { result ≡ starts_like_key name.now }
+{
+    name.as_bytes().starts_with(b"target_")
+}
+
 /// Returns the class of a name or key that rustc does not have.
 #[tactic(auto, unfolding(crate::specs::Standings::is_near))]
 fn other(alloc: Global, name: &str) -> Result<Standing, AllocError>
     ensures { IfOk result (λ s. sort_in s ≡ sort_of_other name.now) }
 {
-    if let Some(standing) = taken_for_rustcs(name) {
+    let lower = name.to_ascii_lowercase(alloc)?;
+    if let Some(standing) = taken_for_rustcs(lower.as_str()) {
         return Ok(standing);
     }
     if name.len() < SHORTEST {
@@ -236,6 +269,7 @@ fn other(alloc: Global, name: &str) -> Result<Standing, AllocError>
     }
     match near_one(alloc, name)? {
         Some(word) => Ok(Standing::Near(word)),
+        None if is_like_key(lower.as_str()) => Ok(Standing::LikeKey),
         None => Ok(Standing::Custom),
     }
 }
@@ -283,6 +317,17 @@ fn standing_of_feature(value: &str) -> Standing
     }
 }
 
+/// Returns the class of a value of `panic`.
+fn standing_of_panic(value: &str) -> Standing
+    ensures { sort_in result ≡ sort_of_panic value.now }
+{
+    if is_among(value, &PANICS) {
+        Standing::Rustc
+    } else {
+        Standing::OtherValue
+    }
+}
+
 /// Returns the class of a pair with this key and value.
 fn standing_of_pair(alloc: Global, c: &Cfg, key: &str, value: &str) -> Result<Standing, AllocError>
     ensures { IfOk result (λ s. sort_in s ≡ sort_of_pair key.now value.now (is_had table_keys (value_of c.now))) }
@@ -294,7 +339,7 @@ fn standing_of_pair(alloc: Global, c: &Cfg, key: &str, value: &str) -> Result<St
         return Ok(standing_of_feature(value));
     }
     if is_among(key, &FLAGGED) {
-        return Ok(Standing::Rustc);
+        return Ok(standing_of_panic(value));
     }
     if is_among(key, &VALUED) {
         if is_had(c) {
