@@ -7,6 +7,7 @@ use crate::rendering::push_rendered;
 use crate::replacements::{Replacement, replacement_of};
 use crate::source_lines::Window;
 use key_answers::json_lines;
+use manifest_lints_findings::Lint;
 use manifests::places::Location;
 use serde::Serialize;
 use std::alloc::{AllocError, Global};
@@ -16,9 +17,9 @@ use std::alloc::{AllocError, Global};
 struct CompilerMessage {
     /// Always `compiler-message`.
     reason: &'static str,
-    /// The path of the manifest.
+    /// The path of the manifest. Empty if the diagnostic is about no file.
     package_id: String,
-    /// The path of the manifest.
+    /// The path of the manifest. Empty if the diagnostic is about no file.
     manifest_path: String,
     target: CargoTarget,
     message: RustcMessage,
@@ -41,7 +42,8 @@ struct RustcMessage {
     #[serde(rename = "$message_type")]
     message_type: &'static str,
     message: String,
-    code: RustcCode,
+    /// The lint. Null if a file cannot be used, or Cargo rejects something that no lint is about.
+    code: Option<RustcCode>,
     /// One of `error`, `warning` and `note`.
     level: &'static str,
     spans: Vec<RustcSpan>,
@@ -67,7 +69,7 @@ struct RustcChild {
     code: Option<&'static str>,
     /// Always `help`.
     level: &'static str,
-    /// The place of the key, with what can replace it.
+    /// The places of the key, or of a table's name, with what can replace it.
     spans: Vec<RustcSpan>,
     /// Always empty.
     children: Vec<&'static str>,
@@ -159,24 +161,41 @@ fn spans_of(alloc: Global, reported: &Reported<'_>) -> Result<Vec<RustcSpan>, Al
     Ok(spans)
 }
 
-/// Returns the text that says what to write in place of a key.
+/// Returns a place of what a replacement replaces, with the text to write there.
+fn replaced_span(
+    alloc: Global,
+    reported: &Reported<'_>,
+    at: Location,
+    replacement: &Replacement,
+) -> Result<RustcSpan, AllocError> {
+    let mut span = span_of(alloc, reported, at, None)?;
+    span.suggested_replacement = Some(replacement.text.clone()?);
+    span.suggestion_applicability = Some(replacement.applicability);
+    Ok(span)
+}
+
+/// Returns the message of the text that says what to write in place of a key, or of a table's name.
+fn advice_of(alloc: Global, diagnostic: &Diagnostic) -> Result<String, AllocError> {
+    match (&diagnostic.advice, diagnostic.lint) {
+        (Some(advice), _) => advice.clone(),
+        (None, Some(Lint::Underscored)) => String::from_str(alloc, "write this name"),
+        (None, _) => String::from_str(alloc, "write this key"),
+    }
+}
+
+/// Returns the text that says what to write in place of a key, or of a table's name.
 fn child_of(
     alloc: Global,
     reported: &Reported<'_>,
-    replacement: Replacement,
+    replacement: &Replacement,
 ) -> Result<RustcChild, AllocError> {
-    let Replacement {
-        at,
-        text,
-        applicability,
-    } = replacement;
-    let mut span = span_of(alloc, reported, at, None)?;
-    span.suggested_replacement = Some(text);
-    span.suggestion_applicability = Some(applicability);
     let mut spans = Vec::new(alloc);
-    spans.push(span)?;
+    spans.push(replaced_span(alloc, reported, replacement.at, replacement)?)?;
+    for at in &replacement.also_at {
+        spans.push(replaced_span(alloc, reported, *at, replacement)?)?;
+    }
     Ok(RustcChild {
-        message: String::from_str(alloc, "write this key")?,
+        message: advice_of(alloc, reported.diagnostic)?,
         code: None,
         level: "help",
         spans,
@@ -189,9 +208,20 @@ fn child_of(
 fn children_of(alloc: Global, reported: &Reported<'_>) -> Result<Vec<RustcChild>, AllocError> {
     let mut children = Vec::new(alloc);
     if let Some(replacement) = replacement_of(alloc, reported.diagnostic)? {
-        children.push(child_of(alloc, reported, replacement)?)?;
+        children.push(child_of(alloc, reported, &replacement)?)?;
     }
     Ok(children)
+}
+
+/// Returns the lint of a diagnostic, if it has one.
+fn code_of(diagnostic: &Diagnostic) -> Option<RustcCode> {
+    match diagnostic.code() {
+        Some(code) => Some(RustcCode {
+            code,
+            explanation: None,
+        }),
+        None => None,
+    }
 }
 
 /// Returns a diagnostic in the form of rustc's.
@@ -202,10 +232,7 @@ fn message_of(alloc: Global, reported: &Reported<'_>) -> Result<RustcMessage, Al
     Ok(RustcMessage {
         message_type: "diagnostic",
         message: diagnostic.message.clone()?,
-        code: RustcCode {
-            code: diagnostic.lint.word(),
-            explanation: None,
-        },
+        code: code_of(diagnostic),
         level: weight_word(reported.weight),
         spans: spans_of(alloc, reported)?,
         children: children_of(alloc, reported)?,

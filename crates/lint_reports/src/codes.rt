@@ -141,9 +141,9 @@ const FORMER: Said = Said {
 
 const MISPLACED: Said = Said {
     short: "a table for targets that is defined where Cargo does not read it",
-    text: "A key of `target` is defined at the top of the manifest, in `targets` or in `workspace.target`, where \
-           Cargo ignores it. In a table of dependencies, Cargo takes it for the name of a package and rejects the \
-           manifest.\n\n\
+    text: "A key of `target` is defined at the top of the manifest, in `workspace.target` or `package.target`, or in \
+           a table whose name is one edit away from `target`, where Cargo ignores it. In a table of dependencies, \
+           Cargo takes the key or `target` for the name of a package and rejects the manifest.\n\n\
            Example: [targets.'cfg(unix)'.dependencies]\nWrite `[target.'cfg(unix)'.dependencies]`.",
 };
 
@@ -158,14 +158,15 @@ const UNREAD_FIELD: Said = Said {
     text: "In `.cargo/config.toml`, Cargo reads `linker`, `runner` and `rustflags` below each key of `target`, \
            and `rustdocflags` and tables for `links` only below the name of a target. Cargo warns about another \
            field, or rejects the file when it builds for that target. A field is reported if it is one edit away \
-           from a field that Cargo reads there.\n\n\
+           from a field that Cargo reads there, or a table of dependencies.\n\n\
            Example: [target.'cfg(unix)']\n         linkr = \"clang\"\nWrite `linker`.",
 };
 
 const SETTINGS: Said = Said {
     short: "an invalid setting of `manifest-check` in the metadata",
     text: "The table `manifest-check` in `package.metadata` or `workspace.metadata` contains an unknown setting, \
-           an unknown lint, or something else in place of a list. The rest of the table is used.\n\n\
+           an unknown lint, something else in place of a list, or a fact or target that has no effect. The rest of \
+           the table is used. A table `manifest_check` is not used at all.\n\n\
            Example: [package.metadata.manifest-check]\n         allow = [\"nowere\"]\nWrite `nowhere`.",
 };
 
@@ -241,6 +242,18 @@ fn words(alloc: Global) -> Result<Vec<&'static str>, AllocError> {
         words.push(explained.lint.word())?;
     }
     Ok(words)
+}
+
+/// Returns the message for a subject of a rule that is neither the name of a lint, nor `warnings` or `notes`. If one of
+/// these is one edit away, the message suggests it. Fails if memory is refused.
+pub fn unknown_subject(alloc: Global, name: &str) -> Result<String, AllocError> {
+    match near(name, &["warnings", "notes"]) {
+        Some(subject) => {
+            let shown = shown_start(alloc, name)?;
+            format!(in alloc; "unknown lint: `{shown}`; did you mean `{subject}`?")
+        }
+        None => unknown_lint(alloc, name),
+    }
 }
 
 /// Returns the message for a name that no lint has. If the name of a lint is one edit away, the message suggests it.

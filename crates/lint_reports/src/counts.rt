@@ -3,11 +3,14 @@
 use crate::weight_rules::Weight;
 use std::alloc::{AllocError, Global};
 
-/// The numbers of manifests, configurations and keys that were checked, and of diagnostics of each level.
+/// The numbers of manifests, configurations and keys that were checked, of files that could not be read, and of
+/// diagnostics of each level.
 #[derive(Clone, Copy, Drop)]
 pub struct Counts {
     manifests: usize,
     configurations: usize,
+    unread_manifests: usize,
+    unread_configurations: usize,
     keys: usize,
     errors: usize,
     warnings: usize,
@@ -29,6 +32,8 @@ impl Counts {
         Counts {
             manifests: 0,
             configurations: 0,
+            unread_manifests: 0,
+            unread_configurations: 0,
             keys: 0,
             errors: 0,
             warnings: 0,
@@ -46,6 +51,33 @@ impl Counts {
     pub fn add_configuration(&mut self, keys: usize) {
         self.configurations = self.configurations.saturating_add(1);
         self.keys = self.keys.saturating_add(keys);
+    }
+
+    /// Counts a manifest that could not be read.
+    pub fn add_unread_manifest(&mut self) {
+        self.unread_manifests = self.unread_manifests.saturating_add(1);
+    }
+
+    /// Counts a file of Cargo's configuration that could not be read.
+    pub fn add_unread_configuration(&mut self) {
+        self.unread_configurations = self.unread_configurations.saturating_add(1);
+    }
+
+    /// Formats the numbers of files that could not be read, as the end of the summary. Those of which there are none are
+    /// left out.
+    fn unread(self, alloc: Global) -> Result<String, AllocError> {
+        let mut unread = String::new(alloc);
+        if self.unread_manifests > 0 {
+            let manifests = counted(alloc, self.unread_manifests, "manifest")?;
+            let text = format!(in alloc; "; {manifests} could not be read")?;
+            unread.push_str(text.as_str())?;
+        }
+        if self.unread_configurations > 0 {
+            let configurations = counted(alloc, self.unread_configurations, "configuration")?;
+            let text = format!(in alloc; "; {configurations} could not be read")?;
+            unread.push_str(text.as_str())?;
+        }
+        Ok(unread)
     }
 
     /// Formats the numbers of checked files. Configurations are left out if there are none.
@@ -81,6 +113,7 @@ impl Counts {
         let files = self.files(alloc)?;
         let keys = counted(alloc, self.keys, "key")?;
         let findings = self.findings(alloc)?;
-        format!(in alloc; "{files}, {keys} checked: {findings}\n")
+        let unread = self.unread(alloc)?;
+        format!(in alloc; "{files}, {keys} checked: {findings}{unread}\n")
     }
 }

@@ -22,10 +22,12 @@ pub struct Label {
 /// A diagnostic on a manifest or configuration.
 #[derive(Drop)]
 pub struct Diagnostic {
-    pub lint: Lint,
+    /// The lint. `None` if a file cannot be used, or Cargo rejects something that no lint is about.
+    pub lint: Option<Lint>,
     /// The level if no rule applies.
     pub weight: Weight,
-    /// The part of the manifest that the diagnostic is about, without the key: `target`, or a table.
+    /// The part of the manifest that the diagnostic is about, without the key: `target`, or a table. It is empty if the
+    /// diagnostic is about no part.
     pub subject: String,
     /// The key of `target` that it is about, if there is one.
     pub key: Option<String>,
@@ -35,10 +37,15 @@ pub struct Diagnostic {
     pub primary: Vec<Location>,
     /// The place of an earlier key.
     pub label: Option<Label>,
-    /// The place of the whole key, if there is a suggestion and the place is known.
+    /// The place of the whole key, or of the name at fault if there is no key, if there is a suggestion and the place
+    /// is known.
     pub key_at: Option<Location>,
-    /// A text that can replace the whole key.
+    /// The later places at which the text spells the same name, as headers of other tables do.
+    pub also_at: Vec<Location>,
+    /// A text that can replace the whole key, or the name at fault if there is no key.
     pub suggestion: Option<String>,
+    /// What to do, if that is not to write the suggestion.
+    pub advice: Option<String>,
     /// The span of an error in the key, in bytes.
     pub span: Option<(usize, usize)>,
 }
@@ -57,12 +64,23 @@ impl Diagnostic {
         }
     }
 
-    /// Returns the properties on which rules depend.
-    pub fn weighed(&self) -> Weighed<'_> {
-        Weighed {
-            lint: self.lint,
-            key: self.key(),
-            weight: self.weight,
+    /// Returns the properties on which rules depend, if rules can change its level.
+    pub fn weighed(&self) -> Option<Weighed<'_>> {
+        match self.lint {
+            Some(lint) => Some(Weighed {
+                lint,
+                key: self.key(),
+                weight: self.weight,
+            }),
+            None => None,
+        }
+    }
+
+    /// Returns the name of its lint, if it has one.
+    pub fn code(&self) -> Option<&'static str> {
+        match self.lint {
+            Some(lint) => Some(lint.word()),
+            None => None,
         }
     }
 
@@ -78,15 +96,22 @@ impl Diagnostic {
         }
     }
 
-    /// Returns the subject and the message as one text. Fails if memory is refused.
+    /// Returns the subject, if there is one, and the message as one text. Fails if memory is refused.
     pub fn sentence(&self, alloc: Global) -> Result<String, AllocError> {
+        if self.subject.is_empty() {
+            return self.message.clone();
+        }
         let subject = self.on(alloc)?;
         let message = self.message.as_str();
         format!(in alloc; "{subject}: {message}")
     }
 
-    /// Returns the suggestion as it is displayed, unless the message contains it. Fails if memory is refused.
+    /// Returns the advice, or else the suggestion as it is displayed, unless the message contains it. Fails if memory is
+    /// refused.
     pub fn help(&self, alloc: Global) -> Result<Option<String>, AllocError> {
+        if let Some(advice) = &self.advice {
+            return Ok(Some(advice.clone()?));
+        }
         let Some(suggestion) = &self.suggestion else {
             return Ok(None);
         };
@@ -105,10 +130,21 @@ pub struct Reported<'a> {
     pub diagnostic: &'a Diagnostic,
     /// The level after the rules.
     pub weight: Weight,
-    /// The path of the manifest, as it is displayed.
+    /// The path of the manifest, as it is displayed. It is empty if the diagnostic is about no file.
     pub path: &'a str,
     /// The text of the manifest.
     pub text: &'a str,
+}
+
+impl<'a> Reported<'a> {
+    /// Returns the path of the manifest, if the diagnostic is about a file.
+    pub fn file(&self) -> Option<&'a str> {
+        if self.path.is_empty() {
+            None
+        } else {
+            Some(self.path)
+        }
+    }
 }
 
 /// Returns the position after the last character of a place in a text.

@@ -14,6 +14,9 @@ const OF_NAMES: &str = "rustdocflags";
 /// The fields of a key. Under the name of a target, other members are tables for libraries of `links`.
 const FIELDS: [&str; 4] = ["linker", "runner", "rustflags", OF_NAMES];
 
+/// The tables that Cargo reads in manifests.
+const DEPENDENCIES: [&str; 3] = ["dependencies", "dev-dependencies", "build-dependencies"];
+
 /// Returns the level and the message for a field that Cargo reads under some keys, or `None` if Cargo reads it under
 /// this one.
 fn misplaced(
@@ -53,6 +56,10 @@ fn unread(
     value: &Value,
 ) -> Result<Option<(Level, String)>, AllocError> {
     let is_condition = key.starts_with("cfg(");
+    if DEPENDENCIES.contains(&name) {
+        let message = format!(in alloc; "Cargo reads `{name}` in Cargo.toml alone")?;
+        return Ok(Some((Level::Warning, message)));
+    }
     if FIELDS.iter().any(|field| *field == name) {
         return misplaced(alloc, name, is_condition);
     }

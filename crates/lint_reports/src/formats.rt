@@ -4,7 +4,7 @@ use crate::cargo_json::push_cargo_message;
 use crate::diagnostics::{Diagnostic, Reported, end_of, weight_word};
 use crate::escapes::escaped;
 use crate::rendering::{coloured, push_rendered};
-use crate::sarif::{push_result, sarif_begin, sarif_end};
+use crate::sarif::{push_notification, push_result, sarif_begin, sarif_end};
 use crate::weight_rules::Weight;
 use key_answers::json_lines;
 use manifests::places::Location;
@@ -50,33 +50,46 @@ pub struct Style {
     pub colours: bool,
 }
 
-/// A printer of diagnostics, which counts those that it has printed.
-#[derive(Clone, Copy, Drop)]
+/// A printer of diagnostics.
+#[derive(Drop)]
 pub struct Printed {
     style: Style,
-    told: usize,
+    /// True if a result of SARIF has been printed.
+    has_result: bool,
+    /// The notifications of SARIF, which come after the results.
+    notifications: String,
 }
 
-/// Appends the line of a diagnostic: its place, level, message and lint.
-fn push_short(
-    text: &mut String,
-    alloc: Global,
-    reported: &Reported<'_>,
-    colours: bool,
-) -> Result<(), AllocError> {
-    let path = reported.path;
-    let level = coloured(alloc, reported.weight, colours)?;
-    let message = reported.diagnostic.message.as_str();
-    let lint = reported.diagnostic.lint.word();
-    let line = match reported.diagnostic.location() {
+/// Returns the place of a diagnostic as a line begins with it: the path, line and column, as far as they are known.
+fn short_place(alloc: Global, reported: &Reported<'_>) -> Result<String, AllocError> {
+    let Some(path) = reported.file() else {
+        return Ok(String::new(alloc));
+    };
+    match reported.diagnostic.location() {
         Some(
             Location {
                 span: _,
                 line,
                 column,
             },
-        ) => { format!(in alloc; "{path}:{line}:{column}: {level}: {message} [{lint}]\n")? }
-        None => format!(in alloc; "{path}: {level}: {message} [{lint}]\n")?,
+        ) => format!(in alloc; "{path}:{line}:{column}: "),
+        None => format!(in alloc; "{path}: "),
+    }
+}
+
+/// Appends the line of a diagnostic: its place, level and message, and its lint if it has one.
+fn push_short(
+    text: &mut String,
+    alloc: Global,
+    reported: &Reported<'_>,
+    colours: bool,
+) -> Result<(), AllocError> {
+    let place = short_place(alloc, reported)?;
+    let level = coloured(alloc, reported.weight, colours)?;
+    let message = reported.diagnostic.message.as_str();
+    let line = match reported.diagnostic.code() {
+        Some(lint) => format!(in alloc; "{place}{level}: {message} [{lint}]\n")?,
+        None => format!(in alloc; "{place}{level}: {message}\n")?,
     };
     text.push_str(line.as_str())
 }
@@ -88,8 +101,8 @@ struct DiagnosticLine<'a> {
     byte_end: Option<usize>,
     /// The first byte of that place.
     byte_start: Option<usize>,
-    /// The name of the lint.
-    code: &'a str,
+    /// The name of the lint. Null if a file cannot be used, or Cargo rejects something that no lint is about.
+    code: Option<&'a str>,
     /// The column of that place, in characters from 1.
     column: Option<usize>,
     /// The key of `target` that the diagnostic is about.
@@ -98,12 +111,12 @@ struct DiagnosticLine<'a> {
     level: &'static str,
     /// The line of that place.
     line: Option<usize>,
-    /// The path of the manifest.
-    manifest: &'a str,
+    /// The path of the manifest. Null if the diagnostic is about no file.
+    manifest: Option<&'a str>,
     message: &'a str,
     /// The span of an error in the key: its first byte, and the byte after its last one.
     span: Option<(usize, usize)>,
-    /// A key that can replace it.
+    /// A key that can replace it, or a name for the table at this place.
     suggestion: Option<&'a str>,
 }
 
@@ -122,12 +135,12 @@ fn push_json(text: &mut String, alloc: Global, reported: &Reported<'_>) -> Resul
     let line = DiagnosticLine {
         byte_end: at.map(|at| at.span.end),
         byte_start: at.map(|at| at.span.start),
-        code: diagnostic.lint.word(),
+        code: diagnostic.code(),
         column: at.map(|at| at.column),
         key: diagnostic.key(),
         level: weight_word(reported.weight),
         line: at.map(|at| at.line),
-        manifest: reported.path,
+        manifest: reported.file(),
         message: diagnostic.message.as_str(),
         span: diagnostic.span,
         suggestion: borrowed(&diagnostic.suggestion),
@@ -150,10 +163,15 @@ fn command_body(alloc: Global, diagnostic: &Diagnostic) -> Result<String, AllocE
     escaped(alloc, sentence.as_str(), false)
 }
 
-/// Returns the properties of a workflow command that say where the diagnostic points to.
+/// Returns the properties of a workflow command that say where the diagnostic points to: ` file=..`, and the lines and
+/// columns if they are known.
 fn command_place(alloc: Global, reported: &Reported<'_>) -> Result<String, AllocError> {
-    let Some(at) = reported.diagnostic.location() else {
+    let Some(path) = reported.file() else {
         return Ok(String::new(alloc));
+    };
+    let file = escaped(alloc, path, true)?;
+    let Some(at) = reported.diagnostic.location() else {
+        return format!(in alloc; " file={file}");
     };
     let end = end_of(reported.text, at);
     let Location {
@@ -163,7 +181,9 @@ fn command_place(alloc: Global, reported: &Reported<'_>) -> Result<String, Alloc
     } = at;
     let end_line = end.line;
     let end_column = end.column;
-    format!(in alloc; ",line={line},endLine={end_line},col={column},endColumn={end_column}")
+    format!(in alloc;
+        " file={file},line={line},endLine={end_line},col={column},endColumn={end_column}"
+    )
 }
 
 /// Appends the workflow command for a diagnostic, which GitHub shows beside the line in a change.
@@ -173,18 +193,23 @@ fn push_command(
     reported: &Reported<'_>,
 ) -> Result<(), AllocError> {
     let word = command_word(reported.weight);
-    let file = escaped(alloc, reported.path, true)?;
     let place = command_place(alloc, reported)?;
-    let code = reported.diagnostic.lint.word();
     let body = command_body(alloc, reported.diagnostic)?;
-    let command = format!(in alloc; "::{word} file={file}{place},title={code}::{body}\n")?;
+    let command = match reported.diagnostic.code() {
+        Some(code) => format!(in alloc; "::{word}{place},title={code}::{body}\n")?,
+        None => format!(in alloc; "::{word}{place}::{body}\n")?,
+    };
     text.push_str(command.as_str())
 }
 
 impl Printed {
     /// Returns a printer with this style that has printed no diagnostic.
-    pub fn new(style: Style) -> Printed {
-        Printed { style, told: 0 }
+    pub fn new(alloc: Global, style: Style) -> Printed {
+        Printed {
+            style,
+            has_result: false,
+            notifications: String::new(alloc),
+        }
     }
 
     /// Returns the text before the first diagnostic. `version` is that of the program. Fails if memory is refused.
@@ -195,6 +220,21 @@ impl Printed {
         }
     }
 
+    /// Appends a result of SARIF. A diagnostic without a lint is no result, and is kept as a notification.
+    fn push_sarif(
+        &mut self,
+        text: &mut String,
+        alloc: Global,
+        reported: &Reported<'_>,
+    ) -> Result<(), AllocError> {
+        if reported.diagnostic.lint.is_none() {
+            return push_notification(&mut self.notifications, alloc, reported);
+        }
+        let is_first = !self.has_result;
+        self.has_result = true;
+        push_result(text, alloc, reported, is_first)
+    }
+
     /// Appends a diagnostic. Fails if memory is refused.
     pub fn push(
         &mut self,
@@ -202,23 +242,21 @@ impl Printed {
         alloc: Global,
         reported: &Reported<'_>,
     ) -> Result<(), AllocError> {
-        let is_first = self.told == 0;
-        self.told = self.told.saturating_add(1);
         match self.style.format {
             Format::Human => push_rendered(text, alloc, reported, self.style.colours),
             Format::Short => push_short(text, alloc, reported, self.style.colours),
             Format::Json => push_json(text, alloc, reported),
             Format::CargoJson => push_cargo_message(text, alloc, reported),
             Format::Github => push_command(text, alloc, reported),
-            Format::Sarif => push_result(text, alloc, reported, is_first),
+            Format::Sarif => self.push_sarif(text, alloc, reported),
         }
     }
 
-    /// Returns the text after the last diagnostic.
-    pub fn end(&self) -> &'static str {
+    /// Returns the text after the last diagnostic. Fails if memory is refused.
+    pub fn end(&self, alloc: Global) -> Result<String, AllocError> {
         match self.style.format {
-            Format::Sarif => sarif_end(),
-            _ => "",
+            Format::Sarif => sarif_end(alloc, self.notifications.as_str()),
+            _ => Ok(String::new(alloc)),
         }
     }
 }

@@ -164,6 +164,19 @@ fn key_at(
     }
 }
 
+/// Returns the later places of a key, if there is one, and a suggestion for it.
+fn key_again(
+    alloc: Global,
+    places: &Places,
+    key: &Option<String>,
+    is_suggested: bool,
+) -> Result<Vec<Location>, AllocError> {
+    match key {
+        Some(key) if is_suggested => places.again_at_key(alloc, key.as_str()),
+        _ => Ok(Vec::new(alloc)),
+    }
+}
+
 /// Returns a copy of a text, if there is one.
 fn copied(text: &Option<String>) -> Result<Option<String>, AllocError> {
     match text {
@@ -184,8 +197,9 @@ pub fn diagnostic_of(
     let primary = places_in(alloc, places, &key, finding)?;
     let label = label_of(alloc, places, finding)?;
     let key_at = key_at(alloc, places, &key)?;
+    let also_at = key_again(alloc, places, &key, finding.suggestion.is_some())?;
     Ok(Diagnostic {
-        lint,
+        lint: Some(lint),
         weight: own_weight(lint, finding.level),
         subject: String::from_str(alloc, "target")?,
         key,
@@ -193,7 +207,9 @@ pub fn diagnostic_of(
         primary,
         label,
         key_at,
+        also_at,
         suggestion: copied(&finding.suggestion)?,
+        advice: None,
         span: finding.span.as_ref().map(|span| (span.start, span.end)),
     })
 }
@@ -233,6 +249,33 @@ fn places_of_wrong(
     Ok(found)
 }
 
+/// Returns the later places of what is at fault, if there are any.
+fn site_again(alloc: Global, places: &Places, site: &Site) -> Result<Vec<Location>, AllocError> {
+    match site {
+        Site::Named(path) => places.again_at_path(alloc, path.as_str()),
+        Site::Field(key, field) => {
+            let path = places.path_of_field(alloc, key.as_str(), field.as_str())?;
+            places.again_at_path(alloc, path.as_str())
+        }
+        Site::InKey(_) => Ok(Vec::new(alloc)),
+    }
+}
+
+/// Returns the place of what a suggestion replaces, the key or else the name at fault, and the later places of that.
+fn replaced_by(
+    alloc: Global,
+    places: &Places,
+    wrong: &WrongPlace,
+) -> Result<(Option<Location>, Vec<Location>), AllocError> {
+    let is_suggested = wrong.suggestion.is_some();
+    if wrong.key.is_some() || !is_suggested {
+        let at = key_at(alloc, places, &wrong.key)?;
+        return Ok((at, key_again(alloc, places, &wrong.key, is_suggested)?));
+    }
+    let at = place_of_site(alloc, places, "", &wrong.site)?;
+    Ok((at, site_again(alloc, places, &wrong.site)?))
+}
+
 /// Returns a text of the program as an owned one.
 fn owned(alloc: Global, text: Option<&str>) -> Result<Option<String>, AllocError> {
     match text {
@@ -247,16 +290,19 @@ pub fn diagnostic_of_wrong(
     places: &Places,
     wrong: &WrongPlace,
 ) -> Result<Diagnostic, AllocError> {
+    let (key_at, also_at) = replaced_by(alloc, places, wrong)?;
     Ok(Diagnostic {
-        lint: wrong.lint,
+        lint: Some(wrong.lint),
         weight: own_weight(wrong.lint, wrong.level),
         subject: wrong.subject.clone()?,
         key: copied(&wrong.key)?,
         message: wrong.message.clone()?,
         primary: places_of_wrong(alloc, places, wrong)?,
         label: None,
-        key_at: key_at(alloc, places, &wrong.key)?,
+        key_at,
+        also_at,
         suggestion: owned(alloc, wrong.suggestion)?,
+        advice: None,
         span: None,
     })
 }

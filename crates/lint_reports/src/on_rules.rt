@@ -1,16 +1,28 @@
 //! Diagnostics on the rules in a manifest that are invalid, or that nothing needs.
 
-use crate::codes::unknown_lint;
+use crate::codes::unknown_subject;
 use crate::diagnostics::{Diagnostic, own_weight};
-use crate::settings::{Fault, FaultAt, TOOL};
+use crate::settings::{Fault, FaultAt, TOOL, UNDERSCORED_TOOL, WORDS};
 use crate::weight_rules::Rule;
-use cargo_platform::shown_start;
-use manifest_lints_findings::Lint;
+use cargo_platform::{inside_cfg, shown_start};
+use manifest_lints_findings::{Lint, near};
 use manifests::places::{Location, Places, path_of};
 use std::alloc::{AllocError, Global};
 
 /// The table that contains the table of rules.
 const METADATA: &str = "metadata";
+
+/// Returns the message for an entry of `known-facts` that is no fact.
+fn no_fact_message(alloc: Global, text: &str) -> Result<String, AllocError> {
+    let shown = shown_start(alloc, text)?;
+    match inside_cfg(text) {
+        Some(inside) => {
+            let inside = shown_start(alloc, inside)?;
+            format!(in alloc; "`{shown}` is no fact; did you mean `{inside}`?")
+        }
+        None => format!(in alloc; "`{shown}` is no fact, as `loom` and `backend=\"a\"` are"),
+    }
+}
 
 /// Returns the message for an error in a table of rules. Fails if memory is refused.
 fn fault_message(alloc: Global, fault: &Fault) -> Result<String, AllocError> {
@@ -24,11 +36,24 @@ fn fault_message(alloc: Global, fault: &Fault) -> Result<String, AllocError> {
         Fault::NoRelease(word) => {
             format!(in alloc; "`{word}` is no release, as `1.84` and `1.84.1` are")
         }
-        Fault::UnknownCode(word) => unknown_lint(alloc, word.as_str()),
+        Fault::UnknownCode(word) => unknown_subject(alloc, word.as_str()),
         Fault::UnknownWord(word) => {
-            let word = shown_start(alloc, word.as_str())?;
-            format!(in alloc; "nothing is set by `{word}`")
+            let shown = shown_start(alloc, word.as_str())?;
+            match near(word.as_str(), &WORDS) {
+                Some(meant) => format!(in alloc;
+                    "nothing is set by `{shown}`; did you mean `{meant}`?"
+                ),
+                None => format!(in alloc; "nothing is set by `{shown}`"),
+            }
         }
+        Fault::NoFact(text) => no_fact_message(alloc, text.as_str()),
+        Fault::NoTarget(text) => {
+            let text = shown_start(alloc, text.as_str())?;
+            format!(in alloc; "`{text}` is no name of a target")
+        }
+        Fault::Underscored => format!(in alloc;
+            "nothing is set by the table `{UNDERSCORED_TOOL}`; did you mean `{TOOL}`?"
+        ),
     }
 }
 
@@ -98,7 +123,7 @@ fn on_rules(
         primary.push(at)?;
     }
     Ok(Diagnostic {
-        lint,
+        lint: Some(lint),
         weight: own_weight(lint, lint.level()),
         subject: format!(in alloc; "{part}.{METADATA}.{TOOL}")?,
         key: None,
@@ -106,7 +131,9 @@ fn on_rules(
         primary,
         label: None,
         key_at: None,
+        also_at: Vec::new(alloc),
         suggestion: None,
+        advice: None,
         span: None,
     })
 }
@@ -119,7 +146,13 @@ pub fn diagnostic_of_fault(
     it: &FaultAt,
 ) -> Result<Diagnostic, AllocError> {
     let message = fault_message(alloc, &it.fault)?;
-    let at = place_in(alloc, places, part, it.field.as_str(), it.entry)?;
+    let at = match it.fault {
+        Fault::Underscored => {
+            let path = path_of(alloc, &[part, METADATA, UNDERSCORED_TOOL])?;
+            places.at_path(path.as_str())
+        }
+        _ => place_in(alloc, places, part, it.field.as_str(), it.entry)?,
+    };
     on_rules(alloc, Lint::Settings, part, message, at)
 }
 

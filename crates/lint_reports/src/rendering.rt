@@ -254,15 +254,18 @@ fn push_lines(
     Ok(())
 }
 
-/// Appends the line with the path, and the line and column of the first place if it is known.
+/// Appends the line with the path, if the diagnostic is about a file, and the line and column of the first place if it
+/// is known.
 fn push_arrow(
     output: &mut String,
     alloc: Global,
     gutter: &str,
-    path: &str,
-    at: Option<Location>,
+    reported: &Reported<'_>,
 ) -> Result<(), AllocError> {
-    let arrow = match at {
+    let Some(path) = reported.file() else {
+        return Ok(());
+    };
+    let arrow = match reported.diagnostic.location() {
         Some(
             Location {
                 span: _,
@@ -291,6 +294,16 @@ fn push_help(
     Ok(())
 }
 
+/// Returns the first line of a diagnostic: the level, the lint if there is one, and the message.
+fn head_of(alloc: Global, reported: &Reported<'_>, colours: bool) -> Result<String, AllocError> {
+    let level = coloured(alloc, reported.weight, colours)?;
+    let message = reported.diagnostic.message.as_str();
+    match reported.diagnostic.code() {
+        Some(lint) => format!(in alloc; "{level}[{lint}]: {message}\n"),
+        None => format!(in alloc; "{level}: {message}\n"),
+    }
+}
+
 /// Appends a diagnostic as rustc prints it for people, and an empty line. Fails if memory is refused.
 pub fn push_rendered(
     output: &mut String,
@@ -299,16 +312,13 @@ pub fn push_rendered(
     colours: bool,
 ) -> Result<(), AllocError> {
     let diagnostic = reported.diagnostic;
-    let level = coloured(alloc, reported.weight, colours)?;
-    let lint = diagnostic.lint.word();
-    let message = diagnostic.message.as_str();
-    let head = format!(in alloc; "{level}[{lint}]: {message}\n")?;
+    let head = head_of(alloc, reported, colours)?;
     output.push_str(head.as_str())?;
     let marks = marks_of(alloc, diagnostic)?;
     let width = gutter_of(alloc, &marks)?;
     let gutter = " ".repeat(alloc, width)?;
     let gutter = gutter.as_str();
-    push_arrow(output, alloc, gutter, reported.path, diagnostic.location())?;
+    push_arrow(output, alloc, gutter, reported)?;
     if !marks.is_empty() {
         push_row(output, alloc, gutter, "")?;
         push_lines(output, alloc, reported.text, width, &marks)?;

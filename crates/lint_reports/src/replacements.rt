@@ -5,15 +5,28 @@ use manifest_lints_findings::{Code, Lint};
 use manifests::places::Location;
 use std::alloc::{AllocError, Global};
 
-/// A replacement for the text at a place of a manifest.
+/// A replacement for a name that the text of a manifest spells.
 #[derive(Drop)]
 pub struct Replacement {
+    /// The first place of the name.
     pub at: Location,
+    /// Its later places, at which the same text is to be written.
+    pub also_at: Vec<Location>,
     /// The text to write there.
     pub text: String,
     /// How sure the replacement is, in the words of rustc.
     pub applicability: &'static str,
 }
+
+impl Replacement {
+    /// Returns whether a machine can apply the replacement: it keeps the meaning of the manifest.
+    pub fn is_sure(&self) -> bool {
+        self.applicability == SURE
+    }
+}
+
+/// The word of rustc for a replacement that a machine can apply.
+const SURE: &str = "MachineApplicable";
 
 /// Returns whether a character has to be escaped in a literal string of TOML.
 fn needs_escape(c: char) -> bool {
@@ -48,15 +61,24 @@ pub fn quoted_key(alloc: Global, name: &str) -> Result<String, AllocError> {
     Ok(text)
 }
 
-/// Returns how sure the suggestions of a lint are: those that keep the meaning of the key can be applied by a machine.
-fn applicability_of(lint: Lint) -> &'static str {
+/// Returns how sure the suggestions of a lint are: those that keep the meaning of the key, or of a table's name, can be
+/// applied by a machine.
+fn applicability_of(lint: Option<Lint>) -> &'static str {
     match lint {
-        Lint::Key(Code::NotCanonical | Code::ReadOtherwise) => "MachineApplicable",
+        Some(Lint::Key(Code::NotCanonical | Code::ReadOtherwise) | Lint::Underscored) => SURE,
         _ => "MaybeIncorrect",
     }
 }
 
-/// Returns the replacement that a diagnostic suggests, if it suggests one and the place of the key is known. Fails if
+/// Returns a suggestion as the text of a manifest spells it: a key in quotes, and the name of a table without.
+fn spelled(alloc: Global, lint: Option<Lint>, suggestion: &str) -> Result<String, AllocError> {
+    match lint {
+        Some(Lint::Underscored) => String::from_str(alloc, suggestion),
+        _ => quoted_key(alloc, suggestion),
+    }
+}
+
+/// Returns the replacement that a diagnostic suggests, if it suggests one and the place of the name is known. Fails if
 /// memory is refused.
 pub fn replacement_of(
     alloc: Global,
@@ -64,9 +86,10 @@ pub fn replacement_of(
 ) -> Result<Option<Replacement>, AllocError> {
     match (&diagnostic.suggestion, diagnostic.key_at) {
         (Some(suggestion), Some(at)) => {
-            let text = quoted_key(alloc, suggestion.as_str())?;
+            let text = spelled(alloc, diagnostic.lint, suggestion.as_str())?;
             Ok(Some(Replacement {
                 at,
+                also_at: diagnostic.also_at.clone()?,
                 text,
                 applicability: applicability_of(diagnostic.lint),
             }))

@@ -3,6 +3,7 @@
 use crate::codes::{Explained, all_explained};
 use crate::diagnostics::{Reported, end_of, weight_word};
 use crate::escapes::uri_of;
+use crate::replacements::{Replacement, replacement_of};
 use crate::weight_rules::Weight;
 use key_answers::json_lines;
 use manifests::places::Location as Place;
@@ -32,7 +33,28 @@ struct Run<'a> {
     tool: Tool<'a>,
     /// Always `unicodeCodePoints`: columns count characters.
     column_kind: &'static str,
-    results: Vec<SarifResult<'a>>,
+    results: Vec<SarifResult>,
+    /// Always one.
+    invocations: Vec<Invocation>,
+}
+
+/// The run of the program.
+#[derive(Drop, Serialize)]
+#[serde(rename_all = "camelCase")]
+struct Invocation {
+    /// False if there is a notification.
+    execution_successful: bool,
+    tool_execution_notifications: Vec<Notification>,
+}
+
+/// A file that cannot be read or used, or something that Cargo rejects and no lint is about.
+#[derive(Drop, Serialize)]
+struct Notification {
+    /// Always `error`.
+    level: &'static str,
+    /// Empty if no file is at fault.
+    locations: Vec<Location>,
+    message: OwnedMessage,
 }
 
 /// The tool.
@@ -79,34 +101,70 @@ struct Message<'a> {
 /// A diagnostic.
 #[derive(Drop, Serialize)]
 #[serde(rename_all = "camelCase")]
-struct SarifResult<'a> {
+struct SarifResult {
     /// One of `error`, `warning`, `note` and `none`.
     level: &'static str,
-    locations: [Location<'a>; 1],
-    message: Message<'a>,
-    rule_id: &'a str,
+    /// Always one.
+    locations: Vec<Location>,
+    message: OwnedMessage,
+    rule_id: &'static str,
+    /// The change that the diagnostic suggests, if it suggests one.
+    #[serde(skip_serializing_if = "Vec::is_empty")]
+    fixes: Vec<Fix>,
+}
+
+/// A change of a manifest.
+#[derive(Drop, Serialize)]
+#[serde(rename_all = "camelCase")]
+struct Fix {
+    /// What to do.
+    description: OwnedMessage,
+    artifact_changes: Vec<ArtifactChange>,
+}
+
+/// The changes of one manifest.
+#[derive(Drop, Serialize)]
+#[serde(rename_all = "camelCase")]
+struct ArtifactChange {
+    artifact_location: ArtifactLocation,
+    replacements: Vec<Rewrite>,
+}
+
+/// A text that replaces a key.
+#[derive(Drop, Serialize)]
+#[serde(rename_all = "camelCase")]
+struct Rewrite {
+    /// The key, with its quotes.
+    deleted_region: Region,
+    inserted_content: OwnedMessage,
+}
+
+/// A text.
+#[derive(Drop, Serialize)]
+struct OwnedMessage {
+    text: String,
 }
 
 /// The place of a diagnostic.
 #[derive(Drop, Serialize)]
 #[serde(rename_all = "camelCase")]
-struct Location<'a> {
-    physical_location: PhysicalLocation<'a>,
+struct Location {
+    physical_location: PhysicalLocation,
 }
 
 /// A manifest, and the line if it is certain.
 #[derive(Drop, Serialize)]
 #[serde(rename_all = "camelCase")]
-struct PhysicalLocation<'a> {
-    artifact_location: ArtifactLocation<'a>,
+struct PhysicalLocation {
+    artifact_location: ArtifactLocation,
     #[serde(skip_serializing_if = "Option::is_none")]
     region: Option<Region>,
 }
 
 /// The path of a manifest as a URI reference.
 #[derive(Drop, Serialize)]
-struct ArtifactLocation<'a> {
-    uri: &'a str,
+struct ArtifactLocation {
+    uri: String,
 }
 
 /// The part of a manifest that is at fault. The end column is that of the character after it.
@@ -150,10 +208,15 @@ pub fn sarif_begin(alloc: Global, version: &str) -> Result<String, AllocError> {
         semantic_version: version.split(' ').next().unwrap_or(version),
         version,
     };
+    let invocation = Invocation {
+        execution_successful: true,
+        tool_execution_notifications: Vec::new(alloc),
+    };
     let run = Run {
         tool: Tool { driver },
         column_kind: "unicodeCodePoints",
         results: Vec::new(alloc),
+        invocations: vec![in alloc; invocation]?,
     };
     let log = SarifLog {
         schema: SCHEMA,
@@ -162,14 +225,19 @@ pub fn sarif_begin(alloc: Global, version: &str) -> Result<String, AllocError> {
     };
     let mut text = String::new(alloc);
     json_lines::push_line(&mut text, alloc, &log)?;
+    let end = sarif_end(alloc, "")?;
     let begin = text.as_str();
-    let begin = begin.strip_suffix(sarif_end()).unwrap_or(begin);
+    let begin = begin.strip_suffix(end.as_str()).unwrap_or(begin);
     format!(in alloc; "{begin}\n")
 }
 
-/// Returns the text after the last result.
-pub fn sarif_end() -> &'static str {
-    "]}]}\n"
+/// Returns the text after the last result: how the run went, with these notifications. Fails if memory is refused.
+pub fn sarif_end(alloc: Global, notifications: &str) -> Result<String, AllocError> {
+    let is_successful = notifications.is_empty();
+    let notifications = format!(in alloc; "\"toolExecutionNotifications\":[{notifications}]")?;
+    format!(in alloc;
+        "],\"invocations\":[{{\"executionSuccessful\":{is_successful},{notifications}}}]}}]}}\n"
+    )
 }
 
 /// Returns the name of a result's level.
@@ -197,38 +265,101 @@ fn region_of(reported: &Reported<'_>) -> Option<Region> {
     Some(region_at(reported.text, at))
 }
 
-/// Returns the location of a diagnostic in the manifest at this URI reference.
-fn location_of<'a>(reported: &Reported<'_>, uri: &'a str) -> Location<'a> {
-    let artifact_location = ArtifactLocation { uri };
+/// Returns the location of a diagnostic in its manifest, or none if it is about no file.
+fn locations_of(alloc: Global, reported: &Reported<'_>) -> Result<Vec<Location>, AllocError> {
+    let mut locations = Vec::new(alloc);
+    let uri = uri_of(alloc, reported.path)?;
+    if uri.is_empty() {
+        return Ok(locations);
+    }
     let physical_location = PhysicalLocation {
-        artifact_location,
+        artifact_location: ArtifactLocation { uri },
         region: region_of(reported),
     };
-    Location { physical_location }
+    locations.push(Location { physical_location })?;
+    Ok(locations)
 }
 
-/// Returns the result of a diagnostic with this sentence.
-fn result_of<'a>(reported: &Reported<'_>, uri: &'a str, sentence: &'a str) -> SarifResult<'a> {
-    let location = location_of(reported, uri);
-    let message = Message { text: sentence };
-    SarifResult {
-        level: level_word(reported.weight),
-        locations: [location],
-        message,
-        rule_id: reported.diagnostic.lint.word(),
+/// Returns the subject and the message of a diagnostic.
+fn message_of(alloc: Global, reported: &Reported<'_>) -> Result<OwnedMessage, AllocError> {
+    let text = reported.diagnostic.sentence(alloc)?;
+    Ok(OwnedMessage { text })
+}
+
+/// Returns the change at one of the places of a replacement, with the text to write there.
+fn rewrite_at(reported: &Reported<'_>, at: Place, text: &String) -> Result<Rewrite, AllocError> {
+    Ok(Rewrite {
+        deleted_region: region_at(reported.text, at),
+        inserted_content: OwnedMessage {
+            text: text.clone()?,
+        },
+    })
+}
+
+/// Returns the change that writes a replacement into a manifest, at each of its places.
+fn fix_of(
+    alloc: Global,
+    reported: &Reported<'_>,
+    replacement: &Replacement,
+) -> Result<Fix, AllocError> {
+    let mut replacements = Vec::new(alloc);
+    replacements.push(rewrite_at(reported, replacement.at, &replacement.text)?)?;
+    for at in &replacement.also_at {
+        replacements.push(rewrite_at(reported, *at, &replacement.text)?)?;
     }
+    let written = replacement.text.as_str();
+    let description = format!(in alloc; "write `{written}`")?;
+    let change = ArtifactChange {
+        artifact_location: ArtifactLocation {
+            uri: uri_of(alloc, reported.path)?,
+        },
+        replacements,
+    };
+    Ok(Fix {
+        description: OwnedMessage { text: description },
+        artifact_changes: vec![in alloc; change]?,
+    })
 }
 
-/// Appends the result of a diagnostic, on a line of its own. Fails if memory is refused.
+/// Returns the change that a diagnostic suggests, if it suggests one.
+fn fixes_of(alloc: Global, reported: &Reported<'_>) -> Result<Vec<Fix>, AllocError> {
+    let mut fixes = Vec::new(alloc);
+    if let Some(replacement) = replacement_of(alloc, reported.diagnostic)? {
+        fixes.push(fix_of(alloc, reported, &replacement)?)?;
+    }
+    Ok(fixes)
+}
+
+/// Appends the result of a diagnostic on a lint, on a line of its own. Fails if memory is refused.
 pub fn push_result(
     text: &mut String,
     alloc: Global,
     reported: &Reported<'_>,
     is_first: bool,
 ) -> Result<(), AllocError> {
-    let uri = uri_of(alloc, reported.path)?;
-    let sentence = reported.diagnostic.sentence(alloc)?;
-    let result = result_of(reported, uri.as_str(), sentence.as_str());
+    let result = SarifResult {
+        level: level_word(reported.weight),
+        locations: locations_of(alloc, reported)?,
+        message: message_of(alloc, reported)?,
+        rule_id: reported.diagnostic.code().unwrap_or(""),
+        fixes: fixes_of(alloc, reported)?,
+    };
     text.push_str(if is_first { "" } else { "," })?;
     json_lines::push_line(text, alloc, &result)
+}
+
+/// Appends the notification of a diagnostic without a lint, on a line of its own. Fails if memory is refused.
+pub fn push_notification(
+    text: &mut String,
+    alloc: Global,
+    reported: &Reported<'_>,
+) -> Result<(), AllocError> {
+    let notification = Notification {
+        level: level_word(reported.weight),
+        locations: locations_of(alloc, reported)?,
+        message: message_of(alloc, reported)?,
+    };
+    let separator = if text.is_empty() { "\n" } else { "," };
+    text.push_str(separator)?;
+    json_lines::push_line(text, alloc, &notification)
 }

@@ -1,6 +1,7 @@
 //! The rules in the metadata of a manifest.
 
 use crate::weight_rules::{Rule, Setting, Subject};
+use cargo_platform::{Cfg, Platform, ReadError};
 use former_names::Release;
 use manifest_lints_findings::Lint;
 use std::alloc::{AllocError, Global};
@@ -38,7 +39,19 @@ pub enum Fault {
     UnknownCode(String),
     /// No setting has this name.
     UnknownWord(String),
+    /// An entry of `known-facts` with this text is no fact.
+    NoFact(String),
+    /// An entry of `known-targets` with this text is no name of a target.
+    NoTarget(String),
+    /// The name of the table has an underscore.
+    Underscored,
 }
+
+/// The name of the table of rules with an underscore, under which nothing is read.
+pub const UNDERSCORED_TOOL: &str = "manifest_check";
+
+/// The settings by name.
+pub const WORDS: [&str; 6] = ["allow", "warn", "deny", KNOWN_TARGETS, KNOWN_FACTS, RUSTC];
 
 /// An error in a table of rules, with its place in the table.
 #[derive(Drop)]
@@ -96,11 +109,36 @@ impl Subject {
     }
 }
 
+/// Returns the value of this name in `package.metadata` or `workspace.metadata` of a manifest, if there is one. `part`
+/// is `package` or `workspace`.
+fn metadata_at<'a>(manifest: &'a Table, part: &str, name: &str) -> Option<&'a Value> {
+    let part = manifest.get(part)?.as_table()?;
+    part.get("metadata")?.as_table()?.get(name)
+}
+
 /// Returns the value for the table of rules in `package.metadata` or `workspace.metadata` of a manifest, if there is
 /// one. `part` is `package` or `workspace`.
 pub fn settings_at<'a>(manifest: &'a Table, part: &str) -> Option<&'a Value> {
-    let part = manifest.get(part)?.as_table()?;
-    part.get("metadata")?.as_table()?.get(TOOL)
+    metadata_at(manifest, part, TOOL)
+}
+
+/// Returns whether a text is a fact, as `rustc --print cfg` prints it. Spaces around `=` are ignored. Fails if memory is
+/// refused.
+fn is_fact(alloc: Global, text: &str) -> Result<bool, AllocError> {
+    match Cfg::from_str(alloc, text) {
+        Ok(_fact) => Ok(true),
+        Err(ReadError::Parse(_error)) => Ok(false),
+        Err(ReadError::Memory(refused)) => Err(refused),
+    }
+}
+
+/// Returns whether a text may be the name of a target. Fails if memory is refused.
+fn is_target_name(alloc: Global, text: &str) -> Result<bool, AllocError> {
+    match Platform::from_str(alloc, text) {
+        Ok(Platform::Name(_name)) => Ok(true),
+        Ok(Platform::Cfg(_)) | Err(ReadError::Parse(_)) => Ok(false),
+        Err(ReadError::Memory(refused)) => Err(refused),
+    }
 }
 
 /// Returns the text in a member of an entry.
@@ -108,12 +146,17 @@ fn text_at<'a>(entry: &'a Table, member: &str) -> Option<&'a str> {
     entry.get(member)?.as_str()
 }
 
+/// Returns the entries of the list of this name, and none if there is no list.
+fn texts_at<'a>(table: &'a Table, word: &str) -> &'a [Value] {
+    match table.get(word) {
+        Some(Value::Array(entries)) => entries.as_slice(),
+        _ => &[],
+    }
+}
+
 /// Returns whether a setting has this name.
 fn is_word(word: &str) -> bool {
-    matches!(
-        word,
-        "allow" | "warn" | "deny" | KNOWN_TARGETS | KNOWN_FACTS | RUSTC
-    )
+    WORDS.contains(&word)
 }
 
 /// Returns the lint that an entry of a list names, and the key if it has one.
@@ -245,6 +288,36 @@ impl Settings {
         Ok(release)
     }
 
+    /// Records the entries of `known-facts` that are no facts, and those of `known-targets` that are no names: they have
+    /// no effect.
+    fn add_idle(&mut self, alloc: Global, table: &Table) -> Result<(), AllocError> {
+        for (index, text) in texts_at(table, KNOWN_FACTS).iter().enumerate() {
+            let text = text.as_str().unwrap_or("a");
+            if !is_fact(alloc, text)? {
+                let fault = Fault::NoFact(String::from_str(alloc, text)?);
+                self.add_fault(alloc, KNOWN_FACTS, Some(index), fault)?;
+            }
+        }
+        for (index, text) in texts_at(table, KNOWN_TARGETS).iter().enumerate() {
+            let text = text.as_str().unwrap_or("a");
+            if !is_target_name(alloc, text)? {
+                let fault = Fault::NoTarget(String::from_str(alloc, text)?);
+                self.add_fault(alloc, KNOWN_TARGETS, Some(index), fault)?;
+            }
+        }
+        Ok(())
+    }
+
+    /// Reads the settings of a part of a manifest, `package` or `workspace`. Errors in its table of rules are recorded
+    /// in `faults`; the call fails only if memory is refused.
+    pub fn in_part(alloc: Global, manifest: &Table, part: &str) -> Result<Settings, AllocError> {
+        let mut settings = Settings::of(alloc, settings_at(manifest, part))?;
+        if metadata_at(manifest, part, UNDERSCORED_TOOL).is_some() {
+            settings.add_fault(alloc, "", None, Fault::Underscored)?;
+        }
+        Ok(settings)
+    }
+
     /// Returns whether the settings declare a target of this name as known.
     pub fn knows_target(&self, name: &str) -> bool {
         self.targets.iter().any(|it| it.as_str() == name)
@@ -265,6 +338,7 @@ impl Settings {
                 settings.targets = settings.texts(alloc, table, KNOWN_TARGETS)?;
                 settings.facts = settings.texts(alloc, table, KNOWN_FACTS)?;
                 settings.rustc = settings.release(alloc, table, RUSTC)?;
+                settings.add_idle(alloc, table)?;
                 settings.add_lists(alloc, table, false)?;
                 settings.add_lists(alloc, table, true)?;
                 for (word, _) in table.iter() {
