@@ -4,7 +4,8 @@ use crate::dependency_rules::{Inheriting, Ruled, rejected_dependency};
 use cargo_platform::shown_start;
 use input_limits::without_mark;
 use manifest_lints_findings::{Level, shown_table, wrong_places};
-use manifests::key_lines::line_of;
+use manifests::key_places::place_of_path;
+use manifests::places::Location;
 use manifests::{Kind, table_of};
 use std::alloc::{AllocError, Global};
 use toml::{Table, Value};
@@ -17,8 +18,8 @@ const KINDS: [Kind; 3] = [Kind::Normal, Kind::Development, Kind::Build];
 /// The first thing that Cargo rejects in a manifest, beside its keys of `target`.
 #[derive(Drop)]
 pub struct Rejected {
-    /// The line of the table, dependency or field, if it is known.
-    pub line: Option<usize>,
+    /// The place of the table, dependency or field, if it is known.
+    pub at: Option<Location>,
     /// The table, dependency or field, and why it is rejected.
     pub reason: String,
     /// True if a lint reports it: a table or package whose name Cargo does not take where it is, or what is no table
@@ -27,10 +28,18 @@ pub struct Rejected {
 }
 
 impl Rejected {
+    /// Returns the line of the table, dependency or field, if it is known.
+    pub fn line(&self) -> Option<usize> {
+        match self.at {
+            Some(at) => Some(at.line),
+            None => None,
+        }
+    }
+
     /// Returns the line about a manifest with this path for people. Fails if memory is refused.
     pub fn text(&self, alloc: Global, path: &str) -> Result<String, AllocError> {
         let reason = self.reason.as_str();
-        match self.line {
+        match self.line() {
             Some(line) => format!(in alloc; "{path}:{line}: error: {reason}\n"),
             None => format!(in alloc; "{path}: error: {reason}\n"),
         }
@@ -303,9 +312,9 @@ pub fn rejected_by_cargo(
             },
         ) => {
             let text = without_mark(document.text.as_str());
-            let line = line_of(alloc, text, &path)?;
+            let at = place_of_path(alloc, text, &path)?;
             Ok(Some(Rejected {
-                line,
+                at,
                 reason,
                 is_lint,
             }))

@@ -15,13 +15,18 @@ use manifests::{TargetKey, Targets, target_keys};
 use std::alloc::{AllocError, Global};
 use toml::Table;
 
-/// A key that is nested too deep, as it is told.
+/// A key that is nested too deep.
 #[derive(Drop)]
 pub struct DeepKey {
-    /// The path of the manifest, with the number of the line where the key first stands.
+    /// The path of the manifest, with the number of the line on which the key first appears.
     place: String,
-    /// Which key it is, and from which byte on it is too deep.
+    /// The key as it is displayed, and why it is rejected.
     pub reason: String,
+    pub key: String,
+    /// The byte of the key at which more groups are open than may be.
+    pub byte: usize,
+    /// Why the key is rejected.
+    pub message: String,
 }
 
 impl DeepKey {
@@ -61,11 +66,15 @@ fn deep_key(
         }
         None => String::from_str(alloc, path)?,
     };
-    let key = shown_start(alloc, key)?;
+    let shown = shown_start(alloc, key)?;
     let reason = deep_text(alloc, at)?;
+    let message = format!(in alloc; "the key is {reason}")?;
     Ok(DeepKey {
         place,
-        reason: format!(in alloc; "target.'{key}': the key is {reason}")?,
+        reason: format!(in alloc; "target.'{shown}': {message}")?,
+        key: String::from_str(alloc, key)?,
+        byte: at,
+        message,
     })
 }
 

@@ -6,7 +6,7 @@ use semver::VersionReq;
 use std::alloc::{AllocError, Global};
 use toml::{Table, Value};
 use unicode_ident::{is_xid_continue, is_xid_start};
-use workspaces::uninheritable;
+use workspaces::{mistyped, mistyped_beside, uninheritable};
 
 /// The fields of a dependency that are texts.
 const TEXTS: [&str; 9] = [
@@ -99,52 +99,24 @@ fn is_name(text: &str) -> bool {
     starts && characters.all(|c| is_xid_continue(c) || c == '-')
 }
 
-/// Returns the message on a field that has another type than Cargo expects.
-fn mistyped(alloc: Global, field: &str, wanted: &str) -> Result<Option<String>, AllocError> {
-    Ok(Some(format!(in alloc; "`{field}` is not {wanted}")?))
-}
-
-/// Returns whether a table has a field of another type than a text.
-fn is_no_text(table: &Table, field: &str) -> bool {
-    match table.get(field) {
-        Some(value) => value.as_str().is_none(),
-        None => false,
-    }
-}
-
-/// Returns whether a table has a field of another type than a boolean.
-fn is_no_flag(table: &Table, field: &str) -> bool {
-    match table.get(field) {
-        Some(value) => value.as_bool().is_none(),
-        None => false,
-    }
-}
-
-/// Returns the message on the first field that has another type than Cargo expects.
-fn bad_type(alloc: Global, table: &Table) -> Result<Option<String>, AllocError> {
-    for field in TEXTS {
-        if is_no_text(table, field) {
-            return mistyped(alloc, field, "a string");
-        }
-    }
-    for field in FLAGS {
-        if is_no_flag(table, field) {
-            return mistyped(alloc, field, "a boolean");
-        }
-    }
-    match table.get("features") {
-        Some(Value::Array(features)) => bad_features(alloc, features),
-        Some(_) => mistyped(alloc, "features", "an array of strings"),
+/// Returns the message on a field that has another type than Cargo expects, if there is one.
+fn bad_type(
+    alloc: Global,
+    mistyped: Option<(&'static str, &'static str)>,
+) -> Result<Option<String>, AllocError> {
+    match mistyped {
+        Some((field, wanted)) => Ok(Some(format!(in alloc; "`{field}` is not {wanted}")?)),
         None => Ok(None),
     }
 }
 
 /// Returns the message on the first feature that Cargo rejects.
-fn bad_features(alloc: Global, features: &[Value]) -> Result<Option<String>, AllocError> {
+fn bad_features(alloc: Global, table: &Table) -> Result<Option<String>, AllocError> {
+    let Some(Value::Array(features)) = table.get("features") else {
+        return Ok(None);
+    };
     for feature in features {
-        let Some(feature) = feature.as_str() else {
-            return mistyped(alloc, "features", "an array of strings");
-        };
+        let feature = feature.as_str().unwrap_or("");
         if feature.contains('/') {
             return fixed(alloc, "the name of a feature contains `/`");
         }
@@ -242,6 +214,10 @@ fn bad_table(
             "Cargo rejects `default_features` in edition 2024; write `default-features`",
         );
     }
+    let found = bad_features(alloc, table)?;
+    if found.is_some() {
+        return Ok(found);
+    }
     let found = bad_pair(alloc, table)?;
     if found.is_some() {
         return Ok(found);
@@ -264,6 +240,10 @@ fn bad_inherited(
     if !inheriting.is_known {
         return Ok(None);
     }
+    let found = bad_type(alloc, mistyped_beside(table))?;
+    if found.is_some() {
+        return Ok(found);
+    }
     match uninheritable(ruled.name, table, inheriting.shared(), ruled.is_of_2024) {
         Some(reason) => fixed(alloc, reason),
         None => Ok(None),
@@ -281,7 +261,7 @@ fn bad_fields(
         Some(true) => bad_inherited(alloc, ruled, table, inheriting),
         Some(false) => fixed(alloc, "`workspace` can't be false"),
         None => {
-            let found = bad_type(alloc, table)?;
+            let found = bad_type(alloc, mistyped(table, &TEXTS, &FLAGS))?;
             if found.is_some() {
                 return Ok(found);
             }

@@ -1,17 +1,17 @@
-//! What a manifest says of a dependency beside its name: which package it is, and where that comes from.
+//! The declaration of a dependency in a manifest: its package, version, source and features.
 
 use manifests::document::Document;
 use manifests::{Dependency, table_of};
 use std::alloc::{AllocError, Global};
 use toml::{Table, Value};
 
-/// What stands at a key of `target`.
+/// Returns the table of dependencies at a key of `target`.
 fn below_key<'d>(document: &'d Document, key: &str) -> Option<&'d Table> {
     let targets = document.table.get("target")?.as_table()?;
     targets.get(key)?.as_table()
 }
 
-/// What stands at a dependency: a text is its version, and a table says more.
+/// Returns the declaration of a dependency: a text, which is its version, or a table.
 fn told_of<'d>(document: &'d Document, dependency: &Dependency<'_>) -> Option<&'d Value> {
     let tables = match dependency.key {
         Some(key) => below_key(document, key)?,
@@ -22,12 +22,12 @@ fn told_of<'d>(document: &'d Document, dependency: &Dependency<'_>) -> Option<&'
         .get(dependency.name)
 }
 
-/// The text at a field of what stands at a dependency.
+/// Returns the text at a field of a declaration.
 fn text_at<'d>(told: Option<&'d Value>, field: &str) -> Option<&'d str> {
     told?.as_table()?.get(field)?.as_str()
 }
 
-/// The version that is asked for.
+/// Returns the version requirement of a declaration.
 fn version_of<'d>(told: Option<&'d Value>) -> Option<&'d str> {
     match told?.as_str() {
         Some(version) => Some(version),
@@ -35,7 +35,7 @@ fn version_of<'d>(told: Option<&'d Value>) -> Option<&'d str> {
     }
 }
 
-/// Where the package comes from: what the workspace says, a repository of git, a folder, or a registry.
+/// Returns the source of a declaration: `workspace`, `git`, `path` or `registry`.
 fn source_of(told: Option<&Value>) -> &'static str {
     let Some(table) = told.and_then(Value::as_table) else {
         return "registry";
@@ -51,7 +51,7 @@ fn source_of(told: Option<&Value>) -> &'static str {
     }
 }
 
-/// The features that are asked for, those that are texts.
+/// Returns the features of a declaration, without values that are not texts.
 fn features_of<'d>(alloc: Global, told: Option<&'d Value>) -> Result<Vec<&'d str>, AllocError> {
     let mut features = Vec::new(alloc);
     let Some(table) = told.and_then(Value::as_table) else {
@@ -67,21 +67,21 @@ fn features_of<'d>(alloc: Global, told: Option<&'d Value>) -> Result<Vec<&'d str
     Ok(features)
 }
 
-/// The number of the line on which a key of `target` first stands.
+/// Returns the number of the line on which a key of `target` occurs first.
 pub fn first_line(document: &Document, key: &str) -> Option<usize> {
     let at = document.places.at_key(key)?;
     Some(at.line)
 }
 
-/// The number of the line on which the key of a dependency first stands.
+/// Returns the number of the line on which the key of a dependency occurs first.
 fn line_of(document: &Document, dependency: &Dependency<'_>) -> Option<usize> {
     first_line(document, dependency.key?)
 }
 
-/// What a manifest says of a dependency beside its name.
+/// The declaration of a dependency in a manifest, beside its name.
 #[derive(Drop)]
 pub struct Described<'d> {
-    /// The package's own name, where the dependency has another one.
+    /// The name of the package, if the dependency is renamed.
     pub package: Option<&'d str>,
     pub version: Option<&'d str>,
     pub source: &'static str,
@@ -90,7 +90,7 @@ pub struct Described<'d> {
 }
 
 impl<'d> Described<'d> {
-    /// What the manifest says of this dependency.
+    /// Returns the declaration of this dependency.
     pub fn of(
         alloc: Global,
         document: &'d Document,

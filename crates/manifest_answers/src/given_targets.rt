@@ -1,4 +1,4 @@
-//! The targets of another rustc, as a file has them, in place of the known ones.
+//! The targets of another rustc, from a file that replaces the built-in ones.
 
 use cargo_platform::{Cfg, Platform};
 use input_limits::without_mark;
@@ -12,29 +12,29 @@ use std::alloc::{AllocError, Global};
 use std::collections::BTreeSet;
 use target_tables::{TableError, TargetRow, TargetTable, read_table};
 
-/// So many targets a file may have at most, since their names are looked up one after the other.
+/// The maximal number of targets in a file. Names are searched linearly.
 const MOST: usize = 10_000;
 
 /// The targets of a file.
 #[derive(Drop)]
 pub struct GivenTargets {
-    /// The file, as it is shown.
+    /// The path of the file, as it is displayed.
     pub file: String,
     table: TargetTable,
 }
 
-/// Where the facts of targets come from.
+/// The source of the facts of targets.
 #[derive(Clone, Copy, Drop)]
 pub enum FactsFrom<'a> {
-    /// The targets that are known.
+    /// The built-in targets.
     Known,
-    /// Lines that are the facts of any target.
+    /// Lines with the facts of every target.
     Lines(&'a str),
     /// The targets of a file.
     File(&'a GivenTargets),
 }
 
-/// A line without the carriage return at its end; none where it is blank then.
+/// Returns a line without the carriage return at its end, or `None` if it is blank then.
 pub fn line_that_says(line: &str) -> Option<&str> {
     let line = line.strip_suffix("\r").unwrap_or(line);
     if line.trim().is_empty() {
@@ -44,8 +44,8 @@ pub fn line_that_says(line: &str) -> Option<&str> {
     }
 }
 
-/// A file without what editors add: a mark of the byte order, carriage returns at the ends of lines, and what blank
-/// lines have. Each line keeps its number.
+/// Returns the lines of a file without what editors add: a byte order mark, carriage returns at the ends of lines, and
+/// white space on blank lines. Each line keeps its number.
 fn lines_of(alloc: Global, text: &str) -> Result<String, AllocError> {
     let mut lines = String::new(alloc);
     for line in without_mark(text).split('\n') {
@@ -55,7 +55,7 @@ fn lines_of(alloc: Global, text: &str) -> Result<String, AllocError> {
     Ok(lines)
 }
 
-/// What is said of a file that is no table.
+/// Returns the message for a file that is not a table of targets.
 fn refused_file(alloc: Global, file: &str, error: &TableError) -> Result<Refusal, AllocError> {
     let line = match error {
         TableError::Line { number, error } => {
@@ -71,7 +71,7 @@ fn refused_file(alloc: Global, file: &str, error: &TableError) -> Result<Refusal
     Ok(Refusal::Unusable(line))
 }
 
-/// How many targets the lines of a file have: each stands behind an empty line, or at the beginning.
+/// Returns the number of targets in the lines of a file. Each begins after an empty line, or at the beginning.
 fn count_in(lines: &str) -> usize {
     let mut count: usize = 0;
     let mut is_behind_empty = true;
@@ -84,7 +84,7 @@ fn count_in(lines: &str) -> usize {
     count
 }
 
-/// What is said of a file that has none, or too many.
+/// Returns the message for a file with no target, or with too many.
 fn refused_count(alloc: Global, file: &str, count: usize) -> Result<Refusal, AllocError> {
     let line = if count == 0 {
         format!(in alloc; "{file}: error: it has no targets\n")?
@@ -95,7 +95,7 @@ fn refused_count(alloc: Global, file: &str, count: usize) -> Result<Refusal, All
 }
 
 impl GivenTargets {
-    /// The targets that this text of a file has: one at least, and 10,000 at most.
+    /// Parses the targets in the text of a file: at least one, and at most 10,000.
     pub fn of(alloc: Global, file: String, text: &str) -> Result<GivenTargets, Refusal> {
         let lines = lines_of(alloc, text)?;
         let count = count_in(lines.as_str());
@@ -108,22 +108,22 @@ impl GivenTargets {
         }
     }
 
-    /// They, in the order of the file.
+    /// Returns the targets, in the order of the file.
     pub fn table(&self) -> &TargetTable {
         &self.table
     }
 
-    /// How many they are.
+    /// Returns the number of targets.
     pub fn count(&self) -> usize {
         self.table.rows().len()
     }
 
-    /// The one of this name.
+    /// Returns the target of this name.
     pub fn by_name(&self, name: &str) -> Option<&TargetRow> {
         self.table.by_name(name)
     }
 
-    /// The one of this name, or what is said of a name that none has.
+    /// Returns the target of this name. Fails with a message if there is none.
     pub fn named(&self, alloc: Global, name: &str) -> Result<&TargetRow, Refusal> {
         match self.table.by_name(name) {
             Some(row) => Ok(row),
@@ -135,7 +135,7 @@ impl GivenTargets {
         }
     }
 
-    /// The name of the first one to which one edit leads.
+    /// Returns the first name that differs from this one by one edit.
     pub fn nearest(&self, alloc: Global, name: &str) -> Result<Option<&str>, AllocError> {
         let mut names = Vec::new(alloc);
         for row in self.table.rows() {
@@ -144,7 +144,7 @@ impl GivenTargets {
         Ok(near(name, &names))
     }
 
-    /// What is said of a name that none has, with the nearest one.
+    /// Returns the message for a name that no target has, with the nearest one.
     pub fn unknown(&self, alloc: Global, name: &str) -> Result<String, AllocError> {
         let file = self.file.as_str();
         let shown = shown_name(alloc, name)?;
@@ -156,7 +156,7 @@ impl GivenTargets {
         }
     }
 
-    /// The names of those at which the condition holds.
+    /// Returns the names of the targets on which the condition is true.
     pub fn matching(&self, alloc: Global, condition: &Platform) -> Result<Vec<&str>, AllocError> {
         let mut names = Vec::new(alloc);
         for place in &self.table.matching(alloc, condition)? {
@@ -167,8 +167,8 @@ impl GivenTargets {
         Ok(names)
     }
 
-    /// Whether the condition may hold at none, and whether it is certain to hold at each, whatever the facts of these
-    /// names and keys are.
+    /// Returns whether the condition may be true on no target, and whether it is certainly true on each, whatever facts
+    /// these names and keys have.
     pub fn none_and_each<'x>(&'x self, condition: &Platform, open: &'x [&'x str]) -> (bool, bool) {
         let mut none = true;
         let mut each = true;
@@ -190,7 +190,7 @@ impl GivenTargets {
         (none, each)
     }
 
-    /// Whether one of them has the fact.
+    /// Returns whether one of the targets has the fact.
     pub fn has(&self, fact: &Cfg) -> bool {
         self.table
             .rows()
@@ -198,7 +198,7 @@ impl GivenTargets {
             .any(|row| row.facts().iter().any(|it| it == fact))
     }
 
-    /// The facts that no known target has, each once, as they are written.
+    /// Returns the facts that no built-in target has, each once, as they are written.
     pub fn new_facts(&self, alloc: Global) -> Result<Vec<String>, AllocError> {
         let mut seen = BTreeSet::new(alloc);
         let mut texts = Vec::new(alloc);

@@ -1,4 +1,4 @@
-//! What is asked of several manifests, one after the other.
+//! Queries on several manifests, one after the other.
 
 ghost use Rattle.toml.specs.View.{table_view};
 ghost use Rattle.manifests.specs.Tables.{target_of};
@@ -9,18 +9,17 @@ use crate::deep::first_deep;
 use crate::taking::{Taken, taken_at};
 use input_limits::Unusable;
 use key_answers::answer::{Answer, Status};
-use manifests::reading::{Manifest, ReadError};
+use manifests::reading::Manifest;
 use std::alloc::{AllocError, Global};
 use std::rt::{Env, Files};
 use workspaces::Documents;
 
 /// A question about a manifest.
 pub trait Question {
-    /// Whether the lines of keys are asked for.
+    /// Returns whether the query needs the lines of keys.
     fn asks_for_lines(&self) -> bool;
 
-    /// Adds the answer on a manifest, no key of which is nested too deep, and in which Cargo may reject something
-    /// beside its keys.
+    /// Adds the answer on a manifest whose keys are not nested too deep. Cargo may reject something beside its keys.
     fn add_answer(
         &mut self,
         alloc: Global,
@@ -30,7 +29,8 @@ pub trait Question {
     ) -> Result<(), AllocError>
         requires { HasNoDeepKey (target_of (table_view manifest.now.document.table)) };
 
-    /// The answer on the manifest at this path, as it is shown, that can't be used. `line` says so, and why.
+    /// Returns the answer on a manifest that can't be used, with the reason. `path` is as it is displayed, and `line`
+    /// is the message for people.
     fn refuse(
         &mut self,
         alloc: Global,
@@ -40,8 +40,8 @@ pub trait Question {
     ) -> Result<Answer, AllocError>;
 }
 
-/// The answers on the manifests that are named, in their order. Those of the documents are not read again. One that
-/// can't be used, as where it has more bytes than the limit, does not stop the others.
+/// Returns the answers on these manifests, in their order. Those in the documents are not read again. A manifest that
+/// can't be used, for example since it has more bytes than the limit, does not stop the others.
 pub fn answer_each<R: Files + Input + Env + AllocGlobal, Q: Question>(
     rt: &R,
     documents: &mut Documents,
@@ -74,7 +74,7 @@ fn add_answer_on_read<Q: Question>(
     }
 }
 
-/// The answer where what stands at this path can't be used.
+/// Returns the answer on a manifest that can't be used.
 fn answer_on_unusable<Q: Question>(
     alloc: Global,
     path: &str,
@@ -98,9 +98,9 @@ fn add_answer_on<R: Files + Input + Env + AllocGlobal, Q: Question>(
     let alloc = rt.alloc();
     match taken_at(rt, documents, path, question.asks_for_lines()) {
         Ok(taken) => add_answer_on_read(alloc, &taken, question, whole),
-        Err(ReadError::Unusable(unusable)) => {
+        Err(error) => {
+            let unusable = error.unusable(alloc)?;
             whole.append(answer_on_unusable(alloc, path, &unusable, question)?)
         }
-        Err(ReadError::Memory(refused)) => Err(refused),
     }
 }

@@ -1,4 +1,4 @@
-//! Which names that a command line leaves open are asked for by keys.
+//! The names that a command line leaves open, and whether keys use them.
 
 use cargo_platform::{Platform, ReadError, values_of};
 use key_answers::printing::shown_name;
@@ -12,14 +12,14 @@ use toml::Table;
 #[derive(Drop)]
 struct Opened {
     name: String,
-    /// Whether a key asks for it.
+    /// True if a key uses it.
     is_asked: bool,
-    /// A name that a key asks for, and to which one edit leads from this one.
+    /// A name in a key that differs from this one by one edit.
     near: Option<String>,
 }
 
 impl Opened {
-    /// Notes that a key asks for this name.
+    /// Records that a key uses this name.
     fn note(&mut self, alloc: Global, name: &str) -> Result<(), AllocError> {
         if self.name.as_str() == name {
             self.is_asked = true;
@@ -37,7 +37,7 @@ pub struct OpenNames {
 }
 
 impl OpenNames {
-    /// These names, before a key is seen.
+    /// Returns these names, before a key is read.
     pub fn new(alloc: Global, names: &[&str]) -> Result<OpenNames, AllocError> {
         let mut opened = Vec::new(alloc);
         for name in names {
@@ -50,7 +50,7 @@ impl OpenNames {
         Ok(OpenNames { names: opened })
     }
 
-    /// Notes that a key asks for this name.
+    /// Records that a key uses this name.
     fn note_name(&mut self, alloc: Global, name: &str) -> Result<(), AllocError> {
         for opened in &mut self.names {
             opened.note(alloc, name)?;
@@ -58,7 +58,7 @@ impl OpenNames {
         Ok(())
     }
 
-    /// Notes what a key asks for. A key that is refused asks for nothing.
+    /// Records the names in a key. An invalid key has none.
     fn note_key(&mut self, alloc: Global, key: &str) -> Result<(), AllocError> {
         match Platform::from_str(alloc, key) {
             Ok(condition) => {
@@ -72,7 +72,7 @@ impl OpenNames {
         }
     }
 
-    /// Notes what the keys of a manifest ask for.
+    /// Records the names in the keys of a manifest.
     pub fn note(&mut self, alloc: Global, manifest: &Table) -> Result<(), AllocError> {
         if self.names.is_empty() {
             return Ok(());
@@ -85,7 +85,7 @@ impl OpenNames {
         Ok(())
     }
 
-    /// What is said of the names for which no key asks, a line each.
+    /// Returns a warning for each name that no key uses, a line each.
     pub fn unasked(&self, alloc: Global) -> Result<String, AllocError> {
         let mut lines = String::new(alloc);
         for opened in &self.names {
@@ -98,7 +98,7 @@ impl OpenNames {
     }
 }
 
-/// What is said of a name for which no key asks.
+/// Returns the warning for a name that no key uses.
 fn unasked_line(alloc: Global, opened: &Opened) -> Result<String, AllocError> {
     let name = shown_name(alloc, opened.name.as_str())?;
     match &opened.near {

@@ -1,4 +1,4 @@
-//! `facts`, `targets` and `match`: what is asked of one target or one key.
+//! `facts`, `targets` and `match`: queries on a single target or key.
 
 ghost use Rattle.std.specs.Prelude.{◌↔◌, IsTrue, IfOk, map};
 ghost use Rattle.cargo_platform.specs.Trees.{value_of, condition_of};
@@ -19,7 +19,7 @@ use manifest_lints_findings::{Code, Finding, Words, nearest_target, unknown_in};
 use serde::Serialize;
 use std::alloc::{AllocError, Global};
 
-/// What is said of a name that no known target has, with the nearest one that some target has.
+/// Returns the message for a name that no known target has, with the nearest name of a target.
 pub fn unknown_name(alloc: Global, name: &str) -> Result<String, AllocError> {
     let shown = shown_name(alloc, name)?;
     match nearest_target(alloc, name)? {
@@ -34,7 +34,8 @@ pub fn unknown_name(alloc: Global, name: &str) -> Result<String, AllocError> {
     }
 }
 
-/// The name that Cargo gives the target of a specification in this file: the file's own without its end.
+/// Returns the name that Cargo gives to the target of a specification in this file: the file name without its
+/// extension.
 fn name_of_specification(file: &str) -> Option<&str> {
     let name = match file.rsplit_once('/') {
         Some((_, name)) => name,
@@ -43,7 +44,8 @@ fn name_of_specification(file: &str) -> Option<&str> {
     name.strip_suffix(".json")
 }
 
-/// What is said of a target whose facts are neither known nor given: of the file of a specification how to ask for it.
+/// Returns the message for a target whose facts are neither known nor given. For the file of a specification, it says
+/// how to name it.
 fn without_facts(alloc: Global, name: &str) -> Result<String, AllocError> {
     let Some(own) = name_of_specification(name) else {
         return unknown_name(alloc, name);
@@ -56,7 +58,7 @@ fn without_facts(alloc: Global, name: &str) -> Result<String, AllocError> {
     )
 }
 
-/// Whether `match` tells a finding of this code: not what only `--cfg` sets, where facts are given.
+/// Returns whether `match` reports a finding of this lint: not what only `--cfg` sets, if facts are given.
 fn is_told(code: Code, has_facts: bool) -> bool {
     code != Code::Custom || !has_facts
 }
@@ -70,7 +72,7 @@ fn push_finding(text: &mut String, alloc: Global, finding: &Finding) -> Result<(
     text.push_str(line.as_str())
 }
 
-/// What there is to tell of the names and facts of a key that no known target has.
+/// Returns the warnings for names and facts in a key that no known target has.
 fn unknown_lines(
     alloc: Global,
     key: &str,
@@ -87,8 +89,8 @@ fn unknown_lines(
     Ok(text)
 }
 
-/// What there is to tell of the words of a key that rustc has in no known target, and of the name of a target, a line
-/// each: nothing of what only `--cfg` sets, and nothing of an empty key.
+/// Returns the warnings for names and values in a key that rustc sets on no known target, and for an unknown target
+/// name, a line each. There is none for what only `--cfg` sets, or for an empty key.
 pub fn unknown_words(alloc: Global, key: &str) -> Result<String, Refusal> {
     if key.is_empty() {
         return Ok(String::new(alloc));
@@ -97,7 +99,7 @@ pub fn unknown_words(alloc: Global, key: &str) -> Result<String, Refusal> {
     Ok(unknown_lines(alloc, key, condition, true)?)
 }
 
-/// Whether the key asks for a fact that some target of the file has, and no known one.
+/// Returns whether the key uses a fact that a target of the file has, and no known target.
 fn asks_for_new(
     alloc: Global,
     condition: &Platform,
@@ -111,7 +113,7 @@ fn asks_for_new(
     Ok(false)
 }
 
-/// What there is to tell of a key whose name no target of the file has, or whose facts no target has.
+/// Returns the warnings for a key whose target name is not in the file, or whose facts no target has.
 fn unknown_in_file(
     alloc: Global,
     key: &str,
@@ -132,7 +134,7 @@ fn unknown_in_file(
     unknown_lines(alloc, key, condition, true)
 }
 
-/// The facts of the target with this name.
+/// Returns the facts of the target with this name.
 pub fn facts(alloc: Global, name: &str) -> Result<Answer, AllocError> {
     match KnownTarget::by_name(name) {
         Some(target) => {
@@ -144,14 +146,14 @@ pub fn facts(alloc: Global, name: &str) -> Result<Answer, AllocError> {
     }
 }
 
-/// The facts of the target with this name in a file.
+/// Returns the facts of the target with this name in a file.
 pub fn facts_in(alloc: Global, name: &str, given: &GivenTargets) -> Result<Answer, Refusal> {
     let row = given.named(alloc, name)?;
     let text = fact_lines(alloc, row.facts())?;
     Ok(Answer::of(alloc, text, Status::Fine))
 }
 
-/// The names, one a line.
+/// Returns the names, one a line.
 fn name_lines(alloc: Global, names: &[&str]) -> Result<String, AllocError> {
     let mut text = String::new(alloc);
     for name in names {
@@ -165,14 +167,14 @@ fn name_lines(alloc: Global, names: &[&str]) -> Result<String, AllocError> {
 #[derive(Drop, Serialize)]
 struct TargetNames<'a>(&'a [&'a str]);
 
-/// The names, as one array.
+/// Returns the names as a JSON array.
 fn name_array<'a>(alloc: Global, names: &'a [&'a str]) -> Result<String, AllocError> {
     let mut text = String::new(alloc);
     json_lines::push_line(&mut text, alloc, &TargetNames(names))?;
     Ok(text)
 }
 
-/// The answer that names these targets: one array, or lines, and on standard error what is said beside them.
+/// Returns the answer with these targets, as an array or as lines, and with a message on standard error.
 fn named(alloc: Global, names: &[&str], errors: String, json: bool) -> Result<Answer, AllocError> {
     if json {
         return Ok(Answer::of(alloc, name_array(alloc, names)?, Status::Fine));
@@ -184,7 +186,7 @@ fn named(alloc: Global, names: &[&str], errors: String, json: bool) -> Result<An
     })
 }
 
-/// The key `cfg(NAME)`, where it holds at a known target.
+/// Returns the key `cfg(NAME)`, if it is true on a known target.
 fn within_cfg(alloc: Global, name: &str) -> Result<Option<String>, AllocError> {
     let key = format!(in alloc; "cfg({name})")?;
     match read_key(alloc, key.as_str()) {
@@ -197,11 +199,23 @@ fn within_cfg(alloc: Global, name: &str) -> Result<Option<String>, AllocError> {
     }
 }
 
-/// What is said of a key that is a name which no known target has, with the key that may be meant.
+/// Returns the key that `lint` suggests in place of a name which no known target has.
+fn suggested_key(alloc: Global, name: &str) -> Result<Option<String>, AllocError> {
+    let condition = Platform::Name(String::from_str(alloc, name)?);
+    let words = Words::new(alloc)?;
+    for finding in &unknown_in(alloc, &words, name, condition)? {
+        if let Some(key) = &finding.suggestion {
+            return Ok(Some(key.clone()?));
+        }
+    }
+    Ok(None)
+}
+
+/// Returns the message for a key that is an unknown target name, with the key that may be meant.
 fn unknown_key(alloc: Global, name: &str) -> Result<String, AllocError> {
     let meant = match within_cfg(alloc, name)? {
         Some(key) => Some(key),
-        None => nearest_target(alloc, name)?,
+        None => suggested_key(alloc, name)?,
     };
     let name = shown_name(alloc, name)?;
     match meant {
@@ -214,7 +228,7 @@ fn unknown_key(alloc: Global, name: &str) -> Result<String, AllocError> {
     }
 }
 
-/// What standard error is told beside the names: how many there are, and that no known target has the key's name.
+/// Returns the message beside the names: how many there are, and whether the key is an unknown target name.
 fn counted(alloc: Global, condition: &Platform, targets: TargetSet) -> Result<String, AllocError> {
     let count = targets.len();
     let mut errors = format!(in alloc; "{count} of {COUNT} known targets\n")?;
@@ -227,7 +241,7 @@ fn counted(alloc: Global, condition: &Platform, targets: TargetSet) -> Result<St
     Ok(errors)
 }
 
-/// The known targets at which the key holds.
+/// Returns the known targets on which the key is true.
 pub fn targets(alloc: Global, key: &str, json: bool) -> Result<Answer, Refusal> {
     let condition = read_key(alloc, key)?;
     let targets = matching(alloc, &condition)?;
@@ -236,7 +250,7 @@ pub fn targets(alloc: Global, key: &str, json: bool) -> Result<Answer, Refusal> 
     Ok(named(alloc, &names, errors, json)?)
 }
 
-/// What standard error is told beside names of a file: how many there are, and that none is the key's name.
+/// Returns the message beside names of a file: how many there are, and whether the key is the name of none.
 fn counted_in(
     alloc: Global,
     condition: &Platform,
@@ -256,7 +270,7 @@ fn counted_in(
     Ok(errors)
 }
 
-/// The targets of a file at which the key holds.
+/// Returns the targets of a file on which the key is true.
 pub fn targets_in(
     alloc: Global,
     key: &str,
@@ -269,8 +283,8 @@ pub fn targets_in(
     Ok(named(alloc, &names, errors, json)?)
 }
 
-/// A file of facts without what editors add: a mark of the byte order, carriage returns at the ends of lines, and blank
-/// lines.
+/// Returns the lines of a file of facts without what editors add: a byte order mark, carriage returns at the ends of
+/// lines, and blank lines.
 fn fact_lines_of(alloc: Global, text: &str) -> Result<String, AllocError> {
     let mut lines = String::new(alloc);
     for line in without_mark(text).split('\n') {
@@ -282,7 +296,7 @@ fn fact_lines_of(alloc: Global, text: &str) -> Result<String, AllocError> {
     Ok(lines)
 }
 
-/// The number of the line on which a fact stands, of which so many stand up to it.
+/// Returns the number of the line of the last one of the first `facts` facts in a text.
 fn line_of_fact(text: &str, facts: usize) -> usize {
     let mut left = facts;
     let mut number: usize = 0;
@@ -298,7 +312,7 @@ fn line_of_fact(text: &str, facts: usize) -> usize {
     number
 }
 
-/// The facts that the lines of a file spell.
+/// Parses the facts in the lines of a file.
 fn facts_of_lines(alloc: Global, text: &str) -> Result<Vec<Cfg>, Refusal> {
     match read_facts(alloc, fact_lines_of(alloc, text)?.as_str()) {
         Ok(facts) => Ok(facts),
@@ -319,7 +333,7 @@ fn copied(alloc: Global, facts: &[Cfg]) -> Result<Vec<Cfg>, AllocError> {
     Ok(copies)
 }
 
-/// The facts of the target of this name.
+/// Returns the facts of the target of this name.
 pub fn facts_from(alloc: Global, name: &str, from: FactsFrom<'_>) -> Result<Vec<Cfg>, Refusal> {
     match from {
         FactsFrom::Lines(text) => facts_of_lines(alloc, text),
@@ -334,7 +348,7 @@ pub fn facts_from(alloc: Global, name: &str, from: FactsFrom<'_>) -> Result<Vec<
     }
 }
 
-/// The fact that an argument spells.
+/// Parses the fact of an argument.
 fn added_fact(alloc: Global, text: &str) -> Result<Cfg, Refusal> {
     match Cfg::from_str(alloc, text) {
         Ok(fact) => Ok(fact),
@@ -343,7 +357,7 @@ fn added_fact(alloc: Global, text: &str) -> Result<Cfg, Refusal> {
     }
 }
 
-/// The facts that arguments spell.
+/// Parses the facts of arguments.
 pub fn added_facts(alloc: Global, texts: &[&str]) -> Result<Vec<Cfg>, Refusal> {
     let mut facts = Vec::new(alloc);
     for text in texts {
@@ -353,7 +367,7 @@ pub fn added_facts(alloc: Global, texts: &[&str]) -> Result<Vec<Cfg>, Refusal> {
     Ok(facts)
 }
 
-/// Whether the condition holds for a target with this name and these facts.
+/// Returns whether the condition is true on a target with this name and these facts.
 fn holds(alloc: Global, platform: &Platform, name: &str, facts: &[Cfg]) -> Result<bool, AllocError>
     ensures { IfOk result (λ b. IsTrue b
         ↔ IsTrueCondition name.now (fact_set (map value_of facts.now)) (condition_of platform.now)) }
@@ -367,7 +381,7 @@ fn holds(alloc: Global, platform: &Platform, name: &str, facts: &[Cfg]) -> Resul
     }
 }
 
-/// The facts of a target with those that are added.
+/// Returns the facts of a target with those that are added.
 fn all_facts(
     alloc: Global,
     name: &str,
@@ -395,7 +409,7 @@ fn push_verdict(
     text.push_str(if applies { "yes\n" } else { "no\n" })
 }
 
-/// Whether a condition holds for the target with this name, whose facts come from there.
+/// Returns whether a condition is true on the target with this name, whose facts come from `from`.
 fn holds_on(
     alloc: Global,
     condition: &Platform,
@@ -407,7 +421,7 @@ fn holds_on(
     Ok(holds(alloc, condition, name, &facts)?)
 }
 
-/// What there is to tell of a key whose names and facts the targets do not have.
+/// Returns the warnings for a key whose names and facts the targets do not have.
 fn unknown_beside(
     alloc: Global,
     key: &str,
@@ -422,7 +436,7 @@ fn unknown_beside(
     }
 }
 
-/// The answer of the verdicts on each target. Its status is that of the worst.
+/// Returns the answer with the verdict for each target. Its status is the worst of theirs.
 fn verdicts(
     alloc: Global,
     condition: &Platform,
@@ -443,8 +457,8 @@ fn verdicts(
     Ok(answer)
 }
 
-/// Whether the key applies to each of the targets with these names, whose facts come from there: a line each. If there
-/// are several, a line begins with the name.
+/// Returns, for each of the targets with these names, whose facts come from `from`, whether the key applies, a line
+/// each. If there are several targets, a line begins with the name.
 pub fn applies_to_each(
     alloc: Global,
     key: &str,
@@ -459,7 +473,7 @@ pub fn applies_to_each(
     Ok(answer)
 }
 
-/// Whether the key is true on the target with this name, whose facts come from there.
+/// Returns whether the key is true on the target with this name, whose facts come from `from`.
 pub fn applies(
     alloc: Global,
     key: &str,

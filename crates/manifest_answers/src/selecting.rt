@@ -1,4 +1,4 @@
-//! `select`: which dependencies of a manifest are selected.
+//! `select`: the dependencies of a manifest that targets select.
 
 use crate::cargo_refuses::Rejected;
 use crate::described::{Described, first_line};
@@ -21,7 +21,7 @@ use std::rt::{Env, Files};
 use target_tables::TargetRow;
 use workspaces::Documents;
 
-/// The word for a choice.
+/// Returns the word for a choice.
 fn choice_word(choice: &Choice) -> &'static str {
     match choice {
         Choice::Selected => "selected",
@@ -30,7 +30,7 @@ fn choice_word(choice: &Choice) -> &'static str {
     }
 }
 
-/// The condition that is left to ask, as a key.
+/// Returns the condition that remains to be decided, as a key.
 fn residual(alloc: Global, choice: &Choice) -> Result<Option<String>, AllocError> {
     match choice {
         Choice::Open(condition) => Ok(Some(condition.to_string(alloc)?)),
@@ -38,10 +38,10 @@ fn residual(alloc: Global, choice: &Choice) -> Result<Option<String>, AllocError
     }
 }
 
-/// Of a text that is shown no more than its first characters are looked at, and one more.
+/// The number of characters of a displayed text that are compared: those that are displayed, and one more.
 const LOOKED_AT: usize = 101;
 
-/// What is looked at of a text that is shown.
+/// Returns the part of a displayed text that is compared.
 fn looked_at(text: &str) -> &str {
     if text.len() <= LOOKED_AT {
         return text;
@@ -52,17 +52,17 @@ fn looked_at(text: &str) -> &str {
     }
 }
 
-/// A table of dependencies, as it is shown.
+/// A table of dependencies, as it is displayed.
 #[derive(Drop)]
 struct ShownTable<'a> {
     kind: Kind,
-    /// What is looked at of its key.
+    /// The part of its key that is compared.
     key: Option<&'a str>,
     shown: String,
 }
 
 impl<'a> ShownTable<'a> {
-    /// The one in which a dependency stands.
+    /// Returns the table that contains a dependency.
     fn of(alloc: Global, dependency: &Dependency<'a>) -> Result<ShownTable<'a>, AllocError> {
         let key = dependency.key.map(looked_at);
         Ok(ShownTable {
@@ -72,13 +72,13 @@ impl<'a> ShownTable<'a> {
         })
     }
 
-    /// Whether a dependency stands in a table that is shown so.
+    /// Returns whether a dependency is in a table that is displayed in the same way.
     fn shows_that_of(&self, dependency: &Dependency<'_>) -> bool {
         self.kind == dependency.kind && self.key == dependency.key.map(looked_at)
     }
 }
 
-/// Whether a text is shown as it is, for it is short and of printable characters of ASCII.
+/// Returns whether a text is displayed unchanged, since it is short and has only printable ASCII characters.
 fn is_plain(text: &str) -> bool {
     text.len() < LOOKED_AT && text.bytes().all(|byte| byte.is_ascii_graphic())
 }
@@ -218,13 +218,13 @@ fn push_object<'a>(
     json_lines::push_line(text, alloc, &line)
 }
 
-/// What people read of a key that is no table.
+/// Returns the message for a key that is not a table.
 fn no_table_line(alloc: Global, path: &str, key: &str) -> Result<String, AllocError> {
     let key = shown_start(alloc, key)?;
     format!(in alloc; "{path}: error: target.'{key}' is no table\n")
 }
 
-/// What people read of a key that spells no condition.
+/// Returns the lines for an invalid key.
 fn refused_key_lines(
     alloc: Global,
     path: &str,
@@ -235,7 +235,7 @@ fn refused_key_lines(
     format!(in alloc; "{path}: {fault}")
 }
 
-/// What people read of a manifest from which nothing is selected.
+/// Returns the lines for a manifest from which nothing is selected.
 fn refused_lines(alloc: Global, path: &str, error: &SelectError<'_>) -> Result<String, AllocError> {
     match error {
         SelectError::Memory(_) => Err(AllocError),
@@ -245,7 +245,7 @@ fn refused_lines(alloc: Global, path: &str, error: &SelectError<'_>) -> Result<S
     }
 }
 
-/// What is said of it in an object.
+/// Returns the message of an error object.
 fn refused_message(alloc: Global, error: &SelectError<'_>) -> Result<String, AllocError> {
     match error {
         SelectError::Memory(_) => Err(AllocError),
@@ -258,7 +258,7 @@ fn refused_message(alloc: Global, error: &SelectError<'_>) -> Result<String, All
     }
 }
 
-/// The key that is at fault, if one is, and where it goes wrong.
+/// Returns the invalid key and the span of the error in it, if a key is at fault.
 fn key_at_fault<'a>(error: &SelectError<'a>) -> (Option<&'a str>, Option<(usize, usize)>) {
     match error {
         SelectError::Memory(_) | SelectError::TargetIsNoTable => (None, None),
@@ -267,7 +267,7 @@ fn key_at_fault<'a>(error: &SelectError<'a>) -> (Option<&'a str>, Option<(usize,
     }
 }
 
-/// The fault for which nothing is selected from a manifest, with what is said of it.
+/// Returns the error for which nothing is selected from a manifest, with its message.
 fn fault_in<'a, 'm>(
     manifest: &'a Manifest,
     error: &SelectError<'a>,
@@ -287,7 +287,7 @@ fn fault_in<'a, 'm>(
     }
 }
 
-/// The answer on a manifest from which nothing is selected.
+/// Returns the answer on a manifest from which nothing is selected.
 fn refused<'a>(
     alloc: Global,
     asking: &Asking<'_>,
@@ -300,7 +300,7 @@ fn refused<'a>(
     asking.tell(alloc, &fault, lines.as_str())
 }
 
-/// The answer on a manifest that Cargo rejects.
+/// Returns the answer on a manifest that Cargo rejects.
 fn answer_on_rejected(
     alloc: Global,
     asking: &Asking<'_>,
@@ -311,7 +311,7 @@ fn answer_on_rejected(
     let fault = Fault {
         manifest: Some(path),
         key: None,
-        line: rejected.line,
+        line: rejected.line(),
         span: None,
         message: rejected.reason.as_str(),
     };
@@ -461,18 +461,18 @@ impl<'a> Question for Selecting<'a> {
 #[derive(Drop)]
 pub struct Target {
     pub name: String,
-    /// The facts that are added to its own.
+    /// Facts in addition to its own.
     pub added: Vec<String>,
 }
 
-/// What a selection depends on beside its targets.
+/// The options of `select`, beside its targets.
 #[derive(Clone, Copy, Drop)]
 pub struct Selection<'a> {
-    /// The name of the target, if it is the only one, and how the answer is told.
+    /// The name of the target, if it is the only one, and the output format.
     pub asking: Asking<'a>,
-    /// Names and keys of which each fact is open.
+    /// The names and keys whose facts are open.
     pub open: &'a [&'a str],
-    /// Where the facts of targets come from.
+    /// The source of the facts of targets.
     pub facts_from: FactsFrom<'a>,
     /// The name of the host.
     pub host: Option<&'a str>,
@@ -481,16 +481,16 @@ pub struct Selection<'a> {
 /// The target that build scripts are built for.
 #[derive(Clone, Copy, Drop)]
 enum Host<'a> {
-    /// It is not said.
+    /// Not given.
     Open,
-    /// One that is known.
+    /// A built-in target.
     Known(KnownTarget),
-    /// One of a file.
+    /// A target of a file.
     OfFile(&'a TargetRow),
 }
 
 impl<'a> Host<'a> {
-    /// The one of this name.
+    /// Returns the host of this name.
     fn of(alloc: Global, name: Option<&str>, from: FactsFrom<'a>) -> Result<Host<'a>, Refusal> {
         let Some(name) = name else {
             return Ok(Host::Open);
@@ -504,7 +504,7 @@ impl<'a> Host<'a> {
         }
     }
 
-    /// It, where it is one that is known.
+    /// Returns the host, if it is a built-in target.
     fn known(self) -> Option<KnownTarget> {
         match self {
             Host::Known(host) => Some(host),

@@ -30,13 +30,26 @@ fn manifest_of(
     Ok(Manifest { path, document })
 }
 
+/// Returns the text of the manifest that is named: the one that the documents use for it, or else that of the file.
+fn text_of<R: Files + Input + AllocGlobal>(
+    rt: &R,
+    documents: &Documents,
+    path: &str,
+) -> Result<ManifestText, ReadError> {
+    let Some(text) = documents.given_text(rt, path)? else {
+        return ManifestText::read(rt, path, documents.limit);
+    };
+    let text = String::from_str(rt.alloc(), text)?;
+    Ok(ManifestText::of(shown_text(rt.alloc(), path)?, text))
+}
+
 /// Reads and parses the manifest that is named.
 fn document_read<R: Files + Input + AllocGlobal>(
     rt: &R,
+    documents: &Documents,
     path: &str,
-    limit: u64,
 ) -> Result<Document, ReadError> {
-    let text = ManifestText::read(rt, path, limit)?;
+    let text = text_of(rt, documents, path)?;
     let table = text.table(rt.alloc())?;
     let text = text.into_text();
     Ok(Document { text, table })
@@ -51,7 +64,7 @@ fn document_at<R: Files + Input + AllocGlobal>(
 ) -> Result<Document, ReadError> {
     match documents.take(rt, path)? {
         Some(read) => Ok(read),
-        None => document_read(rt, path, documents.limit),
+        None => document_read(rt, documents, path),
     }
 }
 

@@ -1,4 +1,4 @@
-//! The components of a glob, between its slashes, and what they take.
+//! The components of a glob, between its slashes, and what they match.
 
 ghost use Rattle.std.specs.Prelude.{◌≡◌, ◌↔◌, IsTrue, IfOk};
 ghost use Rattle.workspaces.specs.Globs.{is_any, IsOne, is_folders, IsNamedBy, IsWithin, IsInWhere};
@@ -6,7 +6,7 @@ ghost use Rattle.workspaces.specs.Globs.{is_any, IsOne, is_folders, IsNamedBy, I
 use crate::pieces::{Piece, are_taken};
 use std::alloc::{AllocError, Global};
 
-/// The characters from one to another, both among them.
+/// The characters from one to another, inclusive.
 #[derive(Clone, Copy, Drop)]
 pub struct CharacterRange {
     pub first: char,
@@ -21,7 +21,7 @@ pub struct Characters {
 }
 
 impl Characters {
-    /// Whether it has the character.
+    /// Returns whether the character is one of these.
     pub fn have(&self, c: char) -> bool
         ensures { IsTrue result ↔ IsInWhere self.now.are_excluded self.now.ranges.items c }
     {
@@ -34,7 +34,7 @@ impl Characters {
     }
 }
 
-/// Whether some range has the character.
+/// Returns whether one of the ranges contains the character.
 fn is_within(ranges: &[CharacterRange], c: char) -> bool
     ensures { IsTrue result ↔ IsWithin ranges.now c }
 {
@@ -46,7 +46,7 @@ fn is_within(ranges: &[CharacterRange], c: char) -> bool
 /// A part of a component.
 #[derive(Drop)]
 pub enum Part {
-    /// `*`: any characters, none too.
+    /// `*`: any number of characters, also none.
     Any,
     /// One character of a kind.
     One(Characters),
@@ -78,7 +78,7 @@ pub type Name = Vec<char>;
 /// A component of a glob.
 #[derive(Drop)]
 pub enum Component {
-    /// `**`: any number of folders, none too.
+    /// `**`: any number of folders, also none.
     Folders,
     /// A folder with a name of these parts.
     Named(Vec<Part>),

@@ -57,8 +57,8 @@ fn add_of<'a>(
     Ok(())
 }
 
-/// The path dependencies of a manifest, those under keys of `target` among them. `shared` is
-/// `workspace.dependencies` of the root.
+/// Returns the path dependencies of a manifest, also those under keys of `target`. `shared` is `workspace.dependencies`
+/// of the root.
 pub fn path_dependencies<'a>(
     alloc: Global,
     manifest: &'a Table,

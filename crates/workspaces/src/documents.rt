@@ -85,6 +85,8 @@ struct ReadFile {
     /// How often the document is still to be taken, as far as that is known.
     uses: usize,
     root: RootPlace,
+    /// The text, if it was given in place of that of the file.
+    given: Option<String>,
 }
 
 impl ReadFile {
@@ -95,20 +97,13 @@ impl ReadFile {
             is_taken: false,
             uses: 0,
             root: RootPlace::Unsaid,
+            given: None,
         }
     }
 
-    /// Reads a file of at most `limit` bytes.
-    fn read<R: Files + AllocGlobal>(
-        rt: &R,
-        file: &str,
-        limit: u64,
-    ) -> Result<ReadFile, AllocError> {
-        let alloc = rt.alloc();
-        let Some(text) = unless_refused(file_within(rt, file, limit))? else {
-            return Ok(ReadFile::none());
-        };
-        let Some(table) = table_of(alloc, text.as_str())? else {
+    /// Returns what a file with this text has. `table` is what the text spells, if it is TOML.
+    fn of(alloc: Global, text: String, table: Option<Table>) -> Result<ReadFile, AllocError> {
+        let Some(table) = table else {
             return Ok(ReadFile::none());
         };
         let document = Document { text, table };
@@ -118,15 +113,31 @@ impl ReadFile {
             is_taken: false,
             uses: 0,
             root,
+            given: None,
         })
     }
 
-    /// Returns whether the document is needed once it has been taken: by the members of its workspace, or by another
-    /// use.
+    /// Reads a file of at most `limit` bytes.
+    fn read<R: Files + AllocGlobal>(
+        rt: &R,
+        file: &str,
+        limit: u64,
+    ) -> Result<ReadFile, AllocError> {
+        match unless_refused(file_within(rt, file, limit))? {
+            Some(text) => {
+                let table = table_of(rt.alloc(), text.as_str())?;
+                ReadFile::of(rt.alloc(), text, table)
+            }
+            None => Ok(ReadFile::none()),
+        }
+    }
+
+    /// Returns whether the document is needed once it has been taken: by the members of its workspace, by another use,
+    /// or since the file does not have its text.
     fn stays(&self) -> bool {
         match self.root {
             RootPlace::Here => true,
-            _ => self.uses > 0,
+            _ => self.uses > 0 || self.given.is_some(),
         }
     }
 
@@ -188,6 +199,39 @@ impl Documents {
             let _before = self.files.insert(path.clone()?, read)?;
         }
         Ok(path)
+    }
+
+    /// Uses a text as that of the manifest at a path, whether or not the file exists. `table` is what the text spells,
+    /// if it is TOML.
+    ///
+    /// Fails only where memory runs out.
+    pub fn put<R: Files + AllocGlobal>(
+        &mut self,
+        rt: &R,
+        file: &str,
+        text: String,
+        table: Option<Table>,
+    ) -> Result<(), AllocError> {
+        let path = real_path(rt, file)?;
+        let mut read = ReadFile::of(rt.alloc(), text.clone()?, table)?;
+        read.given = Some(text);
+        let _before = self.files.insert(path, read)?;
+        Ok(())
+    }
+
+    /// Returns the text that is used as that of the manifest at a path, if one was given.
+    ///
+    /// Fails only where memory runs out.
+    pub fn given_text<R: Files + AllocGlobal>(
+        &self,
+        rt: &R,
+        file: &str,
+    ) -> Result<Option<&str>, AllocError> {
+        let path = real_path(rt, file)?;
+        match self.files.get(path.as_str()) {
+            Some(read) => Ok(read.given.as_ref().map(|text| text.as_str())),
+            None => Ok(None),
+        }
     }
 
     /// Returns the manifest at a path, unless it can't be read, has more bytes than the limit, or is no TOML.

@@ -1,10 +1,10 @@
-//! Which manifests are meant: by their names, or by the folder at hand.
+//! The manifests that arguments select: those that are named, or the one in or above the current folder.
 
 use crate::choosing::choose;
 use crate::documents::{Documents, RootPlace, real_path};
 use crate::manifests::{
     MANIFEST, folder_of, from_above, inside, is_file, is_folder, manifest_inside, nearer, shorter,
-    unless_refused,
+    table_of, unless_refused,
 };
 use crate::members::members_of;
 use input_limits::{INPUT, Unusable};
@@ -13,43 +13,43 @@ use std::collections::BTreeSet;
 use std::env;
 use std::rt::{Env, Files};
 
-/// What the words of a command line say of manifests.
+/// The arguments of a command line that select manifests.
 #[derive(Drop)]
 pub struct Asked {
     /// Manifests by `--manifest-path`.
     pub paths: Vec<String>,
-    /// Manifests, and folders that hold one. Without any of both it is the one of the folder at hand, or of the nearest
-    /// above.
+    /// Manifests, and folders that contain one. If neither list has an entry, the manifest in the current folder or in
+    /// the nearest folder above is selected.
     pub manifests: Vec<String>,
-    /// The packages that alone are meant: names or globs of names, each with a version or without.
+    /// The only packages that are selected, if there are any: names or globs of names, each with or without a version.
     pub packages: Vec<String>,
-    /// The packages that are left out, or paths or globs of folders whose manifests are left out.
+    /// The packages that are left out, and paths or globs of folders whose manifests are left out.
     pub excluded: Vec<String>,
-    /// All members of the workspace, from a member too.
+    /// True if all members of the workspace are selected, also by the manifest of a member.
     pub whole: bool,
-    /// The manifests that are named alone, without the members of a workspace.
+    /// True if only the manifests that are named are selected, without the members of their workspaces.
     pub alone: bool,
 }
 
-/// The manifests that are meant.
+/// The selected manifests.
 #[derive(Drop)]
 pub struct Found {
     pub paths: Vec<String>,
-    /// What can't be found.
+    /// The errors for manifests that can't be found.
     pub unusable: Vec<Unusable>,
-    /// A warning a line: what `excluded` has and no manifest matches.
+    /// A warning a line, for each entry of `excluded` that matches no manifest.
     pub warnings: String,
 }
 
 impl Found {
-    /// Adds what can't be found.
+    /// Adds an error.
     pub(crate) fn push(&mut self, reason: String) -> Result<(), AllocError> {
         self.unusable.push(Unusable { file: None, reason })?;
         Ok(())
     }
 }
 
-/// How many components the path of the folder at hand has; none where that is not known.
+/// Returns how many components the path of the current folder has, or 0 if it is not known.
 pub fn depth_at_hand<R: Env + AllocGlobal>(rt: &R) -> Result<usize, AllocError> {
     Ok(match unless_refused(env::current_dir(rt))? {
         Some(folder) => folder.as_path().components().count(),
@@ -57,7 +57,7 @@ pub fn depth_at_hand<R: Env + AllocGlobal>(rt: &R) -> Result<usize, AllocError> 
     })
 }
 
-/// The manifest of the folder at hand, or of the nearest one above it.
+/// Returns the path of the manifest in the current folder or in the nearest folder above, if there is one.
 fn manifest_above<R: Files + Env + AllocGlobal>(rt: &R) -> Result<Option<String>, AllocError> {
     for count in 0..=depth_at_hand(rt)? {
         let file = from_above(rt.alloc(), count, MANIFEST)?;
@@ -68,7 +68,7 @@ fn manifest_above<R: Files + Env + AllocGlobal>(rt: &R) -> Result<Option<String>
     Ok(None)
 }
 
-/// The file that an argument names: of a folder its manifest.
+/// Returns the file that an argument names. For a folder, it is the folder's manifest.
 fn file_of<R: Files + AllocGlobal>(rt: &R, path: &str) -> Result<String, AllocError> {
     if path != INPUT && !path.is_empty() && is_folder(rt, path)? {
         let path = path.strip_suffix("/").unwrap_or(path);
@@ -77,7 +77,23 @@ fn file_of<R: Files + AllocGlobal>(rt: &R, path: &str) -> Result<String, AllocEr
     String::from_str(rt.alloc(), path)
 }
 
-/// The manifest of the root that a manifest is or names.
+/// Uses a text as that of the manifest that an argument names, which for a folder is the folder's manifest. Returns the
+/// path of the manifest.
+///
+/// Fails only where memory runs out.
+pub fn put_text<R: Files + AllocGlobal>(
+    rt: &R,
+    documents: &mut Documents,
+    path: &str,
+    text: String,
+) -> Result<String, AllocError> {
+    let file = file_of(rt, path)?;
+    let table = table_of(rt.alloc(), text.as_str())?;
+    documents.put(rt, file.as_str(), text, table)?;
+    Ok(file)
+}
+
+/// Returns the manifest of the root, if a manifest is that of a root or names its root.
 fn root_by_manifest<R: Files + AllocGlobal>(
     rt: &R,
     documents: &mut Documents,
@@ -93,7 +109,7 @@ fn root_by_manifest<R: Files + AllocGlobal>(
     }
 }
 
-/// Whether a manifest has a table `workspace`.
+/// Returns whether a manifest has a table `workspace`.
 fn is_root<R: Files + AllocGlobal>(
     rt: &R,
     documents: &mut Documents,
@@ -105,13 +121,13 @@ fn is_root<R: Files + AllocGlobal>(
     }
 }
 
-/// The path of the manifest that lies so many folders above a folder.
+/// Returns the path of the manifest `count` folders above a folder.
 fn manifest_over(alloc: Global, folder: &str, count: usize) -> Result<String, AllocError> {
     let file = from_above(alloc, count, MANIFEST)?;
     inside(alloc, folder, file.as_str())
 }
 
-/// The nearest manifest above a folder with a table `workspace`.
+/// Returns the nearest manifest above a folder that has a table `workspace`.
 fn root_above<R: Files + Env + AllocGlobal>(
     rt: &R,
     documents: &mut Documents,
@@ -127,9 +143,11 @@ fn root_above<R: Files + Env + AllocGlobal>(
     Ok(None)
 }
 
-/// The manifest of the root of the workspace that a manifest belongs to: its own, the one that `package.workspace`
-/// names, or the nearest above with a table `workspace`. Of one that belongs to none it is its own. Manifests that
-/// can't be used are passed over.
+/// Returns the manifest of the root of the workspace that a manifest belongs to: its own, the one that
+/// `package.workspace` names, or the nearest one above with a table `workspace`. If it belongs to no workspace, this is
+/// its own path. Manifests that can't be used are skipped.
+///
+/// Fails only where memory runs out.
 pub fn root_of<R: Files + Env + AllocGlobal>(
     rt: &R,
     documents: &mut Documents,
@@ -144,7 +162,7 @@ pub fn root_of<R: Files + Env + AllocGlobal>(
     }
 }
 
-/// The manifest that one stands for: that of the root of its workspace, where the root's members are asked for.
+/// Returns the manifest itself or, if all members or some packages are selected, that of its workspace's root.
 fn first_of<R: Files + Env + AllocGlobal>(
     rt: &R,
     documents: &mut Documents,
@@ -158,7 +176,7 @@ fn first_of<R: Files + Env + AllocGlobal>(
     }
 }
 
-/// Adds the manifests of the members of the workspace whose root a manifest is, but for its own.
+/// Adds the manifests of a root's members, but not the root's own.
 fn add_members<R: Files + AllocGlobal + Clone + Drop>(
     rt: &R,
     documents: &mut Documents,
@@ -174,7 +192,7 @@ fn add_members<R: Files + AllocGlobal + Clone + Drop>(
     Ok(())
 }
 
-/// Adds the manifests that one stands for: of the root of a workspace those of its members too.
+/// Adds a manifest and, if it is that of a root, those of the root's members.
 fn add_meant<R: Files + Env + AllocGlobal + Clone + Drop>(
     rt: &R,
     documents: &mut Documents,
@@ -194,7 +212,7 @@ fn add_meant<R: Files + Env + AllocGlobal + Clone + Drop>(
     add_members(rt, documents, file.as_str(), found)
 }
 
-/// Adds the manifests that these stand for.
+/// Adds these manifests, and those of the members of roots.
 fn add_all<R: Files + Env + AllocGlobal + Clone + Drop>(
     rt: &R,
     documents: &mut Documents,
@@ -209,7 +227,8 @@ fn add_all<R: Files + Env + AllocGlobal + Clone + Drop>(
     Ok(())
 }
 
-/// Adds what the manifest of the folder at hand, or of the nearest above, stands for. Where none is there that is told.
+/// Adds the manifest in the current folder or in the nearest folder above and, if it is that of a root, those of the
+/// root's members. If there is none, this is an error.
 fn add_at_hand<R: Files + Env + AllocGlobal + Clone + Drop>(
     rt: &R,
     documents: &mut Documents,
@@ -264,8 +283,10 @@ fn once_from_here<R: Files + Env + AllocGlobal>(
     nearer_paths(rt.alloc(), folder.as_str(), &once)
 }
 
-/// The manifests that are meant, each once, in the order of the arguments: the root of a workspace before its members,
-/// and these in the order of their paths. They stay in `documents`.
+/// Finds the selected manifests. Returns each once, in the order of the arguments: the root of a workspace before its
+/// members, and these in the order of their paths. The manifests that are read for this stay in `documents`.
+///
+/// Fails only where memory runs out.
 pub fn find<R: Files + Env + AllocGlobal + Clone + Drop>(
     rt: &R,
     documents: &mut Documents,

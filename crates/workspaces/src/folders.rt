@@ -1,4 +1,4 @@
-//! The folders below a root that a glob may take.
+//! The folders below a root that a glob may match.
 
 use crate::components::{Component, Name};
 use crate::manifests::{inside, is_folder, unless_refused};
@@ -9,7 +9,7 @@ use std::fs::{self, DirEntry};
 use std::io;
 use std::rt::Files;
 
-/// What stands behind `**` at the end of a glob: it takes at least one folder.
+/// The component after `**` at the end of a glob, which matches at least one folder.
 const ANY: &str = "*";
 
 /// Adds the name of an entry of a folder, if the entry can be read.
@@ -24,7 +24,7 @@ fn add_name<R: Files + AllocGlobal + Clone + Drop>(
     Ok(())
 }
 
-/// The names in a folder. A folder that can't be read has none.
+/// Returns the names in a folder, or none if the folder can't be read.
 fn names_in<R: Files + AllocGlobal + Clone + Drop>(
     rt: &R,
     folder: &str,
@@ -41,7 +41,7 @@ fn names_in<R: Files + AllocGlobal + Clone + Drop>(
     Ok(names)
 }
 
-/// The names in the folder at a path from the root on.
+/// Returns the names in the folder at a path below the root.
 fn names_below<R: Files + AllocGlobal + Clone + Drop>(
     rt: &R,
     root: &str,
@@ -51,7 +51,7 @@ fn names_below<R: Files + AllocGlobal + Clone + Drop>(
     names_in(rt, folder.as_str())
 }
 
-/// Whether a folder, and no link to one, stands at a path from the root on.
+/// Returns whether a folder, and not a link to one, is at a path below the root.
 fn is_own_folder<R: Files + AllocGlobal>(
     rt: &R,
     root: &str,
@@ -64,7 +64,7 @@ fn is_own_folder<R: Files + AllocGlobal>(
     }
 }
 
-/// Whether a folder stands at a path from the root on.
+/// Returns whether a folder is at a path below the root.
 fn is_folder_below<R: Files + AllocGlobal>(
     rt: &R,
     root: &str,
@@ -125,13 +125,13 @@ fn add_lower<R: Files + AllocGlobal>(
     Ok(())
 }
 
-/// Whether the component takes a name.
+/// Returns whether the component matches a name.
 fn takes(alloc: Global, component: &Component, name: &str) -> Result<bool, AllocError> {
     let characters: Name = name.chars().collect(alloc)?;
     component.takes(alloc, &characters)
 }
 
-/// Adds the folders in one whose names the component takes.
+/// Adds the folders in a folder whose names the component matches.
 fn add_named<R: Files + AllocGlobal + Clone + Drop>(
     rt: &R,
     root: &str,
@@ -147,7 +147,7 @@ fn add_named<R: Files + AllocGlobal + Clone + Drop>(
     Ok(())
 }
 
-/// The folders in these that a component of a glob may take. `text` is the component as it is written.
+/// Returns the folders in these that a component of a glob may match. `text` is the component as it is written.
 fn next_of<R: Files + AllocGlobal + Clone + Drop>(
     rt: &R,
     root: &str,
@@ -166,7 +166,7 @@ fn next_of<R: Files + AllocGlobal + Clone + Drop>(
     Ok(next)
 }
 
-/// The component at a place in the text of a glob.
+/// Returns the component at an index in the text of a glob.
 fn text_at<'a>(texts: &[&'a str], at: usize) -> &'a str {
     texts.get(at).copied().unwrap_or(ANY)
 }
@@ -177,8 +177,10 @@ fn start_of(text: &str) -> &'static str {
     if text.starts_with('/') { "/" } else { "" }
 }
 
-/// The paths, from the root on, of the folders that the pattern of this text may take. Those of an absolute pattern are
-/// absolute.
+/// Returns the paths of the folders that the pattern of this text may match. They begin at the root, or are absolute if
+/// the pattern is.
+///
+/// Fails only where memory runs out.
 pub fn candidates<R: Files + AllocGlobal + Clone + Drop>(
     rt: &R,
     root: &str,

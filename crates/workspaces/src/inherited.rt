@@ -13,6 +13,9 @@ const FEATURES: &str = "features";
 /// The names of the field that says whether a dependency has its default features.
 const DEFAULT_FEATURES: [&str; 2] = ["default-features", "default_features"];
 
+/// The fields that are booleans among those that a package adds to a dependency.
+const ADDED_FLAGS: [&str; 3] = ["default-features", "default_features", "optional"];
+
 /// The fields that the root's dependencies can't have.
 const OWN: [&str; 2] = ["optional", "public"];
 
@@ -41,6 +44,14 @@ fn is_no_flag(value: Option<&Value>) -> bool {
     }
 }
 
+/// Returns whether a value is present that is no string.
+fn is_no_text(value: Option<&Value>) -> bool {
+    match value {
+        Some(value) => value.as_str().is_none(),
+        None => false,
+    }
+}
+
 /// Returns whether a value is an array of texts.
 fn is_texts(value: &Value) -> bool {
     match value.as_array() {
@@ -49,20 +60,34 @@ fn is_texts(value: &Value) -> bool {
     }
 }
 
-/// Returns why Cargo rejects the fields that a package adds to a dependency that it inherits, by their types.
-fn mistyped(own: &Table) -> Option<&'static str> {
-    if let Some(features) = own.get(FEATURES) {
-        if !is_texts(features) {
-            return Some("`features` is not an array of strings");
+/// Returns the first field of a table that is a dependency which has another type than Cargo expects, with the expected
+/// type. `texts` are the fields that are strings, and `flags` those that are booleans; `features` is an array of
+/// strings.
+pub fn mistyped(
+    table: &Table,
+    texts: &[&'static str],
+    flags: &[&'static str],
+) -> Option<(&'static str, &'static str)> {
+    for field in texts {
+        if is_no_text(table.get(*field)) {
+            return Some((field, "a string"));
         }
     }
-    if is_no_flag(default_features(own)) {
-        return Some("`default-features` is not a boolean");
+    for field in flags {
+        if is_no_flag(table.get(*field)) {
+            return Some((field, "a boolean"));
+        }
     }
-    if is_no_flag(own.get("optional")) {
-        return Some("`optional` is not a boolean");
+    match table.get(FEATURES) {
+        Some(features) if !is_texts(features) => Some((FEATURES, "an array of strings")),
+        _ => None,
     }
-    None
+}
+
+/// Returns the first field that a package adds to a dependency which it inherits and that has another type than Cargo
+/// expects, with the expected type.
+pub fn mistyped_beside(own: &Table) -> Option<(&'static str, &'static str)> {
+    mistyped(own, &[], &ADDED_FLAGS)
 }
 
 /// Returns why Cargo rejects a dependency of the root, which is a table.
@@ -90,17 +115,14 @@ fn overrides_defaults(own: &Table, shared: &Value) -> bool {
     }
 }
 
-/// Returns why Cargo rejects a dependency with `workspace = true` and these other fields, and `None` if it takes it.
-/// `shared` is the table `workspace.dependencies` of the root.
+/// Returns why Cargo rejects a dependency with `workspace = true` and these other fields, which have the types that it
+/// expects, and `None` if it takes it. `shared` is the table `workspace.dependencies` of the root.
 pub fn uninheritable(
     name: &str,
     own: &Table,
     shared: Option<&Table>,
     is_of_2024: bool,
 ) -> Option<&'static str> {
-    if let Some(reason) = mistyped(own) {
-        return Some(reason);
-    }
     let Some(shared) = shared else {
         return Some("there is no table `workspace.dependencies` from which to inherit it");
     };
@@ -177,7 +199,10 @@ fn inherited(
     let Some(own) = value.as_table() else {
         return Ok(None);
     };
-    if !is_inherited(Some(own)) || uninheritable(name, own, Some(shared), is_of_2024).is_some() {
+    if !is_inherited(Some(own)) || mistyped_beside(own).is_some() {
+        return Ok(None);
+    }
+    if uninheritable(name, own, Some(shared), is_of_2024).is_some() {
         return Ok(None);
     }
     match shared.get(name) {

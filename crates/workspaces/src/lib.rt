@@ -21,12 +21,14 @@ mod pieces;
 
 pub use components::{CharacterRange, Characters, Component, Name, Part};
 pub use documents::{Document, Documents};
-pub use finding::{Asked, Found, depth_at_hand, find, root_of};
+pub use finding::{Asked, Found, depth_at_hand, find, put_text, root_of};
 pub use inheritance::{Inheritable, inherits_lints};
-pub use inherited::{inherits, is_of_2024, put_inherited, uninheritable};
+pub use inherited::{
+    inherits, is_of_2024, mistyped, mistyped_beside, put_inherited, uninheritable,
+};
 pub use manifests::{
     MANIFEST, folder_of, from_above, inside, is_file, manifest_inside, put, shorter, table_in,
-    text_in,
+    table_of, text_in,
 };
 pub use member_rules::Rules;
 pub use patterns::{Fault, Pattern, PatternError, is_glob, names_of, plain_components, some_takes};

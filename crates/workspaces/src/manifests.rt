@@ -1,4 +1,4 @@
-//! Manifests as texts and tables, and paths beside each other.
+//! Manifests as texts and tables, and paths relative to each other.
 
 use crate::patterns::plain_components;
 use input_limits::without_mark;
@@ -8,7 +8,7 @@ use std::rt::Files;
 use std::{fs, io};
 use toml::{Table, Value, table_from_str};
 
-/// The name of a manifest.
+/// The file name of a manifest.
 pub const MANIFEST: &str = "Cargo.toml";
 
 /// Returns the path to which a path leads from a folder. An absolute path stays as it is. The folder `""` is the
@@ -25,13 +25,13 @@ pub fn inside(alloc: Global, folder: &str, path: &str) -> Result<String, AllocEr
     format!(in alloc; "{folder}/{path}")
 }
 
-/// The path of the manifest in the folder to which a path leads from another.
+/// Returns the path of the manifest in the folder to which a path leads from another folder.
 pub fn manifest_inside(alloc: Global, folder: &str, path: &str) -> Result<String, AllocError> {
     let folder = inside(alloc, folder, path)?;
     inside(alloc, folder.as_str(), MANIFEST)
 }
 
-/// A path that lies so many folders above the one at hand.
+/// Returns the path of a name in the folder that is `count` folders above the current one.
 pub fn from_above(alloc: Global, count: usize, path: &str) -> Result<String, AllocError> {
     let mut text = String::new(alloc);
     for _ in 0..count {
@@ -41,7 +41,7 @@ pub fn from_above(alloc: Global, count: usize, path: &str) -> Result<String, All
     Ok(text)
 }
 
-/// The path without the components that lead nowhere.
+/// Returns the path without the components that lead nowhere: `.`, empty ones, and `..` with the one before it.
 pub fn shorter(alloc: Global, path: &str) -> Result<String, AllocError> {
     let mut text = String::new(alloc);
     for component in &plain_components(alloc, path)? {
@@ -113,7 +113,7 @@ pub fn nearer(alloc: Global, folder: &str, path: &str) -> Result<String, AllocEr
     joined_above(alloc, up.saturating_sub(count), rest)
 }
 
-/// The folder of a file.
+/// Returns the folder of a file.
 pub fn folder_of(file: &str) -> &str {
     match file.rsplit_once('/') {
         Some(("", _)) => "/",
@@ -122,8 +122,7 @@ pub fn folder_of(file: &str) -> &str {
     }
 }
 
-/// What a call on files gave, where it gave something. It refuses only where memory is refused: then nothing is known
-/// of the file.
+/// Returns what a call on files returned, or `None` if it failed. Fails only where memory runs out.
 pub fn unless_refused<T>(given: io::Result<T>) -> Result<Option<T>, AllocError> {
     match given {
         Ok(given) => Ok(Some(given)),
@@ -136,7 +135,7 @@ pub fn unless_refused<T>(given: io::Result<T>) -> Result<Option<T>, AllocError> 
     }
 }
 
-/// Whether a folder stands at the path.
+/// Returns whether a folder is at the path.
 pub fn is_folder<R: Files + AllocGlobal>(rt: &R, path: &str) -> Result<bool, AllocError> {
     let path = if path.is_empty() { "." } else { path };
     match unless_refused(fs::metadata(rt, path))? {
@@ -145,7 +144,7 @@ pub fn is_folder<R: Files + AllocGlobal>(rt: &R, path: &str) -> Result<bool, All
     }
 }
 
-/// Whether a file stands at the path.
+/// Returns whether a file is at the path.
 pub fn is_file<R: Files + AllocGlobal>(rt: &R, path: &str) -> Result<bool, AllocError> {
     match unless_refused(fs::metadata(rt, path))? {
         Some(found) => Ok(found.is_file()),
@@ -153,7 +152,7 @@ pub fn is_file<R: Files + AllocGlobal>(rt: &R, path: &str) -> Result<bool, Alloc
     }
 }
 
-/// The table that a text spells. There is none where it is no TOML.
+/// Returns the table of a TOML text, or `None` if the text is not TOML.
 pub fn table_of(alloc: Global, text: &str) -> Result<Option<Table>, AllocError> {
     match table_from_str(alloc, without_mark(text)) {
         Ok(table) => Ok(Some(table)),
@@ -166,7 +165,7 @@ pub fn table_of(alloc: Global, text: &str) -> Result<Option<Table>, AllocError> 
     }
 }
 
-/// The table at a key of a table.
+/// Returns the table at a key of a table.
 pub fn table_in<'a>(table: &'a Table, key: &str) -> Option<&'a Table> {
     match table.get(key) {
         Some(value) => value.as_table(),
@@ -174,7 +173,7 @@ pub fn table_in<'a>(table: &'a Table, key: &str) -> Option<&'a Table> {
     }
 }
 
-/// The text at a key of a table.
+/// Returns the text at a key of a table.
 pub fn text_in<'a>(table: &'a Table, key: &str) -> Option<&'a str> {
     match table.get(key) {
         Some(value) => value.as_str(),
@@ -188,7 +187,7 @@ pub fn put(alloc: Global, table: &mut Table, key: &str, value: Value) -> Result<
     Ok(())
 }
 
-/// The texts of an array at a key of a table.
+/// Returns the texts of an array at a key of a table.
 pub fn texts_in<'a>(
     alloc: Global,
     table: &'a Table,
@@ -205,7 +204,7 @@ pub fn texts_in<'a>(
     Ok(texts)
 }
 
-/// The name of the package of a manifest.
+/// Returns the name of the package of a manifest.
 pub fn package_name(manifest: &Table) -> Option<&str> {
     text_in(table_in(manifest, "package")?, "name")
 }

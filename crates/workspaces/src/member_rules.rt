@@ -17,7 +17,7 @@ pub struct Rules {
     pub named: Vec<Pattern>,
 }
 
-/// Whether the first holds and the second does not.
+/// Returns whether the first is true and the second is not.
 fn holds_without(first: bool, second: bool) -> bool
     ensures { IsTrue result ↔ IsTrue first × (IsTrue second → ⊥) }
 {
@@ -25,7 +25,7 @@ fn holds_without(first: bool, second: bool) -> bool
 }
 
 impl Rules {
-    /// Whether the folder is excluded. It refuses only where memory is refused.
+    /// Returns whether the folder is excluded. Fails only where memory runs out.
     pub fn exclude(&self, alloc: Global, path: &[Vec<char>]) -> Result<bool, AllocError>
         ensures { IfOk result (λ b. IsTrue b ↔ IsExcluded self.now path.now) }
     {
@@ -37,7 +37,7 @@ impl Rules {
         Ok(holds_without(is_below, is_named))
     }
 
-    /// Whether the folder is a member by the globs. It refuses only where memory is refused.
+    /// Returns whether the folder is a member by the globs. Fails only where memory runs out.
     pub fn have(&self, alloc: Global, path: &[Vec<char>]) -> Result<bool, AllocError>
         ensures { IfOk result (λ b. IsTrue b ↔ IsMember self.now path.now) }
     {

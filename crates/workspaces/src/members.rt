@@ -1,5 +1,5 @@
-//! The members of a workspace: the folders that its globs take, its root's own, and those to which path dependencies
-//! lead.
+//! The members of a workspace: the folders that its globs match, the root's own folder, and those to which path
+//! dependencies lead.
 
 use crate::dependencies::{PathDependency, path_dependencies};
 use crate::documents::{Document, Documents, real_path};
@@ -14,7 +14,7 @@ use std::collections::BTreeSet;
 use std::rt::Files;
 use toml::Table;
 
-/// Adds what can't be used of a file.
+/// Adds an error on a file.
 fn push_unusable(
     unusable: &mut Vec<Unusable>,
     alloc: Global,
@@ -203,7 +203,7 @@ impl Members {
         Ok(!self.rules.exclude(alloc, &names)?)
     }
 
-    /// Adds the folders that a glob takes.
+    /// Adds the folders that a glob matches.
     fn add_by_glob<R: Files + AllocGlobal + Clone + Drop>(
         &mut self,
         rt: &R,

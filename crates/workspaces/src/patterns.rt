@@ -1,4 +1,4 @@
-//! Globs over the paths of folders, and how they are read.
+//! Globs over the paths of folders, and their parser.
 
 ghost use Rattle.std.specs.Prelude.{◌↔◌, IsTrue, IfOk};
 ghost use Rattle.workspaces.specs.Members.{IsTakenBy, IsTakenBySome};
@@ -13,16 +13,16 @@ pub struct Pattern {
     pub components: Vec<Component>,
 }
 
-/// Why a text is no glob.
+/// The reason why a text is not a glob.
 #[derive(Clone, Copy, Debug, PartialEq, Eq, Drop)]
 pub enum Fault {
-    /// Two or more `*` stand beside each other, and `**` is no whole component.
+    /// Two or more `*` are adjacent, and are not `**` as a whole component.
     Stars,
     /// A `[` without its `]`.
     Bracket,
 }
 
-/// Why a text gives no pattern.
+/// The reason why a text has no pattern.
 #[derive(Drop)]
 pub enum PatternError {
     Fault(Fault),
@@ -35,12 +35,12 @@ impl From<AllocError> for PatternError {
     }
 }
 
-/// Whether a component of a glob has a character that stands for others.
+/// Returns whether a component of a glob has a character that stands for others.
 pub fn is_glob(text: &str) -> bool {
     text.contains('*') || text.contains('?') || text.contains('[')
 }
 
-/// The components of a path without those that lead nowhere: `.`, and `..` with the one before it.
+/// Returns the components of a path without those that lead nowhere: `.`, and `..` with the one before it.
 pub fn plain_components<'a>(alloc: Global, path: &'a str) -> Result<Vec<&'a str>, AllocError> {
     let mut components: Vec<&'a str> = Vec::new(alloc);
     for component in path.split('/') {
@@ -60,7 +60,7 @@ pub fn plain_components<'a>(alloc: Global, path: &'a str) -> Result<Vec<&'a str>
     Ok(components)
 }
 
-/// The path of a folder, by its names.
+/// Returns the path of a folder as names.
 pub fn names_of(alloc: Global, path: &str) -> Result<Vec<Name>, AllocError> {
     let mut names = Vec::new(alloc);
     for component in &plain_components(alloc, path)? {
@@ -69,7 +69,7 @@ pub fn names_of(alloc: Global, path: &str) -> Result<Vec<Name>, AllocError> {
     Ok(names)
 }
 
-/// The part that takes this character alone.
+/// Returns the part that matches only this character.
 fn one(alloc: Global, c: char) -> Result<Part, AllocError> {
     let mut ranges = Vec::new(alloc);
     ranges.push(CharacterRange { first: c, last: c })?;
@@ -79,7 +79,7 @@ fn one(alloc: Global, c: char) -> Result<Part, AllocError> {
     }))
 }
 
-/// The component that takes a name alone.
+/// Returns the component that matches only this name.
 fn named(alloc: Global, name: &str) -> Result<Component, AllocError> {
     let mut parts = Vec::new(alloc);
     for c in name.chars() {
@@ -88,7 +88,7 @@ fn named(alloc: Global, name: &str) -> Result<Component, AllocError> {
     Ok(Component::Named(parts))
 }
 
-/// The ranges between brackets: `a-z`, or a character.
+/// Returns the ranges between brackets: `a-z`, or a single character.
 fn ranges_of(alloc: Global, text: &[char]) -> Result<Vec<CharacterRange>, AllocError> {
     let mut ranges = Vec::new(alloc);
     let mut next: usize = 0;
@@ -120,7 +120,7 @@ struct Bracketed {
     length: usize,
 }
 
-/// What begins with the bracket at the beginning. A `]` right behind the bracket, or behind `[!`, stands for itself.
+/// Parses the bracket at the beginning of a text. A `]` directly after the bracket, or after `[!`, stands for itself.
 fn read_bracket(alloc: Global, text: &[char]) -> Result<Bracketed, PatternError> {
     let are_excluded = text.get(1) == Some(&'!');
     let begin: usize = if are_excluded { 2 } else { 1 };
@@ -139,7 +139,7 @@ fn read_bracket(alloc: Global, text: &[char]) -> Result<Bracketed, PatternError>
     Err(PatternError::Fault(Fault::Bracket))
 }
 
-/// The component that a text spells.
+/// Parses a component of a glob.
 fn component_of(alloc: Global, text: &str) -> Result<Component, PatternError> {
     if text == "**" {
         return Ok(Component::Folders);
@@ -193,7 +193,7 @@ impl Pattern {
         Ok(Pattern { components })
     }
 
-    /// The pattern of a folder, each character of whose path stands for itself, and of what lies below it.
+    /// Returns the pattern of a folder and of all below it. Each character of the folder's path stands for itself.
     pub fn below(alloc: Global, path: &str) -> Result<Pattern, AllocError> {
         let mut components = Vec::new(alloc);
         for component in &plain_components(alloc, path)? {
@@ -203,7 +203,7 @@ impl Pattern {
         Ok(Pattern { components })
     }
 
-    /// Whether it takes the path. It refuses only where memory is refused.
+    /// Returns whether the pattern matches the path. Fails only where memory runs out.
     pub fn takes(&self, alloc: Global, path: &[Vec<char>]) -> Result<bool, AllocError>
         ensures { IfOk result (λ b. IsTrue b ↔ IsTakenBy self.now path.now) }
     {
@@ -211,7 +211,7 @@ impl Pattern {
     }
 }
 
-/// Whether one of the patterns takes the path. It refuses only where memory is refused.
+/// Returns whether one of the patterns matches the path. Fails only where memory runs out.
 pub fn some_takes(
     alloc: Global,
     patterns: &[Pattern],

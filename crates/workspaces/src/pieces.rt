@@ -1,4 +1,4 @@
-//! Patterns of pieces, each of which takes one item or any number of them.
+//! Patterns of pieces, each of which matches one item or any number of them.
 
 ghost use Rattle.std.specs.Prelude.{◌≡◌, ◌+◌, ◌↔◌, ◌∷◌, [], ℕ, Bool, List, IfOk, IsTrue, OnOk, length, vec_len};
 ghost use Rattle.workspaces.specs.Stretches.{IsTaken};
@@ -14,23 +14,23 @@ pub trait Piece<T> {
     // It takes this item, where it takes one.
     ghost takes: { Self → T → Type 0 };
 
-    /// Whether it takes any number of items, none too.
+    /// Returns whether the piece matches any number of items, also none.
     fn is_many(&self) -> bool
         ensures { result ≡ is_many self.now };
 
-    /// Whether it takes this item, where it takes one.
+    /// Returns whether the piece matches this item, if it matches one item.
     fn takes(&self, alloc: Global, item: &T) -> Result<bool, AllocError>
         ensures { IfOk result (λ b. IsTrue b ↔ takes self.now item.now) };
 }
 
-/// Whether a piece and those after it take no items, where `fewer` is whether the latter do.
+/// Returns whether a piece and those after it match no items, if `fewer` says whether those after it do.
 fn takes_none_with<T, P: Piece<T>>(piece: &P, fewer: bool) -> bool
     ensures { IsTrue result ↔ IsTrue (P.is_many piece.now) × IsTrue fewer }
 {
     piece.is_many() && fewer
 }
 
-/// For each number of last pieces, whether these take no items.
+/// Returns for each number of last pieces whether these match no items.
 fn first_row<T, P: Piece<T>>(alloc: Global, pieces: &[P]) -> Result<Vec<bool>, AllocError>
     ensures { IfOk result (λ row. IsRow P.is_many P.takes pieces.now [] row.items) }
 {
@@ -45,8 +45,9 @@ fn first_row<T, P: Piece<T>>(alloc: Global, pieces: &[P]) -> Result<Vec<bool>, A
     Ok(row)
 }
 
-/// Whether a piece and those after it take an item and those after it. `fewer_pieces` is whether the pieces after it
-/// take them, `fewer_items` whether all take the items after it, and `fewer` whether the former take the latter.
+/// Returns whether a piece and those after it match an item and those after it. `fewer_pieces` says whether the pieces
+/// after it match these items, `fewer_items` whether all pieces match the items after it, and `fewer` whether the
+/// pieces after it match the items after it.
 fn is_taken_with<T, P: Piece<T>>(
     alloc: Global,
     piece: &P,
@@ -91,7 +92,8 @@ fn add_item<T, P: Piece<T>>(
     Ok(())
 }
 
-/// Whether the pieces take the items: these are stretches, one for each piece. It refuses only where memory is refused.
+/// Returns whether the items can be split into one stretch for each piece that this piece matches. Fails only where
+/// memory runs out.
 pub fn are_taken<T, P: Piece<T>>(
     alloc: Global,
     pieces: &[P],
