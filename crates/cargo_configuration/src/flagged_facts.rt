@@ -1,6 +1,6 @@
 //! The `cfg` facts that flags of rustc add to a target.
 
-use crate::flags::{Flags, all_flags};
+use crate::flags::{Flags, SharedFlags};
 use crate::sources::{Source, used_source};
 use cargo_platform::shown_start;
 use key_answers::answer::Refusal;
@@ -112,20 +112,41 @@ fn have_source(flags: &[&Flags], source: Source) -> bool {
     flags.iter().any(|it| it.source == source)
 }
 
-/// Returns those of all flags that Cargo uses for a target. Keys of `target` are evaluated with the known facts.
-fn used_flags<'a>(
+/// The flags that are set in the current folder: those that all targets share, and those of a variable that is set for
+/// one.
+#[derive(Clone, Copy, Drop)]
+struct AllFlags<'a> {
+    shared: &'a [Flags],
+    of_target: &'a [Flags],
+}
+
+/// Adds those of some flags that may count for a target. Keys of `target` are evaluated with the known facts.
+fn add_present<'a>(
     alloc: Global,
-    all: &'a [Flags],
+    flags: &'a [Flags],
     target: &FlaggedTarget<'_>,
     known: Option<&FlagFacts>,
-) -> Result<Vec<&'a Flags>, AllocError> {
-    let mut found: Vec<&'a Flags> = Vec::new(alloc);
-    for flags in all {
+    found: &mut Vec<&'a Flags>,
+) -> Result<(), AllocError> {
+    for flags in flags {
         let is_present = flags.source != Source::Target || !flags.flags.is_empty();
         if is_present && are_of(alloc, flags, target, known)? {
             found.push(flags)?;
         }
     }
+    Ok(())
+}
+
+/// Returns those of all flags that Cargo uses for a target. Keys of `target` are evaluated with the known facts.
+fn used_flags<'a>(
+    alloc: Global,
+    all: AllFlags<'a>,
+    target: &FlaggedTarget<'_>,
+    known: Option<&FlagFacts>,
+) -> Result<Vec<&'a Flags>, AllocError> {
+    let mut found: Vec<&'a Flags> = Vec::new(alloc);
+    add_present(alloc, all.shared, target, known, &mut found)?;
+    add_present(alloc, all.of_target, target, known, &mut found)?;
     let used = used_source(
         have_source(&found, Source::EncodedVariable),
         have_source(&found, Source::Variable),
@@ -138,7 +159,7 @@ fn used_flags<'a>(
 /// Returns the facts of those of all flags that Cargo uses for a target.
 fn facts_of(
     alloc: Global,
-    all: &[Flags],
+    all: AllFlags<'_>,
     target: &FlaggedTarget<'_>,
     known: Option<&FlagFacts>,
 ) -> Result<FlagFacts, AllocError> {
@@ -158,16 +179,20 @@ fn facts_of(
 /// 4. `build.rustflags`, and `CARGO_BUILD_RUSTFLAGS`.
 ///
 /// As Cargo does, the keys of `target` are evaluated twice: first only those that are the target's name count, and then
-/// all, with the facts that the first set. A configuration file has at most `limit` bytes.
+/// all, with the facts that the first set.
 ///
-/// Fails where a configuration file can't be used, or includes files that Cargo rejects.
-pub fn flag_facts<R: Files + Input + Env + AllocGlobal>(
+/// Fails only where memory runs out.
+pub fn flag_facts<R: Env + AllocGlobal>(
     rt: &R,
+    shared: &SharedFlags,
     target: &FlaggedTarget<'_>,
-    limit: u64,
-) -> Result<FlagFacts, Refusal> {
+) -> Result<FlagFacts, AllocError> {
     let alloc = rt.alloc();
-    let all = all_flags(rt, target.name, limit)?;
-    let first = facts_of(alloc, &all, target, None)?;
-    Ok(facts_of(alloc, &all, target, Some(&first))?)
+    let of_target = shared.of_target(rt, target.name)?;
+    let all = AllFlags {
+        shared: &shared.flags,
+        of_target: &of_target,
+    };
+    let first = facts_of(alloc, all, target, None)?;
+    facts_of(alloc, all, target, Some(&first))
 }

@@ -221,35 +221,50 @@ fn file_flags<R: Files + Input + Env + AllocGlobal>(
     Ok(found)
 }
 
-/// Returns the flags that Cargo's configuration sets in the current folder, for all keys of `target` and for `build`:
-/// those of its files, which have at most `limit` bytes each, and of the variables that count beside their fields.
-fn configuration_flags<R: Files + Input + Env + AllocGlobal>(
-    rt: &R,
-    target: &str,
-    limit: u64,
-) -> Result<Vec<Flags>, Refusal> {
-    let alloc = rt.alloc();
-    let mut found = file_flags(rt, limit)?;
-    let name = target_variable(alloc, target)?;
-    add_variable(rt, name, Some(target), &mut found)?;
-    let name = String::from_str(alloc, BUILD_VARIABLE)?;
-    add_variable(rt, name, None, &mut found)?;
-    Ok(found)
+/// The flags that are set in the current folder, but for those of a variable that is set for one target.
+#[derive(Drop)]
+pub struct SharedFlags {
+    pub flags: Vec<Flags>,
+    /// Whether Cargo's configuration counts, so that no variable excludes it.
+    is_configured: bool,
 }
 
-/// Returns the flags that are set in the current folder, of all sources. The configuration is not read where a variable
-/// excludes it. A file of it has at most `limit` bytes.
-///
-/// Fails where a file can't be used, or includes files that Cargo rejects.
-pub fn all_flags<R: Files + Input + Env + AllocGlobal>(
-    rt: &R,
-    target: &str,
-    limit: u64,
-) -> Result<Vec<Flags>, Refusal> {
-    let found = environment_flags(rt)?;
-    if found.is_empty() {
-        configuration_flags(rt, target, limit)
-    } else {
+impl SharedFlags {
+    /// Reads the flags of the environment, and unless these exclude them, those of the configuration files, which have
+    /// at most `limit` bytes each, and of the variable that counts beside `build.rustflags`.
+    ///
+    /// Fails where a file can't be used, or includes files that Cargo rejects.
+    pub fn read<R: Files + Input + Env + AllocGlobal>(
+        rt: &R,
+        limit: u64,
+    ) -> Result<SharedFlags, Refusal> {
+        let found = environment_flags(rt)?;
+        if !found.is_empty() {
+            return Ok(SharedFlags {
+                flags: found,
+                is_configured: false,
+            });
+        }
+        let mut flags = file_flags(rt, limit)?;
+        let name = String::from_str(rt.alloc(), BUILD_VARIABLE)?;
+        add_variable(rt, name, None, &mut flags)?;
+        Ok(SharedFlags {
+            flags,
+            is_configured: true,
+        })
+    }
+
+    /// Returns the flags of the variable that counts beside `target.<triple>.rustflags`, if it is set and counts.
+    pub fn of_target<R: Env + AllocGlobal>(
+        &self,
+        rt: &R,
+        target: &str,
+    ) -> Result<Vec<Flags>, AllocError> {
+        let mut found = Vec::new(rt.alloc());
+        if self.is_configured {
+            let name = target_variable(rt.alloc(), target)?;
+            add_variable(rt, name, Some(target), &mut found)?;
+        }
         Ok(found)
     }
 }

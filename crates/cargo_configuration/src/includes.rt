@@ -4,7 +4,7 @@
 use crate::files::configurations_at_hand;
 use cargo_platform::shown_text;
 use key_answers::answer::Refusal;
-use manifests::reading::{Manifest, ReadError, read_manifest};
+use manifests::reading::{Manifest, read_manifest};
 use std::alloc::{AllocError, Global};
 use std::rt::{Env, Files};
 use toml::{Table, Value};
@@ -115,8 +115,10 @@ fn read_configuration<R: Files + Input + AllocGlobal>(
 ) -> Result<Manifest, Refusal> {
     match read_manifest(rt, path, limit) {
         Ok(configuration) => Ok(configuration),
-        Err(ReadError::Unusable(unusable)) => Err(Refusal::Unusable(unusable.line(rt.alloc())?)),
-        Err(ReadError::Memory(refused)) => Err(Refusal::Memory(refused)),
+        Err(error) => {
+            let unusable = error.unusable(rt.alloc())?;
+            Err(Refusal::Unusable(unusable.line(rt.alloc())?))
+        }
     }
 }
 
