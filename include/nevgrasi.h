@@ -54,7 +54,7 @@ extern "C" {
 #define NEVGRASI_MOST_FLAT_BYTES 680000
 /* The version of the interface. It rises whenever a caller of an earlier version may break. */
 #define NEVGRASI_ABI 2
-/* How many targets there are. */
+/* The number of targets. */
 #define NEVGRASI_TARGETS 320
 /* The words of a set of targets. */
 #define NEVGRASI_WORDS 5

@@ -154,6 +154,8 @@ class Package(typing.TypedDict):
     side: str | None
     #: The dependency kinds that reach it.
     kinds: list[str]
+    #: Whether it is a procedural macro.
+    proc_macro: bool
 
 
 # What the codes stand for that are no answer, but for a text that is rejected.
@@ -610,8 +612,10 @@ def graph(document: str | bytes | collections.abc.Mapping[str, object], host: st
 
     >>> nodes = [{"id": "a", "deps": []}]
     >>> packages = [{"id": "a", "name": "a", "version": "1.0.0", "targets": []}]
-    >>> graph({"version": 1, "packages": packages, "workspace_members": ["a"], "resolve": {"nodes": nodes}})
-    [{'package': 'a 1.0.0', 'id': 'a', 'license': None, 'targets': 320, 'at': 'all', 'side': 'target', 'kinds': []}]
+    >>> graph({"version": 1, "packages": packages, "workspace_members": ["a"], "resolve": {"nodes": nodes}}) == [
+    ...     {"package": "a 1.0.0", "id": "a", "license": None, "targets": 320, "at": "all", "side": "target",
+    ...      "kinds": [], "proc_macro": False}]
+    True
     """
     if isinstance(document, collections.abc.Mapping):
         document = json.dumps(dict(document))

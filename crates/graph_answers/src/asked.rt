@@ -1,6 +1,7 @@
 //! The arguments of `graph`: as they are given, and as a checked query.
 
 use crate::groups::Groups;
+use crate::page::Made;
 use key_answers::answer::Refusal;
 use key_answers::printing::shown_name;
 use key_answers::targets::{At, Every, names_of};
@@ -44,6 +45,12 @@ pub struct Words<'a> {
     pub allow_file: Option<(&'a str, &'a str)>,
     /// The packages that the audit skips, each as `NAME@VERSION`.
     pub except: &'a [&'a str],
+    /// An older output of `cargo metadata`: its name and its text.
+    pub against: Option<(&'a str, &'a str)>,
+    /// The kinds of changes that make the run fail, separated by commas.
+    pub fail_on: Option<&'a str>,
+    /// True if changes are printed as a Markdown table.
+    pub markdown: bool,
     /// The feature resolver: `1`, `2`, `3`, or `edition` for the default of the root package's edition.
     pub resolver: Option<&'a str>,
     /// The features that are requested of the roots, separated by commas or spaces.
@@ -53,8 +60,8 @@ pub struct Words<'a> {
     /// True if all features of the roots are requested.
     pub all_features: bool,
     pub json: bool,
-    /// True if an HTML page is requested too.
-    pub html: bool,
+    /// What the HTML page says of how it was made, if one is requested too.
+    pub html: Option<Made<'a>>,
 }
 
 /// A query of a graph: the arguments after they are checked.
@@ -76,7 +83,9 @@ pub struct Asked<'a> {
     pub show: Show,
     pub of: &'a str,
     pub json: bool,
-    pub html: bool,
+    /// What the HTML page says of how it was made, if one is requested too.
+    pub html: Option<Made<'a>>,
+    pub markdown: bool,
 }
 
 /// Follows all dependency kinds.
@@ -193,6 +202,30 @@ fn show_of(word: Option<&str>) -> Option<Show> {
     }
 }
 
+/// Returns the message for options that do not go together, if there are any: some need `--against`, and others exclude
+/// it.
+fn misplaced(words: &Words<'_>) -> Option<&'static str> {
+    let is_audit = words.allow.is_some() || words.allow_file.is_some();
+    if words.against.is_none() {
+        let is_alone = words.markdown || words.fail_on.is_some();
+        return if is_alone {
+            Some("--markdown and --fail-on need --against")
+        } else {
+            None
+        };
+    }
+    if words.facts_of.is_some() {
+        return Some("--against and --facts-of exclude each other");
+    }
+    if words.markdown && words.json {
+        return Some("--markdown and --json exclude each other");
+    }
+    if words.show.is_some() || is_audit || words.html.is_some() {
+        return Some("--against excludes --show, --allow, --allow-file and --html");
+    }
+    None
+}
+
 impl<'a> Asked<'a> {
     /// Returns the query for all packages, as lines of JSON, on all known targets, in builds on `host`.
     pub fn packages_on(host: Option<KnownTarget>) -> Asked<'a> {
@@ -208,7 +241,8 @@ impl<'a> Asked<'a> {
             show: Show::Packages,
             of: "",
             json: true,
-            html: false,
+            html: None,
+            markdown: false,
         }
     }
 
@@ -216,8 +250,8 @@ impl<'a> Asked<'a> {
     ///
     /// # Errors
     ///
-    /// Refuses an unknown word of `--show`, one of `--show why` and `--of` without the other, and the name of an
-    /// unknown target, host, side or dependency kind; targets and hosts of a file are not checked here. Fails if memory
+    /// Refuses an unknown word of `--show`, one of `--show why` and `--of` without the other, options that `--against`
+    /// needs or excludes, and the name of an unknown target, host, side or dependency kind; targets and hosts of a file are not checked here. Fails if memory
     /// is refused.
     pub fn of(alloc: Global, words: &Words<'a>) -> Result<Asked<'a>, Refusal> {
         let Some(show) = show_of(words.show) else {
@@ -226,6 +260,9 @@ impl<'a> Asked<'a> {
         };
         if words.of.is_some() != (show == Show::Why) {
             let text = "`--show why` and `--of NAME` go together";
+            return Err(unusable_words(alloc, text));
+        }
+        if let Some(text) = misplaced(words) {
             return Err(unusable_words(alloc, text));
         }
         let targets = targets_of(alloc, words)?;
@@ -246,6 +283,7 @@ impl<'a> Asked<'a> {
             of: words.of.unwrap_or(""),
             json: words.json,
             html: words.html,
+            markdown: words.markdown,
         })
     }
 
@@ -266,6 +304,11 @@ impl<'a> Asked<'a> {
             Some(groups) => groups.count_of(targets),
             None => targets.len(),
         }
+    }
+
+    /// Returns whether text says `all` of some targets: of the selected ones, unless only one is selected, by its name.
+    pub fn are_all(&self, targets: TargetSet) -> bool {
+        targets.equals(self.targets) && !(self.are_named && self.count == 1)
     }
 
     /// Returns the targets of a set for a line of JSON: `all` if these are the selected targets, and else their names.

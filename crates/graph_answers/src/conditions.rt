@@ -1,11 +1,10 @@
-//! The search for conditions that are true on exactly some targets: those of rustc, or those of a file.
+//! The search for conditions that are true on exactly some targets: of all known ones, or of those that are selected.
 
 use crate::asked::Asked;
-use crate::file_conditions::{FileFact, covering as file_covering, simple_condition, tried_facts};
-use crate::groups::Groups;
+use crate::selected::{Fact, Selected, covering as covering_of, simple_condition, tried_facts};
 use cargo_platform::{Cfg, Platform};
 use known_targets::classes::{Simple, covering};
-use known_targets::{KnownFact, TargetSet, having};
+use known_targets::{KnownFact, KnownTarget, TargetSet, having};
 use std::alloc::{AllocError, Global};
 
 /// The facts that conditions are built from: the candidate facts, and the facts that occur in the conditions of the
@@ -13,7 +12,7 @@ use std::alloc::{AllocError, Global};
 #[derive(Drop)]
 pub enum Finder<'a> {
     Known(Simple, Vec<KnownFact>),
-    OfFile(&'a Groups<'a>, Vec<FileFact>, Vec<FileFact>),
+    Selected(Selected<'a>, Vec<Fact>, Vec<Fact>),
 }
 
 /// Pairs each fact with the known targets that have it.
@@ -26,35 +25,35 @@ fn known_facts(alloc: Global, values: Vec<Cfg>) -> Result<Vec<KnownFact>, AllocE
     Ok(facts)
 }
 
-/// Pairs each fact with the targets of a file that have it.
-fn file_facts(
+/// Pairs each fact with the selected targets that have it.
+fn selected_facts(
     alloc: Global,
-    groups: &Groups<'_>,
+    selected: &Selected<'_>,
     values: Vec<Cfg>,
-) -> Result<Vec<FileFact>, AllocError> {
+) -> Result<Vec<Fact>, AllocError> {
     let mut facts = Vec::new(alloc);
     for fact in values {
-        facts.push(FileFact::of(alloc, groups, fact)?)?;
+        facts.push(Fact::of(alloc, selected, fact)?)?;
     }
     Ok(facts)
 }
 
 impl<'a> Finder<'a> {
-    /// Returns a finder for sets of the query's targets. `values` are the facts that occur in the conditions of the
-    /// graph.
+    /// Returns a finder for sets of the query's targets. `host` is the host if conditions are evaluated on it too, and
+    /// `values` are the facts that occur in the conditions of the graph.
     pub fn of(
         alloc: Global,
         asked: &Asked<'a>,
+        host: Option<KnownTarget>,
         values: Vec<Cfg>,
     ) -> Result<Finder<'a>, AllocError> {
-        match asked.groups {
-            Some(groups) => {
-                let tried = tried_facts(alloc, groups)?;
-                let facts = file_facts(alloc, groups, values)?;
-                Ok(Finder::OfFile(groups, tried, facts))
-            }
-            None => Ok(Finder::Known(Simple::new(alloc)?, known_facts(alloc, values)?)),
+        if !asked.are_named && asked.groups.is_none() {
+            return Ok(Finder::Known(Simple::new(alloc)?, known_facts(alloc, values)?));
         }
+        let selected = Selected::of(alloc, asked, host)?;
+        let tried = tried_facts(alloc, &selected)?;
+        let facts = selected_facts(alloc, &selected, values)?;
+        Ok(Finder::Selected(selected, tried, facts))
     }
 
     /// Returns a condition that is true on exactly the targets of the set, if a fact, `not(..)` of a fact or the name
@@ -62,7 +61,7 @@ impl<'a> Finder<'a> {
     pub fn simple(&self, alloc: Global, set: TargetSet) -> Result<Option<Platform>, AllocError> {
         match self {
             Finder::Known(simple, _) => simple.condition(alloc, set),
-            Finder::OfFile(groups, tried, _) => simple_condition(alloc, *groups, tried, set),
+            Finder::Selected(selected, tried, _) => simple_condition(alloc, selected, tried, set),
         }
     }
 
@@ -86,7 +85,7 @@ impl<'a> Finder<'a> {
     ) -> Result<Option<Platform>, AllocError> {
         match self {
             Finder::Known(_, facts) => covering(alloc, facts, set),
-            Finder::OfFile(groups, _, facts) => file_covering(alloc, *groups, facts, set),
+            Finder::Selected(selected, _, facts) => covering_of(alloc, selected, facts, set),
         }
     }
 
@@ -98,7 +97,7 @@ impl<'a> Finder<'a> {
     ) -> Result<Option<Platform>, AllocError> {
         match self {
             Finder::Known(simple, _) => covering(alloc, simple.facts(), set),
-            Finder::OfFile(groups, tried, _) => file_covering(alloc, *groups, tried, set),
+            Finder::Selected(selected, tried, _) => covering_of(alloc, selected, tried, set),
         }
     }
 }

@@ -4,6 +4,7 @@ use crate::asked::Asked;
 use crate::conditions::Finder;
 use crate::graph::Graph;
 use crate::lines::{kind_word, push, shown_condition, shown_targets};
+use crate::origins::{Origin, origins_of};
 use cargo_metadata::Kind;
 use cargo_platform::{CfgExpr, Platform, ReadError};
 use key_answers::answer::{Answer, Status};
@@ -60,7 +61,10 @@ struct EdgeLine<'g, 'c, 'a> {
     at: At<'a>,
     /// The sides to which the dependency leads. One of `target`, `host` and `both`. Null if none.
     side: Option<&'static str>,
-    /// A shorter condition that is true on the same targets: a fact, `not(..)` of a fact, or the name of a target.
+    /// The sides from which the dependency leads, each with the side to which it leads from there.
+    sides: Vec<Origin<'a>>,
+    /// A shorter condition that is true on the same targets: a fact, `not(..)` of a fact, or the name of a target. If
+    /// targets are selected by name, on the same of these and the host: `cfg(all())` for all, and `cfg(any())` for none.
     simple: Option<String>,
     /// The combined condition of all dependencies of this kind between the two packages. Null if one of them has no
     /// condition.
@@ -132,13 +136,6 @@ fn is_asked(graph: &Graph<'_>, edge: &Edge<'_>, asked: &Asked<'_>) -> bool {
     }
 }
 
-/// Returns the selected targets on which an edge is followed.
-fn followed(graph: &Graph<'_>, edge: &Edge<'_>, asked: &Asked<'_>) -> TargetSet {
-    graph
-        .following(edge.from, edge.place, asked)
-        .intersection(asked.targets)
-}
-
 /// Returns the output of `--show edges`.
 pub fn show_edges(
     alloc: Global,
@@ -146,7 +143,7 @@ pub fn show_edges(
     asked: &Asked<'_>,
 ) -> Result<Answer, AllocError> {
     let mut answer = Answer::of(alloc, String::new(alloc), Status::Fine);
-    let finder = Finder::of(alloc, asked, Vec::new(alloc))?;
+    let finder = Finder::of(alloc, asked, asked.host, Vec::new(alloc))?;
     let mut count: usize = 0;
     for from in &graph.order {
         let mut edges = edges_of(alloc, graph, *from)?;
@@ -193,8 +190,9 @@ fn push_line(
     let from = graph.shown(alloc, edge.from)?;
     let to = graph.shown(alloc, edge.to)?;
     let kind = shown_kind(alloc, edge)?;
-    let targets = shown_targets(alloc, followed(graph, edge, asked), asked)?;
-    let note = graph.sides_after(edge.from, edge.place, asked).note();
+    let followed = graph.followed(edge.from, edge.place, asked);
+    let targets = shown_targets(alloc, followed.targets(), asked)?;
+    let note = followed.sides().note();
     let line = format!(in alloc; "{from} -> {to}, {kind}{note}: {targets}\n")?;
     push(text, line.as_str())
 }
@@ -231,7 +229,8 @@ fn line_of<'g, 'c, 'a>(
     finder: &Finder<'_>,
     asked: &Asked<'a>,
 ) -> Result<EdgeLine<'g, 'c, 'a>, AllocError> {
-    let targets = followed(graph, edge, asked);
+    let followed = graph.followed(edge.from, edge.place, asked);
+    let targets = followed.targets();
     let step = step_of(alloc, graph, edge)?;
     Ok(EdgeLine {
         from: step.from,
@@ -241,7 +240,8 @@ fn line_of<'g, 'c, 'a>(
         condition: step.condition,
         targets: asked.count_of(targets),
         at: asked.at(alloc, targets)?,
-        side: graph.sides_after(edge.from, edge.place, asked).word(),
+        side: followed.sides().word(),
+        sides: origins_of(alloc, graph, (edge.from, edge.place), followed, asked)?,
         simple: smaller_condition(alloc, edge, finder)?,
         group,
     })

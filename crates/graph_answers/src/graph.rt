@@ -1,18 +1,19 @@
 //! The report on a document, which is parsed, linked and queried.
 
+use crate::against::{Failing, show_changes};
 use crate::all::show_all;
 use crate::asked::{Asked, Show, Words};
 use crate::edges::show_edges;
 use crate::features::show_features;
 use crate::groups::{AskedTable, grouped};
 use crate::incomplete::refuse_filtered;
-use crate::licences::{Audit, show_licences};
+use crate::licences::{Audit, reported_in, show_licences};
 use crate::lines::{shown, shown_package};
 use crate::packages::show_packages;
 use crate::page::page_of;
 use crate::refused::{refuse_depth, refused_document, refused_graph, unusable};
-use crate::resolving::{Features, features_of};
-use crate::sides::{Sides, is_selected};
+use crate::resolving::{Features, features_of, text_at};
+use crate::sides::{BySide, is_selected};
 use crate::targets::show_targets;
 use crate::unified::show_unified;
 use crate::unsupported::refuse_unsupported;
@@ -23,7 +24,7 @@ use cargo_platform::shown_text;
 use key_answers::answer::{Answer, Refusal, Status, answered};
 use key_answers::printing::shown_name;
 use known_targets::{KnownTarget, TargetSet};
-use package_graphs::{PackageSets, Side, present_packages};
+use package_graphs::{Dependency, PackageSets, Side, present_packages};
 use serde_json::{Error, Value};
 use std::alloc::{AllocError, Global};
 
@@ -32,6 +33,8 @@ use std::alloc::{AllocError, Global};
 pub struct Graph<'a> {
     pub metadata: Metadata<'a>,
     pub linked: Linked<'a>,
+    /// The folder of the workspace, if the document names it.
+    pub workspace: Option<&'a str>,
     pub sets: PackageSets,
     /// The selected side, or `None` for both.
     pub side: Option<Side>,
@@ -46,13 +49,22 @@ pub struct Graph<'a> {
 impl<'a> Graph<'a> {
     /// Returns the selected targets on which a package is in the build.
     pub fn at(&self, index: usize, asked: &Asked<'_>) -> TargetSet {
-        self.present(index).intersection(asked.targets)
+        self.built(index, asked).targets()
     }
 
     /// Returns the targets on which a package is in the build, for a selected side.
     pub fn present(&self, index: usize) -> TargetSet {
         let target = self.present_on(index, Side::Target);
         target.union(self.present_on(index, Side::Host))
+    }
+
+    /// Returns the selected targets on which a package is in the build, for each selected side.
+    pub fn built(&self, index: usize, asked: &Asked<'_>) -> BySide {
+        let built = BySide {
+            target: self.present_on(index, Side::Target),
+            host: self.present_on(index, Side::Host),
+        };
+        built.within(asked.targets)
     }
 
     /// Returns the targets on which a package is in the build for this side. There are none if it is not selected.
@@ -75,31 +87,14 @@ impl<'a> Graph<'a> {
         }
     }
 
-    /// Returns the selected sides for which a package is in the build on a selected target.
-    pub fn sides(&self, index: usize, asked: &Asked<'_>) -> Sides {
-        let target = self.present_on(index, Side::Target);
-        let host = self.present_on(index, Side::Host);
-        Sides {
-            target: !target.intersection(asked.targets).is_empty(),
-            host: !host.intersection(asked.targets).is_empty(),
-        }
-    }
-
-    /// Returns the targets on which a dependency is followed to a selected side. `place` is its index among those of
-    /// the package.
-    pub fn following(&self, index: usize, place: usize, asked: &Asked<'_>) -> TargetSet {
-        let target = self.following_to(index, place, Side::Target, asked);
-        target.union(self.following_to(index, place, Side::Host, asked))
-    }
-
-    /// Returns the selected sides to which a dependency is followed on a selected target.
-    pub fn sides_after(&self, index: usize, place: usize, asked: &Asked<'_>) -> Sides {
-        let target = self.following_to(index, place, Side::Target, asked);
-        let host = self.following_to(index, place, Side::Host, asked);
-        Sides {
-            target: !target.intersection(asked.targets).is_empty(),
-            host: !host.intersection(asked.targets).is_empty(),
-        }
+    /// Returns the selected targets on which a dependency is followed, for each selected side to which it leads.
+    /// `place` is its index among those of the package.
+    pub fn followed(&self, index: usize, place: usize, asked: &Asked<'_>) -> BySide {
+        let followed = BySide {
+            target: self.following_to(index, place, Side::Target, asked),
+            host: self.following_to(index, place, Side::Host, asked),
+        };
+        followed.within(asked.targets)
     }
 
     /// Returns the targets on which a dependency is followed to a package that is built for this side. There are none
@@ -112,15 +107,29 @@ impl<'a> Graph<'a> {
             return features.using_to(index, place, side);
         }
         let packages = &self.linked.packages;
-        let Some(unit) = packages.get(index) else {
-            return TargetSet::none();
-        };
-        match unit.dependencies.get(place) {
+        match self.dependency(index, place) {
             Some(dependency) => {
-                self.sets
-                    .following_to(packages, asked.kinds, asked.host, index, dependency, side)
+                self.sets.following_to(packages, asked.kinds, asked.host, index, &dependency, side)
             }
             None => TargetSet::none(),
+        }
+    }
+
+    /// Returns the dependency at an index among those of a package.
+    pub fn dependency(&self, index: usize, place: usize) -> Option<Dependency> {
+        self.linked
+            .packages
+            .get(index)?
+            .dependencies
+            .get(place)
+            .copied()
+    }
+
+    /// Returns whether the package at an index is a procedural macro.
+    pub fn is_macro(&self, index: usize) -> bool {
+        match self.linked.packages.get(index) {
+            Some(unit) => unit.is_macro,
+            None => false,
         }
     }
 
@@ -130,11 +139,37 @@ impl<'a> Graph<'a> {
             return Ok(String::new(alloc));
         };
         let package = shown_package(alloc, described)?;
-        if self.twins.get(index).copied() != Some(true) {
-            return Ok(package);
+        match self.source(index) {
+            Some(source) => {
+                let source = shown(alloc, source)?;
+                format!(in alloc; "{package} ({source})")
+            }
+            None => Ok(package),
         }
-        let source = shown(alloc, source_of(described.id))?;
-        format!(in alloc; "{package} ({source})")
+    }
+
+    /// Returns the source of a package if another one has its name and version.
+    pub fn source(&self, index: usize) -> Option<&'a str> {
+        if self.twins.get(index).copied() != Some(true) {
+            return None;
+        }
+        Some(source_of(self.described(index)?.id))
+    }
+
+    /// Returns the targets on which a feature of a package is on, for a selected side, if features are resolved.
+    pub fn feature_at(&self, index: usize, feature: usize) -> TargetSet {
+        let target = self.feature_on(index, Side::Target, feature);
+        target.union(self.feature_on(index, Side::Host, feature))
+    }
+
+    /// Returns the targets on which a feature of a package is on for this side. There are none if it is not selected.
+    fn feature_on(&self, index: usize, side: Side, feature: usize) -> TargetSet {
+        match &self.features {
+            Some(features) if is_selected(self.side, side) => {
+                features.resolved.with_feature(index, side, feature)
+            }
+            _ => TargetSet::none(),
+        }
     }
 
     /// Returns the description of the package at an index.
@@ -240,6 +275,7 @@ pub fn package_lines<'a>(
     let graph = Graph {
         metadata,
         linked,
+        workspace: None,
         sets,
         side: None,
         order,
@@ -307,6 +343,7 @@ fn graph_of<'a>(
     Ok(Graph {
         metadata,
         linked,
+        workspace: text_at(document, "workspace_root"),
         sets,
         side: asked.side,
         order,
@@ -360,14 +397,49 @@ fn report_on_graph(
     audit: &Option<Audit<'_>>,
 ) -> Result<Report, AllocError> {
     let answer = answer_of(alloc, file, graph, asked, audit)?;
-    if !asked.html || answer.status == Status::Unusable {
-        return Ok(Report::without_page(answer));
-    }
-    let page = page_of(alloc, graph, asked)?;
+    let made = match asked.html {
+        Some(made) if answer.status != Status::Unusable => made,
+        _ => return Ok(Report::without_page(answer)),
+    };
+    let reported = reported_in(alloc, graph, asked, audit)?;
+    let page = page_of(alloc, graph, asked, made, &reported)?;
     Ok(Report {
         answer,
         page: Some(page),
     })
+}
+
+/// Returns the graph of a document that was parsed as JSON, from the selected roots.
+fn graph_in<'a>(
+    alloc: Global,
+    file: &str,
+    document: &'a Value,
+    asked: &Asked<'_>,
+    words: &Words<'_>,
+) -> Result<Graph<'a>, Refusal> {
+    let metadata = metadata_of(alloc, file, document)?;
+    let linked = linked_from(alloc, file, &metadata, asked.packages)?;
+    refuse_filtered(alloc, file, document, &metadata, &linked)?;
+    graph_of(alloc, file, document, metadata, linked, asked, words)
+}
+
+/// Returns the report on what has changed since an older output of `cargo metadata`.
+fn report_against(
+    alloc: Global,
+    file: &str,
+    document: &Value,
+    asked: &Asked<'_>,
+    words: &Words<'_>,
+    against: (&str, &str),
+) -> Result<Report, Refusal> {
+    let (old_file, old_text) = against;
+    let failing = Failing::of(alloc, words.fail_on)?;
+    let old_file = shown_text(alloc, old_file)?;
+    let old_document = document_of(alloc, old_file.as_str(), old_text)?;
+    let old = graph_in(alloc, old_file.as_str(), &old_document, asked, words)?;
+    let new = graph_in(alloc, file, document, asked, words)?;
+    let answer = show_changes(alloc, &old, &new, asked, failing)?;
+    Ok(Report::without_page(answer))
 }
 
 /// Returns the report on a document that was parsed as JSON.
@@ -380,18 +452,18 @@ fn report_on_document(
     audit: &Option<Audit<'_>>,
     words: &Words<'_>,
 ) -> Result<Report, Refusal> {
-    let metadata = metadata_of(alloc, file, document)?;
-    let mut linked = linked_from(alloc, file, &metadata, asked.packages)?;
-    refuse_filtered(alloc, file, document, &metadata, &linked)?;
     match table {
         Some(table) => {
+            let metadata = metadata_of(alloc, file, document)?;
+            let mut linked = linked_from(alloc, file, &metadata, asked.packages)?;
+            refuse_filtered(alloc, file, document, &metadata, &linked)?;
             let groups = grouped(alloc, table, &metadata, &mut linked)?;
             let asked = asked.in_groups(&groups);
             let graph = graph_of(alloc, file, document, metadata, linked, &asked, words)?;
             Ok(report_on_graph(alloc, file, &graph, &asked, audit)?)
         }
         None => {
-            let graph = graph_of(alloc, file, document, metadata, linked, asked, words)?;
+            let graph = graph_in(alloc, file, document, asked, words)?;
             Ok(report_on_graph(alloc, file, &graph, asked, audit)?)
         }
     }
@@ -427,6 +499,9 @@ fn report_on_text(
     let audit = Audit::of(alloc, words)?;
     let file = shown_text(alloc, file)?;
     let document = document_of(alloc, file.as_str(), text)?;
+    if let Some(against) = words.against {
+        return report_against(alloc, file.as_str(), &document, &asked, words, against);
+    }
     report_on_document(
         alloc,
         file.as_str(),

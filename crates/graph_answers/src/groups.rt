@@ -322,18 +322,14 @@ impl<'a> Groups<'a> {
         self.asked.table.rows()
     }
 
-    /// Returns for each target of the file whether a condition is true on it.
-    pub fn truths_of(&self, alloc: Global, condition: &Platform) -> Result<Vec<bool>, AllocError> {
-        truths_of(alloc, self.asked.table, condition)
-    }
-
-    /// Returns for each target of the file whether it is in a set.
-    pub fn members(&self, alloc: Global, targets: TargetSet) -> Result<Vec<bool>, AllocError> {
-        let mut members = Vec::new(alloc);
-        for place in &self.places {
-            members.push(targets.contains(*place))?;
+    /// Returns the known target that represents the target of the file at an index, if that is selected, or if it is
+    /// the host and `with_host` is true.
+    pub fn place_of(&self, index: usize, with_host: bool) -> Option<KnownTarget> {
+        if is_at(&self.asked.is_asked, index) || (with_host && self.asked.host == Some(index)) {
+            self.places.get(index).copied()
+        } else {
+            None
         }
-        Ok(members)
     }
 
     /// Returns the number of targets of the file in a set.

@@ -2,25 +2,30 @@
 //! audits, and an HTML page.
 #![tactic(auto)]
 
+mod against;
 mod all;
 pub mod asked;
 mod conditions;
 mod current;
+mod dates;
+mod differences;
 mod edges;
 mod faults;
 mod features;
-mod file_conditions;
 mod graph;
 mod groups;
 mod identifiers;
 mod incomplete;
 mod licences;
 mod lines;
+mod origins;
 mod packages;
-mod page;
+pub mod page;
+mod pairs;
 mod reasons;
 mod refused;
 mod resolving;
+mod selected;
 mod sides;
 mod targets;
 mod unified;

@@ -261,6 +261,29 @@ pub fn show_licences(
     Ok(answer)
 }
 
+/// Returns for each package of a graph what an audit reports of its licence.
+pub fn reported_in(
+    alloc: Global,
+    graph: &Graph<'_>,
+    asked: &Asked<'_>,
+    by: &Option<Audit<'_>>,
+) -> Result<Vec<Option<&'static str>>, AllocError> {
+    let mut reported = vec![in alloc; None; graph.order.len()]?;
+    let Some(by) = by else {
+        return Ok(reported);
+    };
+    let subjects = subjects_of(alloc, graph, asked)?;
+    for one in &audit(alloc, &subjects, &by.exceptions, &by.allowed.licences)? {
+        let Some(index) = graph.order.get(one.place) else {
+            continue;
+        };
+        if let Some(slot) = reported.get_mut(*index) {
+            *slot = Some(finding_text(&one.finding));
+        }
+    }
+    Ok(reported)
+}
+
 /// Formats the number of reported packages and the number of packages in the build.
 fn shown_counts(
     alloc: Global,
@@ -310,8 +333,9 @@ fn push_lines(
 ) -> Result<(), AllocError> {
     let found = shown_finding(alloc, finding)?;
     let package = graph.shown(alloc, index)?;
-    let targets = shown_targets(alloc, graph.at(index, asked), asked)?;
-    let note = graph.sides(index, asked).note();
+    let built = graph.built(index, asked);
+    let targets = shown_targets(alloc, built.targets(), asked)?;
+    let note = built.sides().note();
     let line = format!(in alloc; "{found}: {package}{note}, {targets}\n")?;
     push(text, line.as_str())?;
     if let Finding::Refused(error) = finding {
@@ -319,6 +343,15 @@ fn push_lines(
         push(text, lines.as_str())?;
     }
     Ok(())
+}
+
+/// Returns what a finding says of a licence.
+fn finding_text(finding: &Finding) -> &'static str {
+    match finding {
+        Finding::NotAllowed(_) => "not allowed",
+        Finding::Missing => "missing",
+        Finding::Refused(_) => "refused",
+    }
 }
 
 /// Returns the name of a finding.
@@ -356,7 +389,8 @@ fn push_object<'a>(
     let Some(described) = graph.described(index) else {
         return Ok(());
     };
-    let targets = graph.at(index, asked);
+    let built = graph.built(index, asked);
+    let targets = built.targets();
     let (message, span) = fault_of(alloc, finding)?;
     let line = LicenceLine {
         package: name_and_version(alloc, described)?,
@@ -364,7 +398,7 @@ fn push_object<'a>(
         license: described.license,
         targets: asked.count_of(targets),
         at: asked.at(alloc, targets)?,
-        side: graph.sides(index, asked).word(),
+        side: built.sides().word(),
         finding: finding_word(finding),
         message,
         span,

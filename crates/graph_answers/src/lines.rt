@@ -35,8 +35,8 @@ pub fn shown_package(alloc: Global, described: &Described<'_>) -> Result<String,
     format!(in alloc; "{name} {version}")
 }
 
-/// Formats targets: `nowhere` if there are none, their names if targets were selected by name, `all` if these are the
-/// selected targets, and else their number.
+/// Formats targets: `nowhere` if there are none, `all` if these are the selected targets (see `Asked::are_all`), their
+/// names if targets were selected by name, and else their number.
 pub fn shown_targets(
     alloc: Global,
     targets: TargetSet,
@@ -45,11 +45,11 @@ pub fn shown_targets(
     if targets.is_empty() {
         return String::from_str(alloc, "nowhere");
     }
+    if asked.are_all(targets) {
+        return String::from_str(alloc, "all");
+    }
     if asked.are_named {
         return joined_names(alloc, targets, asked);
-    }
-    if targets.equals(asked.targets) {
-        return String::from_str(alloc, "all");
     }
     shown_count(alloc, asked.count_of(targets))
 }

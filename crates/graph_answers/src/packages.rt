@@ -76,6 +76,8 @@ struct PackageLine<'g, 'a> {
     side: Option<&'static str>,
     /// The dependency kinds through which the package is reached. Each is one of `normal`, `build` and `dev`.
     kinds: Vec<&'static str>,
+    /// True if the package is a procedural macro.
+    proc_macro: bool,
     /// If features are resolved: the reasons why the package is not in the build on targets on which dependencies lead
     /// to it.
     #[serde(skip_serializing_if = "Option::is_none")]
@@ -101,8 +103,7 @@ pub fn kinds_reached(
             let Some(to) = reached.get_mut(dependency.to) else {
                 continue;
             };
-            let targets = graph.following(i, j, asked);
-            if targets.intersection(asked.targets).is_empty() {
+            if graph.followed(i, j, asked).targets().is_empty() {
                 continue;
             }
             match dependency.kind {
@@ -170,9 +171,10 @@ fn push_line(
     reasons: &Option<Reasons>,
 ) -> Result<(), AllocError> {
     let package = graph.shown(alloc, index)?;
-    let targets = shown_targets(alloc, graph.at(index, asked), asked)?;
+    let built = graph.built(index, asked);
+    let targets = shown_targets(alloc, built.targets(), asked)?;
     let reasons = shown_reasons(alloc, reasons, index, asked)?;
-    let note = graph.sides(index, asked).note();
+    let note = built.sides().note();
     let line = format!(in alloc; "{package}{note}: {targets}{reasons}\n")?;
     push(text, line.as_str())
 }
@@ -214,15 +216,17 @@ fn push_object(
     let Some(described) = graph.described(index) else {
         return Ok(());
     };
-    let targets = graph.at(index, asked);
+    let built = graph.built(index, asked);
+    let targets = built.targets();
     let line = PackageLine {
         package: name_and_version(alloc, described)?,
         id: described.id,
         license: described.license,
         targets: asked.count_of(targets),
         at: asked.at(alloc, targets)?,
-        side: graph.sides(index, asked).word(),
+        side: built.sides().word(),
         kinds: reached.kinds(alloc)?,
+        proc_macro: described.is_macro,
         left_out: left_out_of(alloc, reasons, index, asked)?,
     };
     json_lines::push_spaced_line(text, alloc, &line)

@@ -3,54 +3,122 @@
 //! Each text of the document is formatted as in text output, and written with `push_text`, which escapes HTML markup.
 
 use crate::asked::Asked;
+use crate::dates::day_of;
 use crate::graph::Graph;
 use crate::lines::{joined_names, shown, shown_count};
 use crate::packages::{Reached, kinds_reached};
 use crate::targets::{Class, classes_at};
 use cargo_platform::shown_text;
 use html_pages::Page;
-use known_targets::RUSTC_VERSION;
+use known_targets::{RUSTC_VERSION, TargetSet};
 use std::alloc::{AllocError, Global};
 
-/// The markup before the first text.
-const HEAD: &str = "<!doctype html>\n\
+/// What the page says of how it was made.
+#[derive(Clone, Copy, Drop)]
+pub struct Made<'a> {
+    /// The command, as a shell reads it.
+    pub command: &'a str,
+    /// The date, in seconds since 1970. Without it the page has none.
+    pub seconds: Option<u64>,
+}
+
+/// The markup before the title.
+const START: &str = "<!doctype html>\n\
     <html lang=\"en\">\n\
     <head>\n\
     <meta charset=\"utf-8\">\n\
     <meta name=\"viewport\" content=\"width=device-width, initial-scale=1\">\n\
-    <title>Packages by targets</title>\n\
+    <title>";
+
+/// The markup from the title to the heading. Tables scroll in boxes of their own, in which their heads stay.
+const HEAD: &str = "</title>\n\
     <style>\n\
-    :root { color-scheme: light dark; --line: #7f7f7f66; --there: #2e8b5740; }\n\
+    @page { size: A4 landscape; margin: 12mm; }\n\
+    :root { color-scheme: light dark; --line: #7f7f7f66; --there: #2e8b5740; --reported: #b2222240; }\n\
     body { font: 15px/1.5 system-ui, sans-serif; margin: 2rem auto; max-width: 80rem; padding: 0 1rem; }\n\
-    div { overflow-x: auto; }\n\
+    div { overflow: auto; max-height: 92vh; }\n\
     table { border-collapse: collapse; font-variant-numeric: tabular-nums; }\n\
+    caption { padding: .4rem .6rem; text-align: left; }\n\
+    summary { cursor: pointer; font-size: 1.2rem; }\n\
     th, td { border-bottom: 1px solid var(--line); padding: .2rem .6rem; text-align: left; vertical-align: top; }\n\
+    thead th { background: Canvas; position: sticky; top: 0; }\n\
     th.class, td.class { min-width: 1.2rem; padding: .2rem .3rem; text-align: center; }\n\
     td.there { background: var(--there); }\n\
+    td.reported { background: var(--reported); }\n\
     td:nth-child(2):has(code) { min-width: 18rem; }\n\
     code { font-family: ui-monospace, monospace; overflow-wrap: break-word; }\n\
-    tbody tr:hover { background: #7f7f7f22; }\n\
+    tbody tr:hover, tbody tr:target { background: #7f7f7f22; }\n\
     @media print {\n\
-    body { font-size: 9pt; margin: 0; max-width: none; }\n\
-    div { overflow: visible; }\n\
+    body { font-size: 8pt; margin: 0; max-width: none; padding: 0; }\n\
+    div { max-height: none; overflow: visible; }\n\
+    details::details-content { content-visibility: visible; height: auto; }\n\
     thead { display: table-header-group; }\n\
+    thead th { position: static; }\n\
     tr { break-inside: avoid; }\n\
+    td { print-color-adjust: exact; }\n\
     }\n\
     </style>\n\
     </head>\n\
     <body>\n\
-    <h1>Packages by targets</h1>\n";
+    <h1>";
 
-/// Returns the HTML page of a graph.
-pub fn page_of(alloc: Global, graph: &Graph<'_>, asked: &Asked<'_>) -> Result<String, AllocError> {
+/// Returns the HTML page of a graph. `reported` has for each package what an audit reports of its licence.
+pub fn page_of(
+    alloc: Global,
+    graph: &Graph<'_>,
+    asked: &Asked<'_>,
+    made: Made<'_>,
+    reported: &[Option<&'static str>],
+) -> Result<String, AllocError> {
     let classes = classes_at(alloc, graph, asked)?;
     let mut page = Page::new(alloc);
+    add_markup(&mut page, START)?;
+    push_title(&mut page, alloc, graph)?;
     add_markup(&mut page, HEAD)?;
+    push_title(&mut page, alloc, graph)?;
+    add_markup(&mut page, "</h1>\n")?;
+    push_made(&mut page, alloc, made)?;
     push_summary(&mut page, alloc, graph, asked)?;
     push_legend(&mut page, alloc, &classes, asked)?;
-    push_packages(&mut page, alloc, graph, &classes, asked)?;
+    push_packages(&mut page, alloc, graph, &classes, asked, reported)?;
     add_markup(&mut page, "</body>\n</html>\n")?;
     Ok(page.into_html())
+}
+
+/// Returns the last name of a path.
+fn last_name<'a>(path: &'a str) -> &'a str {
+    let path = path.trim_end_matches(['/', '\\']);
+    match path.rfind(['/', '\\']) {
+        Some(at) => path.get(at.saturating_add(1)..).unwrap_or(path),
+        None => path,
+    }
+}
+
+/// Writes the title, with the name of the workspace's folder.
+fn push_title(page: &mut Page, alloc: Global, graph: &Graph<'_>) -> Result<(), AllocError> {
+    let name = last_name(graph.workspace.unwrap_or(""));
+    if name.is_empty() {
+        return add_markup(page, "Packages by targets");
+    }
+    push_shown(page, alloc, name)?;
+    add_markup(page, ": packages by targets")
+}
+
+/// Writes the command that made the page, and the date.
+fn push_made(page: &mut Page, alloc: Global, made: Made<'_>) -> Result<(), AllocError> {
+    add_markup(page, "<p class=\"made\">Made by <code>")?;
+    let command = shown_text(alloc, made.command)?;
+    add_text(page, command.as_str())?;
+    add_markup(page, "</code>")?;
+    let day = match made.seconds {
+        Some(seconds) => day_of(alloc, seconds)?,
+        None => None,
+    };
+    if let Some(day) = day {
+        add_markup(page, " on ")?;
+        add_text(page, day.as_str())?;
+    }
+    add_markup(page, ".</p>\n")
 }
 
 /// Writes markup. This call has no clause, so that the prover takes a tenth of the time.
@@ -94,33 +162,35 @@ fn push_summary(
     let targets = shown_count(alloc, asked.count)?;
     let source = source_of(alloc, asked)?;
     let text = format!(in alloc;
-        "{count} of {all} packages are in the build, at some of {targets} of {source}."
+        "{count} of {all} packages are in the build, on some of {targets} of {source}."
     )?;
     add_markup(page, "<p>")?;
     add_text(page, text.as_str())?;
     add_markup(
         page,
-        " Targets that no package tells apart make a class. A dot says that a package is there at the targets \
-         of a class.</p>\n",
+        " Targets that no package tells apart make a class.</p>\n",
     )
 }
 
-/// Writes the table of the classes, each with its number, its condition and its targets.
+/// Writes the table of the classes, each with its number, its condition and its targets, folded.
 fn push_legend(
     page: &mut Page,
     alloc: Global,
     classes: &[Class],
     asked: &Asked<'_>,
 ) -> Result<(), AllocError> {
+    add_markup(page, "<details>\n<summary>Classes of targets: ")?;
+    push_number(page, alloc, classes.len())?;
     add_markup(
         page,
-        "<h2>Classes of targets</h2>\n<div><table>\n<thead><tr><th>Class</th><th>Where</th><th>Targets</th></tr>\
+        "</summary>\n<div><table>\n<caption>On the targets of a class, the same packages are in the build.</caption>\n\
+         <thead><tr><th scope=\"col\">Class</th><th scope=\"col\">Where</th><th scope=\"col\">Targets</th></tr>\
          </thead>\n<tbody>\n",
     )?;
     for i in 0..classes.len() {
         push_class(page, alloc, i.saturating_add(1), &classes[i], asked)?;
     }
-    add_markup(page, "</tbody>\n</table></div>\n")
+    add_markup(page, "</tbody>\n</table></div>\n</details>\n")
 }
 
 /// Writes the row of a class.
@@ -132,7 +202,9 @@ fn push_class(
     asked: &Asked<'_>,
 ) -> Result<(), AllocError> {
     let targets = class.targets.intersection(asked.targets);
-    add_markup(page, "<tr><th class=\"class\" scope=\"row\">")?;
+    add_markup(page, "<tr id=\"class-")?;
+    push_number(page, alloc, number)?;
+    add_markup(page, "\"><th class=\"class\" scope=\"row\">")?;
     push_number(page, alloc, number)?;
     add_markup(page, "</th><td><code>")?;
     if let Some(condition) = &class.condition {
@@ -148,6 +220,30 @@ fn push_class(
     add_markup(page, "</code></td></tr>\n")
 }
 
+/// Writes the head of a class's column: its number, which links to its row, with its targets as a tooltip.
+fn push_class_head(
+    page: &mut Page,
+    alloc: Global,
+    number: usize,
+    class: &Class,
+    asked: &Asked<'_>,
+) -> Result<(), AllocError> {
+    let targets = class.targets.intersection(asked.targets);
+    let count = shown_count(alloc, asked.count_of(targets))?;
+    add_markup(page, "<th class=\"class\" scope=\"col\"><a href=\"#class-")?;
+    push_number(page, alloc, number)?;
+    add_markup(page, "\" title=\"")?;
+    add_text(page, count.as_str())?;
+    if let Some(condition) = &class.condition {
+        let condition = shown_text(alloc, condition.as_str())?;
+        add_markup(page, " where ")?;
+        add_text(page, condition.as_str())?;
+    }
+    add_markup(page, "\">")?;
+    push_number(page, alloc, number)?;
+    add_markup(page, "</a></th>")
+}
+
 /// Writes the table of the packages.
 fn push_packages(
     page: &mut Page,
@@ -155,56 +251,131 @@ fn push_packages(
     graph: &Graph<'_>,
     classes: &[Class],
     asked: &Asked<'_>,
+    reported: &[Option<&'static str>],
 ) -> Result<(), AllocError> {
     let reached = kinds_reached(alloc, graph, asked)?;
     add_markup(
         page,
-        "<h2>Packages</h2>\n<div><table>\n<thead><tr><th>Package</th><th>Version</th><th>Kinds</th><th>Side</th>\
-         <th>Licence</th>",
+        "<h2>Packages</h2>\n<div><table>\n<caption>A dot says that a package is in the build on the targets of a \
+         class.</caption>\n<thead><tr><th scope=\"col\">Package</th><th scope=\"col\">Version</th>\
+         <th scope=\"col\">Kinds</th><th scope=\"col\">Side</th><th scope=\"col\">Licence</th>",
     )?;
+    if graph.features.is_some() {
+        add_markup(
+            page,
+            "<th scope=\"col\" title=\"on at some of the targets\">Features</th>",
+        )?;
+    }
     for i in 0..classes.len() {
-        add_markup(page, "<th class=\"class\" scope=\"col\">")?;
-        push_number(page, alloc, i.saturating_add(1))?;
-        add_markup(page, "</th>")?;
+        push_class_head(page, alloc, i.saturating_add(1), &classes[i], asked)?;
     }
     add_markup(page, "</tr></thead>\n<tbody>\n")?;
     for i in &graph.order {
         if let Some(reached) = reached.get(*i) {
-            push_package(page, alloc, graph, *i, *reached, classes, asked)?;
+            add_markup(page, "<tr>")?;
+            push_package(page, alloc, graph, *i, *reached, asked)?;
+            let reported = reported.get(*i).copied().unwrap_or(None);
+            push_licence(page, alloc, graph, *i, reported)?;
+            push_features(page, alloc, graph, *i, asked)?;
+            push_dots(page, graph.present(*i), classes)?;
+            add_markup(page, "</tr>\n")?;
         }
     }
     add_markup(page, "</tbody>\n</table></div>\n")
 }
 
-/// Writes the row of a package.
+/// Writes the first cells of a package: its name, version, kinds and sides.
 fn push_package(
     page: &mut Page,
     alloc: Global,
     graph: &Graph<'_>,
     index: usize,
     reached: Reached,
-    classes: &[Class],
     asked: &Asked<'_>,
 ) -> Result<(), AllocError> {
     let Some(described) = graph.described(index) else {
         return Ok(());
     };
-    add_markup(page, "<tr><th scope=\"row\">")?;
+    add_markup(page, "<th scope=\"row\">")?;
     push_shown(page, alloc, described.name)?;
     add_markup(page, "</th><td>")?;
     push_shown(page, alloc, described.version)?;
+    if let Some(source) = graph.source(index) {
+        add_markup(page, " (")?;
+        push_shown(page, alloc, source)?;
+        add_markup(page, ")")?;
+    }
     add_markup(page, "</td><td>")?;
     let kinds = reached.words(alloc)?;
     add_text(page, kinds.as_str())?;
     add_markup(page, "</td><td>")?;
-    add_markup(page, graph.sides(index, asked).word().unwrap_or(""))?;
-    add_markup(page, "</td><td>")?;
-    match described.license {
+    add_markup(page, graph.built(index, asked).sides().word().unwrap_or(""))?;
+    add_markup(page, "</td>")
+}
+
+/// Writes the cell of a package's licence, and what an audit reports of it.
+fn push_licence(
+    page: &mut Page,
+    alloc: Global,
+    graph: &Graph<'_>,
+    index: usize,
+    reported: Option<&'static str>,
+) -> Result<(), AllocError> {
+    let license = match graph.described(index) {
+        Some(described) => described.license,
+        None => None,
+    };
+    let start = if reported.is_some() {
+        "<td class=\"reported\">"
+    } else {
+        "<td>"
+    };
+    add_markup(page, start)?;
+    match license {
         Some(license) => push_shown(page, alloc, license)?,
         None => add_markup(page, "<em>no licence</em>")?,
     }
-    add_markup(page, "</td>")?;
-    let targets = graph.present(index);
+    if let Some(reported) = reported {
+        add_markup(page, " <strong>")?;
+        add_markup(page, reported)?;
+        add_markup(page, "</strong>")?;
+    }
+    add_markup(page, "</td>")
+}
+
+/// Writes the cell of the features of a package that are on at some selected target, if features are resolved.
+fn push_features(
+    page: &mut Page,
+    alloc: Global,
+    graph: &Graph<'_>,
+    index: usize,
+    asked: &Asked<'_>,
+) -> Result<(), AllocError> {
+    let Some(features) = &graph.features else {
+        return Ok(());
+    };
+    add_markup(page, "<td>")?;
+    let names = features.names(alloc, index)?;
+    let mut is_first = true;
+    for i in 0..names.len() {
+        if graph
+            .feature_at(index, i)
+            .intersection(asked.targets)
+            .is_empty()
+        {
+            continue;
+        }
+        if !is_first {
+            add_markup(page, ", ")?;
+        }
+        is_first = false;
+        push_shown(page, alloc, names[i])?;
+    }
+    add_markup(page, "</td>")
+}
+
+/// Writes the cells of the classes: a dot if a package is in the build on their targets.
+fn push_dots(page: &mut Page, targets: TargetSet, classes: &[Class]) -> Result<(), AllocError> {
     for class in classes {
         if class.targets.intersection(targets).is_empty() {
             add_markup(page, "<td class=\"class\"></td>")?;
@@ -212,7 +383,7 @@ fn push_package(
             add_markup(page, "<td class=\"class there\">•</td>")?;
         }
     }
-    add_markup(page, "</tr>\n")
+    Ok(())
 }
 
 /// Writes a text of the document, formatted as in text output.

@@ -3,6 +3,7 @@
 use crate::asked::{Asked, Show, Words, unusable_words};
 use crate::current::{current_of, divided, refuse_unknown_of};
 use crate::incomplete::refuse_lacking;
+use crate::origins::using_from;
 use crate::refused::unusable;
 use cargo_features::{Build, Claim, Resolved, resolve};
 use cargo_metadata::Metadata;
@@ -76,6 +77,27 @@ impl<'a> Features<'a> {
         targets
     }
 
+    /// Returns the targets on which a package that is built for the side `from` uses a dependency. `place` is its index
+    /// among those of the linked package.
+    pub fn using_from(&self, index: usize, place: usize, from: Side) -> TargetSet {
+        let mut targets = TargetSet::none();
+        let Some(unit) = self.resolved.packages().get(index) else {
+            return targets;
+        };
+        let Some(edges) = self.edges.get(index) else {
+            return targets;
+        };
+        for i in 0..edges.len() {
+            if edges[i] != place {
+                continue;
+            }
+            if let Some(dependency) = unit.dependencies.get(i) {
+                targets = targets.union(using_from(&self.resolved, index, i, dependency, from));
+            }
+        }
+        targets
+    }
+
     /// Returns the targets on which the build uses a package for a side.
     pub fn used_on(&self, index: usize, side: Side) -> TargetSet {
         self.resolved.at(Claim::Used(index, side))
@@ -124,7 +146,7 @@ fn root_edition<'a>(document: &Value, manifests: &[Manifest<'a>]) -> Option<&'a 
 }
 
 /// Returns the text in a field.
-fn text_at<'a>(value: &'a Value, field: &str) -> Option<&'a str> {
+pub fn text_at<'a>(value: &'a Value, field: &str) -> Option<&'a str> {
     value.get(field)?.as_str()
 }
 

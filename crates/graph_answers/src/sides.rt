@@ -1,6 +1,37 @@
 //! The sides for which packages are built, the target and the host, as they are named and printed.
 
+use known_targets::TargetSet;
 use package_graphs::Side;
+
+/// Targets for each side: those on which a package is built for it, or on which a dependency leads to it.
+#[derive(Clone, Copy, Drop)]
+pub struct BySide {
+    pub target: TargetSet,
+    pub host: TargetSet,
+}
+
+impl BySide {
+    /// Returns those of the targets that a set contains.
+    pub fn within(self, targets: TargetSet) -> BySide {
+        BySide {
+            target: self.target.intersection(targets),
+            host: self.host.intersection(targets),
+        }
+    }
+
+    /// Returns the targets of both sides.
+    pub fn targets(self) -> TargetSet {
+        self.target.union(self.host)
+    }
+
+    /// Returns the sides that have a target.
+    pub fn sides(self) -> Sides {
+        Sides {
+            target: !self.target.is_empty(),
+            host: !self.host.is_empty(),
+        }
+    }
+}
 
 /// The sides for which a package is built, or to which a dependency leads.
 #[derive(Clone, Copy, Drop)]

@@ -14,7 +14,7 @@ use known_targets::classes::classes;
 use serde::Serialize;
 use std::alloc::{AllocError, Global};
 
-/// A class of targets, and a condition that is true on exactly these of all targets, if one was found.
+/// A class of targets, and a condition that is true on exactly these of the selected targets, if one was found.
 #[derive(Drop)]
 pub struct Class {
     pub targets: TargetSet,
@@ -26,7 +26,7 @@ pub struct Class {
 struct ClassLine<'g, 'c, 'a> {
     /// The number of the class, from 1 on.
     class: usize,
-    /// A condition that is true on exactly the targets of the class, selected or not.
+    /// A condition that is true on exactly these of the selected targets.
     condition: Option<&'c str>,
     /// The number of targets in `at`.
     targets: usize,
@@ -92,22 +92,6 @@ pub fn selected_classes(
     Ok(sets)
 }
 
-/// Returns the classes, sorted by their first targets, each with its condition.
-fn classes_of(
-    alloc: Global,
-    graph: &Graph<'_>,
-    asked: &Asked<'_>,
-) -> Result<Vec<Class>, AllocError> {
-    let sets = sets_of(alloc, graph)?;
-    let finder = Finder::of(alloc, asked, asked_facts(alloc, graph)?)?;
-    let mut found = Vec::new(alloc);
-    for targets in sets {
-        let condition = condition_of(alloc, targets, &finder)?;
-        found.push(Class { targets, condition })?;
-    }
-    Ok(found)
-}
-
 /// Returns the text of a condition that is true on exactly these targets, if one is found.
 fn condition_of(
     alloc: Global,
@@ -120,15 +104,19 @@ fn condition_of(
     }
 }
 
-/// Returns the classes that contain a selected target.
+/// Returns the classes that contain a selected target, sorted by their first targets, each with its condition.
 pub fn classes_at(
     alloc: Global,
     graph: &Graph<'_>,
     asked: &Asked<'_>,
 ) -> Result<Vec<Class>, AllocError> {
-    let mut classes = classes_of(alloc, graph, asked)?;
-    classes.retain(|class| !class.targets.intersection(asked.targets).is_empty());
-    Ok(classes)
+    let finder = Finder::of(alloc, asked, None, asked_facts(alloc, graph)?)?;
+    let mut found = Vec::new(alloc);
+    for targets in selected_classes(alloc, graph, asked)? {
+        let condition = condition_of(alloc, targets, &finder)?;
+        found.push(Class { targets, condition })?;
+    }
+    Ok(found)
 }
 
 /// Returns the output of `--show targets`.

@@ -171,14 +171,14 @@ fn shown_way(
     classes: &[TargetSet],
     asked: &Asked<'_>,
 ) -> Result<String, AllocError> {
+    if asked.are_all(targets) {
+        return String::from_str(alloc, "all");
+    }
     let number = asked.count_of(targets);
     let count = shown_count(alloc, number)?;
     if asked.are_named && number <= MOST_NAMES {
         let names = joined_names(alloc, targets, asked)?;
         return format!(in alloc; "{count}: {names}");
-    }
-    if targets.equals(asked.targets) {
-        return String::from_str(alloc, "all");
     }
     let classes = shown_classes(alloc, targets, classes, asked)?;
     format!(in alloc; "{count}: {classes}")

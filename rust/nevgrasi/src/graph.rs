@@ -57,6 +57,8 @@ pub struct Package {
     pub side: Option<Sides>,
     /// The dependency kinds that reach it. A root needs none.
     pub kinds: Vec<Kind>,
+    /// Whether it is a procedural macro.
+    pub proc_macro: bool,
 }
 
 impl Package {
@@ -77,6 +79,7 @@ impl Package {
                 other => Some(Sides::of_value(other)?),
             },
             kinds: value.field("kinds")?.list()?.iter().map(Kind::of_value).collect::<Option<_>>()?,
+            proc_macro: value.field("proc_macro")?.bool()?,
         })
     }
 }

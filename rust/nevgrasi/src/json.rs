@@ -36,6 +36,14 @@ impl Value {
         }
     }
 
+    /// Returns the truth value, if it is one.
+    pub(crate) fn bool(&self) -> Option<bool> {
+        match self {
+            Value::Bool(value) => Some(*value),
+            _ => None,
+        }
+    }
+
     /// Returns the members, if it is a list.
     pub(crate) fn list(&self) -> Option<&[Value]> {
         match self {

@@ -44,7 +44,7 @@ pub const MOST_OPEN: usize = 10000;
 pub const MOST_FLAT_BYTES: usize = 680000;
 /// The version of the interface. It rises whenever a caller of an earlier version may break.
 pub const ABI: u32 = 2;
-/// How many targets there are.
+/// The number of targets.
 pub const TARGETS: usize = 320;
 /// The words of a set of targets.
 pub const WORDS: usize = 5;

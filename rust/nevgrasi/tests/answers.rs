@@ -114,8 +114,8 @@ fn what_can_hold_has_an_example() {
 }
 
 /// What a package is.
-fn parts(it: &Package) -> (&str, &str, Option<&str>, usize, &Targets, Option<Sides>, &[Kind]) {
-    (&it.package, &it.id, it.license.as_deref(), it.targets, &it.at, it.side, &it.kinds)
+fn parts(it: &Package) -> (&str, &str, Option<&str>, usize, &Targets, Option<Sides>, &[Kind], bool) {
+    (&it.package, &it.id, it.license.as_deref(), it.targets, &it.at, it.side, &it.kinds, it.proc_macro)
 }
 
 #[test]
@@ -131,8 +131,8 @@ fn packages_of_a_graph_have_their_targets() {
         let packages = graph(document, host).expect("packages");
         let found: Vec<_> = packages.iter().map(parts).collect();
         let wanted = [
-            ("a 1.0.0", "a", Some("MIT"), 320, &Targets::All, Some(Sides::Target), &[][..]),
-            ("b 0.1.0", "\"b\"", None, 2, &named, Some(Sides::Target), &[Kind::Normal, Kind::Dev][..]),
+            ("a 1.0.0", "a", Some("MIT"), 320, &Targets::All, Some(Sides::Target), &[][..], false),
+            ("b 0.1.0", "\"b\"", None, 2, &named, Some(Sides::Target), &[Kind::Normal, Kind::Dev][..], false),
         ];
         assert_eq!(found, wanted);
     }

@@ -1,10 +1,14 @@
-//! Conditions that are true on exactly some targets of a file. They are built from the facts of the file, as
-//! `known_targets::classes` builds conditions from the facts of the known targets.
+//! Conditions that are true on exactly some of the selected targets. They are built from the facts of these targets
+//! alone, as `known_targets::classes` builds conditions from the facts of all known targets, so that no part of them
+//! tells apart what was not selected.
 
+use crate::asked::Asked;
 use crate::groups::Groups;
 use cargo_platform::{Cfg, CfgExpr, Platform};
-use known_targets::TargetSet;
+use known_targets::classes::Simple;
+use known_targets::{KnownTarget, TargetSet, having};
 use std::alloc::{AllocError, Global};
+use target_tables::TargetRow;
 
 /// The names and keys of the candidate facts, in the order in which they are tried. No flag and no profile changes one
 /// of these facts.
@@ -21,19 +25,125 @@ const TRIED: [&str; 10] = [
     "target_pointer_width",
 ];
 
-/// A fact, and for each target of a file whether the target has it.
+/// A target that conditions have to tell apart from the others.
+#[derive(Clone, Copy, Drop)]
+struct Target<'a> {
+    name: &'a str,
+    /// The known target that represents it, or that it is.
+    place: KnownTarget,
+    /// The target in a file, if it is one of a file.
+    row: Option<&'a TargetRow>,
+}
+
+/// The targets that conditions have to tell apart: the selected ones, and the host if conditions are evaluated on it
+/// too.
 #[derive(Drop)]
-pub struct FileFact {
+pub struct Selected<'a> {
+    targets: Vec<Target<'a>>,
+    /// True if the targets were selected by name.
+    are_named: bool,
+}
+
+/// Returns the selected targets of a file, and the host if `with_host` is true.
+fn targets_of_file<'a>(
+    alloc: Global,
+    groups: &Groups<'a>,
+    with_host: bool,
+) -> Result<Vec<Target<'a>>, AllocError> {
+    let rows = groups.rows();
+    let mut targets = Vec::new(alloc);
+    for i in 0..rows.len() {
+        if let Some(place) = groups.place_of(i, with_host) {
+            targets.push(Target {
+                name: rows[i].name(),
+                place,
+                row: Some(&rows[i]),
+            })?;
+        }
+    }
+    Ok(targets)
+}
+
+/// Returns the known targets of a set.
+fn known_targets<'a>(alloc: Global, set: TargetSet) -> Result<Vec<Target<'a>>, AllocError> {
+    let mut targets = Vec::new(alloc);
+    for place in set.iter() {
+        targets.push(Target {
+            name: place.name(),
+            place,
+            row: None,
+        })?;
+    }
+    Ok(targets)
+}
+
+impl<'a> Selected<'a> {
+    /// Returns the selected targets, and the host if there is one.
+    pub fn of(
+        alloc: Global,
+        asked: &Asked<'a>,
+        host: Option<KnownTarget>,
+    ) -> Result<Selected<'a>, AllocError> {
+        let hosts = match host {
+            Some(host) => TargetSet::only(host),
+            None => TargetSet::none(),
+        };
+        let targets = match asked.groups {
+            Some(groups) => targets_of_file(alloc, groups, host.is_some())?,
+            None => known_targets(alloc, asked.targets.union(hosts))?,
+        };
+        Ok(Selected {
+            targets,
+            are_named: asked.are_named,
+        })
+    }
+
+    /// Returns for each target whether it is in a set.
+    fn members(&self, alloc: Global, set: TargetSet) -> Result<Vec<bool>, AllocError> {
+        let mut members = Vec::new(alloc);
+        for target in &self.targets {
+            members.push(set.contains(target.place))?;
+        }
+        Ok(members)
+    }
+
+    /// Returns the name of the only target whose flag is true, if there is one.
+    fn only_name(&self, at: &[bool]) -> Option<&'a str> {
+        let mut only = None;
+        for i in 0..self.targets.len() {
+            if !is_at(at, i) {
+                continue;
+            }
+            if only.is_some() {
+                return None;
+            }
+            only = Some(self.targets[i].name);
+        }
+        only
+    }
+}
+
+/// A fact, and for each target whether the target has it.
+#[derive(Drop)]
+pub struct Fact {
     fact: Cfg,
     at: Vec<bool>,
 }
 
-impl FileFact {
+impl Fact {
     /// Returns a fact with the targets that have it.
-    pub fn of(alloc: Global, groups: &Groups<'_>, fact: Cfg) -> Result<FileFact, AllocError> {
+    pub fn of(alloc: Global, selected: &Selected<'_>, fact: Cfg) -> Result<Fact, AllocError> {
         let copy = fact.clone(alloc)?;
-        let at = groups.truths_of(alloc, &Platform::Cfg(CfgExpr::Value(copy)))?;
-        Ok(FileFact { fact, at })
+        let condition = Platform::Cfg(CfgExpr::Value(copy));
+        let known = having(&fact);
+        let mut at = Vec::new(alloc);
+        for target in &selected.targets {
+            at.push(match target.row {
+                Some(row) => row.matches(&condition),
+                None => known.contains(target.place),
+            })?;
+        }
+        Ok(Fact { fact, at })
     }
 }
 
@@ -60,11 +170,13 @@ fn rank_of(fact: &Cfg) -> Option<usize> {
 type Had<'a> = ((usize, &'a Cfg), usize);
 
 /// Returns the candidate facts of each target of a file, sorted in the order in which they are tried.
-fn had_facts<'a>(alloc: Global, groups: &Groups<'a>) -> Result<Vec<Had<'a>>, AllocError> {
-    let rows = groups.rows();
+fn had_facts<'a>(alloc: Global, selected: &Selected<'a>) -> Result<Vec<Had<'a>>, AllocError> {
     let mut had = Vec::new(alloc);
-    for i in 0..rows.len() {
-        for fact in rows[i].facts() {
+    for i in 0..selected.targets.len() {
+        let Some(row) = selected.targets[i].row else {
+            continue;
+        };
+        for fact in row.facts() {
             if let Some(rank) = rank_of(fact) {
                 had.push(((rank, fact), i))?;
             }
@@ -75,29 +187,48 @@ fn had_facts<'a>(alloc: Global, groups: &Groups<'a>) -> Result<Vec<Had<'a>>, All
 }
 
 /// Returns whether a fact is the last one of a list.
-fn is_last(facts: &[FileFact], fact: &Cfg) -> bool {
+fn is_last(facts: &[Fact], fact: &Cfg) -> bool {
     match facts.last() {
         Some(last) => last.fact == *fact,
         None => false,
     }
 }
 
-/// Returns the candidate facts of a file, in the order in which they are tried.
-pub fn tried_facts(alloc: Global, groups: &Groups<'_>) -> Result<Vec<FileFact>, AllocError> {
-    let count = groups.rows().len();
-    let mut facts: Vec<FileFact> = Vec::new(alloc);
-    for ((_, fact), place) in &had_facts(alloc, groups)? {
+/// Returns the candidate facts of the targets of a file, in the order in which they are tried.
+fn facts_of_file(alloc: Global, selected: &Selected<'_>) -> Result<Vec<Fact>, AllocError> {
+    let count = selected.targets.len();
+    let mut facts: Vec<Fact> = Vec::new(alloc);
+    for ((_, fact), place) in &had_facts(alloc, selected)? {
         let fact: &Cfg = *fact;
         if !is_last(&facts, fact) {
             let fact = fact.clone(alloc)?;
             let at = vec![in alloc; false; count]?;
-            facts.push(FileFact { fact, at })?;
+            facts.push(Fact { fact, at })?;
         }
         if let Some(last) = facts.last_mut() {
             mark(&mut last.at, *place);
         }
     }
     Ok(facts)
+}
+
+/// Returns the candidate facts of known targets, in the order in which they are tried.
+fn known_facts(alloc: Global, selected: &Selected<'_>) -> Result<Vec<Fact>, AllocError> {
+    let mut facts = Vec::new(alloc);
+    for known in Simple::new(alloc)?.facts() {
+        let fact = known.fact.clone(alloc)?;
+        let at = selected.members(alloc, known.targets)?;
+        facts.push(Fact { fact, at })?;
+    }
+    Ok(facts)
+}
+
+/// Returns the candidate facts, in the order in which they are tried.
+pub fn tried_facts(alloc: Global, selected: &Selected<'_>) -> Result<Vec<Fact>, AllocError> {
+    match selected.targets.first() {
+        Some(first) if first.row.is_some() => facts_of_file(alloc, selected),
+        _ => known_facts(alloc, selected),
+    }
 }
 
 /// Sets the flag at an index, if there is one.
@@ -113,14 +244,21 @@ fn is_at(at: &[bool], place: usize) -> bool {
 }
 
 /// Returns the first condition that is true on exactly the targets of the set, if there is one: a fact, `not(..)` of a
-/// fact, or the name of the only target.
+/// fact, or the name of the only target. If targets were selected by name, it is `all()` for all of them, and `any()`
+/// for none.
 pub fn simple_condition(
     alloc: Global,
-    groups: &Groups<'_>,
-    facts: &[FileFact],
+    selected: &Selected<'_>,
+    facts: &[Fact],
     set: TargetSet,
 ) -> Result<Option<Platform>, AllocError> {
-    let at = groups.members(alloc, set)?;
+    let at = selected.members(alloc, set)?;
+    if selected.are_named && !at.contains(&false) {
+        return Ok(Some(Platform::Cfg(CfgExpr::All(Vec::new(alloc)))));
+    }
+    if selected.are_named && !at.contains(&true) {
+        return Ok(Some(Platform::Cfg(CfgExpr::Any(Vec::new(alloc)))));
+    }
     if let Some(fact) = first_at(facts, &at, true) {
         let fact = CfgExpr::Value(fact.clone(alloc)?);
         return Ok(Some(Platform::Cfg(fact)));
@@ -130,15 +268,14 @@ pub fn simple_condition(
         let negated = CfgExpr::Not(Box::new(alloc, fact)?);
         return Ok(Some(Platform::Cfg(negated)));
     }
-    let names = groups.names(alloc, set)?;
-    match names.first() {
-        Some(name) if names.len() == 1 => Ok(Some(Platform::Name(String::from_str(alloc, name)?))),
-        _ => Ok(None),
+    match selected.only_name(&at) {
+        Some(name) => Ok(Some(Platform::Name(String::from_str(alloc, name)?))),
+        None => Ok(None),
     }
 }
 
 /// Returns the first fact that exactly these targets have or, if `has` is false, exactly these lack.
-fn first_at<'a>(facts: &'a [FileFact], at: &[bool], has: bool) -> Option<&'a Cfg> {
+fn first_at<'a>(facts: &'a [Fact], at: &[bool], has: bool) -> Option<&'a Cfg> {
     for known in facts {
         let mut is_same = true;
         for i in 0..at.len() {
@@ -165,7 +302,7 @@ struct Literal {
 
 impl Literal {
     /// Returns whether the literal is true on a target.
-    fn is_at(self, facts: &[FileFact], target: usize) -> bool {
+    fn is_at(self, facts: &[Fact], target: usize) -> bool {
         match facts.get(self.place) {
             Some(known) => is_at(&known.at, target) != self.is_negated,
             None => false,
@@ -173,7 +310,7 @@ impl Literal {
     }
 
     /// Returns the literal as an expression.
-    fn expression(self, alloc: Global, facts: &[FileFact]) -> Result<CfgExpr, AllocError> {
+    fn expression(self, alloc: Global, facts: &[Fact]) -> Result<CfgExpr, AllocError> {
         let Some(known) = facts.get(self.place) else {
             return Ok(CfgExpr::False);
         };
@@ -187,7 +324,7 @@ impl Literal {
 }
 
 /// Returns whether all of the literals are true on a target.
-fn all_at(facts: &[FileFact], literals: &[Literal], target: usize) -> bool {
+fn all_at(facts: &[Fact], literals: &[Literal], target: usize) -> bool {
     for literal in literals {
         if !literal.is_at(facts, target) {
             return false;
@@ -200,12 +337,12 @@ fn all_at(facts: &[FileFact], literals: &[Literal], target: usize) -> bool {
 /// parts, each an `all(..)` of facts and negated facts.
 pub fn covering(
     alloc: Global,
-    groups: &Groups<'_>,
-    facts: &[FileFact],
+    selected: &Selected<'_>,
+    facts: &[Fact],
     set: TargetSet,
 ) -> Result<Option<Platform>, AllocError> {
-    let at = groups.members(alloc, set)?;
-    let mut left = groups.members(alloc, set)?;
+    let at = selected.members(alloc, set)?;
+    let mut left = selected.members(alloc, set)?;
     let mut parts = Vec::new(alloc);
     for _ in 0..at.len() {
         if !left.contains(&true) {
@@ -224,7 +361,7 @@ pub fn covering(
 }
 
 /// Removes the targets on which all of the literals are true.
-fn take_out(left: &mut Vec<bool>, facts: &[FileFact], literals: &[Literal]) {
+fn take_out(left: &mut Vec<bool>, facts: &[Fact], literals: &[Literal]) {
     for i in 0..left.len() {
         if all_at(facts, literals, i) {
             left[i] = false;
@@ -244,7 +381,7 @@ fn joined(parts: Vec<CfgExpr>) -> CfgExpr {
 }
 
 /// Returns the only literal, or the `all(..)` of the literals.
-fn part_of(alloc: Global, facts: &[FileFact], literals: &[Literal]) -> Result<CfgExpr, AllocError> {
+fn part_of(alloc: Global, facts: &[Fact], literals: &[Literal]) -> Result<CfgExpr, AllocError> {
     if literals.len() == 1 {
         if let Some(literal) = literals.first() {
             return literal.expression(alloc, facts);
@@ -260,7 +397,7 @@ fn part_of(alloc: Global, facts: &[FileFact], literals: &[Literal]) -> Result<Cf
 /// Returns literals that are all true on some of the remaining targets, and on no target outside the set.
 fn part_for(
     alloc: Global,
-    facts: &[FileFact],
+    facts: &[Fact],
     at: &[bool],
     left: &[bool],
 ) -> Result<Option<Vec<Literal>>, AllocError> {
@@ -281,7 +418,7 @@ fn part_for(
 }
 
 /// Returns whether the set contains each target on which all of the literals are true.
-fn is_inside(facts: &[FileFact], literals: &[Literal], at: &[bool]) -> bool {
+fn is_inside(facts: &[Fact], literals: &[Literal], at: &[bool]) -> bool {
     for i in 0..at.len() {
         if !at[i] && all_at(facts, literals, i) {
             return false;
@@ -294,7 +431,7 @@ fn is_inside(facts: &[FileFact], literals: &[Literal], at: &[bool]) -> bool {
 /// remaining ones, and those outside the set. Returns `None` if each score is 0.
 fn best_literal(
     alloc: Global,
-    facts: &[FileFact],
+    facts: &[Fact],
     literals: &[Literal],
     at: &[bool],
     left: &[bool],
@@ -326,7 +463,7 @@ fn best_literal(
 }
 
 /// Returns the number of `kept` targets on which a literal is true, times the number of `others` on which it is false.
-fn score_of(literal: Literal, facts: &[FileFact], kept: &[usize], others: &[usize]) -> usize {
+fn score_of(literal: Literal, facts: &[Fact], kept: &[usize], others: &[usize]) -> usize {
     let mut keeps: usize = 0;
     for target in kept {
         if literal.is_at(facts, *target) {
@@ -345,7 +482,7 @@ fn score_of(literal: Literal, facts: &[FileFact], kept: &[usize], others: &[usiz
 /// Removes, from the first one on, the literals that are not needed to exclude the targets outside the set.
 fn without_needless(
     alloc: Global,
-    facts: &[FileFact],
+    facts: &[Fact],
     literals: Vec<Literal>,
     at: &[bool],
 ) -> Result<Vec<Literal>, AllocError> {
@@ -359,7 +496,7 @@ fn without_needless(
 }
 
 /// Returns whether the first and the last literals are all true on a target outside the set.
-fn is_needed(facts: &[FileFact], first: &[Literal], last: &[Literal], at: &[bool]) -> bool {
+fn is_needed(facts: &[Fact], first: &[Literal], last: &[Literal], at: &[bool]) -> bool {
     for i in 0..at.len() {
         if !at[i] && all_at(facts, first, i) && all_at(facts, last, i) {
             return true;
