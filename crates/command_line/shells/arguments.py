@@ -15,8 +15,8 @@ CONSTANT = re.compile(r"^const (\w+): [^=]+ =\s+(.*?);\n\n", re.S | re.M)
 PIECE = re.compile(r'(?P<text>"(?:[^"\\]|\\.)*")|(?P<field>\w+):(?!:)|(?P<open>\{)|(?P<close>\})|&|Given::', re.S)
 
 # What may be given to an argument.
-KINDS = ("Flag", "ShortFlag", "Value", "ValueWithout", "OneOf", "Number", "Positive", "Values", "ShortValues", "Place",
-         "Places", "Needed")
+KINDS = ("Flag", "ShortFlag", "FlagOf", "Value", "ValueWithout", "OneOf", "Number", "Positive", "Values", "Lists",
+         "ShortValues", "Place", "Places", "Needed")
 
 
 class Argument(NamedTuple):
@@ -36,7 +36,7 @@ class Argument(NamedTuple):
 
     @property
     def is_repeated(self):
-        return self.kind in ("Values", "ShortValues", "Places")
+        return self.kind in ("Values", "Lists", "ShortValues", "Places")
 
     @property
     def is_needed(self):
@@ -55,7 +55,9 @@ class Subcommand(NamedTuple):
 def argument(name, given, help):
     kind, *parts = given() if callable(given) else given
     letter = parts.pop(0) if kind.startswith("Short") else ""
-    return Argument(name, letter, kind, parts[0] if parts else "", parts[1] if kind == "OneOf" else [], help)
+    # A flag that needs another option has no value.
+    value = parts[0] if parts and kind != "FlagOf" else ""
+    return Argument(name, letter, kind, value, parts[1] if kind == "OneOf" else [], help)
 
 
 def in_python(value):

@@ -60,7 +60,7 @@ def kind_of(argument):
         return "words"
     if argument.name in TARGETS:
         return "target"
-    return "lint" if argument.value == "LINT" else "path" if argument.value in PATHS else "text"
+    return "lint" if argument.value in ("LINT", "LINTS") else "path" if argument.value in PATHS else "text"
 
 
 def value(shell, argument):

@@ -20,6 +20,8 @@ enum Given {
     Flag,
     /// A flag with a short form.
     ShortFlag(char),
+    /// A flag that needs the first option, and conflicts with the others.
+    FlagOf(&'static str, &'static [&'static str]),
     /// An option with any value.
     Value(&'static str),
     /// An option with any value, which conflicts with the option of the second name.
@@ -32,6 +34,8 @@ enum Given {
     Positive(&'static str, &'static str),
     /// An option that can be repeated.
     Values(&'static str),
+    /// An option that can be repeated, with values that may be joined by commas.
+    Lists(&'static str),
     /// An option that can be repeated, with a short form.
     ShortValues(char, &'static str),
     /// A required positional argument.
@@ -123,6 +127,12 @@ const NO_WORKSPACE: Argument = Argument {
     help: "Only the manifests that are named, without members of their workspaces",
 };
 
+const STDIN_FILENAME: Argument = Argument {
+    name: "stdin-filename",
+    given: Given::Value("PATH"),
+    help: "Read standard input as the manifest at PATH, in its workspace, as an editor has it before it is saved",
+};
+
 const WORKSPACE: Argument = Argument {
     name: "workspace",
     given: Given::Flag,
@@ -152,8 +162,9 @@ const LINT: Subcommand = Subcommand {
           With the root of a workspace, its members are checked too. The metadata of the package and of the \
           workspace can have tables `manifest-check` with lists `allow`, `warn` and `deny`; the options override \
           them.\n\n\
-          Exit status: 0 if there is no error or warning, 1 if there is one, 2 if an argument or a manifest is \
-          invalid. A manifest with a key of more than 100,000 nested groups is invalid.",
+          Exit status: 0 if there is no error or warning, 1 if there is one, 2 if an argument is invalid or a manifest \
+          cannot be read. What cannot be read is reported in each format. A key with more than 100,000 nested \
+          groups is invalid.",
     arguments: &[
         JSON,
         Argument {
@@ -168,18 +179,19 @@ const LINT: Subcommand = Subcommand {
         },
         Argument {
             name: "allow",
-            given: Given::Values("LINT"),
-            help: "Do not report this lint, or all warnings or notes; the last option that matches wins",
+            given: Given::Lists("LINTS"),
+            help: "Do not report these lints, joined by commas, or all warnings or notes; the last option that matches \
+                   wins",
         },
         Argument {
             name: "warn",
-            given: Given::Values("LINT"),
-            help: "Report this lint as a warning",
+            given: Given::Lists("LINTS"),
+            help: "Report these lints as warnings",
         },
         Argument {
             name: "deny",
-            given: Given::Values("LINT"),
-            help: "Report this lint as an error",
+            given: Given::Lists("LINTS"),
+            help: "Report these lints as errors",
         },
         Argument {
             name: "fail-on",
@@ -190,6 +202,21 @@ const LINT: Subcommand = Subcommand {
             name: "exit-zero",
             given: Given::Flag,
             help: "Exit with status 0 whatever is reported; invalid arguments and manifests still give 2",
+        },
+        Argument {
+            name: "fix",
+            given: Given::Flag,
+            help: "Apply suggestions that keep the meaning to the manifests, and print what is left",
+        },
+        Argument {
+            name: "unsafe-fixes",
+            given: Given::FlagOf("fix", &[]),
+            help: "With --fix, apply suggestions that may change the meaning too",
+        },
+        Argument {
+            name: "dry-run",
+            given: Given::FlagOf("fix", &["json", "message-format"]),
+            help: "With --fix, print a unified diff and write nothing",
         },
         Argument {
             name: "list-codes",
@@ -217,6 +244,7 @@ const LINT: Subcommand = Subcommand {
         EXCLUDE,
         WORKSPACE,
         NO_WORKSPACE,
+        STDIN_FILENAME,
         LIMIT,
         MANIFESTS,
     ],
@@ -254,6 +282,7 @@ const SELECT: Subcommand = Subcommand {
         EXCLUDE,
         WORKSPACE,
         NO_WORKSPACE,
+        STDIN_FILENAME,
         LIMIT,
         MANIFESTS,
     ],
@@ -343,7 +372,7 @@ const GRAPH: Subcommand = Subcommand {
           A file is rejected if it lacks dependencies, since it was made with --no-deps, --filter-platform or fewer \
           features than you select. The features that `cargo metadata` turned on are on, unless you resolve features \
           for a --host, with --resolver or any other option on features.\n\n\
-          Exit status: 0 if no package is reported by --allow or --allow-file, 1 if one is, 2 if an argument or the \
+          Exit status: 0 if no package is reported by --allow or --allow-file, and no change by --fail-on, 1 if one is, 2 if an argument or the \
           document is invalid. A condition with more than 100,000 nested groups is invalid.",
     arguments: &[
         Argument {
@@ -428,6 +457,22 @@ const GRAPH: Subcommand = Subcommand {
             help: "Do not report this package: NAME@VERSION",
         },
         Argument {
+            name: "against",
+            given: Given::Value("FILE"),
+            help: "Print what has changed since FILE, an older output of `cargo metadata`",
+        },
+        Argument {
+            name: "fail-on",
+            given: Given::Value("CHANGES"),
+            help: "With --against: exit with status 1 if there is one of these, joined by commas: added, removed, \
+                   updated, targets, licence, source, features",
+        },
+        Argument {
+            name: "markdown",
+            given: Given::Flag,
+            help: "With --against: print a Markdown table",
+        },
+        Argument {
             name: "html",
             given: Given::Value("FILE"),
             help: "Also write an HTML page of the packages to this file",
@@ -508,16 +553,19 @@ fn to_subcommand<'a>(alloc: Global, told: &Subcommand) -> Result<Command<'a>, Al
 
 fn to_argument<'a>(alloc: Global, told: &Argument) -> Result<Arg<'a>, AllocError> {
     let made = Arg::new(alloc, told.name).help(told.help);
-    if let Given::ValueWithout(_, other) = told.given {
-        return given_to(made, told).conflicts_with(other);
+    match told.given {
+        Given::ValueWithout(_, other) => given_to(made, told).conflicts_with(other),
+        Given::FlagOf(needed, others) => given_to(made, told)
+            .requires_arg(needed)?
+            .conflicts_with_all(others),
+        _ => Ok(given_to(made, told)),
     }
-    Ok(given_to(made, told))
 }
 
 /// Returns the argument with its kind.
 fn given_to<'a>(made: Arg<'a>, told: &Argument) -> Arg<'a> {
     match told.given {
-        Given::Flag => made.long(told.name).action(ArgAction::SetTrue),
+        Given::Flag | Given::FlagOf(_, _) => made.long(told.name).action(ArgAction::SetTrue),
         Given::ShortFlag(letter) => made
             .long(told.name)
             .short(letter)
@@ -529,6 +577,9 @@ fn given_to<'a>(made: Arg<'a>, told: &Argument) -> Arg<'a> {
             .required(true)
             .action(ArgAction::Append),
         Given::Values(value) => option(made, told.name, value).action(ArgAction::Append),
+        Given::Lists(value) => option(made, told.name, value)
+            .action(ArgAction::Append)
+            .value_delimiter(','),
         Given::ShortValues(letter, value) => option(made, told.name, value)
             .short(letter)
             .action(ArgAction::Append),

@@ -1,6 +1,7 @@
 //! The subcommands, each run with the arguments that `clap` parsed.
 
 use crate::explaining::{explained_code, listed_codes};
+use crate::fixing::Fixing;
 use crate::graphs::graph_answer;
 use crate::levels::{command_rules, fails_from};
 use crate::limits::{limit_of, text_of};
@@ -12,6 +13,7 @@ use crate::target_names::{EVERY, Flagged, flagged_targets, named_targets};
 use anyhow::Result;
 use cargo_platform::shown_text;
 use clap::ArgMatches;
+use input_limits::{INPUT, Unusable};
 use key_answers::answer::{Answer, Refusal, Status, answered};
 use key_answers::comparing::compare;
 use manifest_answers::faults::Asking;
@@ -154,6 +156,48 @@ fn other_rustc<R: Files + Input + AllocGlobal>(
     }
 }
 
+/// Returns a line on the file that `--facts-of` names, or on its targets, as something that can't be used.
+fn unusable_targets(
+    alloc: Global,
+    matches: &ArgMatches<'_>,
+    line: &str,
+) -> Result<Unusable, AllocError> {
+    let line = line.strip_suffix("\n").unwrap_or(line);
+    let file = shown_text(alloc, word(matches, "facts-of"))?;
+    let behind = line.strip_prefix(file.as_str()).unwrap_or(line);
+    let reason = behind.strip_prefix(": ").unwrap_or(behind);
+    let reason = reason.strip_prefix("error: ").unwrap_or(reason);
+    Ok(Unusable {
+        reason: format!(in alloc; "cannot read the targets of `--facts-of`: {reason}")?,
+        file: Some(file),
+    })
+}
+
+/// Returns how suggestions are applied, if `--fix` is given.
+fn fixing_of(matches: &ArgMatches<'_>) -> Option<Fixing> {
+    if !matches.get_flag("fix") {
+        return None;
+    }
+    Some(Fixing {
+        is_dry: matches.get_flag("dry-run"),
+        is_unsafe: matches.get_flag("unsafe-fixes"),
+        is_quiet: matches.get_flag("quiet"),
+    })
+}
+
+/// Returns whether the text on standard input is to be fixed, which can't be written.
+fn fixes_input(matches: &ArgMatches<'_>, paths: &[String]) -> bool {
+    if !matches.get_flag("fix") {
+        return false;
+    }
+    for path in paths {
+        if path.as_str() == INPUT {
+            return true;
+        }
+    }
+    matches.contains_id("stdin-filename")
+}
+
 /// Runs `lint`.
 fn lint_answer<R: Files + Input + Env + AllocGlobal + Clone + Drop>(
     rt: &R,
@@ -167,12 +211,7 @@ fn lint_answer<R: Files + Input + Env + AllocGlobal + Clone + Drop>(
     if let Some(word) = matches.get_str("explain") {
         return explained_code(alloc, word);
     }
-    let other = match other_rustc(rt, matches) {
-        Ok(other) => other,
-        Err(Refusal::Unusable(lines)) => return Ok(Answer::unusable(alloc, lines)),
-        Err(Refusal::Memory(refused)) => return Err(refused.into()),
-    };
-    let asked = Asked {
+    let mut asked = Asked {
         style: style_of(rt, matches, shown.on_terminal),
         version: String::from_str(alloc, shown.version)?,
         rules: command_rules(alloc, matches)?,
@@ -180,21 +219,31 @@ fn lint_answer<R: Files + Input + Env + AllocGlobal + Clone + Drop>(
         is_quiet: matches.get_flag("quiet"),
         fails_from: fails_from(matches),
         is_whole: !matches.contains_id("package") && !matches.contains_id("exclude"),
-        other,
+        other: None,
+        fixing: fixing_of(matches),
     };
     let mut documents = Documents::new(alloc, limit_of(matches));
+    match other_rustc(rt, matches) {
+        Ok(other) => asked.other = other,
+        Err(Refusal::Unusable(line)) => {
+            let unusable = [unusable_targets(alloc, matches, line.as_str())?];
+            return Ok(lint_each(rt, &[], &unusable, &asked, documents)?);
+        }
+        Err(Refusal::Memory(refused)) => return Err(refused.into()),
+    }
     let Named {
         paths,
         unusable,
         warnings,
     } = named_manifests(rt, &mut documents, matches)?;
+    if fixes_input(matches, &paths) {
+        let line = String::from_str(alloc, "error: `--fix` can't change standard input\n")?;
+        return Ok(Answer::unusable(alloc, line));
+    }
     let mut answer = Answer::of(alloc, String::new(alloc), Status::Fine);
     answer.errors.push_str(warnings.as_str())?;
-    for it in &unusable {
-        answer.append(Answer::unusable(alloc, it.line(alloc)?))?;
-    }
     let paths: Vec<&str> = paths.iter().map(|path| path.as_str()).collect(alloc)?;
-    answer.append(lint_each(rt, &paths, &asked, documents)?)?;
+    answer.append(lint_each(rt, &paths, &unusable, &asked, documents)?)?;
     Ok(answer)
 }
 

@@ -2,17 +2,19 @@
 
 use crate::asking::given_targets;
 use crate::limits::{limit_of, text_at, text_of};
+use crate::words::command_given;
 use anyhow::Result;
 use cargo_platform::shown_text;
 use clap::ArgMatches;
 use graph_answers::asked::Words;
+use graph_answers::page::Made;
 use graph_answers::{Report, report_on};
 use input_limits::INPUT;
 use key_answers::answer::{Answer, Refusal, answered};
 use manifest_answers::given_targets::GivenTargets;
 use std::alloc::Global;
-use std::rt::Files;
-use std::{fs, io};
+use std::rt::{Env, Files};
+use std::{env, fs, io};
 
 /// Returns the error for a file that can't be written.
 fn unusable(alloc: Global, file: &str, error: &io::Error) -> Result<Answer> {
@@ -22,52 +24,105 @@ fn unusable(alloc: Global, file: &str, error: &io::Error) -> Result<Answer> {
 }
 
 /// Runs `graph`.
-pub fn graph_answer<R: Files + Input + AllocGlobal>(
+pub fn graph_answer<R: Files + Input + Env + AllocGlobal>(
     rt: &R,
     matches: &ArgMatches<'_>,
 ) -> Result<Answer> {
-    match allowed_of(rt, matches) {
-        Ok(None) => answer_of(rt, matches, None),
-        Ok(Some((list, text))) => answer_of(rt, matches, Some((list, text.as_str()))),
+    match file_of(rt, matches, "against") {
+        Ok(None) => answer_against(rt, matches, None),
+        Ok(Some((old, text))) => answer_against(rt, matches, Some((old, text.as_str()))),
         Err(refusal) => Ok(answered(rt.alloc(), Err(refusal))?),
     }
 }
 
-/// Reads the file of allowed licences, and returns its name and text, if the option is given.
-fn allowed_of<'a, R: Files + AllocGlobal>(
+/// Reads the file that an option names, and returns its name and its text, if the option is given.
+fn file_of<'a, R: Files + AllocGlobal>(
     rt: &R,
     matches: &ArgMatches<'a>,
+    option: &str,
 ) -> Result<Option<(&'a str, String)>, Refusal> {
-    match matches.get_str("allow-file") {
-        Some(list) => Ok(Some((list, text_at(rt, list, limit_of(matches))?))),
+    match matches.get_str(option) {
+        Some(name) => Ok(Some((name, text_at(rt, name, limit_of(matches))?))),
         None => Ok(None),
     }
 }
 
-/// Runs `graph` with the name and the text of a file of allowed licences.
-fn answer_of<R: Files + Input + AllocGlobal>(
+/// Runs `graph` with the name and the text of an older output of `cargo metadata`.
+fn answer_against<R: Files + Input + Env + AllocGlobal>(
     rt: &R,
     matches: &ArgMatches<'_>,
-    allow_file: Option<(&str, &str)>,
+    against: Option<(&str, &str)>,
 ) -> Result<Answer> {
-    match given_targets(rt, matches) {
-        Ok(None) => answer_with(rt, matches, allow_file, None),
-        Ok(Some(given)) => answer_with(rt, matches, allow_file, Some(&given)),
+    match file_of(rt, matches, "allow-file") {
+        Ok(None) => answer_of(rt, matches, None, against),
+        Ok(Some((list, text))) => answer_of(rt, matches, Some((list, text.as_str())), against),
         Err(refusal) => Ok(answered(rt.alloc(), Err(refusal))?),
     }
 }
 
-/// Runs `graph` with a file of allowed licences, and with the targets of `--facts-of`.
-fn answer_with<R: Files + Input + AllocGlobal>(
+/// Runs `graph` with the names and the texts of a file of allowed licences and of an older output of `cargo metadata`.
+fn answer_of<R: Files + Input + Env + AllocGlobal>(
     rt: &R,
     matches: &ArgMatches<'_>,
     allow_file: Option<(&str, &str)>,
+    against: Option<(&str, &str)>,
+) -> Result<Answer> {
+    match given_targets(rt, matches) {
+        Ok(None) => answer_with(rt, matches, allow_file, against, None),
+        Ok(Some(given)) => answer_with(rt, matches, allow_file, against, Some(&given)),
+        Err(refusal) => Ok(answered(rt.alloc(), Err(refusal))?),
+    }
+}
+
+/// Returns the date of the page in seconds since 1970, which `SOURCE_DATE_EPOCH` sets, if a page is requested.
+fn seconds_of<R: Env + AllocGlobal>(
+    rt: &R,
+    matches: &ArgMatches<'_>,
+) -> Result<Option<u64>, Refusal> {
+    if matches.get_str("html").is_none() {
+        return Ok(None);
+    }
+    let seconds = match env::var(rt, "SOURCE_DATE_EPOCH") {
+        Ok(text) => text.parse::<u64>().ok(),
+        Err(env::VarError::NotPresent) => return Ok(None),
+        Err(_) => None,
+    };
+    match seconds {
+        Some(seconds) => Ok(Some(seconds)),
+        None => {
+            let text = "error: SOURCE_DATE_EPOCH is not a number of seconds\n";
+            Err(Refusal::Unusable(String::from_str(rt.alloc(), text)?))
+        }
+    }
+}
+
+/// Runs `graph` with the files that options name, and with the targets of `--facts-of`.
+fn answer_with<R: Files + Input + Env + AllocGlobal>(
+    rt: &R,
+    matches: &ArgMatches<'_>,
+    allow_file: Option<(&str, &str)>,
+    against: Option<(&str, &str)>,
     given: Option<&GivenTargets>,
 ) -> Result<Answer> {
     let file = matches.get_str("metadata").unwrap_or(INPUT);
     let alloc = rt.alloc();
+    let command = match matches.get_str("html") {
+        Some(_) => command_given(rt)?,
+        None => String::new(alloc),
+    };
+    let seconds = match seconds_of(rt, matches) {
+        Ok(seconds) => seconds,
+        Err(refusal) => return Ok(answered(alloc, Err(refusal))?),
+    };
     let facts_of = match given {
         Some(given) => Some((given.file.as_str(), given.table())),
+        None => None,
+    };
+    let html = match matches.get_str("html") {
+        Some(_) => Some(Made {
+            command: command.as_str(),
+            seconds,
+        }),
         None => None,
     };
     let words = Words {
@@ -81,13 +136,16 @@ fn answer_with<R: Files + Input + AllocGlobal>(
         of: matches.get_str("of"),
         allow: matches.get_str("allow"),
         allow_file,
+        against,
+        fail_on: matches.get_str("fail-on"),
+        markdown: matches.get_flag("markdown"),
         except: matches.get_strs("except").unwrap_or(&[]),
         resolver: matches.get_str("resolver"),
         features: matches.get_strs("features").unwrap_or(&[]),
         no_default: matches.get_flag("no-default-features"),
         all_features: matches.get_flag("all-features"),
         json: matches.get_flag("json"),
-        html: matches.get_str("html").is_some(),
+        html,
     };
     match text_of(rt, file, limit_of(matches)) {
         Ok(text) => {

@@ -2,7 +2,7 @@
 
 use anyhow::{Result, bail};
 use clap::ArgMatches;
-use lint_reports::codes::unknown_lint;
+use lint_reports::codes::unknown_subject;
 use lint_reports::{Rule, Setting, Subject, Weight};
 use std::alloc::Global;
 
@@ -38,7 +38,7 @@ fn rule_of(alloc: Global, setting: Setting, word: &str) -> Result<Rule> {
             entry: None,
         }),
         None => {
-            let message = unknown_lint(alloc, word)?;
+            let message = unknown_subject(alloc, word)?;
             bail!("{message}");
         }
     }

@@ -4,8 +4,8 @@ use cargo_platform::shown_text;
 use clap::ArgMatches;
 use input_limits::{LIMIT, Unusable, file_within, given_within};
 use key_answers::answer::Refusal;
-use std::alloc::Global;
-use std::io;
+use std::alloc::{AllocError, Global};
+use std::io::{self, ErrorKind};
 use std::rt::Files;
 
 /// Returns the number of bytes that an input may have.
@@ -23,6 +23,9 @@ fn text_read(
     match read {
         Ok(text) => Ok(text),
         Err(error) => {
+            if error.kind() == ErrorKind::OutOfMemory {
+                return Err(Refusal::Memory(AllocError));
+            }
             let unusable = Unusable::refused(alloc, shown_text(alloc, file)?, &error, limit)?;
             Err(Refusal::Unusable(unusable.line(alloc)?))
         }

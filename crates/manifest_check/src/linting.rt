@@ -1,6 +1,9 @@
 //! `lint`: the diagnostics on manifests and configurations.
 
+mod unusable;
+
 use crate::declaring::declare;
+use crate::fixing::{Fixes, Fixing, fix_file};
 use crate::other_rustc::{OtherRustc, declare_by, given_formers, judge_by};
 use crate::roots::{Root, is_unneeded};
 use cargo_configuration::{
@@ -8,23 +11,22 @@ use cargo_configuration::{
     manifest_with_targets,
 };
 use cargo_platform::{shown_start, shown_text};
-use input_limits::without_mark;
+use input_limits::{Unusable, without_mark};
 use key_answers::answer::{Answer, Status};
 use lint_reports::{
     Counts, Diagnostic, Formers, Printed, Project, Reported, Rule, Settings, Style, Weighed,
     Weight, diagnostic_of, diagnostic_of_fault, diagnostic_of_unneeded, diagnostic_of_wrong,
-    settings_at, status_of, weight_by_each, wrong_fields,
+    status_of, weight_by_each, wrong_fields,
 };
-use manifest_answers::cargo_refuses::Rejected;
-use manifest_answers::deep::first_deep;
-use manifest_answers::taking::{Taken, manifest_at, taken_at};
 use manifest_lints::{Code, Finding, Report, Words, lint};
 use manifest_lints_findings::{WrongPlace, wrong_places};
 use manifests::places::Places;
-use manifests::reading::{Manifest, ReadError};
+use manifests::reading::Manifest;
 use std::alloc::{AllocError, Global};
+use std::mem;
 use std::rt::{Env, Files};
 use toml::Table;
+use unusable::{manifest_taken, tell_without_place, usable_at};
 use workspaces::{Documents, shorter};
 
 /// The options of `lint`.
@@ -45,6 +47,18 @@ pub struct Asked {
     pub is_whole: bool,
     /// The rustc whose targets and facts count instead of the built-in ones.
     pub other: Option<OtherRustc>,
+    /// How suggestions are applied, if `--fix` is given.
+    pub fixing: Option<Fixing>,
+}
+
+impl Asked {
+    /// Returns whether diagnostics are printed, and not a diff alone.
+    fn prints(&self) -> bool {
+        match self.fixing {
+            Some(fixing) => !fixing.is_dry,
+            None => true,
+        }
+    }
 }
 
 /// The tables of a manifest whose metadata contain rules.
@@ -69,6 +83,8 @@ struct Telling<'a> {
     counts: Counts,
     printed: Printed,
     answer: Answer,
+    /// The fixes of diagnostics, if these are collected, and nothing is reported.
+    fixes: Option<Fixes>,
 }
 
 /// A manifest to whose text diagnostics point.
@@ -76,7 +92,20 @@ struct Telling<'a> {
 struct Source<'a> {
     /// The path, as it is displayed.
     path: &'a str,
-    places: &'a Places,
+    text: &'a str,
+}
+
+/// Returns the level of a diagnostic after the rules. They do not change that of one without a lint.
+fn weight_of(rules: &Rules<'_>, diagnostic: &Diagnostic) -> Weight {
+    match diagnostic.weighed() {
+        Some(weighed) => weight_by_each(
+            rules.of_workspace,
+            rules.of_package,
+            rules.of_command,
+            &weighed,
+        ),
+        None => diagnostic.weight,
+    }
 }
 
 impl<'a> Telling<'a> {
@@ -88,23 +117,34 @@ impl<'a> Telling<'a> {
         source: &Source<'_>,
         diagnostic: &Diagnostic,
     ) -> Result<(), AllocError> {
-        let weight = weight_by_each(
-            rules.of_workspace,
-            rules.of_package,
-            rules.of_command,
-            &diagnostic.weighed(),
-        );
+        let weight = weight_of(rules, diagnostic);
         if weight == Weight::Allowed {
             return Ok(());
         }
+        if let Some(fixes) = &mut self.fixes {
+            return fixes.add(alloc, source.text, diagnostic);
+        }
+        self.report(alloc, weight, source, diagnostic)
+    }
+
+    /// Prints a diagnostic of this level, and counts it.
+    fn report(
+        &mut self,
+        alloc: Global,
+        weight: Weight,
+        source: &Source<'_>,
+        diagnostic: &Diagnostic,
+    ) -> Result<(), AllocError> {
         let reported = Reported {
             diagnostic,
             weight,
             path: source.path,
-            text: source.places.text.as_str(),
+            text: source.text,
         };
-        self.printed
-            .push(&mut self.answer.output, alloc, &reported)?;
+        if self.asked.prints() {
+            self.printed
+                .push(&mut self.answer.output, alloc, &reported)?;
+        }
         self.counts.add(weight);
         self.answer.raise(status_of(weight, self.asked.fails_from));
         Ok(())
@@ -142,7 +182,7 @@ impl<'a> Telling<'a> {
         let found = found_in_root(alloc, root, &places, is_whole)?;
         let source = Source {
             path: path.as_str(),
-            places: &places,
+            text: places.text.as_str(),
         };
         self.tell_rules(alloc, &rules, &source, &found)
     }
@@ -166,7 +206,7 @@ impl<'a> Telling<'a> {
         };
         let source = Source {
             path: manifest.path.as_str(),
-            places: &manifest.document.places,
+            text: manifest.document.places.text.as_str(),
         };
         self.tell_rules(alloc, &rules, &source, found)?;
         let places = &manifest.document.places;
@@ -267,7 +307,9 @@ impl<'a> Telling<'a> {
 fn weighed_in(alloc: Global, found: &[Diagnostic]) -> Result<Vec<Weighed<'_>>, AllocError> {
     let mut weighed = Vec::new(alloc);
     for diagnostic in found {
-        weighed.push(diagnostic.weighed())?;
+        if let Some(it) = diagnostic.weighed() {
+            weighed.push(it)?;
+        }
     }
     Ok(weighed)
 }
@@ -386,90 +428,6 @@ fn declare_formers(
     Ok(formers)
 }
 
-/// Returns a manifest, unless a key is nested too deep, which is reported.
-fn usable(
-    alloc: Global,
-    manifest: Manifest,
-    telling: &mut Telling<'_>,
-) -> Result<Option<Manifest>, AllocError> {
-    match first_deep(alloc, &manifest)? {
-        Some(deep) => {
-            let line = deep.line(alloc)?;
-            telling.answer.append(Answer::unusable(alloc, line))?;
-            Ok(None)
-        }
-        None => Ok(Some(manifest)),
-    }
-}
-
-/// Reports that a manifest can't be used.
-fn tell_unusable(
-    alloc: Global,
-    error: ReadError,
-    telling: &mut Telling<'_>,
-) -> Result<(), AllocError> {
-    match error {
-        ReadError::Unusable(unusable) => {
-            let line = unusable.line(alloc)?;
-            telling.answer.append(Answer::unusable(alloc, line))
-        }
-        ReadError::Memory(refused) => Err(refused),
-    }
-}
-
-/// Returns the configuration at a path. If it can't be used, this is reported and `None` returned.
-fn usable_at<R: Files + Input + AllocGlobal>(
-    rt: &R,
-    path: &str,
-    telling: &mut Telling<'_>,
-) -> Result<Option<Manifest>, AllocError> {
-    let alloc = rt.alloc();
-    match manifest_at(rt, &mut telling.documents, path, true) {
-        Ok(manifest) => usable(alloc, manifest, telling),
-        Err(error) => {
-            tell_unusable(alloc, error, telling)?;
-            Ok(None)
-        }
-    }
-}
-
-/// Reports what Cargo rejects in a manifest, unless a lint reports it.
-fn tell_rejected(
-    alloc: Global,
-    path: &str,
-    rejected: &Option<Rejected>,
-    telling: &mut Telling<'_>,
-) -> Result<(), AllocError> {
-    let Some(rejected) = rejected else {
-        return Ok(());
-    };
-    if rejected.is_lint {
-        return Ok(());
-    }
-    let line = rejected.text(alloc, path)?;
-    telling.answer.append(Answer::unusable(alloc, line))
-}
-
-/// Returns the manifest at a path, with what it inherits from the root of its workspace in its place. What Cargo
-/// rejects in it is reported, and so is a manifest that can't be used, for which `None` is returned.
-fn manifest_taken<R: Files + Input + Env + AllocGlobal>(
-    rt: &R,
-    path: &str,
-    telling: &mut Telling<'_>,
-) -> Result<Option<Manifest>, AllocError> {
-    let alloc = rt.alloc();
-    match taken_at(rt, &mut telling.documents, path, true) {
-        Ok(Taken { manifest, rejected }) => {
-            tell_rejected(alloc, manifest.path.as_str(), &rejected, telling)?;
-            usable(alloc, manifest, telling)
-        }
-        Err(error) => {
-            tell_unusable(alloc, error, telling)?;
-            Ok(None)
-        }
-    }
-}
-
 /// Lints a manifest, with the targets of another rustc if `--facts-of` is given.
 fn report_on<'m>(
     alloc: Global,
@@ -492,6 +450,7 @@ fn lint_configuration<R: Files + Input + AllocGlobal>(
 ) -> Result<(), AllocError> {
     let alloc = rt.alloc();
     let Some(mut manifest) = usable_at(rt, path, telling)? else {
+        telling.counts.add_unread_configuration();
         return Ok(());
     };
     let wrong = wrong_fields(alloc, &manifest.document.table)?;
@@ -530,12 +489,13 @@ fn lint_at<R: Files + Input + Env + AllocGlobal>(
 ) -> Result<(), AllocError> {
     let alloc = rt.alloc();
     let Some(mut manifest) = manifest_taken(rt, path, telling)? else {
+        telling.counts.add_unread_manifest();
         return Ok(());
     };
     let table = &mut manifest.document.table;
     root.put_lints(alloc, table)?;
     declare(alloc, table, &root.settings.facts)?;
-    let settings = Settings::of(alloc, settings_at(table, PACKAGE))?;
+    let settings = Settings::in_part(alloc, table, PACKAGE)?;
     declare(alloc, table, &settings.facts)?;
     declare_by(alloc, &telling.asked.other, table)?;
     let project = Project {
@@ -554,6 +514,72 @@ fn lint_at<R: Files + Input + Env + AllocGlobal>(
         wrong,
     };
     tell_report(alloc, root, telling, &manifest, &report, &beside)
+}
+
+/// Lints a file, a configuration or a manifest.
+fn lint_file<R: Files + Input + Env + AllocGlobal>(
+    rt: &R,
+    path: &str,
+    words: &Words,
+    root: &mut Root,
+    telling: &mut Telling<'_>,
+) -> Result<(), AllocError> {
+    if is_configuration(path) {
+        lint_configuration(rt, path, words, root, telling)
+    } else {
+        lint_at(rt, path, words, root, telling)
+    }
+}
+
+/// Returns the fixes of the diagnostics on a file, which are not reported.
+fn fixes_for<R: Files + Input + Env + AllocGlobal>(
+    rt: &R,
+    path: &str,
+    words: &Words,
+    root: &mut Root,
+    telling: &mut Telling<'_>,
+) -> Result<Option<Fixes>, AllocError> {
+    let alloc = rt.alloc();
+    let Some(fixing) = telling.asked.fixing else {
+        return Ok(None);
+    };
+    let needed = root.needed.clone()?;
+    let none = Documents::new(alloc, telling.documents.limit);
+    let mut collecting = Telling {
+        asked: telling.asked,
+        documents: mem::replace(&mut telling.documents, none),
+        counts: Counts::none(),
+        printed: Printed::new(alloc, telling.asked.style),
+        answer: Answer::of(alloc, String::new(alloc), Status::Fine),
+        fixes: Some(Fixes::new(alloc, fixing)),
+    };
+    lint_file(rt, path, words, root, &mut collecting)?;
+    let Telling {
+        asked: _,
+        documents,
+        counts: _,
+        printed: _,
+        answer: _,
+        fixes,
+    } = collecting;
+    telling.documents = documents;
+    root.needed = needed;
+    Ok(fixes)
+}
+
+/// Applies the fixes for a file, if `--fix` is given, and lints the file.
+fn lint_fixed<R: Files + Input + Env + AllocGlobal>(
+    rt: &R,
+    path: &str,
+    words: &Words,
+    root: &mut Root,
+    telling: &mut Telling<'_>,
+) -> Result<(), AllocError> {
+    if let Some(fixes) = fixes_for(rt, path, words, root, telling)? {
+        let answer = fix_file(rt, &mut telling.documents, path, fixes)?;
+        telling.answer.append(answer)?;
+    }
+    lint_file(rt, path, words, root, telling)
 }
 
 /// Returns whether one of the paths leads to the file.
@@ -579,11 +605,8 @@ fn lint_named<R: Files + Input + Env + AllocGlobal>(
     telling: &mut Telling<'_>,
 ) -> Result<(), AllocError> {
     let alloc = rt.alloc();
-    if is_configuration(path) {
-        return lint_configuration(rt, path, words, root, telling);
-    }
-    lint_at(rt, path, words, root, telling)?;
-    if !root.is_at(alloc, path)? {
+    lint_fixed(rt, path, words, root, telling)?;
+    if is_configuration(path) || !root.is_at(alloc, path)? {
         return Ok(());
     }
     root.is_asked = true;
@@ -592,7 +615,7 @@ fn lint_named<R: Files + Input + Env + AllocGlobal>(
             if has_path(alloc, paths, file.as_str())? {
                 return Ok(());
             }
-            lint_configuration(rt, file.as_str(), words, root, telling)
+            lint_fixed(rt, file.as_str(), words, root, telling)
         }
         None => Ok(()),
     }
@@ -606,16 +629,18 @@ fn manifest_of(alloc: Global, path: &str) -> Result<String, AllocError> {
     String::from_str(alloc, path)
 }
 
-/// Lints the selected files in their order. Manifests in `documents` are not read again.
+/// Reports each thing that can't be used, and then lints the selected files in their order. Manifests in `documents`
+/// are not read again.
 pub fn lint_each<R: Files + Input + Env + AllocGlobal>(
     rt: &R,
     paths: &[&str],
+    unusable: &[Unusable],
     asked: &Asked,
     documents: Documents,
 ) -> Result<Answer, AllocError> {
     let alloc = rt.alloc();
     let words = Words::new(alloc)?;
-    let printed = Printed::new(asked.style);
+    let printed = Printed::new(alloc, asked.style);
     let begin = printed.begin(alloc, asked.version.as_str())?;
     let mut telling = Telling {
         asked,
@@ -623,7 +648,11 @@ pub fn lint_each<R: Files + Input + Env + AllocGlobal>(
         counts: Counts::none(),
         printed,
         answer: Answer::of(alloc, begin, Status::Fine),
+        fixes: None,
     };
+    for it in unusable {
+        tell_without_place(alloc, &it.file, it.reason.clone()?, &mut telling)?;
+    }
     let mut root = Root::none(alloc)?;
     for path in paths {
         let manifest = manifest_of(alloc, path)?;
@@ -641,8 +670,9 @@ pub fn lint_each<R: Files + Input + Env + AllocGlobal>(
         counts,
         printed,
         mut answer,
+        fixes: _,
     } = telling;
-    answer.output.push_str(printed.end())?;
+    answer.output.push_str(printed.end(alloc)?.as_str())?;
     if !asked.is_quiet {
         let line = counts.line(alloc)?;
         answer.errors.push_str(line.as_str())?;

@@ -4,12 +4,14 @@
 mod asking;
 mod declaring;
 mod explaining;
+mod fixing;
 mod graphs;
 mod levels;
 mod limits;
 mod linting;
 mod named;
 mod other_rustc;
+mod replacing;
 mod roots;
 mod styles;
 mod target_names;

@@ -2,7 +2,7 @@
 
 use former_names::Release;
 use input_limits::INPUT;
-use lint_reports::{Rule, Setting, Settings, Weighed, settings_at};
+use lint_reports::{Rule, Setting, Settings, Weighed};
 use std::alloc::{AllocError, Global};
 use std::rt::{Env, Files};
 use toml::{Table, Value};
@@ -23,9 +23,17 @@ pub struct Root {
     pub hides_lints: bool,
 }
 
+/// Returns the table of the manifest of a root, if it has a workspace.
+fn table_of(document: Option<&Document>) -> Option<&Table> {
+    document?.table_with("workspace")
+}
+
 /// Returns what the manifest of a root sets for its workspace.
-fn settings_in(document: Option<&Document>) -> Option<&Value> {
-    settings_at(document?.table_with("workspace")?, "workspace")
+fn settings_in(alloc: Global, document: Option<&Document>) -> Result<Settings, AllocError> {
+    match table_of(document) {
+        Some(table) => Settings::in_part(alloc, table, "workspace"),
+        None => Settings::of(alloc, None),
+    }
 }
 
 /// Returns the rules of a root, and for each that no diagnostic needs it yet.
@@ -33,7 +41,7 @@ fn settings_of(
     alloc: Global,
     document: Option<&Document>,
 ) -> Result<(Settings, Vec<bool>), AllocError> {
-    let settings = Settings::of(alloc, settings_in(document))?;
+    let settings = settings_in(alloc, document)?;
     let mut needed = Vec::new(alloc);
     for _ in &settings.rules {
         needed.push(false)?;

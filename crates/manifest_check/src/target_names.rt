@@ -1,7 +1,7 @@
 //! The targets that a command line selects, with the facts that compiler flags add to each.
 
 use crate::limits::limit_of;
-use cargo_configuration::{FlagFacts, FlaggedTarget, flag_facts};
+use cargo_configuration::{FlagFacts, FlaggedTarget, SharedFlags, flag_facts};
 use clap::ArgMatches;
 use key_answers::answer::Refusal;
 use key_answers::targets::names_of;
@@ -74,6 +74,21 @@ pub struct Flagged {
 }
 
 impl Flagged {
+    /// Adds a target with the facts of `--cfg` and those that flags set.
+    fn add(
+        &mut self,
+        alloc: Global,
+        name: &String,
+        added: &[&str],
+        flags: &FlagFacts,
+    ) -> Result<(), AllocError> {
+        self.targets.push(Target {
+            name: name.clone()?,
+            added: added_by(alloc, added, flags)?,
+        })?;
+        self.add_notes(flags.notes.as_str())
+    }
+
     /// Appends those of some lines that are not present.
     fn add_notes(&mut self, notes: &str) -> Result<(), AllocError> {
         for note in notes.lines() {
@@ -86,38 +101,46 @@ impl Flagged {
     }
 }
 
-/// Returns the facts that compiler flags set for a target, unless `--no-config` is given.
-fn flags_of<R: Files + Input + Env + AllocGlobal>(
+/// Returns the flags that the environment and Cargo's configuration set, unless `--no-config` is given.
+fn flags_at_hand<R: Files + Input + Env + AllocGlobal>(
     rt: &R,
     matches: &ArgMatches<'_>,
+) -> Result<Option<SharedFlags>, Refusal> {
+    if matches.get_flag("no-config") {
+        return Ok(None);
+    }
+    Ok(Some(SharedFlags::read(rt, limit_of(matches))?))
+}
+
+/// Returns the facts that compiler flags set for a target, if flags count.
+fn facts_of_flags<R: Env + AllocGlobal>(
+    rt: &R,
+    matches: &ArgMatches<'_>,
+    shared: &Option<SharedFlags>,
     name: &str,
     from: FactsFrom<'_>,
-) -> Result<FlagFacts, Refusal> {
-    if matches.get_flag("no-config") {
+) -> Result<FlagFacts, AllocError> {
+    let Some(shared) = shared else {
         return Ok(FlagFacts::none(rt.alloc()));
-    }
+    };
     let target = FlaggedTarget {
         name,
         facts_from: from,
         added: matches.get_strs("cfg").unwrap_or(&[]),
     };
-    flag_facts(rt, &target, limit_of(matches))
+    flag_facts(rt, shared, &target)
 }
 
 /// Returns the facts of `--cfg`, followed by those that flags set.
-fn added_by(
-    alloc: Global,
-    matches: &ArgMatches<'_>,
-    flags: &FlagFacts,
-) -> Result<Vec<String>, AllocError> {
-    let mut added = Vec::new(alloc);
-    for fact in matches.get_strs("cfg").unwrap_or(&[]) {
-        added.push(String::from_str(alloc, fact)?)?;
+fn added_by(alloc: Global, added: &[&str], flags: &FlagFacts) -> Result<Vec<String>, AllocError> {
+    let mut facts = Vec::new(alloc);
+    for fact in added {
+        facts.push(String::from_str(alloc, fact)?)?;
     }
     for fact in &flags.facts {
-        added.push(fact.clone()?)?;
+        facts.push(fact.clone()?)?;
     }
-    Ok(added)
+    Ok(facts)
 }
 
 /// Returns the targets of these names with the facts that are added to each. Fails if a configuration is invalid.
@@ -132,14 +155,11 @@ pub fn flagged_targets<R: Files + Input + Env + AllocGlobal>(
         targets: Vec::new(alloc),
         notes: String::new(alloc),
     };
+    let added = matches.get_strs("cfg").unwrap_or(&[]);
+    let shared = flags_at_hand(rt, matches)?;
     for name in names {
-        let flags = flags_of(rt, matches, name.as_str(), from)?;
-        let target = Target {
-            name: name.clone()?,
-            added: added_by(alloc, matches, &flags)?,
-        };
-        flagged.targets.push(target).map_err(AllocError::from)?;
-        flagged.add_notes(flags.notes.as_str())?;
+        let flags = facts_of_flags(rt, matches, &shared, name.as_str(), from)?;
+        flagged.add(alloc, name, added, &flags)?;
     }
     Ok(flagged)
 }

@@ -1,5 +1,6 @@
 //! The arguments of the command line.
 
+use command_line::arguments::without_cargo_name;
 use std::alloc::AllocError;
 use std::env::FillError;
 use std::rt::Env;
@@ -36,4 +37,45 @@ pub fn words_given<R: Env + AllocGlobal>(rt: &R) -> Result<Vec<String>, AllocErr
         }
     }
     Ok(words)
+}
+
+/// Returns whether a shell reads a word as it is.
+fn is_plain(word: &str) -> bool {
+    for c in word.chars() {
+        if !c.is_ascii_alphanumeric()
+            && !matches!(c, '_' | '-' | '.' | '/' | ':' | '=' | ',' | '@' | '+' | '%')
+        {
+            return false;
+        }
+    }
+    !word.is_empty()
+}
+
+/// Appends a space and a word, quoted if a shell does not read it as it is.
+fn push_word(text: &mut String, word: &str) -> Result<(), AllocError> {
+    if is_plain(word) {
+        text.push_str(" ")?;
+        return text.push_str(word);
+    }
+    text.push_str(" '")?;
+    for c in word.chars() {
+        if c == '\'' {
+            text.push_str("'\\''")?;
+        } else {
+            text.push(c)?;
+        }
+    }
+    text.push_str("'")
+}
+
+/// Returns the command line as a shell reads it, with the name of the program for the path that was given.
+pub fn command_given<R: Env + AllocGlobal>(rt: &R) -> Result<String, AllocError> {
+    let alloc = rt.alloc();
+    let mut words = words_given(rt)?;
+    without_cargo_name(alloc, &mut words)?;
+    let mut text = String::from_str(alloc, "manifest_check")?;
+    for i in 1..words.len() {
+        push_word(&mut text, words[i].as_str())?;
+    }
+    Ok(text)
 }

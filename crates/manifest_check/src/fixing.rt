@@ -1,0 +1,442 @@
+//! `lint --fix`: the suggestions of diagnostics, applied to a manifest.
+
+use crate::replacing::{CHANGED, FileChange, text_read, write_change};
+use cargo_platform::shown_text;
+use input_limits::without_mark;
+use key_answers::answer::{Answer, Status};
+use lint_reports::{Diagnostic, Replacement, replacement_of};
+use std::alloc::{AllocError, Global};
+use std::collections::{BTreeMap, BTreeSet};
+use std::rt::Files;
+use text_edits::{Edit, apply, unified_diff};
+use toml::{Table, Value};
+use toml_parser::ParseError;
+use toml_spans::{Span, name_at_front};
+use workspaces::{Documents, table_in, table_of};
+
+/// The options that go with `--fix`.
+#[derive(Clone, Copy, Drop)]
+pub struct Fixing {
+    /// True if a diff is printed, and nothing is written.
+    pub is_dry: bool,
+    /// True if suggestions that may change what a manifest means are applied too.
+    pub is_unsafe: bool,
+    /// True if fixed files are not named.
+    pub is_quiet: bool,
+}
+
+/// A name to write in place of another one, wherever a manifest spells that.
+#[derive(Drop)]
+struct Fix {
+    from: String,
+    to: String,
+    /// True for a key of `target`, and false for the name of another table.
+    is_key: bool,
+    /// The places of the name, the first one first.
+    spans: Vec<Span>,
+    /// The new name as the manifest spells it.
+    text: String,
+}
+
+/// The fixes for a manifest.
+#[derive(Drop)]
+pub struct Fixes {
+    fixing: Fixing,
+    /// The text of the manifest.
+    text: String,
+    fixes: Vec<Fix>,
+}
+
+/// A manifest after fixes.
+#[derive(Drop)]
+struct FixedText {
+    text: String,
+    table: Table,
+    edits: Vec<Edit>,
+    /// The number of fixes that were applied.
+    count: usize,
+}
+
+/// What fixes make of a manifest.
+#[derive(Drop)]
+enum Outcome {
+    /// There is no fix to apply.
+    Unchanged,
+    Fixed(FixedText),
+    /// The fixes are not applied, for this reason.
+    Refused(&'static str),
+}
+
+/// Returns the name that a whole text spells, or `None` if it spells none.
+fn spelled_name(alloc: Global, text: &str) -> Result<Option<String>, AllocError> {
+    match name_at_front(alloc, text) {
+        Ok((name, rest)) => Ok(if rest.is_empty() { Some(name) } else { None }),
+        Err(ParseError::OutOfMemory) => Err(AllocError),
+        Err(ParseError::At(_, _, _)) => Ok(None),
+    }
+}
+
+/// Returns the name that the text of a manifest spells at a place.
+fn name_at(alloc: Global, text: &str, span: Span) -> Result<Option<String>, AllocError> {
+    match span.text_in(text) {
+        Some(spelled) => spelled_name(alloc, spelled),
+        None => Ok(None),
+    }
+}
+
+/// Returns the places of a replacement, if the text spells this name at each of them.
+fn spans_of(
+    alloc: Global,
+    text: &str,
+    replacement: &Replacement,
+    from: &str,
+) -> Result<Option<Vec<Span>>, AllocError> {
+    let mut spans = Vec::new(alloc);
+    spans.push(replacement.at.span)?;
+    for at in &replacement.also_at {
+        match name_at(alloc, text, at.span)? {
+            Some(name) if name.as_str() == from => spans.push(at.span)?,
+            _ => return Ok(None),
+        }
+    }
+    Ok(Some(spans))
+}
+
+impl Fix {
+    /// Returns the fix of a replacement in a text, if it replaces a name by a name.
+    fn of(
+        alloc: Global,
+        text: &str,
+        replacement: Replacement,
+        is_key: bool,
+    ) -> Result<Option<Fix>, AllocError> {
+        let Some(from) = name_at(alloc, text, replacement.at.span)? else {
+            return Ok(None);
+        };
+        let Some(to) = spelled_name(alloc, replacement.text.as_str())? else {
+            return Ok(None);
+        };
+        match spans_of(alloc, text, &replacement, from.as_str())? {
+            Some(spans) => Ok(Some(Fix {
+                from,
+                to,
+                is_key,
+                spans,
+                text: replacement.text,
+            })),
+            None => Ok(None),
+        }
+    }
+}
+
+impl Fixes {
+    /// Returns no fixes.
+    pub fn new(alloc: Global, fixing: Fixing) -> Fixes {
+        Fixes {
+            fixing,
+            text: String::new(alloc),
+            fixes: Vec::new(alloc),
+        }
+    }
+
+    /// Adds the fix of a diagnostic on a manifest with this text, if it has one that is to be applied.
+    pub fn add(
+        &mut self,
+        alloc: Global,
+        text: &str,
+        diagnostic: &Diagnostic,
+    ) -> Result<(), AllocError> {
+        let Some(replacement) = replacement_of(alloc, diagnostic)? else {
+            return Ok(());
+        };
+        if !replacement.is_sure() && !self.fixing.is_unsafe {
+            return Ok(());
+        }
+        let is_key = diagnostic.key().is_some();
+        if let Some(fix) = Fix::of(alloc, text, replacement, is_key)? {
+            if self.fixes.is_empty() {
+                self.text = String::from_str(alloc, text)?;
+            }
+            self.fixes.push(fix)?;
+        }
+        Ok(())
+    }
+}
+
+/// Returns whether `target` of a manifest has a key.
+fn has_key(manifest: &Table, name: &str) -> bool {
+    match table_in(manifest, "target") {
+        Some(keys) => keys.get(name).is_some(),
+        None => false,
+    }
+}
+
+/// The places and the keys of the fixes that are chosen so far.
+#[derive(Drop)]
+struct Taken {
+    starts: BTreeSet<usize>,
+    keys: BTreeSet<String>,
+}
+
+impl Taken {
+    /// Records a fix, unless its place is taken, or it gives a key the name of another key. Returns whether it is
+    /// recorded.
+    fn add(&mut self, manifest: &Table, fix: &Fix) -> Result<bool, AllocError> {
+        let Some(first) = fix.spans.first() else {
+            return Ok(false);
+        };
+        let to = fix.to.as_str();
+        if self.starts.contains(&first.start) {
+            return Ok(false);
+        }
+        if fix.is_key && (has_key(manifest, to) || self.keys.contains(to)) {
+            return Ok(false);
+        }
+        let _is_new = self.starts.insert(first.start)?;
+        if fix.is_key {
+            let _is_new = self.keys.insert(fix.to.clone()?)?;
+        }
+        Ok(true)
+    }
+}
+
+/// Returns the fixes that can be applied together to a manifest: of several at one place the first one, and none that
+/// gives a key of `target` the name of another key.
+fn chosen_fixes(alloc: Global, fixes: Vec<Fix>, manifest: &Table) -> Result<Vec<Fix>, AllocError> {
+    let mut taken = Taken {
+        starts: BTreeSet::new(alloc),
+        keys: BTreeSet::new(alloc),
+    };
+    let mut chosen = Vec::new(alloc);
+    for fix in fixes {
+        if taken.add(manifest, &fix)? {
+            chosen.push(fix)?;
+        }
+    }
+    Ok(chosen)
+}
+
+/// Returns the edits of fixes, in the order of the text, which has so many bytes before the text of the fixes.
+fn edits_of(alloc: Global, fixes: &[Fix], before: usize) -> Result<Vec<Edit>, AllocError> {
+    let mut edits: Vec<Edit> = Vec::new(alloc);
+    for fix in fixes {
+        for span in &fix.spans {
+            edits.push(Edit {
+                start: span.start.saturating_add(before),
+                end: span.end.saturating_add(before),
+                text: fix.text.clone()?,
+            })?;
+        }
+    }
+    edits.sort_by_key(|it| it.start)?;
+    Ok(edits)
+}
+
+/// The new names of fixes, by the old ones.
+type Renames = BTreeMap<String, String>;
+
+/// Returns the new names of fixes, by the old ones.
+fn renames_of(alloc: Global, fixes: &[Fix]) -> Result<Renames, AllocError> {
+    let mut renames = BTreeMap::new(alloc);
+    for fix in fixes {
+        let _before = renames.insert(fix.from.clone()?, fix.to.clone()?)?;
+    }
+    Ok(renames)
+}
+
+/// Returns the member of a fixed table that had this name before.
+fn renamed<'a>(renames: &Renames, fixed: &'a Table, name: &str) -> Option<&'a Value> {
+    if let Some(value) = fixed.get(name) {
+        return Some(value);
+    }
+    match renames.get(name) {
+        Some(to) => fixed.get(to.as_str()),
+        None => None,
+    }
+}
+
+/// Returns whether a fixed value is the same but for new names of its members.
+fn is_same_key(value: &Value, fixed: &Value, renames: &Renames) -> bool {
+    let (Some(table), Some(fixed_table)) = (value.as_table(), fixed.as_table()) else {
+        return *value == *fixed;
+    };
+    if table.len() != fixed_table.len() {
+        return false;
+    }
+    for (name, member) in table.iter() {
+        match renamed(renames, fixed_table, name.as_str()) {
+            Some(other) if *member == *other => {}
+            _ => return false,
+        }
+    }
+    true
+}
+
+/// Returns whether a fixed `target` is the same but for new names of keys, and of their members.
+fn is_same_target(value: &Value, fixed: &Value, renames: &Renames) -> bool {
+    let (Some(keys), Some(fixed_keys)) = (value.as_table(), fixed.as_table()) else {
+        return *value == *fixed;
+    };
+    if keys.len() != fixed_keys.len() {
+        return false;
+    }
+    for (name, key) in keys.iter() {
+        match renamed(renames, fixed_keys, name.as_str()) {
+            Some(other) if is_same_key(key, other, renames) => {}
+            _ => return false,
+        }
+    }
+    true
+}
+
+/// Returns whether a fixed manifest is the same but for new names of its tables, of the keys of `target`, and of the
+/// tables below these.
+fn is_same_manifest(manifest: &Table, fixed: &Table, renames: &Renames) -> bool {
+    if manifest.len() != fixed.len() {
+        return false;
+    }
+    for (name, value) in manifest.iter() {
+        let is_same = match renamed(renames, fixed, name.as_str()) {
+            Some(other) if name.as_str() == "target" => is_same_target(value, other, renames),
+            Some(other) => *value == *other,
+            None => false,
+        };
+        if !is_same {
+            return false;
+        }
+    }
+    true
+}
+
+/// Applies fixes to a text, with or without a byte order mark, unless it is then another document.
+fn fixed_text(alloc: Global, text: &str, fixes: Vec<Fix>) -> Result<Outcome, AllocError> {
+    let Some(manifest) = table_of(alloc, text)? else {
+        return Ok(Outcome::Unchanged);
+    };
+    let fixes = chosen_fixes(alloc, fixes, &manifest)?;
+    if fixes.is_empty() {
+        return Ok(Outcome::Unchanged);
+    }
+    let mark = text.len().saturating_sub(without_mark(text).len());
+    let edits = edits_of(alloc, &fixes, mark)?;
+    let fixed = apply(alloc, text, &edits)?.text;
+    let Some(table) = table_of(alloc, fixed.as_str())? else {
+        return Ok(Outcome::Refused("the fixed text would not be TOML"));
+    };
+    if !is_same_manifest(&manifest, &table, &renames_of(alloc, &fixes)?) {
+        return Ok(Outcome::Refused("the fixed text would be another document"));
+    }
+    Ok(Outcome::Fixed(FixedText {
+        text: fixed,
+        table,
+        edits,
+        count: fixes.len(),
+    }))
+}
+
+/// Formats the line that names a fixed file, as Cargo does.
+fn fixed_line(alloc: Global, path: &str, count: usize) -> Result<String, AllocError> {
+    let path = shown_text(alloc, path)?;
+    let end = if count == 1 { "" } else { "es" };
+    format!(in alloc; "       Fixed {path} ({count} fix{end})\n")
+}
+
+/// Returns the answer that a file is not fixed, for this reason.
+fn not_fixed(alloc: Global, path: &str, reason: &str) -> Result<Answer, AllocError> {
+    let path = shown_text(alloc, path)?;
+    let line = format!(in alloc; "{path}: error: nothing is fixed: {reason}\n")?;
+    Ok(Answer::unusable(alloc, line))
+}
+
+/// Returns the diff of a file that would be fixed.
+fn diff_of(alloc: Global, path: &str, text: &str, fixed: &FixedText) -> Result<Answer, AllocError> {
+    let path = path.strip_prefix("./").unwrap_or(path);
+    let diff = unified_diff(alloc, path, text, fixed.text.as_str(), &fixed.edits)?;
+    Ok(Answer::of(alloc, diff, Status::Fine))
+}
+
+/// Writes a fixed file, and returns the line that names it; or the reason why it is not written.
+fn written<R: Files + AllocGlobal>(
+    rt: &R,
+    path: &str,
+    change: &FileChange<'_>,
+    count: usize,
+) -> Result<Answer, AllocError> {
+    let alloc = rt.alloc();
+    if let Some(reason) = write_change(rt, path, change)? {
+        return not_fixed(alloc, path, reason.as_str());
+    }
+    let mut answer = Answer::of(alloc, String::new(alloc), Status::Fine);
+    answer.errors = fixed_line(alloc, path, count)?;
+    Ok(answer)
+}
+
+/// Applies fixes to the text of a file: writes it, or prints a diff, and puts what it then contains into `documents`.
+fn fix_text<R: Files + AllocGlobal>(
+    rt: &R,
+    documents: &mut Documents,
+    path: &str,
+    before: &str,
+    fixes: Fixes,
+) -> Result<Answer, AllocError> {
+    let alloc = rt.alloc();
+    let Fixes {
+        fixing,
+        text: _text,
+        fixes,
+    } = fixes;
+    let fixed = match fixed_text(alloc, before, fixes)? {
+        Outcome::Unchanged => return Ok(Answer::of(alloc, String::new(alloc), Status::Fine)),
+        Outcome::Refused(reason) => return not_fixed(alloc, path, reason),
+        Outcome::Fixed(fixed) => fixed,
+    };
+    let answer = if fixing.is_dry {
+        diff_of(alloc, shown_text(alloc, path)?.as_str(), before, &fixed)?
+    } else {
+        let after = fixed.text.as_str();
+        let limit = documents.limit;
+        let change = FileChange {
+            before,
+            after,
+            limit,
+        };
+        written(rt, path, &change, fixed.count)?
+    };
+    if answer.status != Status::Fine {
+        return Ok(answer);
+    }
+    let FixedText {
+        text,
+        table,
+        edits: _edits,
+        count: _count,
+    } = fixed;
+    documents.put(rt, path, text, Some(table))?;
+    Ok(answer)
+}
+
+/// Applies fixes to the file at a path: writes it, or prints a diff, and puts what it then contains into `documents`. A
+/// file that can't be fixed as a whole stays as it is, which is reported.
+pub fn fix_file<R: Files + AllocGlobal>(
+    rt: &R,
+    documents: &mut Documents,
+    path: &str,
+    fixes: Fixes,
+) -> Result<Answer, AllocError> {
+    let alloc = rt.alloc();
+    if fixes.fixes.is_empty() {
+        return Ok(Answer::of(alloc, String::new(alloc), Status::Fine));
+    }
+    let is_quiet = fixes.fixing.is_quiet;
+    let mut answer = match text_read(rt, path, documents.limit)? {
+        Ok(text) if without_mark(text.as_str()) == fixes.text.as_str() => {
+            fix_text(rt, documents, path, text.as_str(), fixes)?
+        }
+        Ok(_) => not_fixed(alloc, path, CHANGED)?,
+        Err(reason) => not_fixed(alloc, path, reason.as_str())?,
+    };
+    if is_quiet && answer.status == Status::Fine {
+        answer.errors = String::new(alloc);
+    }
+    Ok(answer)
+}
