@@ -187,9 +187,10 @@ static const char DOCUMENT[] =
     "\"dep_kinds\": [{\"kind\": null, \"target\": \"x86_64-apple-darwin\"}]}]}]}}";
 static const char PACKAGES[] =
     "{\"package\": \"a 1.0.0\", \"id\": \"a\", \"license\": \"MIT\", \"targets\": 320, \"at\": \"all\", "
-    "\"side\": \"target\", \"kinds\": []}\n"
+    "\"side\": \"target\", \"kinds\": [], \"proc_macro\": false}\n"
     "{\"package\": \"b 0.1.0\", \"id\": \"b\", \"license\": null, \"targets\": 1, "
-    "\"at\": [\"x86_64-apple-darwin\"], \"side\": \"target\", \"kinds\": [\"normal\"]}\n";
+    "\"at\": [\"x86_64-apple-darwin\"], \"side\": \"target\", \"kinds\": [\"normal\"], "
+    "\"proc_macro\": false}\n";
 
 /* A key of so many levels: `not(`, or groups that a member follows. */
 static char *nested(size_t levels, const char *before, const char *after) {

@@ -117,13 +117,13 @@ class Model:
 
 
 def sides_of(model, kinds, host):
-    """Returns the targets of packages by their sides, and of dependencies by the sides to which they lead."""
+    """Returns the targets of packages by their sides, and of dependencies by the sides from and to which they lead."""
     places, led = collections.defaultdict(set), collections.defaultdict(set)
     for target in TARGETS:
         for place in model.distances(model.members, kinds, host, target):
             places[place].add(target)
             for edge, (_, side) in model.steps(model.members, kinds, host, target, place):
-                led[place[0], edge.on, edge.kind, edge.holds, side].add(target)
+                led[place[0], edge.on, edge.kind, edge.holds, place[1], side].add(target)
     return places, led
 
 
@@ -154,9 +154,11 @@ def having_of(targets):
 HAVING = having_of(TARGETS)
 
 
-def simple_of(holds):
+def simple_of(holds, is_named=False):
     """The first fact that exactly these targets have, else `not(..)` of the first that exactly the others have, else
-    the name of the only one."""
+    the name of the only one. Of targets that are selected by name, all and none need no fact."""
+    if is_named and len(holds) in (0, len(TARGETS)):
+        return "cfg(all())" if holds else "cfg(any())"
     for wanted, form in ((holds, "cfg({})"), (frozenset(TARGETS) - holds, "cfg(not({}))")):
         for fact, having in HAVING.items():
             if having == wanted:

@@ -108,7 +108,8 @@ def of_item(name, found):
         renamed = re.search(r'rename = "(.*?)"', options)
         key = renamed[1] if renamed else cased(field, attributes)
         if "skip_serializing_if" in options:
-            written = re.fullmatch(r"Option<(.*)>", written)[1]
+            inside = re.fullmatch(r"Option<(.*)>", written)
+            written = inside[1] if inside else written
         else:
             required.append(key)
         properties[key] = told(of_type(written, found), lines)
@@ -171,6 +172,8 @@ def names_of(words):
         return ["CompilerMessage"] if words[words.index("--message-format") + 1] == "json" else []
     if "--json" not in words:
         return []
+    if words[0] == "graph" and "--against" in words:
+        return ["ChangeLine"]
     if words[0] == "graph" and {"--allow", "--allow-file"} & {*words}:
         return ["LicenceLine"]
     shown = words[words.index("--show") + 1] if "--show" in words else "packages"
