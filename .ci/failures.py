@@ -1,10 +1,10 @@
 """What `lint` prints of files that cannot be read or used, in each output format.
 
 A row of crates/manifest_check/failures.json has a `name`, the `files` of a folder, and what `lint` is asked there
-(`ask`, by default `Cargo.toml`). It states the `path` at fault, the `message`, the place (`at`: the first byte and the byte
-after the last one, then the line and column of both), the `line` of that place, and the `rows` that show it. With a
-`help`, there is a text that replaces another one (`replaced`: the place, and the text). `unread` says that the file is
-counted as one that could not be read, `manifests` and `keys` how many are checked all the same.
+(`ask`, by default `Cargo.toml`). It states the `path` at fault, the `message`, the place (`at`: the first byte and the
+byte after the last one, then the line and column of both), the `line` of that place, and the `rows` that show it. With
+a `help`, there is a text that replaces another one (`replaced`: the place, and the text). `unread` says that the file
+is counted as one that could not be read, `manifests` and `keys` how many are checked all the same.
 """
 import json
 

@@ -372,8 +372,9 @@ const GRAPH: Subcommand = Subcommand {
           A file is rejected if it lacks dependencies, since it was made with --no-deps, --filter-platform or fewer \
           features than you select. The features that `cargo metadata` turned on are on, unless you resolve features \
           for a --host, with --resolver or any other option on features.\n\n\
-          Exit status: 0 if no package is reported by --allow or --allow-file, and no change by --fail-on, 1 if one is, 2 if an argument or the \
-          document is invalid. A condition with more than 100,000 nested groups is invalid.",
+          Exit status: 0 if no package is reported by --allow or --allow-file, and no change by --fail-on, 1 if one \
+          is, 2 if an argument or the document is invalid. A condition with more than 100,000 nested groups is \
+          invalid.",
     arguments: &[
         Argument {
             name: "metadata",

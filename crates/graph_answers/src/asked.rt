@@ -251,8 +251,8 @@ impl<'a> Asked<'a> {
     /// # Errors
     ///
     /// Refuses an unknown word of `--show`, one of `--show why` and `--of` without the other, options that `--against`
-    /// needs or excludes, and the name of an unknown target, host, side or dependency kind; targets and hosts of a file are not checked here. Fails if memory
-    /// is refused.
+    /// needs or excludes, and the name of an unknown target, host, side or dependency kind; targets and hosts of a file
+    /// are not checked here. Fails if memory is refused.
     pub fn of(alloc: Global, words: &Words<'a>) -> Result<Asked<'a>, Refusal> {
         let Some(show) = show_of(words.show) else {
             let text = "--show names packages, edges, targets, why, features, unified or all";

@@ -64,7 +64,8 @@ struct EdgeLine<'g, 'c, 'a> {
     /// The sides from which the dependency leads, each with the side to which it leads from there.
     sides: Vec<Origin<'a>>,
     /// A shorter condition that is true on the same targets: a fact, `not(..)` of a fact, or the name of a target. If
-    /// targets are selected by name, on the same of these and the host: `cfg(all())` for all, and `cfg(any())` for none.
+    /// targets are selected by name, on the same of these and the host: `cfg(all())` for all, and `cfg(any())` for
+    /// none.
     simple: Option<String>,
     /// The combined condition of all dependencies of this kind between the two packages. Null if one of them has no
     /// condition.

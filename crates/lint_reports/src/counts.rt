@@ -63,8 +63,8 @@ impl Counts {
         self.unread_configurations = self.unread_configurations.saturating_add(1);
     }
 
-    /// Formats the numbers of files that could not be read, as the end of the summary. Those of which there are none are
-    /// left out.
+    /// Formats the numbers of files that could not be read, as the end of the summary. Those of which there are none
+    /// are left out.
     fn unread(self, alloc: Global) -> Result<String, AllocError> {
         let mut unread = String::new(alloc);
         if self.unread_manifests > 0 {

@@ -106,8 +106,8 @@ impl Diagnostic {
         format!(in alloc; "{subject}: {message}")
     }
 
-    /// Returns the advice, or else the suggestion as it is displayed, unless the message contains it. Fails if memory is
-    /// refused.
+    /// Returns the advice, or else the suggestion as it is displayed, unless the message contains it. Fails if memory
+    /// is refused.
     pub fn help(&self, alloc: Global) -> Result<Option<String>, AllocError> {
         if let Some(advice) = &self.advice {
             return Ok(Some(advice.clone()?));

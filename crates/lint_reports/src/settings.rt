@@ -122,8 +122,8 @@ pub fn settings_at<'a>(manifest: &'a Table, part: &str) -> Option<&'a Value> {
     metadata_at(manifest, part, TOOL)
 }
 
-/// Returns whether a text is a fact, as `rustc --print cfg` prints it. Spaces around `=` are ignored. Fails if memory is
-/// refused.
+/// Returns whether a text is a fact, as `rustc --print cfg` prints it. Spaces around `=` are ignored. Fails if memory
+/// is refused.
 fn is_fact(alloc: Global, text: &str) -> Result<bool, AllocError> {
     match Cfg::from_str(alloc, text) {
         Ok(_fact) => Ok(true),
@@ -288,8 +288,8 @@ impl Settings {
         Ok(release)
     }
 
-    /// Records the entries of `known-facts` that are no facts, and those of `known-targets` that are no names: they have
-    /// no effect.
+    /// Records the entries of `known-facts` that are no facts, and those of `known-targets` that are no names: they
+    /// have no effect.
     fn add_idle(&mut self, alloc: Global, table: &Table) -> Result<(), AllocError> {
         for (index, text) in texts_at(table, KNOWN_FACTS).iter().enumerate() {
             let text = text.as_str().unwrap_or("a");

@@ -173,7 +173,8 @@ fn has_source(dependency: &Table) -> bool {
     false
 }
 
-/// Adds the diagnostic on a table `target` with keys in the dependency table of this name. Cargo takes it for a package.
+/// Adds the diagnostic on a table `target` with keys in the dependency table of this name. Cargo takes it for a
+/// package.
 fn add_as_package(
     alloc: Global,
     name: &str,

@@ -16,7 +16,8 @@ use Rattle.known_targets.specs.declared.table.TheConstants.{COUNT}
 use Rattle.known_targets.proofs.Bits.{no_words, zeros, has_none}
 use Rattle.known_targets.proofs.Found.{has_name-contains, has_pair-contains}
 use Rattle.known_targets.proofs.Listed.{none_some}
-use Rattle.manifest_lints_standings.specs.Standings.{valued, plain_names, target_features, panics, sort_of, sort_of_pair}
+use Rattle.manifest_lints_standings.specs.Standings.{valued, plain_names, target_features, panics}
+use Rattle.manifest_lints_standings.specs.Standings.{sort_of, sort_of_pair}
 use Rattle.manifest_lints_standings.specs.Rules.{IsNoMistake}
 use Rattle.manifest_lints_standings.specs.declared.standing.Sort.TheVariants as sort
 use Rattle.manifest_lints_standings.proofs.Rules.{takes, skips, or_true, neither, pair_valued, pair_panic, pair_feature}

@@ -16,7 +16,8 @@ use Rattle.manifest_lints_standings.specs.Standings.{is_taken_for_rustcs, sort_o
 use Rattle.manifest_lints_standings.specs.Standings.{sort_of_feature, sort_of_panic, panics}
 use Rattle.manifest_lints_standings.specs.Rules.{IsOf, warned, family, unstable_name, without_value, flag_alone}
 use Rattle.manifest_lints_standings.specs.Rules.{mistaken_name, custom_name, had, not_had, panic, no_panic, feature}
-use Rattle.manifest_lints_standings.specs.Rules.{no_feature, with_value, target_key, unstable_key, mistaken_key, custom_key}
+use Rattle.manifest_lints_standings.specs.Rules.{no_feature, with_value, target_key, unstable_key}
+use Rattle.manifest_lints_standings.specs.Rules.{mistaken_key, custom_key}
 use Rattle.manifest_lints_standings.specs.Rules.{families, is_known_name, is_known_key, is_value, is_mistakable}
 use Rattle.manifest_lints_standings.specs.Rules.{HasSortOfRules, IsSettled, StaysOrIsDeclared, StaysRustcsOrCargos}
 use Rattle.manifest_lints_standings.specs.declared.standing.Sort.{Sort}

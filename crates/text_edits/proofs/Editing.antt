@@ -1,5 +1,6 @@
 -- How a text is edited, edit by edit.
-use Rattle.std.proofs.Common.{◌≡◌, ◌+◌, ◌≤◌, ◌<◌, ◌∙◌, ℕ, List, [], ◌∷◌, ◌++◌, drop, get_or, length, slice_range, string_bytes, refl, sym, ap, subst, append_assoc, arith, All}
+use Rattle.std.proofs.Common.{◌≡◌, ◌+◌, ◌≤◌, ◌<◌, ◌∙◌, ℕ, List, [], ◌∷◌, ◌++◌, drop, get_or, length, slice_range}
+use Rattle.std.proofs.Common.{string_bytes, refl, sym, ap, subst, append_assoc, arith, All}
 use Rattle.std.proofs.lemmas.List.{drop_more}
 use Rattle.std.proofs.lemmas.List.Elements.{All-head, All-tail}
 use Rattle.std.proofs.lemmas.List.Folds.{drop_split}
